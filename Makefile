@@ -1,0 +1,28 @@
+# make test     the whole gate: every proof from nothing, the edits that must fail, the tests, the program's runs
+# make run      proves, builds and runs the program on examples/sources.txt
+# make build    leaves the proved program at bin/nextest_config_check
+# make install  copies it to PREFIX/bin (PREFIX=/usr/local)
+
+PREFIX ?= /usr/local
+PROGRAM := nextest_config_check
+CRATE := crates/$(PROGRAM)
+
+.PHONY: test run build install toolchain
+
+test: toolchain
+	rt ci
+
+run: toolchain
+	@cd $(CRATE) && rt run -- 0.9.55 --override < ../../examples/sources.txt
+
+# A first run, on no source, leaves the program behind.
+build: toolchain
+	@cd $(CRATE) && rt run -- 0.0.0 < /dev/null > /dev/null
+	@mkdir -p bin && cp $(CRATE)/out/$(PROGRAM) bin/$(PROGRAM)
+	@echo "bin/$(PROGRAM)"
+
+install: build
+	install -D -m 755 bin/$(PROGRAM) $(DESTDIR)$(PREFIX)/bin/$(PROGRAM)
+
+toolchain:
+	@command -v rt > /dev/null || { echo "rt, the command of the Rattle toolchain, isn't on the PATH: put the folder that holds it there" >&2; exit 1; }

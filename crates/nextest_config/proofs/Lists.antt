@@ -1,0 +1,66 @@
+-- What holds of each element, by recursion on the list.
+use Rattle.std.proofs.Common.{◌≡◌, ℕ, ◌+◌, ◌<◌, List, [], ◌∷◌, ◌++◌, length, get_or, take, drop, map, refl, sym, ap, ◌∙◌}
+use Rattle.std.proofs.lemmas.List.{drop_more, map-append, take-append-drop, take_more}
+use Rattle.std.specs.List.{AllByRecursion, AllZip}
+
+pub all_left : {X : Type 0} (P : X → Type 0) (xs ys : List X) → AllByRecursion P (xs ++ ys) → AllByRecursion P xs
+all_left P [] ys h = tt
+all_left P (x ∷ xs) ys h = (h.0, all_left P xs ys h.1)
+
+pub all_right : {X : Type 0} (P : X → Type 0) (xs ys : List X) → AllByRecursion P (xs ++ ys) → AllByRecursion P ys
+all_right P [] ys h = h
+all_right P (x ∷ xs) ys h = all_right P xs ys h.1
+
+pub all_joined : {X : Type 0} (P : X → Type 0) (xs ys : List X) → AllByRecursion P xs → AllByRecursion P ys → AllByRecursion P (xs ++ ys)
+all_joined P [] ys h k = k
+all_joined P (x ∷ xs) ys h k = (h.0, all_joined P xs ys h.1 k)
+
+pub all_weaker : {X : Type 0} (P Q : X → Type 0) → ((x : X) → P x → Q x) → (xs : List X) → AllByRecursion P xs → AllByRecursion Q xs
+all_weaker P Q f [] h = tt
+all_weaker P Q f (x ∷ xs) h = (f x h.0, all_weaker P Q f xs h.1)
+
+pub all_middle : {X : Type 0} (P : X → Type 0) (xs : List X) (x : X) (ys : List X) → AllByRecursion P (xs ++ (x ∷ ys)) → P x
+all_middle P xs x ys h = (all_right P xs (x ∷ ys) h).0
+
+pub all_always : {X : Type 0} {P : X → Type 0} → ((x : X) → P x) → (xs : List X) → AllByRecursion P xs
+all_always f [] = tt
+all_always f (x ∷ xs) = (f x, all_always f xs)
+
+pub all_both : {X : Type 0} (P Q : X → Type 0) (xs : List X) → AllByRecursion P xs → AllByRecursion Q xs → AllByRecursion (λ x. P x × Q x) xs
+all_both P Q [] h k = tt
+all_both P Q (x ∷ xs) h k = ((h.0, k.0), all_both P Q xs h.1 k.1)
+
+-- what each element makes of another, of each image
+pub all_mapped : {X Y : Type 0} (P : X → Type 0) (Q : Y → Type 0) (f : X → Y) → ((x : X) → P x → Q (f x)) → (xs : List X) → AllByRecursion P xs → AllByRecursion Q (map f xs)
+all_mapped P Q f step [] h = tt
+all_mapped P Q f step (x ∷ xs) h = (step x h.0, all_mapped P Q f step xs h.1)
+
+-- two functions that agree on each element make the same list
+pub map_agrees : {X Y : Type 0} (f g : X → Y) (xs : List X) → AllByRecursion (λ x. f x ≡ g x) xs → map f xs ≡ map g xs
+map_agrees f g [] h = refl
+map_agrees f g (x ∷ xs) h = rw (h.0, map_agrees f g xs h.1)
+
+-- the partner of an element between others
+pub zip_middle : {X Y : Type 0} (R : X → Y → Type 0) (xs : List X) (x : X) (rest : List X) (ys : List Y) → AllZip R (xs ++ (x ∷ rest)) ys → (y : Y) × R x y
+zip_middle R [] x rest [] h = absurd h
+zip_middle R [] x rest (y ∷ ys) h = (y, h.0)
+zip_middle R (z ∷ xs) x rest [] h = absurd h
+zip_middle R (z ∷ xs) x rest (y ∷ ys) h = zip_middle R xs x rest ys h.1
+
+-- the images of one more element
+pub map-take_more : {X Y : Type 0} (f : X → Y) (xs : List X) (i : ℕ) (x : X) → i < length xs → x ≡ get_or xs i x → map f (take (i + 1) xs) ≡ map f (take i xs) ++ (f x ∷ [])
+map-take_more f xs i x within here = ap (map f) (take_more xs i x within) ∙ map-append f (take i xs) (get_or xs i x ∷ []) ∙ ap (λ y. map f (take i xs) ++ (f y ∷ [])) (sym here)
+
+-- the images before an element, its own, and those after it
+pub map-around : {X Y : Type 0} (f : X → Y) (xs : List X) (i : ℕ) (x : X) → i < length xs → x ≡ get_or xs i x → map f xs ≡ map f (take i xs) ++ (f x ∷ map f (drop (i + 1) xs))
+map-around f xs i x within here =
+    ap (map f) (sym (take-append-drop i xs) ∙ ap (λ rest. take i xs ++ rest) (drop_more xs i x within))
+    ∙ map-append f (take i xs) (get_or xs i x ∷ drop (i + 1) xs)
+    ∙ ap (λ y. map f (take i xs) ++ (f y ∷ map f (drop (i + 1) xs))) (sym here)
+
+-- one more pair
+pub zip_push : {X Y : Type 0} (R : X → Y → Type 0) (xs : List X) (ys : List Y) (x : X) (y : Y) → AllZip R xs ys → R x y → AllZip R (xs ++ (x ∷ [])) (ys ++ (y ∷ []))
+zip_push R [] [] x y h r = (r, tt)
+zip_push R [] (z ∷ ys) x y h r = absurd h
+zip_push R (z ∷ xs) [] x y h r = absurd h
+zip_push R (w ∷ xs) (z ∷ ys) x y h r = (h.0, zip_push R xs ys x y h.1 r)

@@ -1,0 +1,183 @@
+-- The verdict of what stands for a list is selected from the verdicts of its asks.
+use Rattle.std.proofs.Common.{◌≡◌, ◌≢◌, ℕ, ◌+◌, ◌<◌, ◌≤◌, Bool, true, false, List, [], ◌∷◌, ◌++◌, map, Option, Some, None, IfSome, refl, sym, ap, ◌∙◌, inl, inr, subst, arith}
+use Rattle.std.proofs.lemmas.Bool.{cases_Bool, false≢true}
+use Rattle.std.proofs.lemmas.List.{map-append}
+use Rattle.std.specs.List.{AllByRecursion}
+use Rattle.semver.specs.Parse.{Parts}
+use Rattle.nextest_config.specs.NextestVersion.Precedence.{IsBelow, is_below}
+use Rattle.nextest_config.specs.NextestVersion.Requirement.{Ask, Kept, Roles, asked_from}
+use Rattle.nextest_config.specs.NextestVersion.Source.{Place}
+use Rattle.nextest_config.specs.NextestVersion.Verdict.{Verdict, satisfied, warn, error, Shortfall, unmet, short_of, judged, verdict, gravity, named_version, IsSatisfied, IsNoGraver, IsNoGreaterOfItsKind, IsOtherOfItsKind, IsGravest, IsSelected}
+use Rattle.nextest_config.specs.NextestVersion.VersionOnly.{Asked, AsksNone, AsksOther, AsksNoGreater, IsGreatest, StandsIn, StandsForAsks, Configuration, SelectsAmong, alone}
+use Rattle.nextest_config.proofs.Lists.{all_always, all_both, all_mapped, all_weaker, map_agrees}
+use Rattle.nextest_config.proofs.Precedences.{not_below_trans}
+
+-- ---- a tier of verdicts: what it tells where a role is unmet, and what stands below it
+
+abbrev tier : (Shortfall → Verdict) → Option Kept → Parts → Bool → Verdict → Verdict
+tier tell (Some kept) current overridden lower = tell (short_of kept current overridden)
+tier tell None current overridden lower = lower
+
+judged-tiers : (required recommended : Option Kept) (current : Parts) (overridden : Bool)
+    → judged required recommended current overridden ≡ tier error required current overridden (tier warn recommended current overridden satisfied)
+judged-tiers (Some r) m current overridden = refl
+judged-tiers None (Some m) current overridden = refl
+judged-tiers None None current overridden = refl
+
+record IsTier (tell : Shortfall → Verdict) (severity : ℕ) : Type 0 where
+  grave : (s : Shortfall) → gravity (tell s) ≡ severity
+  names : (s : Shortfall) → named_version (tell s) ≡ Some s.asked
+
+error_tier : IsTier error 2
+error_tier = record { grave = λ s. refl; names = λ s. refl }
+
+warn_tier : IsTier warn 1
+warn_tier = record { grave = λ s. refl; names = λ s. refl }
+
+module _ (tell : Shortfall → Verdict) (severity : ℕ) (is_tier : IsTier tell severity) (current : Parts) (overridden : Bool) where
+  -- what the tier tells of a place that asks this
+  abbrev told : Place → Option Parts → Verdict → Verdict
+  told place asked lower = tier tell (unmet (asked_from place asked) current) current overridden lower
+
+  record IsInTier (asked : Option Parts) (v : Verdict) : Type 0 where
+    no_graver : gravity v ≤ severity
+    names_asked : gravity v ≡ severity → named_version v ≡ asked
+
+  in_tier : (place : Place) (asked : Option Parts) (lower : Verdict) → gravity lower < severity → IsInTier asked (told place asked lower)
+  in_tier place None lower below = record { no_graver = omega arith; names_asked = λ e. absurd (omega arith) }
+  in_tier place (Some v) lower below = elim (cases_Bool (is_below current v)) [
+    | inl short ↦
+        let s : Shortfall = short_of (record { version = v; place = place }) current overridden in
+        rw short (record { no_graver = omega (arith, is_tier.grave s); names_asked = λ e. is_tier.names s })
+    | inr enough ↦ rw enough (record { no_graver = omega arith; names_asked = λ e. absurd (omega arith) })
+  ]
+
+  no_greater_named : (kept : Kept) (asked : Option Parts) (v : Verdict) → IsInTier asked v → IfSome asked (λ w. ¬ IsBelow kept.version w)
+      → IsNoGreaterOfItsKind (tell (short_of kept current overridden)) v
+  no_greater_named kept asked v inside no_greater as_grave =
+      let same = inside.names_asked (as_grave ∙ is_tier.grave (short_of kept current overridden)) in
+      rw (is_tier.names (short_of kept current overridden), same) no_greater
+
+  other_named : (kept : Kept) (asked : Option Parts) (v : Verdict) → IsInTier asked v → asked ≢ Some kept.version
+      → IsOtherOfItsKind (tell (short_of kept current overridden)) v
+  other_named kept asked v inside other as_grave e =
+      let s : Shortfall = short_of kept current overridden in
+      other (sym (inside.names_asked (as_grave ∙ is_tier.grave s)) ∙ e ∙ is_tier.names s)
+
+  -- an unmet version that is the greatest asked is told by the gravest
+  gravest_in_tier : (role : Ask → Option Parts) (lower : Asked → Verdict) (asked : List Asked) (kept : Kept)
+      → ((a : Asked) → gravity (lower a) < severity) → IsGreatest role asked kept → is_below current kept.version ≡ true
+      → IsGravest (map (λ a. told a.place (role a.ask) (lower a)) asked) (tell (short_of kept current overridden))
+  gravest_in_tier role lower asked kept below h short =
+      let tells : Asked → Verdict = λ a. told a.place (role a.ask) (lower a) in
+      let inside : (a : Asked) → IsInTier (role a.ask) (tells a) = λ a. in_tier a.place (role a.ask) (lower a) (below a) in
+      let last_told : tells h.last ≡ tell (short_of kept current overridden) = rw (h.version, h.place, short) in
+      record {
+        before = map tells h.before;
+        after = map tells h.after;
+        whole = ap (map tells) h.whole ∙ map-append tells h.before (h.last ∷ h.after) ∙ ap (λ v. map tells h.before ++ (v ∷ map tells h.after)) last_told;
+        gravest = all_mapped (AsksNoGreater role kept.version) (IsNoGraver (tell (short_of kept current overridden))) tells
+            (λ a _. omega (arith, is_tier.grave (short_of kept current overridden), (inside a).no_graver)) asked h.none_greater;
+        no_greater = all_mapped (AsksNoGreater role kept.version) (IsNoGreaterOfItsKind (tell (short_of kept current overridden))) tells
+            (λ a none. no_greater_named kept (role a.ask) (tells a) (inside a) none) asked h.none_greater;
+        last = all_mapped (AsksOther role kept.version) (IsOtherOfItsKind (tell (short_of kept current overridden))) tells
+            (λ a other. other_named kept (role a.ask) (tells a) (inside a) other) h.after h.others_later;
+      }
+
+-- ---- a role that is met is met for each source alone
+
+enough_for : (b : Bool) (current v : Parts) (place : Place) → ¬ (b ≡ true) → is_below current v ≡ b → unmet (asked_from place (Some v)) current ≡ None
+enough_for true current v place above e = absurd (above refl)
+enough_for false current v place above e = rw e refl
+
+not_short : (kept : Kept) (current : Parts) → unmet (Some kept) current ≡ None → ¬ IsBelow current kept.version
+not_short kept current met short = cc (rw short at met)
+
+no_greater_met : (kept : Kept) (current : Parts) (place : Place) (more : Option Parts) → ¬ IsBelow current kept.version → IfSome more (λ greater. ¬ IsBelow kept.version greater)
+    → unmet (asked_from place more) current ≡ None
+no_greater_met kept current place None enough none = refl
+no_greater_met kept current place (Some v) enough none =
+    enough_for (is_below current v) current v place (not_below_trans current kept.version v enough none) refl
+
+abbrev IsMetAlone : (Ask → Option Parts) → Parts → Asked → Type 0
+IsMetAlone role current a = unmet (asked_from a.place (role a.ask)) current ≡ None
+
+met_alone : (role : Ask → Option Parts) (asked : List Asked) (kept : Option Kept) (current : Parts) → StandsIn role asked kept → unmet kept current ≡ None
+    → AllByRecursion (IsMetAlone role current) asked
+met_alone role asked None current h met = all_weaker (AsksNone role) (IsMetAlone role current) (λ a none. rw none refl) asked h
+met_alone role asked (Some kept) current h met =
+    all_weaker (AsksNoGreater role kept.version) (IsMetAlone role current)
+    (λ a none. no_greater_met kept current a.place (role a.ask) (not_short kept current met) none) asked h.none_greater
+
+-- ---- the three verdicts
+
+abbrev required : Ask → Option Parts
+required ask = ask.required
+
+abbrev recommended : Ask → Option Parts
+recommended ask = ask.recommended
+
+-- the verdict of a source alone, where its required version is met
+alone-met : (current : Parts) (overridden : Bool) (a : Asked) → IsMetAlone required current a
+    → alone current overridden a ≡ told warn 1 warn_tier current overridden a.place a.ask.recommended satisfied
+alone-met current overridden a met = rw (judged-tiers, met) refl
+
+alone-satisfied : (current : Parts) (overridden : Bool) (a : Asked) → IsMetAlone required current a → IsMetAlone recommended current a → alone current overridden a ≡ satisfied
+alone-satisfied current overridden a met also = rw (met, also) refl
+
+unmet_is : (o : Option Kept) (current : Parts) (kept : Kept) → unmet o current ≡ Some kept → (o ≡ Some kept) × (is_below current kept.version ≡ true)
+unmet_is None current kept e = cc e
+unmet_is (Some k) current kept e = elim (cases_Bool (is_below current k.version)) [
+  | inl short ↦
+      let same : k ≡ kept = cc (rw short at e) in
+      (rw same refl, subst (λ (j : Kept). is_below current j.version ≡ true) same short)
+  | inr enough ↦ cc (rw enough at e)
+]
+
+below_error : (o : Option Kept) (current : Parts) (overridden : Bool) → gravity (tier warn o current overridden satisfied) < 2
+below_error (Some kept) current overridden = omega arith
+below_error None current overridden = omega arith
+
+-- an unmet required version
+selects_error : (asked : List Asked) (kept : Kept) (current : Parts) (overridden : Bool) → IsGreatest required asked kept → is_below current kept.version ≡ true
+    → IsGravest (map (alone current overridden) asked) (error (short_of kept current overridden))
+selects_error asked kept current overridden greatest short =
+    let lower : Asked → Verdict = λ a. tier warn (unmet (asked_from a.place a.ask.recommended) current) current overridden satisfied in
+    let tells : Asked → Verdict = λ a. told error 2 error_tier current overridden a.place a.ask.required (lower a) in
+    let same : map (alone current overridden) asked ≡ map tells asked =
+    map_agrees (alone current overridden) tells asked (all_always (λ a. judged-tiers (unmet (asked_from a.place a.ask.required) current) _ current overridden) asked) in
+    rw same (gravest_in_tier error 2 error_tier current overridden required lower asked kept (λ a. below_error _ current overridden) greatest short)
+
+-- an unmet recommended version, where the required one is met
+selects_warning : (asked : List Asked) (kept : Kept) (current : Parts) (overridden : Bool) → IsGreatest recommended asked kept → is_below current kept.version ≡ true
+    → AllByRecursion (IsMetAlone required current) asked → IsGravest (map (alone current overridden) asked) (warn (short_of kept current overridden))
+selects_warning asked kept current overridden greatest short met =
+    let tells : Asked → Verdict = λ a. told warn 1 warn_tier current overridden a.place a.ask.recommended satisfied in
+    let same : map (alone current overridden) asked ≡ map tells asked =
+    map_agrees (alone current overridden) tells asked (all_weaker (IsMetAlone required current) _ (alone-met current overridden) asked met) in
+    rw same (gravest_in_tier warn 1 warn_tier current overridden recommended (λ a. satisfied) asked kept (λ a. omega arith) greatest short)
+
+-- both met
+selects_satisfied : (asked : List Asked) (current : Parts) (overridden : Bool) → AllByRecursion (IsMetAlone required current) asked → AllByRecursion (IsMetAlone recommended current) asked
+    → AllByRecursion IsSatisfied (map (alone current overridden) asked)
+selects_satisfied asked current overridden met also =
+    all_mapped (λ a. IsMetAlone required current a × IsMetAlone recommended current a) IsSatisfied (alone current overridden)
+    (λ a both. alone-satisfied current overridden a both.0 both.1) asked (all_both (IsMetAlone required current) (IsMetAlone recommended current) asked met also)
+
+selects_by : (asked : List Asked) (roles : Roles) (current : Parts) (overridden : Bool) (r m : Option Kept)
+    → StandsIn required asked roles.required → StandsIn recommended asked roles.recommended → unmet roles.required current ≡ r → unmet roles.recommended current ≡ m
+    → IsSelected (map (alone current overridden) asked) (judged r m current overridden)
+selects_by asked roles current overridden (Some kept) m h k r_is m_is =
+    let is = unmet_is roles.required current kept r_is in
+    inr (selects_error asked kept current overridden (subst (StandsIn required asked) is.0 h) is.1)
+selects_by asked roles current overridden None (Some kept) h k r_is m_is =
+    let is = unmet_is roles.recommended current kept m_is in
+    inr (selects_warning asked kept current overridden (subst (StandsIn recommended asked) is.0 k) is.1 (met_alone required asked roles.required current h r_is))
+selects_by asked roles current overridden None None h k r_is m_is =
+    let met = met_alone required asked roles.required current h r_is in
+    inl (selects_satisfied asked current overridden met (met_alone recommended asked roles.recommended current k m_is), refl)
+
+-- the verdict of what stands for the asks is selected from their verdicts
+pub selects : (asked : List Asked) (c : Configuration) → StandsForAsks asked c → SelectsAmong asked c.roles
+selects asked c stands current overridden =
+    selects_by asked c.roles current overridden (unmet c.roles.required current) (unmet c.roles.recommended current) stands.required stands.recommended refl refl

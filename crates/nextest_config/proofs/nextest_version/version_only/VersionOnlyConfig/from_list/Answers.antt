@@ -1,0 +1,32 @@
+use Rattle.std.proofs.Common.{map, rules}
+use Rattle.std.proofs.lemmas.List.{take_all}
+use Rattle.nextest_config.specs.NextestVersion.ErrorKind.{wrong_of}
+use Rattle.nextest_config.specs.NextestVersion.Source.{source_of}
+use Rattle.nextest_config.specs.NextestVersion.VersionOnly.{Adds, StandsFor, configuration_of}
+use Rattle.nextest_config.proofs.Lists.{map-take_more}
+use Rattle.nextest_config.proofs.Readings.{only_memory, refusal_of_list}
+use Rattle.nextest_config.proofs.Selection.{selects}
+use Rattle.nextest_config.proofs.Standing.{stands_more}
+use Rattle.nextest_config.proofs.nextest_version.version_only.VersionOnlyConfig.from_list.Goals as goal
+
+-- the source at the position is wrong, and those before it read
+pub returns-in-Err-clause-refused : goal.returns-in-Err-clause-refused
+returns-in-Err-clause-refused c =
+    let stands = c.loop-position.invariant in
+    refusal_of_list c.args.sources.now c.loop-position.position c.index-sources-position.result (wrong_of c.in-Err.kind) c.at.result c.loop-position-test.true
+    c.index-sources-position.is (stands.0, stands.1) c.in-Err.ensures.refused c.at.ensures
+
+pub returns-in-Err-clause-only : goal.returns-in-Err-clause-only
+returns-in-Err-clause-only c reads = only_memory (map source_of c.args.sources.now) c.at.result reads (returns-in-Err-clause-refused c)
+
+pub loop-position-preserved : goal.loop-position-preserved
+loop-position-preserved c =
+    let adds : Adds (source_of c.index-sources-position.result) (configuration_of c.loop-position.config) (configuration_of c.add.new.self) = search rules in
+    rw (map-take_more source_of c.args.sources.now c.loop-position.position c.index-sources-position.result c.loop-position-test.true c.index-sources-position.is)
+    (stands_more _ _ _ _ c.loop-position.invariant adds)
+
+pub returns-clause-selected : goal.returns-clause-selected
+returns-clause-selected c =
+    let all = take_all c.loop-position.position c.args.sources.now c.loop-position-test.false in
+    let stands : StandsFor (map source_of c.args.sources.now) (configuration_of c.loop-position.config) = rw all at c.loop-position.invariant in
+    (stands.0, stands.1, selects stands.0 _ stands.2)

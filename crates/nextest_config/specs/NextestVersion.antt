@@ -1,0 +1,9 @@
+-- What configuration sources ask of the nextest version, and what follows for a current version.
+pub mod VersionText
+pub mod Precedence
+pub mod Source
+pub mod Requirement
+pub mod Verdict
+pub mod ErrorKind
+pub mod Error
+pub mod VersionOnly

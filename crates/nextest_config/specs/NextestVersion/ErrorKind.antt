@@ -1,0 +1,41 @@
+-- What is wrong with a source, without where it lies in memory.
+use Rattle.std.specs.Prelude.{ℕ, Bool, true, false, List, codes}
+use Rattle.nextest_config_values.specs.Read.Fault.{Fault, fault_of, fault_text, invalid_type, custom, memory, Reason}
+use Rattle.nextest_config.specs.declared.nextest_version.error_kind.ConfigParseErrorKind.{ConfigParseErrorKind}
+use Rattle.nextest_config.specs.declared.nextest_version.error_kind.ConfigParseErrorKind.TheVariants as kinds
+
+-- the contents are no TOML document, or a setting is refused, or there was no memory
+pub data Wrong : Type 0 where
+  not_toml : Wrong
+  setting : Fault → Wrong
+  no_memory : Wrong
+
+abbrev pub wrong_of : ConfigParseErrorKind → Wrong
+wrong_of kinds.TomlParseError = not_toml
+wrong_of (kinds.VersionOnlyDeserializeError fault) = setting (fault_of fault)
+wrong_of kinds.Memory = no_memory
+
+abbrev pub is_memory : ConfigParseErrorKind → Bool
+is_memory kinds.TomlParseError = false
+is_memory (kinds.VersionOnlyDeserializeError fault) = false
+is_memory kinds.Memory = true
+
+-- what the refusal of a setting makes of its source
+abbrev pub wrong_from : Fault → Wrong
+wrong_from fault = wrong_for fault.reason
+  where
+    wrong_for : Reason → Wrong
+    wrong_for (invalid_type found expected) = setting fault
+    wrong_for (custom rule) = setting fault
+    wrong_for memory = no_memory
+
+-- for what is wrong with the source itself; want of memory says nothing of it
+abbrev pub UnlessNoMemory : Wrong → Type 0 → Type 0
+UnlessNoMemory not_toml fact = fact
+UnlessNoMemory (setting fault) fact = fact
+UnlessNoMemory no_memory fact = Unit {0}
+
+abbrev pub wrong_text : Wrong → List ℕ
+wrong_text not_toml = codes "not a TOML document"
+wrong_text (setting fault) = fault_text fault
+wrong_text no_memory = codes "out of memory"

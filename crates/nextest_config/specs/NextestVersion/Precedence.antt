@@ -1,0 +1,20 @@
+-- The precedence of versions (SemVer 2.0.0, item 11): the numbers in turn, then the pre-release; build metadata doesn't count.
+use Rattle.std.specs.Prelude.{◌≡◌, Bool, true}
+use Rattle.std.specs.Ordering.{nat_cmp, ordering_then, is_lt}
+use Rattle.std.specs.declared.cmp.Ordering.{Ordering}
+use Rattle.semver.specs.Order.{pre_cmp}
+use Rattle.semver.specs.Parse.{Parts}
+
+abbrev pub precedence : Parts → Parts → Ordering
+precedence v w = ordering_then (nat_cmp v.0 w.0) (ordering_then (nat_cmp v.1 w.1) (ordering_then (nat_cmp v.2 w.2) (pre_cmp v.3 w.3)))
+
+-- the first version is below the second
+abbrev pub is_below : Parts → Parts → Bool
+is_below v w = is_lt (precedence v w)
+
+abbrev pub IsBelow : Parts → Parts → Type 0
+IsBelow v w = is_below v w ≡ true
+
+-- the first version, as the current one, is enough for the second
+abbrev pub IsEnough : Parts → Parts → Type 0
+IsEnough current asked = ¬ IsBelow current asked

@@ -1,0 +1,86 @@
+-- What one source asks of the nextest version, and what is kept of all asks.
+use Rattle.std.specs.Prelude.{◌≡◌, ℕ, List, codes, Option, Some, None, option_map, ◌⊎◌, if◌then◌else◌}
+use Rattle.semver.specs.Identifiers.{parts_of}
+use Rattle.semver.specs.Parse.{Parts}
+use Rattle.semver.specs.declared.Version.{Version}
+use Rattle.toml.specs.Data.{Data, as_str}
+use Rattle.nextest_config_values.specs.Read.Fault.{BrokenRule, Fault, custom, invalid_type}
+use Rattle.nextest_config_values.specs.Read.Text.{found_text}
+use Rattle.nextest_config.specs.NextestVersion.Precedence.{is_below}
+use Rattle.nextest_config.specs.NextestVersion.Source.{Place, place_of}
+use Rattle.nextest_config.specs.NextestVersion.VersionText.{Numbers, plain, IsVersionText, IsVersionFault}
+use Rattle.nextest_config.specs.declared.nextest_version.source.ConfigSource.{ConfigSource}
+use Rattle.nextest_config.specs.declared.nextest_version.requirement.NextestVersionDeserialize.{NextestVersionDeserialize}
+use Rattle.nextest_config.specs.declared.nextest_version.requirement.NextestVersionReq.{NextestVersionReq}
+use Rattle.nextest_config.specs.declared.nextest_version.requirement.NextestVersionReq.TheVariants as kept_as
+use Rattle.nextest_config.specs.declared.nextest_version.requirement.NextestVersionConfig.{NextestVersionConfig}
+
+-- the versions that a source asks for
+pub record Ask : Type 0 where
+  pub required : Option Parts
+  pub recommended : Option Parts
+
+abbrev pub nothing : Ask
+nothing = record { required = None; recommended = None }
+
+abbrev pub requires : Numbers → Ask
+requires numbers = record { required = Some (plain numbers); recommended = None }
+
+abbrev pub ask_of : NextestVersionDeserialize → Ask
+ask_of d = record { required = option_map parts_of d.required; recommended = option_map parts_of d.recommended }
+
+-- the value of `nextest-version` asks this: a text with a version requires it
+abbrev pub MeansVersions : Data → Ask → Type 0
+MeansVersions value ask = (text : List ℕ) × (numbers : Numbers) × (as_str value ≡ Some text) × IsVersionText text numbers × (ask ≡ requires numbers)
+
+-- what the setting takes
+abbrev pub versions_expected : List ℕ
+versions_expected = codes "a table ({ required = \"0.9.20\", recommended = \"0.9.30\" }) or a string (\"0.9.50\")"
+
+-- the value of `nextest-version`, at this path, asks nothing, since it is this fault: a text that breaks a rule, or no text
+abbrev pub VersionsFault : Data → List ℕ → Fault → Type 0
+VersionsFault value at fault =
+    ((text : List ℕ) × (rule : BrokenRule) × (as_str value ≡ Some text) × IsVersionFault text rule × (fault ≡ record { path = at; reason = custom rule }))
+    ⊎ ((as_str value ≡ None) × (fault ≡ record { path = at; reason = invalid_type (found_text value) versions_expected }))
+
+-- a version that is kept, and the place that asked for it
+pub record Kept : Type 0 where
+  pub version : Parts
+  pub place : Place
+
+-- the two roles of a version
+pub record Roles : Type 0 where
+  pub required : Option Kept
+  pub recommended : Option Kept
+
+abbrev pub kept_version : Kept → Parts
+kept_version kept = kept.version
+
+abbrev pub kept_from : Version → ConfigSource → Kept
+kept_from version source = record { version = parts_of version; place = place_of source }
+
+abbrev pub kept_of : NextestVersionReq → Option Kept
+kept_of (kept_as.Version version source) = Some (kept_from version source)
+kept_of kept_as.None = None
+
+abbrev pub roles_of : NextestVersionConfig → Roles
+roles_of config = record { required = kept_of config.required; recommended = kept_of config.recommended }
+
+-- the roles that one source asks, from its place
+abbrev pub asked_from : Place → Option Parts → Option Kept
+asked_from place asked = option_map (λ version. record { version = version; place = place }) asked
+
+abbrev pub roles_from : Place → Ask → Roles
+roles_from place ask = record { required = asked_from place ask.required; recommended = asked_from place ask.recommended }
+
+-- the join of two kept versions: the later one, unless its version is below the earlier one's
+abbrev pub join_kept : Option Kept → Option Kept → Option Kept
+join_kept None later = later
+join_kept (Some earlier) None = Some earlier
+join_kept (Some earlier) (Some later) = if is_below later.version earlier.version then Some earlier else Some later
+
+abbrev pub join_roles : Roles → Roles → Roles
+join_roles earlier later = record {
+  required = join_kept earlier.required later.required;
+  recommended = join_kept earlier.recommended later.recommended;
+}

@@ -1,0 +1,115 @@
+-- What a current version is told, and which of several verdicts is selected.
+use Rattle.std.specs.Prelude.{◌≡◌, ◌≢◌, ℕ, ◌≤◌, Bool, true, false, List, ◌∷◌, ◌++◌, map, Option, Some, None, IfSome, ◌⊎◌, if◌then◌else◌}
+use Rattle.std.specs.List.{AllByRecursion}
+use Rattle.semver.specs.Identifiers.{parts_of}
+use Rattle.semver.specs.Parse.{Parts}
+use Rattle.nextest_config.specs.NextestVersion.Precedence.{is_below, IsBelow}
+use Rattle.nextest_config.specs.NextestVersion.Requirement.{Kept, Roles}
+use Rattle.nextest_config.specs.NextestVersion.Source.{Place, place_of}
+use Rattle.semver.specs.declared.Version.{Version}
+use Rattle.nextest_config.specs.declared.nextest_version.source.ConfigSource.{ConfigSource}
+use Rattle.nextest_config.specs.declared.nextest_version.requirement.NextestVersionEval.{NextestVersionEval}
+use Rattle.nextest_config.specs.declared.nextest_version.requirement.NextestVersionEval.TheVariants as evals
+use Rattle.nextest_config.specs.declared.nextest_version.requirement.Severity.{Severity}
+use Rattle.nextest_config.specs.declared.nextest_version.requirement.Severity.TheVariants as severities
+
+-- what a version falls short of: the version asked for, the current one, the place that asked, and whether the check is overridden
+pub record Shortfall : Type 0 where
+  pub asked : Parts
+  pub current : Parts
+  pub place : Place
+  pub overridden : Bool
+
+pub data Verdict : Type 0 where
+  satisfied : Verdict
+  warn : Shortfall → Verdict
+  error : Shortfall → Verdict
+
+abbrev pub shortfall : Version → Version → ConfigSource → Bool → Shortfall
+shortfall asked current source overridden = record {
+  asked = parts_of asked;
+  current = parts_of current;
+  place = place_of source;
+  overridden = overridden;
+}
+
+abbrev pub verdict_of : NextestVersionEval → Verdict
+verdict_of evals.Satisfied = satisfied
+verdict_of (evals.Error required current source) = error (shortfall required current source false)
+verdict_of (evals.Warn recommended current source) = warn (shortfall recommended current source false)
+verdict_of (evals.ErrorOverride required current source) = error (shortfall required current source true)
+verdict_of (evals.WarnOverride recommended current source) = warn (shortfall recommended current source true)
+
+-- the kept version that the current one isn't enough for
+abbrev pub unmet : Option Kept → Parts → Option Kept
+unmet None current = None
+unmet (Some kept) current = if is_below current kept.version then Some kept else None
+
+abbrev pub short_of : Kept → Parts → Bool → Shortfall
+short_of kept current overridden = record { asked = kept.version; current = current; place = kept.place; overridden = overridden }
+
+-- an unmet required version is an error; else an unmet recommended one is a warning
+abbrev pub judged : Option Kept → Option Kept → Parts → Bool → Verdict
+judged (Some required) recommended current overridden = error (short_of required current overridden)
+judged None (Some recommended) current overridden = warn (short_of recommended current overridden)
+judged None None current overridden = satisfied
+
+abbrev pub verdict : Roles → Parts → Bool → Verdict
+verdict roles current overridden = judged (unmet roles.required current) (unmet roles.recommended current) current overridden
+
+abbrev pub severity_of : Verdict → Severity
+severity_of satisfied = severities.Satisfied
+severity_of (warn shortfall) = severities.Warn
+severity_of (error shortfall) = severities.Error
+
+-- severities ascend: satisfied, warning, error
+abbrev pub gravity : Verdict → ℕ
+gravity satisfied = 0
+gravity (warn shortfall) = 1
+gravity (error shortfall) = 2
+
+-- the version that a verdict names
+abbrev pub named_version : Verdict → Option Parts
+named_version satisfied = None
+named_version (warn shortfall) = Some shortfall.asked
+named_version (error shortfall) = Some shortfall.asked
+
+abbrev pub IsSatisfied : Verdict → Type 0
+IsSatisfied v = v ≡ satisfied
+
+abbrev pub IsNoGraver : Verdict → Verdict → Type 0
+IsNoGraver v other = gravity other ≤ gravity v
+
+-- the other verdict names no greater version
+abbrev pub NamesNoGreater : Verdict → Verdict → Type 0
+NamesNoGreater v other = IfSome (named_version v) (λ version. IfSome (named_version other) (λ greater. ¬ IsBelow version greater))
+
+-- a verdict as grave as this one names no greater version
+abbrev pub IsNoGreaterOfItsKind : Verdict → Verdict → Type 0
+IsNoGreaterOfItsKind v other = gravity other ≡ gravity v → NamesNoGreater v other
+
+-- a verdict as grave as this one names another version
+abbrev pub IsOtherOfItsKind : Verdict → Verdict → Type 0
+IsOtherOfItsKind v other = gravity other ≡ gravity v → named_version other ≢ named_version v
+
+-- the verdict stands at a position of greatest severity, none of that severity names a greater version, and no later one of that severity the same version
+pub record IsGravest (verdicts : List Verdict) (v : Verdict) : Type 0 where
+  pub before : List Verdict
+  pub after : List Verdict
+  pub whole : verdicts ≡ before ++ (v ∷ after)
+  pub gravest : AllByRecursion (IsNoGraver v) verdicts
+  pub no_greater : AllByRecursion (IsNoGreaterOfItsKind v) verdicts
+  pub last : AllByRecursion (IsOtherOfItsKind v) after
+
+abbrev pub IsSelected : List Verdict → Verdict → Type 0
+IsSelected verdicts v = (AllByRecursion IsSatisfied verdicts × (v ≡ satisfied)) ⊎ IsGravest verdicts v
+
+-- the shortfall, with the check overridden
+abbrev pub override_of : Shortfall → Shortfall
+override_of shortfall = record shortfall { overridden = true }
+
+-- the second verdict is the first one, overridden
+abbrev pub IsOverriding : Verdict → Verdict → Type 0
+IsOverriding satisfied v = v ≡ satisfied
+IsOverriding (warn shortfall) v = v ≡ warn (override_of shortfall)
+IsOverriding (error shortfall) v = v ≡ error (override_of shortfall)

@@ -1,0 +1,19 @@
+//! The part of the configuration that is read before any other: which nextest version it needs.
+
+mod error;
+mod error_kind;
+mod requirement;
+mod source;
+#[cfg(test)]
+mod tests;
+mod version_only;
+mod version_text;
+
+pub use error::{ConfigParseError, ListRefusal};
+pub use error_kind::ConfigParseErrorKind;
+pub use requirement::{
+    NextestVersionConfig, NextestVersionDeserialize, NextestVersionEval, NextestVersionReq,
+    Severity,
+};
+pub use source::{ConfigSource, ConfigSourceKind, SourceText};
+pub use version_only::VersionOnlyConfig;

@@ -1,0 +1,102 @@
+//! Why a source, or a list of sources, was refused.
+
+ghost use Rattle.std.specs.Prelude.{◌≡◌, ◌↔◌, IsNone, Some, None, option_map, is_none, false};
+ghost use Rattle.nextest_config.specs.NextestVersion.ErrorKind.{is_memory, no_memory, wrong_of};
+
+use super::error_kind::ConfigParseErrorKind;
+use super::source::ConfigSource;
+use std::alloc::{AllocError, Global};
+use std::fmt;
+use thiserror::Error;
+
+/// Why a configuration source was refused, and which.
+#[derive(Debug, PartialEq, Eq, Drop)]
+pub struct ConfigParseError {
+    kind: ConfigParseErrorKind,
+    source: Option<ConfigSource>,
+    ghost source_unless_memory: { is_none source ≡ is_memory kind },
+}
+
+impl ConfigParseError {
+    ghost use Rattle.nextest_config.specs.NextestVersion.Error.{refusal_of};
+    ghost use Rattle.nextest_config.specs.NextestVersion.Source.{place_of};
+
+    // The error of a source that was judged.
+    fn new(source: ConfigSource, kind: ConfigParseErrorKind) -> Self
+        requires { is_memory kind ≡ false }
+        ensures { refusal_of result ≡ record { place = Some (place_of source); wrong = wrong_of kind } }
+    {
+        ConfigParseError {
+            kind,
+            source: Some(source),
+        }
+    }
+
+    /// What is wrong.
+    pub fn kind(&self) -> &ConfigParseErrorKind
+        ensures { wrong_of result.now ≡ (refusal_of self.now).wrong }
+    {
+        &self.kind
+    }
+
+    /// The source that is refused; none where a request for memory was refused.
+    pub fn source(&self) -> Option<&ConfigSource>
+        ensures place { option_map (λ source. place_of source.now) result ≡ (refusal_of self.now).place }
+        ensures none { IsNone result ↔ ((refusal_of self.now).wrong ≡ no_memory) }
+    {
+        self.source.as_ref()
+    }
+}
+
+impl fmt::Display for ConfigParseError {
+    ghost use Rattle.nextest_config.specs.NextestVersion.Error.{refusal_of, refusal_text};
+
+    ghost output = { λ error. Some (refusal_text (refusal_of error)) };
+
+    fn fmt<W: fmt::Write>(&self, f: &mut fmt::Formatter<W>) -> fmt::Result {
+        if let Some(source) = &self.source {
+            write!(f, "{source}: ")?;
+        }
+        write!(f, "{}", self.kind)
+    }
+}
+
+/// Why a list of sources was refused.
+#[derive(Debug, PartialEq, Eq, Drop, Error)]
+pub enum ListRefusal {
+    /// The source at this position, counted from 0, is the first one that is refused.
+    #[error("source {position}: {error}")]
+    Refused {
+        position: usize,
+        error: ConfigParseError,
+    },
+    /// A request for memory was refused.
+    #[error("out of memory")]
+    Memory,
+}
+
+impl ListRefusal {
+    ghost use Rattle.nextest_config.specs.NextestVersion.Error.{IsRefusalAt};
+    ghost use Rattle.nextest_config.specs.NextestVersion.Source.{place_of};
+
+    // The refusal of the source at this position.
+    pub(crate) fn at(
+        alloc: Global,
+        position: usize,
+        source: &ConfigSource,
+        kind: ConfigParseErrorKind,
+    ) -> Self
+        ensures { IsRefusalAt position (place_of source.now) (wrong_of kind) result }
+    {
+        if kind.is_memory() {
+            return ListRefusal::Memory;
+        }
+        match source.clone(alloc) {
+            Ok(source) => ListRefusal::Refused {
+                position,
+                error: ConfigParseError::new(source, kind),
+            },
+            Err(AllocError) => ListRefusal::Memory,
+        }
+    }
+}

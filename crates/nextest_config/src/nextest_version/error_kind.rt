@@ -1,0 +1,72 @@
+//! What is wrong with a source.
+
+ghost use Rattle.std.specs.Prelude.{◌≡◌, ◌↔◌, IsTrue, Some};
+ghost use Rattle.nextest_config_values.specs.Read.Fault.{fault_of};
+
+use nextest_config_values::read::ReadFault;
+use std::alloc::AllocError;
+use std::fmt;
+
+/// What is wrong with a configuration source.
+#[derive(Debug, PartialEq, Eq, Drop)]
+pub enum ConfigParseErrorKind {
+    /// Its contents are no TOML document.
+    TomlParseError,
+    /// A setting in it is refused.
+    VersionOnlyDeserializeError(ReadFault),
+    /// Nothing is said of it, since a request for memory was refused.
+    Memory,
+}
+
+impl ConfigParseErrorKind {
+    ghost use Rattle.nextest_config.specs.NextestVersion.ErrorKind.{is_memory};
+
+    /// Whether a request for memory was refused.
+    pub(crate) fn is_memory(&self) -> bool
+        ensures { result ≡ is_memory self.now }
+    {
+        match self {
+            ConfigParseErrorKind::Memory => true,
+            ConfigParseErrorKind::TomlParseError
+            | ConfigParseErrorKind::VersionOnlyDeserializeError(_) => false,
+        }
+    }
+}
+
+impl From<AllocError> for ConfigParseErrorKind {
+    ghost use Rattle.nextest_config.specs.declared.nextest_version.error_kind.ConfigParseErrorKind.TheVariants.{Memory};
+
+    ghost from_gives = { λ _ kind. kind ≡ Memory };
+
+    fn from(_error: AllocError) -> Self {
+        ConfigParseErrorKind::Memory
+    }
+}
+
+impl From<ReadFault> for ConfigParseErrorKind {
+    ghost use Rattle.nextest_config.specs.NextestVersion.ErrorKind.{wrong_from, wrong_of};
+
+    ghost from_gives = { λ fault kind. wrong_of kind ≡ wrong_from (fault_of fault) };
+
+    fn from(fault: ReadFault) -> Self {
+        if fault.is_memory() {
+            ConfigParseErrorKind::Memory
+        } else {
+            ConfigParseErrorKind::VersionOnlyDeserializeError(fault)
+        }
+    }
+}
+
+impl fmt::Display for ConfigParseErrorKind {
+    ghost use Rattle.nextest_config.specs.NextestVersion.ErrorKind.{wrong_of, wrong_text};
+
+    ghost output = { λ kind. Some (wrong_text (wrong_of kind)) };
+
+    fn fmt<W: fmt::Write>(&self, f: &mut fmt::Formatter<W>) -> fmt::Result {
+        match self {
+            ConfigParseErrorKind::TomlParseError => f.write_str("not a TOML document"),
+            ConfigParseErrorKind::VersionOnlyDeserializeError(fault) => write!(f, "{fault}"),
+            ConfigParseErrorKind::Memory => f.write_str("out of memory"),
+        }
+    }
+}

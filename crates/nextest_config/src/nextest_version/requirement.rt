@@ -1,0 +1,319 @@
+//! The versions that sources ask for, those that are kept, and the verdict on the current one.
+
+ghost use Rattle.std.specs.Prelude.{◌≡◌, ℕ, IfOk, IfErr, IsOk, OnOk, OnErr, MatchOption, option_map, Some, None};
+ghost use Rattle.semver.specs.Identifiers.{parts_of};
+ghost use Rattle.toml.specs.View.{view};
+ghost use Rattle.nextest_config_values.specs.Read.Fault.{Refuses, fault_of};
+
+use super::source::ConfigSource;
+use super::version_text::parse_version;
+use nextest_config_values::read::ReadFault;
+use semver::Version;
+use std::alloc::{AllocError, Global};
+use std::cmp::Ordering;
+use toml::Value;
+
+/// The versions that one source asks for.
+#[derive(Debug, PartialEq, Eq, Drop)]
+pub struct NextestVersionDeserialize {
+    /// The least version that the source requires.
+    pub required: Option<Version>,
+    /// The least version that the source recommends.
+    pub recommended: Option<Version>,
+}
+
+/// The version that is kept in one role, and the source that asked for it.
+#[derive(Debug, Default, PartialEq, Eq, Drop)]
+pub enum NextestVersionReq {
+    /// Some source asked for a version.
+    Version {
+        version: Version,
+        source: ConfigSource,
+    },
+    /// No source asked for one.
+    #[default]
+    None,
+}
+
+/// The versions that are kept of all sources read so far.
+#[derive(Debug, Default, PartialEq, Eq, Drop)]
+pub struct NextestVersionConfig {
+    /// The version below which there is an error.
+    pub required: NextestVersionReq,
+    /// The version below which there is a warning. It may be lower than the required one, and is
+    /// without effect then.
+    pub recommended: NextestVersionReq,
+}
+
+/// What the current version is told.
+#[derive(Debug, PartialEq, Eq, Drop)]
+pub enum NextestVersionEval {
+    /// It is enough for both roles.
+    Satisfied,
+    /// It isn't enough for the required version.
+    Error {
+        required: Version,
+        current: Version,
+        source: ConfigSource,
+    },
+    /// It isn't enough for the recommended version.
+    Warn {
+        recommended: Version,
+        current: Version,
+        source: ConfigSource,
+    },
+    /// It isn't enough for the required version, and the check is overridden.
+    ErrorOverride {
+        required: Version,
+        current: Version,
+        source: ConfigSource,
+    },
+    /// It isn't enough for the recommended version, and the check is overridden.
+    WarnOverride {
+        recommended: Version,
+        current: Version,
+        source: ConfigSource,
+    },
+}
+
+/// How grave a verdict is, overridden or not.
+#[derive(Clone, Copy, Debug, PartialEq, Eq, PartialOrd, Ord, Hash)]
+pub enum Severity {
+    Satisfied,
+    Warn,
+    Error,
+}
+
+const EXPECTED: &str =
+    "a table ({ required = \"0.9.20\", recommended = \"0.9.30\" }) or a string (\"0.9.50\")";
+
+impl NextestVersionDeserialize {
+    ghost use Rattle.nextest_config.specs.NextestVersion.Requirement.{MeansVersions, VersionsFault, ask_of, nothing};
+
+    /// Asks for no version.
+    pub(crate) fn nothing() -> Self
+        ensures { ask_of result ≡ nothing }
+    {
+        NextestVersionDeserialize {
+            required: None,
+            recommended: None,
+        }
+    }
+
+    /// Reads the value of `nextest-version`, whose path is `at`.
+    pub(crate) fn read(alloc: Global, value: &Value, at: &str) -> Result<Self, ReadFault>
+        ensures meant { IfOk result (λ d. MeansVersions (view value.now) (ask_of d)) }
+        ensures refused { IfErr result (λ fault.
+            Refuses (VersionsFault (view value.now) at.now) (fault_of fault)) }
+    {
+        match value.as_str() {
+            Some(text) => match parse_version(alloc, text) {
+                Ok(version) => Ok(NextestVersionDeserialize {
+                    required: Some(version),
+                    recommended: None,
+                }),
+                Err(kind) => Err(ReadFault::new(alloc, at, kind)),
+            },
+            None => Err(ReadFault::invalid_type(alloc, value, at, EXPECTED)),
+        }
+    }
+}
+
+impl NextestVersionReq {
+    ghost use Rattle.nextest_config.specs.NextestVersion.Requirement.{asked_from, join_kept, kept_from, kept_of, kept_version};
+    ghost use Rattle.nextest_config.specs.NextestVersion.Source.{place_of};
+    ghost use Rattle.nextest_config.specs.NextestVersion.Verdict.{unmet};
+
+    /// The version, if a source asked for one.
+    pub fn version(&self) -> Option<&Version>
+        ensures { option_map (λ v. parts_of v.now) result ≡ option_map kept_version (kept_of self.now) }
+    {
+        match self {
+            NextestVersionReq::Version { version, source: _ } => Some(version),
+            NextestVersionReq::None => None,
+        }
+    }
+
+    // What is kept instead once this version is asked from this source; `None` where nothing changes.
+    fn raised(
+        &self,
+        alloc: Global,
+        asked: Option<Version>,
+        source: &ConfigSource,
+    ) -> Result<Option<NextestVersionReq>, AllocError>
+        ensures { let joined = join_kept (kept_of self.now)
+            (asked_from (place_of source.now) (option_map parts_of asked)) in IfOk result (λ raised. MatchOption raised (joined ≡ kept_of self.now) (λ req. kept_of req ≡ joined)) }
+    {
+        let Some(version) = asked else {
+            return Ok(None);
+        };
+        if self.unmet(&version).is_some() {
+            return Ok(None);
+        }
+        let source = source.clone(alloc)?;
+        Ok(Some(NextestVersionReq::Version { version, source }))
+    }
+
+    // The kept version and its source, if the version isn't enough for it.
+    fn unmet(&self, version: &Version) -> Option<(&Version, &ConfigSource)>
+        ensures { option_map (λ kept. kept_from kept.0.now kept.1.now) result
+            ≡ unmet (kept_of self.now) (parts_of version.now) }
+    {
+        match self {
+            NextestVersionReq::Version {
+                version: kept,
+                source,
+            } => {
+                if version.cmp_precedence(kept) == Ordering::Less {
+                    Some((kept, source))
+                } else {
+                    None
+                }
+            }
+            NextestVersionReq::None => None,
+        }
+    }
+}
+
+impl NextestVersionConfig {
+    ghost use Rattle.nextest_config.specs.NextestVersion.Requirement.{ask_of, join_roles, roles_from, roles_of};
+    ghost use Rattle.nextest_config.specs.NextestVersion.Source.{place_of};
+    ghost use Rattle.nextest_config.specs.NextestVersion.Verdict.{satisfied, verdict, verdict_of};
+
+    /// Takes in what a later source asks: in each role the greater version is kept, and of equal ones
+    /// the later.
+    pub fn accumulate(
+        &mut self,
+        alloc: Global,
+        v: NextestVersionDeserialize,
+        source: &ConfigSource,
+    ) -> Result<(), AllocError>
+        ensures joined { OnOk result (roles_of self.new
+            ≡ join_roles (roles_of self.old) (roles_from (place_of source.now) (ask_of v))) }
+        ensures unchanged { OnErr result (roles_of self.new ≡ roles_of self.old) }
+    {
+        let NextestVersionDeserialize {
+            required,
+            recommended,
+        } = v;
+        let required = self.required.raised(alloc, required, source)?;
+        let recommended = self.recommended.raised(alloc, recommended, source)?;
+        if let Some(req) = required {
+            self.required = req;
+        }
+        if let Some(req) = recommended {
+            self.recommended = req;
+        }
+        Ok(())
+    }
+
+    /// The verdict on the current version.
+    pub fn eval(
+        &self,
+        alloc: Global,
+        current: &Version,
+        override_version_check: bool,
+    ) -> Result<NextestVersionEval, AllocError>
+        ensures value { IfOk result (λ eval. verdict_of eval
+            ≡ verdict (roles_of self.now) (parts_of current.now) override_version_check) }
+        ensures satisfied { verdict (roles_of self.now) (parts_of current.now) override_version_check
+            ≡ satisfied → IsOk result }
+    {
+        if let Some((required, source)) = self.required.unmet(current) {
+            let eval = NextestVersionEval::error(
+                alloc,
+                required,
+                current,
+                source,
+                override_version_check,
+            )?;
+            return Ok(eval);
+        }
+        if let Some((recommended, source)) = self.recommended.unmet(current) {
+            let eval = NextestVersionEval::warning(
+                alloc,
+                recommended,
+                current,
+                source,
+                override_version_check,
+            )?;
+            return Ok(eval);
+        }
+        Ok(NextestVersionEval::Satisfied)
+    }
+}
+
+impl NextestVersionEval {
+    ghost use Rattle.nextest_config.specs.NextestVersion.Verdict.{error, severity_of, shortfall, verdict_of, warn};
+
+    // The error of an unmet required version.
+    fn error(
+        alloc: Global,
+        required: &Version,
+        current: &Version,
+        source: &ConfigSource,
+        overridden: bool,
+    ) -> Result<Self, AllocError>
+        ensures { IfOk result (λ eval. verdict_of eval
+            ≡ error (shortfall required.now current.now source.now overridden)) }
+    {
+        let (required, current) = (required.clone()?, current.clone()?);
+        let source = source.clone(alloc)?;
+        if overridden {
+            Ok(NextestVersionEval::ErrorOverride {
+                required,
+                current,
+                source,
+            })
+        } else {
+            Ok(NextestVersionEval::Error {
+                required,
+                current,
+                source,
+            })
+        }
+    }
+
+    // The warning of an unmet recommended version.
+    fn warning(
+        alloc: Global,
+        recommended: &Version,
+        current: &Version,
+        source: &ConfigSource,
+        overridden: bool,
+    ) -> Result<Self, AllocError>
+        ensures { IfOk result (λ eval. verdict_of eval
+            ≡ warn (shortfall recommended.now current.now source.now overridden)) }
+    {
+        let (recommended, current) = (recommended.clone()?, current.clone()?);
+        let source = source.clone(alloc)?;
+        if overridden {
+            Ok(NextestVersionEval::WarnOverride {
+                recommended,
+                current,
+                source,
+            })
+        } else {
+            Ok(NextestVersionEval::Warn {
+                recommended,
+                current,
+                source,
+            })
+        }
+    }
+
+    /// How grave the verdict is; an overridden one is as grave as the plain one.
+    pub fn severity(&self) -> Severity
+        ensures { result ≡ severity_of (verdict_of self.now) }
+    {
+        match self {
+            NextestVersionEval::Satisfied => Severity::Satisfied,
+            NextestVersionEval::Warn { .. } | NextestVersionEval::WarnOverride { .. } => {
+                Severity::Warn
+            }
+            NextestVersionEval::Error { .. } | NextestVersionEval::ErrorOverride { .. } => {
+                Severity::Error
+            }
+        }
+    }
+}

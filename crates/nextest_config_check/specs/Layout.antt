@@ -1,0 +1,122 @@
+-- How the input is laid out: blocks, one after the other, each a source line and the contents of that source.
+use Rattle.std.specs.Prelude.{◌≡◌, ◌≢◌, ℕ, ◌+◌, ◌<◌, ◌==◌, List, [], ◌∷◌, ◌++◌, length, codes, count_by, Some, ◌⊎◌, if◌then◌else◌}
+use Rattle.std.specs.List.{AllByRecursion}
+use Rattle.nextest_config.specs.NextestVersion.Source.{Place, Source, place_text}
+use Rattle.nextest_config_check.specs.declared.layout.LayoutFault.{LayoutFault}
+use Rattle.nextest_config_check.specs.declared.layout.LayoutFault.TheVariants as faults
+
+abbrev pub line_feed : ℕ
+line_feed = 10
+
+abbrev pub carriage_return : ℕ
+carriage_return = 13
+
+-- what a source line begins with
+abbrev pub mark : List ℕ
+mark = codes "=== "
+
+abbrev pub IsInLine : ℕ → Type 0
+IsInLine byte = byte ≢ line_feed
+
+-- the text, if it isn't empty, ends in a line feed, so that a line begins behind it
+abbrev pub EndsLine : List ℕ → Type 0
+EndsLine text = (text ≡ []) ⊎ ((front : List ℕ) × (text ≡ front ++ (line_feed ∷ [])))
+
+-- below its first line, no line of the text begins with the mark
+abbrev pub IsUnmarkedBelow : List ℕ → Type 0
+IsUnmarkedBelow text = (front rest : List ℕ) → text ≢ front ++ (line_feed ∷ (mark ++ rest))
+
+-- no line of the text begins with the mark
+abbrev pub IsUnmarked : List ℕ → Type 0
+IsUnmarked text = (front rest : List ℕ) → text ≡ front ++ (mark ++ rest) → ¬ EndsLine front
+
+-- the text without one carriage return at its end
+abbrev pub trimmed : List ℕ → List ℕ
+trimmed [] = []
+trimmed (byte ∷ []) = if byte == carriage_return then [] else byte ∷ []
+trimmed (byte ∷ next ∷ rest) = byte ∷ trimmed (next ∷ rest)
+
+-- a line that a line feed ends, without its end, and what follows it
+pub record IsEndedLine (text line rest : List ℕ) : Type 0 where
+  pub bytes : List ℕ
+  pub whole : text ≡ bytes ++ (line_feed ∷ rest)
+  pub one_line : AllByRecursion IsInLine bytes
+  pub line_is : line ≡ trimmed bytes
+
+-- a line that nothing ends
+pub record IsLastLine (text line rest : List ℕ) : Type 0 where
+  pub one_line : AllByRecursion IsInLine text
+  pub line_is : line ≡ text
+  pub no_rest : rest ≡ []
+
+-- the first line of the text, without its end, and what follows it
+abbrev pub IsFirstLine : List ℕ → List ℕ → List ℕ → Type 0
+IsFirstLine text line rest = IsEndedLine text line rest ⊎ IsLastLine text line rest
+
+-- the line is the source line of this place, whose path isn't empty
+pub record IsSourceLine (line : List ℕ) (place : Place) : Type 0 where
+  pub whole : line ≡ mark ++ place_text place
+  pub path : 0 < length place.path
+
+-- the text is a source line and the contents of that source, in which no line is marked
+pub record IsBlock (text : List ℕ) (source : Source) : Type 0 where
+  pub line : List ℕ
+  pub contents : List ℕ
+  pub first : IsFirstLine text line contents
+  pub names : IsSourceLine line source.place
+  pub unmarked : IsUnmarked contents
+  pub holds : source.contents ≡ Some contents
+
+-- the text is a block for each of these sources, each from the beginning of a line
+abbrev pub AreBlocks : List Source → List ℕ → Type 0
+AreBlocks [] text = text ≡ []
+AreBlocks (source ∷ sources) text =
+    (block : List ℕ) × (rest : List ℕ) × (text ≡ block ++ rest) × IsBlock block source × ((rest ≡ []) ⊎ EndsLine block) × AreBlocks sources rest
+
+-- the text's first line is marked, or it is the first line of the input
+abbrev pub OwesSourceLine : List ℕ → List ℕ → Type 0
+OwesSourceLine front rest = (front ≡ []) ⊎ ((more : List ℕ) × (rest ≡ mark ++ more))
+
+-- the line with this number, counted from 1, is the first that is no source line where one has to be
+pub record IsFaultyLine (input : List ℕ) (number : ℕ) : Type 0 where
+  pub front : List ℕ
+  pub rest : List ℕ
+  pub line : List ℕ
+  pub more : List ℕ
+  pub sources : List Source
+  pub whole : input ≡ front ++ rest
+  pub some : 0 < length rest
+  pub blocks : AreBlocks sources front
+  pub ended : EndsLine front
+  pub owed : OwesSourceLine front rest
+  pub first : IsFirstLine rest line more
+  pub faulty : (place : Place) → ¬ IsSourceLine line place
+  pub counted : number ≡ count_by (λ byte. byte == line_feed) front + 1
+
+-- the input is refused for this: a faulty line, or want of memory
+abbrev pub IsFaultyInput : List ℕ → LayoutFault → Type 0
+IsFaultyInput input (faults.Line number) = IsFaultyLine input number
+IsFaultyInput input faults.Memory = Unit {0}
+
+-- the text is cut before its next marked line, the first line aside, or behind its end
+pub record IsCut (text block rest : List ℕ) : Type 0 where
+  pub whole : text ≡ block ++ rest
+  pub some : 0 < length text → 0 < length block
+  pub ended : (rest ≡ []) ⊎ (EndsLine block × ((more : List ℕ) × (rest ≡ mark ++ more)))
+  pub unmarked : IsUnmarkedBelow block
+
+-- the first line of the text is no source line
+abbrev pub IsFaultyBlock : List ℕ → Type 0
+IsFaultyBlock text = (line : List ℕ) × (more : List ℕ) × IsFirstLine text line more × ((place : Place) → ¬ IsSourceLine line place)
+
+-- the number, counted from 1, of the line that begins behind the text
+abbrev pub line_number : List ℕ → ℕ
+line_number front = count_by (λ byte. byte == line_feed) front + 1
+
+-- the input up to the rest is blocks of these sources, and a source line is owed where the rest begins, if it isn't empty
+pub record AreSourcesBefore (input : List ℕ) (sources : List Source) (rest : List ℕ) : Type 0 where
+  pub front : List ℕ
+  pub whole : input ≡ front ++ rest
+  pub blocks : AreBlocks sources front
+  pub ended : EndsLine front ⊎ (rest ≡ [])
+  pub owed : OwesSourceLine front rest ⊎ (rest ≡ [])

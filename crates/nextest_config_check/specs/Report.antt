@@ -1,0 +1,73 @@
+-- The report on an input.
+use Rattle.std.specs.Prelude.{◌≡◌, ℕ, Bool, true, false, List, ◌++◌, map, codes, string_bytes}
+use Rattle.std.specs.Str.{IsUtf8}
+use Rattle.std.specs.Fmt.{decimal}
+use Rattle.semver.specs.Identifiers.{parts_text}
+use Rattle.semver.specs.Parse.{Parts}
+use Rattle.nextest_config.specs.NextestVersion.Error.{Refusal, refusal_text}
+use Rattle.nextest_config.specs.NextestVersion.Source.{Place, Source, place_text}
+use Rattle.nextest_config.specs.NextestVersion.Verdict.{Verdict, satisfied, warn, error, Shortfall, IsSelected}
+use Rattle.nextest_config.specs.NextestVersion.VersionOnly.{Asked, AreRead, IsFirstRefused, alone}
+use Rattle.nextest_config_check.specs.Layout.{AreBlocks, IsFaultyLine}
+use Rattle.nextest_config_check.specs.declared.report.Outcome.{Outcome}
+use Rattle.nextest_config_check.specs.declared.report.Report.{Report}
+use Rattle.nextest_config_check.specs.declared.report.Outcome.TheVariants.{Passed, Failed, Refused}
+
+-- what an overridden verdict says of it
+abbrev pub override_text : Bool → List ℕ
+override_text true = codes " (overridden): "
+override_text false = codes ": "
+
+abbrev pub shortfall_text : List ℕ → Shortfall → List ℕ
+shortfall_text asks shortfall =
+    override_text shortfall.overridden ++ (parts_text shortfall.asked ++ (asks ++ (place_text shortfall.place ++ (codes ", current " ++ parts_text shortfall.current))))
+
+-- the same, from its words
+abbrev pub shortfall_line_text : List ℕ → Parts → List ℕ → Place → Parts → List ℕ
+shortfall_line_text says asked asks place current =
+    says ++ (codes ": " ++ (parts_text asked ++ (codes " " ++ (asks ++ (codes " by " ++ (place_text place ++ (codes ", current " ++ parts_text current)))))))
+
+-- a verdict on the current version
+abbrev pub verdict_text : Parts → Verdict → List ℕ
+verdict_text current satisfied = codes "satisfied: " ++ parts_text current
+verdict_text current (warn shortfall) = codes "warning" ++ shortfall_text (codes " recommended by ") shortfall
+verdict_text current (error shortfall) = codes "error" ++ shortfall_text (codes " required by ") shortfall
+
+-- the lines of a list that reads
+abbrev pub read_text : Parts → Verdict → List ℕ
+read_text current v = verdict_text current v ++ codes "\nknown: none\n"
+
+-- an error that isn't overridden fails
+abbrev pub outcome_of : Verdict → Outcome
+outcome_of satisfied = Passed
+outcome_of (warn shortfall) = Passed
+outcome_of (error shortfall) = error_outcome shortfall.overridden
+  where
+    error_outcome : Bool → Outcome
+    error_outcome true = Passed
+    error_outcome false = Failed
+
+-- the report on the input, and its outcome: one constructor for each kind of report
+pub data IsReport (input : List ℕ) (current : Parts) (overridden : Bool) : List ℕ → Outcome → Type 0 where
+  not_text : ¬ IsUtf8 input → IsReport input current overridden (codes "refused: input isn't UTF-8\n") Refused
+  faulty_line : (number : ℕ) → IsUtf8 input → IsFaultyLine input number
+      → IsReport input current overridden (codes "refused: line " ++ (decimal number ++ codes " isn't a source line\n")) Refused
+  refused_list : (sources : List Source) (position : ℕ) (refusal : Refusal) → IsUtf8 input → AreBlocks sources input → IsFirstRefused sources position refusal
+      → IsReport input current overridden (codes "refused at " ++ (decimal position ++ (codes ": " ++ (refusal_text refusal ++ codes "\n")))) Refused
+  read_list : (sources : List Source) (asked : List Asked) (v : Verdict) → IsUtf8 input → AreBlocks sources input → AreRead sources asked
+      → IsSelected (map (alone current overridden) asked) v → IsReport input current overridden (read_text current v) (outcome_of v)
+
+-- the report is that of a list that reads, with this verdict
+pub record IsReportOf (current : Parts) (v : Verdict) (report : Report) : Type 0 where
+  pub text : string_bytes report.text ≡ read_text current v
+  pub outcome : report.outcome ≡ outcome_of v
+
+-- the report on each input that holds these sources, and its outcome
+abbrev pub IsReportOn : List Source → Parts → Bool → List ℕ → Outcome → Type 0
+IsReportOn sources current overridden text outcome = (input : List ℕ) → IsUtf8 input → AreBlocks sources input → IsReport input current overridden text outcome
+
+-- the status that the program ends with
+abbrev pub status_of : Outcome → ℕ
+status_of Passed = 0
+status_of Failed = 1
+status_of Refused = 2

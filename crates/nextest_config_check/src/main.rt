@@ -1,0 +1,37 @@
+//! `nextest_config_check CURRENT [--override]` reads a list of configuration sources on standard input
+//! and reports which nextest version they ask for, which source asks it, and whether CURRENT is enough.
+#![tactic(auto)]
+
+pub mod engine;
+mod layout;
+mod report;
+
+use engine::{NO_OUTCOME, RunFault, serve};
+use std::env;
+use std::io::{self, Input};
+use std::process::ExitCode;
+
+fn main(rt: HostRuntime) -> ExitCode {
+    let words = match words(&rt) {
+        Ok(words) => words,
+        Err(error) => {
+            let _ = rt.eprintln(RunFault::of_read(&error));
+            return ExitCode::from(NO_OUTCOME);
+        }
+    };
+    let mut reader = rt.reader();
+    let status = serve(
+        rt.alloc(),
+        &words,
+        &mut reader,
+        &mut rt.stdout(),
+        &mut rt.stderr(),
+    );
+    ExitCode::from(status)
+}
+
+// The words of the command line, without the program's name.
+fn words(rt: &HostRuntime) -> io::Result<Vec<String>> {
+    let words = env::args(rt)?.skip(1).collect(rt.alloc())?;
+    Ok(words)
+}

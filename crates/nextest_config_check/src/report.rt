@@ -1,0 +1,208 @@
+//! The report on an input.
+
+ghost use Rattle.std.specs.Prelude.{◌≡◌, IfOk, map, string_bytes};
+ghost use Rattle.semver.specs.Identifiers.{parts_of};
+ghost use Rattle.nextest_config.specs.NextestVersion.Requirement.{roles_of};
+ghost use Rattle.nextest_config.specs.NextestVersion.Source.{place_of, source_of};
+ghost use Rattle.nextest_config.specs.NextestVersion.Verdict.{verdict, verdict_of};
+ghost use Rattle.nextest_config_check.specs.Report.{IsReport, IsReportOf, IsReportOn, outcome_of, shortfall_line_text, status_of, verdict_text};
+
+use crate::layout::{self, LayoutFault};
+use nextest_config::nextest_version::{
+    ConfigSource, ListRefusal, NextestVersionConfig, NextestVersionEval, SourceText,
+    VersionOnlyConfig,
+};
+use semver::Version;
+use std::alloc::{AllocError, Global};
+use std::str;
+
+/// How a check came out.
+#[derive(Clone, Copy, Debug, PartialEq, Eq)]
+pub enum Outcome {
+    /// The current version is enough, or at most a warning or an overridden error is due.
+    Passed,
+    /// The current version isn't enough for a required one.
+    Failed,
+    /// The input, or a source in it, is refused.
+    Refused,
+}
+
+impl Outcome {
+    /// The status that the program ends with.
+    pub fn status(self) -> u8
+        ensures { result ≡ status_of self }
+    {
+        match self {
+            Outcome::Passed => 0,
+            Outcome::Failed => 1,
+            Outcome::Refused => 2,
+        }
+    }
+}
+
+/// A report, each line ended by a line feed.
+#[derive(Debug, Drop)]
+pub(crate) struct Report {
+    pub text: String,
+    pub outcome: Outcome,
+}
+
+/// The report on an input for a current version.
+pub(crate) fn report_on(
+    alloc: Global,
+    input: &[u8],
+    current: &Version,
+    override_version_check: bool,
+) -> Result<Report, AllocError>
+    ensures { IfOk result (λ report. IsReport input.now (parts_of current.now) override_version_check (string_bytes report.text) report.outcome) }
+{
+    let Ok(input) = str::from_utf8(input) else {
+        return Ok(refused(String::from_str(alloc, "refused: input isn't UTF-8\n")?));
+    };
+    match layout::sources(alloc, input) {
+        Ok(sources) => report_on_sources(alloc, &sources, current, override_version_check),
+        Err(LayoutFault::Line(number)) => Ok(refused(format!(in alloc;
+            "refused: line {number} isn't a source line\n"
+        )?)),
+        Err(LayoutFault::Memory) => Err(AllocError),
+    }
+}
+
+// The report that refuses the input with this text.
+fn refused(text: String) -> Report
+    ensures { result ≡ record { text = text; outcome = Outcome.Refused } }
+{
+    Report {
+        text,
+        outcome: Outcome::Refused,
+    }
+}
+
+// The report on an input that holds these sources.
+fn report_on_sources(
+    alloc: Global,
+    sources: &[SourceText],
+    current: &Version,
+    override_version_check: bool,
+) -> Result<Report, AllocError>
+    ensures { IfOk result (λ report. IsReportOn (map source_of sources.now) (parts_of current.now) override_version_check (string_bytes report.text) report.outcome) }
+{
+    match VersionOnlyConfig::from_list(alloc, sources) {
+        Ok(config) => {
+            let kept = config.nextest_version();
+            report_on_kept(alloc, kept, current, override_version_check)
+        }
+        Err(ListRefusal::Refused { position, error }) => Ok(refused(format!(in alloc;
+            "refused at {position}: {error}\n"
+        )?)),
+        Err(ListRefusal::Memory) => Err(AllocError),
+    }
+}
+
+// The report on a list that reads, of which these versions are kept.
+fn report_on_kept(
+    alloc: Global,
+    kept: &NextestVersionConfig,
+    current: &Version,
+    override_version_check: bool,
+) -> Result<Report, AllocError>
+    ensures { IfOk result (IsReportOf (parts_of current.now) (verdict (roles_of kept.now) (parts_of current.now) override_version_check)) }
+{
+    let eval = kept.eval(alloc, current, override_version_check)?;
+    report_on_eval(alloc, &eval, current)
+}
+
+// The report of a verdict on the current version.
+fn report_on_eval(
+    alloc: Global,
+    eval: &NextestVersionEval,
+    current: &Version,
+) -> Result<Report, AllocError>
+    ensures { IfOk result (IsReportOf (parts_of current.now) (verdict_of eval.now)) }
+{
+    let mut text = verdict_line(alloc, eval, current)?;
+    text.push_str("\nknown: none\n")?;
+    let outcome = verdict_outcome(eval);
+    Ok(Report { text, outcome })
+}
+
+// The line of a verdict on the current version, without its end.
+fn verdict_line(
+    alloc: Global,
+    eval: &NextestVersionEval,
+    current: &Version,
+) -> Result<String, AllocError>
+    ensures { IfOk result (λ text. string_bytes text ≡ verdict_text (parts_of current.now) (verdict_of eval.now)) }
+{
+    match eval {
+        NextestVersionEval::Satisfied => format!(in alloc; "satisfied: {current}"),
+        NextestVersionEval::Error {
+            required,
+            current,
+            source,
+        } => shortfall_line(alloc, "error", required, "required", source, current),
+        NextestVersionEval::Warn {
+            recommended,
+            current,
+            source,
+        } => shortfall_line(
+            alloc,
+            "warning",
+            recommended,
+            "recommended",
+            source,
+            current,
+        ),
+        NextestVersionEval::ErrorOverride {
+            required,
+            current,
+            source,
+        } => shortfall_line(
+            alloc,
+            "error (overridden)",
+            required,
+            "required",
+            source,
+            current,
+        ),
+        NextestVersionEval::WarnOverride {
+            recommended,
+            current,
+            source,
+        } => shortfall_line(
+            alloc,
+            "warning (overridden)",
+            recommended,
+            "recommended",
+            source,
+            current,
+        ),
+    }
+}
+
+// The line of a verdict that the current version isn't enough.
+fn shortfall_line(
+    alloc: Global,
+    verdict: &str,
+    asked: &Version,
+    asks: &str,
+    source: &ConfigSource,
+    current: &Version,
+) -> Result<String, AllocError>
+    ensures { IfOk result (λ text. string_bytes text ≡ shortfall_line_text verdict.now (parts_of asked.now) asks.now (place_of source.now) (parts_of current.now)) }
+{
+    format!(in alloc; "{verdict}: {asked} {asks} by {source}, current {current}")
+}
+
+// How a check with this verdict comes out.
+fn verdict_outcome(eval: &NextestVersionEval) -> Outcome
+    ensures { result ≡ outcome_of (verdict_of eval.now) }
+{
+    match eval {
+        NextestVersionEval::Error { .. } => Outcome::Failed,
+        NextestVersionEval::Satisfied
+        | NextestVersionEval::Warn { .. }
+        | NextestVersionEval::ErrorOverride { .. }
+        | NextestVersionEval::WarnOverride { .. } => Outcome::Passed,
+    }
+}

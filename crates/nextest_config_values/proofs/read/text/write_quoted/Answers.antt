@@ -1,0 +1,22 @@
+use Rattle.std.proofs.Common.{◌≡◌, ◌∙◌, ℕ, List, ◌++◌, codes, flat_map, map, sym, ap, rules, append_assoc}
+use Rattle.std.proofs.Output.{has_written_append, has_written_of_eq}
+use Rattle.std.proofs.lemmas.Iterator.{YieldsList-from_chars}
+use Rattle.std.proofs.lemmas.Iterator.Consumers.{YieldsList-end}
+use Rattle.std.proofs.lemmas.List.{flat_map_more, map-id}
+use Rattle.std.specs.Str.{chars}
+use Rattle.nextest_config_values.specs.Read.Text.{escaped, quoted_text}
+use Rattle.nextest_config_values.proofs.read.text.write_quoted.Goals as goal
+
+-- all characters between the quotes
+between_quotes : (text cs : List ℕ) → map (λ c. c) cs ≡ chars text → (codes "\"" ++ flat_map escaped cs) ++ codes "\"" ≡ quoted_text text
+unfolding quoted_text
+between_quotes text cs all = append_assoc (codes "\"") (flat_map escaped cs) (codes "\"") ∙ ap (λ ds. codes "\"" ++ (flat_map escaped ds ++ codes "\"")) (sym (map-id cs) ∙ all)
+
+pub loop-c-preserved : goal.loop-c-preserved
+loop-c-preserved g c p =
+    has_written_of_eq _ _ _ _ _ (flat_map_more escaped (codes "\"") c.loop-c.yielded c.in-Some.c) (has_written_append _ _ _ _ _ _ (c.loop-c.invariant p) (search rules))
+
+pub returns : goal.returns
+returns g c p ok =
+    let t = YieldsList-end (YieldsList-from_chars c.args.text.now c.utf8.text (search rules)) c.loop-c.yielded _ c.loop-c.yielded_by _ _ c.in-None.is c.next.ensures.steps in
+    has_written_of_eq _ _ _ _ _ (between_quotes c.args.text.now c.loop-c.yielded t.0) (has_written_append _ _ _ _ _ _ (c.loop-c.invariant p) (search rules))

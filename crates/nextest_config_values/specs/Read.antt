@@ -1,0 +1,3 @@
+-- What readings of TOML values say.
+pub mod Fault
+pub mod Text

@@ -1,0 +1,35 @@
+-- The texts of values in refusals.
+use Rattle.std.specs.Prelude.{ℕ, ◌==◌, false, List, ◌++◌, flat_map, codes, encode_utf8, if◌then◌else◌}
+use Rattle.std.specs.Char.{is_control}
+use Rattle.std.specs.Fmt.{digits, signed_decimal}
+use Rattle.std.specs.Str.{chars}
+use Rattle.toml.specs.Data.{Data, string, integer, float, boolean, datetime, array, table}
+
+-- a character with no escape of its own: its code in lower case hexadecimal, where it is a control character (U+0000 to U+001F, U+007F to U+009F)
+abbrev pub unnamed : ℕ → List ℕ
+unnamed c = if is_control c then codes "\\u{" ++ (digits 16 false c ++ codes "}") else encode_utf8 c
+
+-- a character between the quotes
+abbrev pub escaped : ℕ → List ℕ
+escaped c =
+    if c == 34 then codes "\\\""
+    else if c == 92 then codes "\\\\"
+    else if c == 10 then codes "\\n"
+    else if c == 13 then codes "\\r"
+    else if c == 9 then codes "\\t"
+    else if c == 0 then codes "\\0"
+    else unnamed c
+
+-- a text between double quotes
+unfoldable pub quoted_text : List ℕ → List ℕ
+quoted_text text = codes "\"" ++ (flat_map escaped (chars text) ++ codes "\"")
+
+-- a value, as a refusal says that it was found
+abbrev pub found_text : Data → List ℕ
+found_text (boolean truth) = codes "boolean `" ++ ((if truth then codes "true" else codes "false") ++ codes "`")
+found_text (integer number) = codes "integer `" ++ (signed_decimal number ++ codes "`")
+found_text (string text) = codes "string " ++ quoted_text text
+found_text (array elements) = codes "sequence"
+found_text (table entries) = codes "map"
+found_text (float number) = codes "floating point"
+found_text (datetime moment) = codes "datetime"

@@ -1,0 +1,81 @@
+//! Texts of values, as refusals print them.
+
+ghost use Rattle.std.specs.Prelude.{◌≡◌, IfOk, Some, string_bytes};
+ghost use Rattle.std.specs.Fmt.{WritesOnOk};
+ghost use Rattle.toml.specs.View.{view};
+ghost use Rattle.nextest_config_values.specs.Read.Text.{escaped, found_text, quoted_text, unnamed};
+
+use std::alloc::{AllocError, Global};
+use std::fmt;
+use toml::Value;
+
+/// A text that prints between double quotes, with `"`, `\` and control characters escaped.
+#[derive(Clone, Copy, Debug, PartialEq, Eq)]
+pub struct QuotedText<'a>(pub &'a str);
+
+impl fmt::Display for QuotedText<'_> {
+    ghost output = { λ quoted. Some (quoted_text quoted.0.now) };
+
+    fn fmt<W: fmt::Write>(&self, f: &mut fmt::Formatter<W>) -> fmt::Result {
+        write_quoted(f, self.0)
+    }
+}
+
+fn write_quoted<W: fmt::Write>(f: &mut fmt::Formatter<W>, text: &str) -> fmt::Result
+    ensures { WritesOnOk W.write_str_gives f.old result (quoted_text text.now) f.new }
+{
+    f.write_str("\"")?;
+    for c in text.chars() {
+        write_escaped(f, c)?;
+    }
+    f.write_str("\"")
+}
+
+fn write_escaped<W: fmt::Write>(f: &mut fmt::Formatter<W>, c: char) -> fmt::Result
+    ensures { WritesOnOk W.write_str_gives f.old result (escaped c) f.new }
+{
+    match c {
+        '"' => f.write_str("\\\""),
+        '\\' => f.write_str("\\\\"),
+        '\n' => f.write_str("\\n"),
+        '\r' => f.write_str("\\r"),
+        '\t' => f.write_str("\\t"),
+        '\0' => f.write_str("\\0"),
+        c => write_unnamed(f, c),
+    }
+}
+
+// A character with no escape of its own.
+fn write_unnamed<W: fmt::Write>(f: &mut fmt::Formatter<W>, c: char) -> fmt::Result
+    ensures { WritesOnOk W.write_str_gives f.old result (unnamed c) f.new }
+{
+    if c.is_control() {
+        let code = u32::from(c);
+        write!(f, "\\u{{{code:x}}}")
+    } else {
+        f.write_char(c)
+    }
+}
+
+/// The text between double quotes, as `QuotedText` prints it.
+pub fn quoted(alloc: Global, text: &str) -> Result<String, AllocError>
+    ensures { IfOk result (λ s. string_bytes s ≡ quoted_text text.now) }
+{
+    QuotedText(text).to_string(alloc)
+}
+
+/// What a refusal says that it found: the kind of the value, and for a boolean, an integer and a
+/// string the value too.
+pub fn found_text(alloc: Global, value: &Value) -> Result<String, AllocError>
+    ensures { IfOk result (λ s. string_bytes s ≡ found_text (view value.now)) }
+{
+    match value {
+        Value::String(text) => format!(in alloc; "string {}", QuotedText(text.as_str())),
+        Value::Integer(number) => format!(in alloc; "integer `{number}`"),
+        Value::Float(_) => String::from_str(alloc, "floating point"),
+        Value::Boolean(truth) => format!(in alloc; "boolean `{truth}`"),
+        Value::Datetime(_) => String::from_str(alloc, "datetime"),
+        Value::Array(_) => String::from_str(alloc, "sequence"),
+        Value::Table(_) => String::from_str(alloc, "map"),
+    }
+}
