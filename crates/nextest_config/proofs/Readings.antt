@@ -1,30 +1,21 @@
 -- A source is in its grammar or has an error, and not both.
-use Rattle.std.proofs.Common.{◌≡◌, ◌≢◌, ℕ, ◌+◌, ◌<◌, List, ◌∷◌, ◌++◌, length, get_or, take, drop, map, Option, Some, None, inl, inr, refl, subst, sym, ◌∙◌, arith}
+use Rattle.std.proofs.Common.{◌≡◌, ◌≢◌, ℕ, ◌+◌, ◌<◌, List, length, get_or, take, drop, map, Option, Some, None, refl, subst, sym, ◌∙◌, arith}
 use Rattle.std.proofs.lemmas.List.{length-map, length-take-le}
-use Rattle.toml.specs.Data.{Data, Members, as_str, get_member}
-use Rattle.toml.specs.Parse.{parse_document}
-use Rattle.nextest_config_values.specs.Read.Fault.{Fault}
+use Rattle.toml.specs.Data.{Data, Members}
 use Rattle.nextest_config.specs.NextestVersion.Error.{Refusal, IsRefusalAt, refusal_of}
 use Rattle.nextest_config.specs.NextestVersion.ErrorKind.{Wrong, not_toml, setting, no_memory, UnlessNoMemory}
-use Rattle.nextest_config.specs.NextestVersion.Requirement.{Ask, MeansVersions, VersionsFault}
+use Rattle.nextest_config.specs.NextestVersion.Requirement.{Ask}
+use Rattle.nextest_config.specs.NextestVersion.RequirementLaws.{asking}
 use Rattle.nextest_config.specs.NextestVersion.Source.{Source, place_of, source_of}
-use Rattle.nextest_config.specs.NextestVersion.VersionOnly.{version_key, Asks, AsksVersions, TextAsks, IsRead, IsWrongTable, IsWrongDocument, IsWrong, IsRefused, IsReadAs, AreRead, Reads, IsFirstRefused, IsRefusalOf, Asked}
-use Rattle.nextest_config.specs.NextestVersion.VersionText.{IsVersionText, IsVersionFault}
+use Rattle.nextest_config.specs.NextestVersion.VersionOnly.{version_key, Asks, AsksVersions, TextAsks, IsRead, IsWrongTable, IsWrongDocument, IsWrong, IsRefused, IsReadAs, AreRead, Reads, IsFirstRefused, IsRefusalOf}
 use Rattle.nextest_config.specs.declared.nextest_version.error.ListRefusal.{ListRefusal}
 use Rattle.nextest_config.specs.declared.nextest_version.error.ListRefusal.TheVariants as refusals
 use Rattle.nextest_config.specs.declared.nextest_version.source.SourceText.{SourceText}
-use Rattle.nextest_config.proofs.Lists.{map-around, zip_middle}
-use Rattle.nextest_config.proofs.VersionTexts.{version_not_fault}
-
-means_not_fault : (value : Data) (at : List ℕ) (ask : Ask) (fault : Fault) → MeansVersions value ask → VersionsFault value at fault → ⊥
-means_not_fault value at ask fault means (inl broken) =
-    let same : means.0 ≡ broken.0 = cc (means.2, broken.2) in
-    version_not_fault broken.0 means.1 broken.1 (subst (λ (t : List ℕ). IsVersionText t means.1) same means.3) broken.3
-means_not_fault value at ask fault means (inr other) = cc (means.2, other.0)
+use Rattle.nextest_config_values.proofs.Lists.{map-around, zip_middle}
 
 asks_not_wrong : (table : Members) (ask : Ask) (wrong : Wrong) → Asks table ask → IsWrongTable table wrong → ⊥
 asks_not_wrong table ask wrong asks refused =
-    means_not_fault refused.0 version_key ask refused.1 (subst (λ (v : Option Data). AsksVersions v ask) refused.2 asks) refused.3
+    asking.never_both refused.0 version_key ask refused.1 (subst (λ (v : Option Data). AsksVersions v ask) refused.2 asks) refused.3
 
 text_not_wrong : (contents : Option (List ℕ)) (ask : Ask) (wrong : Wrong) → TextAsks contents ask → IsWrong contents wrong → ⊥
 text_not_wrong None ask wrong read refused = refused

@@ -1,15 +1,15 @@
 -- The verdict of what stands for a list is selected from the verdicts of its asks.
-use Rattle.std.proofs.Common.{◌≡◌, ◌≢◌, ℕ, ◌+◌, ◌<◌, ◌≤◌, Bool, true, false, List, [], ◌∷◌, ◌++◌, map, Option, Some, None, IfSome, refl, sym, ap, ◌∙◌, inl, inr, subst, arith}
-use Rattle.std.proofs.lemmas.Bool.{cases_Bool, false≢true}
+use Rattle.std.proofs.Common.{◌≡◌, ◌≢◌, ℕ, ◌<◌, ◌≤◌, Bool, true, false, List, ◌∷◌, ◌++◌, map, Option, Some, None, IfSome, refl, sym, ap, ◌∙◌, inl, inr, subst, arith}
+use Rattle.std.proofs.lemmas.Bool.{cases_Bool}
 use Rattle.std.proofs.lemmas.List.{map-append}
 use Rattle.std.specs.List.{AllByRecursion}
 use Rattle.semver.specs.Parse.{Parts}
 use Rattle.nextest_config.specs.NextestVersion.Precedence.{IsBelow, is_below}
 use Rattle.nextest_config.specs.NextestVersion.Requirement.{Ask, Kept, Roles, asked_from}
 use Rattle.nextest_config.specs.NextestVersion.Source.{Place}
-use Rattle.nextest_config.specs.NextestVersion.Verdict.{Verdict, satisfied, warn, error, Shortfall, unmet, short_of, judged, verdict, gravity, named_version, IsSatisfied, IsNoGraver, IsNoGreaterOfItsKind, IsOtherOfItsKind, IsGravest, IsSelected}
+use Rattle.nextest_config.specs.NextestVersion.Verdict.{Verdict, satisfied, warn, error, Shortfall, unmet, short_of, judged, gravity, named_version, IsSatisfied, IsNoGraver, IsNoGreaterOfItsKind, IsOtherOfItsKind, IsGravest, IsSelected}
 use Rattle.nextest_config.specs.NextestVersion.VersionOnly.{Asked, AsksNone, AsksOther, AsksNoGreater, IsGreatest, StandsIn, StandsForAsks, Configuration, SelectsAmong, alone}
-use Rattle.nextest_config.proofs.Lists.{all_always, all_both, all_mapped, all_weaker, map_agrees}
+use Rattle.nextest_config_values.proofs.Lists.{all_always, all_both, all_mapped, all_weaker, map_agrees}
 use Rattle.nextest_config.proofs.Precedences.{not_below_trans}
 
 -- ---- a tier of verdicts: what it tells where a role is unmet, and what stands below it

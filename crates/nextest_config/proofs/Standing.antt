@@ -1,13 +1,13 @@
 -- The configuration that stands for a list, after one more source.
-use Rattle.std.proofs.Common.{◌≡◌, ◌≢◌, ℕ, Bool, true, false, List, [], ◌∷◌, ◌++◌, Option, Some, None, IfSome, option_map, cond, refl, sym, ap, ◌∙◌, inl, inr, subst, append_assoc}
+use Rattle.std.proofs.Common.{◌≡◌, List, [], ◌∷◌, ◌++◌, Option, Some, None, IfSome, refl, sym, ◌∙◌, inl, inr, subst, append_assoc}
 use Rattle.std.proofs.lemmas.Bool.{cases_Bool, false≢true}
 use Rattle.std.specs.List.{AllByRecursion}
 use Rattle.semver.specs.Parse.{Parts}
 use Rattle.nextest_config.specs.NextestVersion.Precedence.{IsBelow, is_below}
-use Rattle.nextest_config.specs.NextestVersion.Requirement.{Ask, Kept, asked_from, join_kept, roles_from}
+use Rattle.nextest_config.specs.NextestVersion.Requirement.{Ask, Kept, asked_from, join_kept}
 use Rattle.nextest_config.specs.NextestVersion.Source.{Source}
-use Rattle.nextest_config.specs.NextestVersion.VersionOnly.{Asked, AsksNone, AsksOther, AsksNoGreater, IsGreatest, StandsIn, IsReadAs, StandsFor, StandsForAsks, Configuration, Adds, neutral}
-use Rattle.nextest_config.proofs.Lists.{all_joined, all_weaker, zip_push}
+use Rattle.nextest_config.specs.NextestVersion.VersionOnly.{Asked, AsksNone, AsksOther, AsksNoGreater, IsGreatest, StandsIn, IsReadAs, StandsFor, Configuration, Adds, neutral}
+use Rattle.nextest_config_values.proofs.Lists.{all_joined, all_weaker, zip_push}
 use Rattle.nextest_config.proofs.Precedences.{not_below_itself, not_below_both, not_below_trans}
 
 module _ (role : Ask → Option Parts) where

@@ -1,8 +1,10 @@
 -- What configuration sources ask of the nextest version, and what follows for a current version.
 pub mod VersionText
+pub mod VersionTextLaws
 pub mod Precedence
 pub mod Source
 pub mod Requirement
+pub mod RequirementLaws
 pub mod Verdict
 pub mod ErrorKind
 pub mod Error

@@ -8,11 +8,13 @@ ghost use Rattle.nextest_config.specs.NextestVersion.Verdict.{IsOverriding, verd
 
 /// No text has two versions.
 pub fn law_version_once()
-    ensures { (text : List ℕ) (m n : Numbers) → IsVersionText text m → IsVersionText text n → m ≡ n }
+    ensures { (text : List ℕ) (m n : Numbers)
+        → IsVersionText text m → IsVersionText text n → m ≡ n }
 {}
 
 /// The override turns an error into an overridden error and a warning into an overridden warning,
 /// with the same contents, and does nothing else.
 pub fn law_override()
-    ensures { (roles : Roles) (current : Parts) → IsOverriding (verdict roles current false) (verdict roles current true) }
+    ensures { (roles : Roles) (current : Parts)
+        → IsOverriding (verdict roles current false) (verdict roles current true) }
 {}

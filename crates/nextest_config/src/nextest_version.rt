@@ -4,8 +4,6 @@ mod error;
 mod error_kind;
 mod requirement;
 mod source;
-#[cfg(test)]
-mod tests;
 mod version_only;
 mod version_text;
 

@@ -27,7 +27,7 @@ ends_line_tail byte text (inl empty) = absurd (omega (arith, ap length empty))
 ends_line_tail byte text (inr ([], e)) = inl (cc)
 ends_line_tail byte text (inr (b ∷ front, e)) = inr (front, cc)
 
-ends_line_rest : (front text : List ℕ) → EndsLine (front ++ text) → EndsLine text
+pub ends_line_rest : (front text : List ℕ) → EndsLine (front ++ text) → EndsLine text
 ends_line_rest [] text ends = ends
 ends_line_rest (byte ∷ front) text ends = ends_line_rest front text (ends_line_tail byte (front ++ text) ends)
 

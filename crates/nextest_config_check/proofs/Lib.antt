@@ -2,3 +2,4 @@ pub mod Lines
 pub mod Blocks
 pub mod Reports
 pub mod Versions
+pub mod Layouts

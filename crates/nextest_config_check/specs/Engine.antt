@@ -1,7 +1,8 @@
 -- What the program does with its words and its streams.
-use Rattle.std.specs.Prelude.{◌≡◌, ℕ, Bool, true, false, List, [], ◌∷◌, ◌++◌, codes, Option, Result, Ok, Err, IfSome, nat_eq, if◌then◌else◌}
+use Rattle.std.specs.Prelude.{◌≡◌, ℕ, Bool, true, false, List, [], ◌∷◌, ◌++◌, codes, map, string_bytes, Option, Result, Ok, Err, IfSome, String, nat_eq, if◌then◌else◌}
 use Rattle.std.specs.Cmp.Lexicographic.{pointwise}
-use Rattle.std.specs.Io.KnownBytes.{Appends, Keeps}
+use Rattle.std.specs.Io.KnownBytes.{Appends, IsAtEnd, Keeps}
+use Rattle.std.specs.declared.alloc.Global.{Global}
 use Rattle.semver.specs.Identifiers.{parts_of}
 use Rattle.semver.specs.Parse.{Parts, version_parts}
 use Rattle.semver.specs.declared.error.Error.{Error}
@@ -36,6 +37,10 @@ abbrev pub command_of : List (List ℕ) → Command
 command_of (current ∷ []) = check_of current false (version_parts current)
 command_of (current ∷ flag ∷ []) = if pointwise nat_eq flag (codes "--override") then check_of current true (version_parts current) else usage
 command_of arguments = usage
+
+-- what these words ask for
+abbrev pub asked_by : List (String Global) → Command
+asked_by words = command_of (map string_bytes words)
 
 -- for words that are refused
 abbrev pub IfComplaint : Command → Type 0 → Type 0

@@ -71,3 +71,11 @@ abbrev pub status_of : Outcome → ℕ
 status_of Passed = 0
 status_of Failed = 1
 status_of Refused = 2
+
+-- the report is the one on this input
+abbrev pub IsReportFor : List ℕ → Parts → Bool → Report → Type 0
+IsReportFor input current overridden report = IsReport input current overridden (string_bytes report.text) report.outcome
+
+-- the report is the one on each input that holds these sources
+abbrev pub IsReportForSources : List Source → Parts → Bool → Report → Type 0
+IsReportForSources sources current overridden report = IsReportOn sources current overridden (string_bytes report.text) report.outcome

@@ -1,11 +1,11 @@
 //! From streams to a report, and from the words of the command line to a status.
 
-ghost use Rattle.std.specs.Prelude.{◌≡◌, ◌≢◌, ◌↔◌, ◌⊎◌, ◌++◌, ℕ, List, Some, codes, map, string_bytes, IfOk, IfErr, OnOk, IfSome, MatchResult};
+ghost use Rattle.std.specs.Prelude.{◌≡◌, ◌≢◌, ◌↔◌, ◌⊎◌, ◌++◌, ℕ, List, Some, codes, IfOk, IfErr, OnOk, IfSome, MatchResult};
 ghost use Rattle.std.specs.IoError.{error_kind};
 ghost use Rattle.std.specs.Io.KnownBytes.{Appends, IsAtEnd, Keeps};
 ghost use Rattle.semver.specs.Identifiers.{parts_of};
 ghost use Rattle.semver.specs.Parse.{version_parts};
-ghost use Rattle.nextest_config_check.specs.Engine.{AsksCheck, IfCheck, IfComplaint, IsChecked, IsWordsFault, Writes, check_of, command_of, words_status};
+ghost use Rattle.nextest_config_check.specs.Engine.{AsksCheck, IfCheck, IfComplaint, IsChecked, IsWordsFault, Writes, asked_by, check_of, words_status};
 ghost use Rattle.nextest_config_check.specs.Report.{IsReport};
 
 use crate::report::{Outcome, report_on};
@@ -122,15 +122,20 @@ pub fn serve<R: Read, W: Write, E: Write>(
     faults: &mut E,
 ) -> u8
     // Words that are refused.
-    ensures complaint { IfComplaint (command_of (map string_bytes words.now)) (result ≡ 2) }
-    ensures unread { IfComplaint (command_of (map string_bytes words.now)) (Keeps (R.remaining reader.old) (R.remaining reader.new)) }
-    ensures unwritten { IfComplaint (command_of (map string_bytes words.now)) (Keeps (W.contents writer.old) (W.contents writer.new)) }
+    ensures complaint { IfComplaint (asked_by words.now) (result ≡ 2) }
+    ensures unread { IfComplaint (asked_by words.now)
+        (Keeps (R.remaining reader.old) (R.remaining reader.new)) }
+    ensures unwritten { IfComplaint (asked_by words.now)
+        (Keeps (W.contents writer.old) (W.contents writer.new)) }
 
     // Words that ask for a check.
-    ensures checked { IfCheck (command_of (map string_bytes words.now)) (λ current overridden. (result ≡ NO_OUTCOME)
-        ⊎ IsChecked (R.remaining reader.old) current overridden result (W.contents writer.old) (W.contents writer.new)) }
-    ensures drained { result ≢ NO_OUTCOME → IfCheck (command_of (map string_bytes words.now)) (λ _ _. IsAtEnd (R.remaining reader.new)) }
-    ensures quiet { result ≢ NO_OUTCOME → IfCheck (command_of (map string_bytes words.now)) (λ _ _. Keeps (E.contents faults.old) (E.contents faults.new)) }
+    ensures checked { IfCheck (asked_by words.now) (λ current overridden. (result ≡ NO_OUTCOME)
+        ⊎ IsChecked (R.remaining reader.old) current overridden result
+        (W.contents writer.old) (W.contents writer.new)) }
+    ensures drained { result ≢ NO_OUTCOME → IfCheck (asked_by words.now)
+        (λ _ _. IsAtEnd (R.remaining reader.new)) }
+    ensures quiet { result ≢ NO_OUTCOME → IfCheck (asked_by words.now)
+        (λ _ _. Keeps (E.contents faults.old) (E.contents faults.new)) }
 {
     let check = match parse_words(alloc, words) {
         Ok(check) => check,
@@ -156,7 +161,8 @@ pub fn serve<R: Read, W: Write, E: Write>(
 
 // Prints a fault as a line.
 fn complain<E: Write, D: fmt::Display + Drop>(faults: &mut E, fault: D) -> io::Result<()>
-    ensures { OnOk result (IfSome (D.output fault) (λ text. Appends (E.contents faults.old) (E.contents faults.new) (text ++ codes "\n"))) }
+    ensures { OnOk result (IfSome (D.output fault) (λ text.
+        Appends (E.contents faults.old) (E.contents faults.new) (text ++ codes "\n"))) }
 {
     faults.writeln(fault)?;
     faults.flush()
@@ -164,7 +170,7 @@ fn complain<E: Write, D: fmt::Display + Drop>(faults: &mut E, fault: D) -> io::R
 
 // The check that the words ask for.
 fn parse_words<'a>(alloc: Global, words: &'a [String]) -> Result<Check, WordsFault<'a>>
-    ensures { MatchResult result (AsksCheck (command_of (map string_bytes words.now))) (IsWordsFault (command_of (map string_bytes words.now))) }
+    ensures { MatchResult result (AsksCheck (asked_by words.now)) (IsWordsFault (asked_by words.now)) }
 {
     match words {
         [current] => parse_check(alloc, current, false),

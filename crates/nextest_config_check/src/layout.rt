@@ -71,7 +71,8 @@ fn line_number(input: &str, left: usize) -> usize
 // The source of a block, if the block begins with a source line.
 fn source(alloc: Global, block: &str) -> Result<Option<SourceText>, AllocError>
     requires { IsUnmarkedBelow block.now }
-    ensures { IfOk result (λ source. MatchOption source (IsFaultyBlock block.now) (λ source. IsBlock block.now (source_of source))) }
+    ensures { IfOk result (λ source. MatchOption source (IsFaultyBlock block.now)
+        (λ source. IsBlock block.now (source_of source))) }
 {
     let (line, contents) = split_line(block);
     let Some((kind, path)) = source_line(line) else {

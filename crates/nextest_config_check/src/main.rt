@@ -3,6 +3,7 @@
 #![tactic(auto)]
 
 pub mod engine;
+pub mod laws;
 mod layout;
 mod report;
 

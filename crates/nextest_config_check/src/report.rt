@@ -5,7 +5,7 @@ ghost use Rattle.semver.specs.Identifiers.{parts_of};
 ghost use Rattle.nextest_config.specs.NextestVersion.Requirement.{roles_of};
 ghost use Rattle.nextest_config.specs.NextestVersion.Source.{place_of, source_of};
 ghost use Rattle.nextest_config.specs.NextestVersion.Verdict.{verdict, verdict_of};
-ghost use Rattle.nextest_config_check.specs.Report.{IsReport, IsReportOf, IsReportOn, outcome_of, shortfall_line_text, status_of, verdict_text};
+ghost use Rattle.nextest_config_check.specs.Report.{IsReportFor, IsReportForSources, IsReportOf, outcome_of, shortfall_line_text, status_of, verdict_text};
 
 use crate::layout::{self, LayoutFault};
 use nextest_config::nextest_version::{
@@ -54,7 +54,7 @@ pub(crate) fn report_on(
     current: &Version,
     override_version_check: bool,
 ) -> Result<Report, AllocError>
-    ensures { IfOk result (λ report. IsReport input.now (parts_of current.now) override_version_check (string_bytes report.text) report.outcome) }
+    ensures { IfOk result (IsReportFor input.now (parts_of current.now) override_version_check) }
 {
     let Ok(input) = str::from_utf8(input) else {
         return Ok(refused(String::from_str(alloc, "refused: input isn't UTF-8\n")?));
@@ -85,7 +85,8 @@ fn report_on_sources(
     current: &Version,
     override_version_check: bool,
 ) -> Result<Report, AllocError>
-    ensures { IfOk result (λ report. IsReportOn (map source_of sources.now) (parts_of current.now) override_version_check (string_bytes report.text) report.outcome) }
+    ensures { IfOk result (IsReportForSources (map source_of sources.now) (parts_of current.now)
+        override_version_check) }
 {
     match VersionOnlyConfig::from_list(alloc, sources) {
         Ok(config) => {
@@ -106,7 +107,8 @@ fn report_on_kept(
     current: &Version,
     override_version_check: bool,
 ) -> Result<Report, AllocError>
-    ensures { IfOk result (IsReportOf (parts_of current.now) (verdict (roles_of kept.now) (parts_of current.now) override_version_check)) }
+    ensures { IfOk result (IsReportOf (parts_of current.now)
+        (verdict (roles_of kept.now) (parts_of current.now) override_version_check)) }
 {
     let eval = kept.eval(alloc, current, override_version_check)?;
     report_on_eval(alloc, &eval, current)
@@ -132,7 +134,8 @@ fn verdict_line(
     eval: &NextestVersionEval,
     current: &Version,
 ) -> Result<String, AllocError>
-    ensures { IfOk result (λ text. string_bytes text ≡ verdict_text (parts_of current.now) (verdict_of eval.now)) }
+    ensures { IfOk result (λ text. string_bytes text
+        ≡ verdict_text (parts_of current.now) (verdict_of eval.now)) }
 {
     match eval {
         NextestVersionEval::Satisfied => format!(in alloc; "satisfied: {current}"),
@@ -189,7 +192,8 @@ fn shortfall_line(
     source: &ConfigSource,
     current: &Version,
 ) -> Result<String, AllocError>
-    ensures { IfOk result (λ text. string_bytes text ≡ shortfall_line_text verdict.now (parts_of asked.now) asks.now (place_of source.now) (parts_of current.now)) }
+    ensures { IfOk result (λ text. string_bytes text ≡ shortfall_line_text verdict.now
+        (parts_of asked.now) asks.now (place_of source.now) (parts_of current.now)) }
 {
     format!(in alloc; "{verdict}: {asked} {asks} by {source}, current {current}")
 }

@@ -1,4 +1,5 @@
-//! The values of nextest's configuration: what a reading of a TOML value refuses, and how it says so.
+//! The values of nextest's configuration: how TOML values are read, and how a refusal says why.
 #![tactic(auto)]
 
 pub mod read;
+pub mod track_default;

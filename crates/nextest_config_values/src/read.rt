@@ -1,10 +1,15 @@
-//! Readings of TOML values: their faults and the texts in them.
+//! Readings of TOML values.
 
 mod fault;
+mod field;
+mod from_toml;
+mod plain;
 mod text;
+mod word;
 
 pub use fault::{FaultKind, ReadFault, Rule};
+pub use field::{field_or, optional_field, required_field};
+pub use from_toml::FromToml;
+pub use plain::NonZeroCount;
 pub use text::{QuotedText, found_text, quoted};
-
-#[cfg(test)]
-mod tests;
+pub use word::Word;

@@ -1,6 +1,6 @@
 -- What is wrong with a source, without where it lies in memory.
-use Rattle.std.specs.Prelude.{ℕ, Bool, true, false, List, codes}
-use Rattle.nextest_config_values.specs.Read.Fault.{Fault, fault_of, fault_text, invalid_type, custom, memory, Reason}
+use Rattle.std.specs.Prelude.{ℕ, Bool, true, false, List, codes, if◌then◌else◌}
+use Rattle.nextest_config_values.specs.Read.Fault.{Fault, fault_of, fault_text, is_memory as reason_is_memory}
 use Rattle.nextest_config.specs.declared.nextest_version.error_kind.ConfigParseErrorKind.{ConfigParseErrorKind}
 use Rattle.nextest_config.specs.declared.nextest_version.error_kind.ConfigParseErrorKind.TheVariants as kinds
 
@@ -22,12 +22,7 @@ is_memory kinds.Memory = true
 
 -- what the refusal of a setting makes of its source
 abbrev pub wrong_from : Fault → Wrong
-wrong_from fault = wrong_for fault.reason
-  where
-    wrong_for : Reason → Wrong
-    wrong_for (invalid_type found expected) = setting fault
-    wrong_for (custom rule) = setting fault
-    wrong_for memory = no_memory
+wrong_from fault = if reason_is_memory fault.reason then no_memory else setting fault
 
 -- for what is wrong with the source itself; want of memory says nothing of it
 abbrev pub UnlessNoMemory : Wrong → Type 0 → Type 0

@@ -1,11 +1,11 @@
 -- What one source asks of the nextest version, and what is kept of all asks.
-use Rattle.std.specs.Prelude.{◌≡◌, ℕ, List, codes, Option, Some, None, option_map, ◌⊎◌, if◌then◌else◌}
+use Rattle.std.specs.Prelude.{◌≡◌, ℕ, List, codes, Option, Some, None, option_map, if◌then◌else◌}
 use Rattle.semver.specs.Identifiers.{parts_of}
 use Rattle.semver.specs.Parse.{Parts}
 use Rattle.semver.specs.declared.Version.{Version}
 use Rattle.toml.specs.Data.{Data, as_str}
-use Rattle.nextest_config_values.specs.Read.Fault.{BrokenRule, Fault, custom, invalid_type}
-use Rattle.nextest_config_values.specs.Read.Text.{found_text}
+use Rattle.nextest_config_values.specs.Read.Fault.{BrokenRule, Fault, custom, fault_at}
+use Rattle.nextest_config_values.specs.Read.FromToml.{FaultsAs, MeansAs}
 use Rattle.nextest_config.specs.NextestVersion.Precedence.{is_below}
 use Rattle.nextest_config.specs.NextestVersion.Source.{Place, place_of}
 use Rattle.nextest_config.specs.NextestVersion.VersionText.{Numbers, plain, IsVersionText, IsVersionFault}
@@ -29,19 +29,29 @@ requires numbers = record { required = Some (plain numbers); recommended = None 
 abbrev pub ask_of : NextestVersionDeserialize → Ask
 ask_of d = record { required = option_map parts_of d.required; recommended = option_map parts_of d.recommended }
 
--- the value of `nextest-version` asks this: a text with a version requires it
-abbrev pub MeansVersions : Data → Ask → Type 0
-MeansVersions value ask = (text : List ℕ) × (numbers : Numbers) × (as_str value ≡ Some text) × IsVersionText text numbers × (ask ≡ requires numbers)
+-- two of them ask the same
+abbrev pub AskAlike : NextestVersionDeserialize → NextestVersionDeserialize → Type 0
+AskAlike a b = ask_of a ≡ ask_of b
+
+-- the text asks this: its version is required
+abbrev pub MeansVersionText : List ℕ → Ask → Type 0
+MeansVersionText text ask = (numbers : Numbers) × IsVersionText text numbers × (ask ≡ requires numbers)
+
+-- the text asks nothing, since it breaks a rule
+abbrev pub VersionTextFaults : List ℕ → Data → List ℕ → Fault → Type 0
+VersionTextFaults text value at fault = (rule : BrokenRule) × IsVersionFault text rule × (fault ≡ fault_at at (custom rule))
 
 -- what the setting takes
 abbrev pub versions_expected : List ℕ
 versions_expected = codes "a table ({ required = \"0.9.20\", recommended = \"0.9.30\" }) or a string (\"0.9.50\")"
 
--- the value of `nextest-version`, at this path, asks nothing, since it is this fault: a text that breaks a rule, or no text
-abbrev pub VersionsFault : Data → List ℕ → Fault → Type 0
-VersionsFault value at fault =
-    ((text : List ℕ) × (rule : BrokenRule) × (as_str value ≡ Some text) × IsVersionFault text rule × (fault ≡ record { path = at; reason = custom rule }))
-    ⊎ ((as_str value ≡ None) × (fault ≡ record { path = at; reason = invalid_type (found_text value) versions_expected }))
+-- the value of `nextest-version` asks this
+abbrev pub MeansVersions : Data → Ask → Type 0
+MeansVersions = MeansAs as_str MeansVersionText
+
+-- what is wrong with the value of `nextest-version` at a path
+abbrev pub VersionsFaults : Data → List ℕ → Fault → Type 0
+VersionsFaults = FaultsAs as_str versions_expected VersionTextFaults
 
 -- a version that is kept, and the place that asked for it
 pub record Kept : Type 0 where
@@ -84,3 +94,8 @@ join_roles earlier later = record {
   required = join_kept earlier.required later.required;
   recommended = join_kept earlier.recommended later.recommended;
 }
+
+-- the raised requirement is what is kept once it is joined; none where nothing changes
+abbrev pub IsRaised : Option Kept → Option Kept → Option NextestVersionReq → Type 0
+IsRaised kept joined None = joined ≡ kept
+IsRaised kept joined (Some req) = kept_of req ≡ joined

@@ -1,5 +1,5 @@
 -- Lists of sources: what each asks, the first that is refused, and what stands for them all.
-use Rattle.std.specs.Prelude.{◌≡◌, ◌≢◌, ℕ, List, [], ◌∷◌, ◌++◌, length, map, codes, Bool, Option, Some, None, IfSome}
+use Rattle.std.specs.Prelude.{◌≡◌, ◌≢◌, ℕ, List, ◌∷◌, ◌++◌, length, map, codes, Bool, Option, Some, None, IfSome}
 use Rattle.std.specs.List.{AllByRecursion, AllZip}
 use Rattle.semver.specs.Parse.{Parts}
 use Rattle.toml.specs.Data.{Data, Members, get_member}
@@ -8,7 +8,7 @@ use Rattle.nextest_config_values.specs.Read.Fault.{Fault}
 use Rattle.nextest_config.specs.NextestVersion.Error.{Refusal, refusal_of}
 use Rattle.nextest_config.specs.NextestVersion.ErrorKind.{Wrong, not_toml, setting, UnlessNoMemory}
 use Rattle.nextest_config.specs.NextestVersion.Precedence.{IsBelow}
-use Rattle.nextest_config.specs.NextestVersion.Requirement.{Ask, nothing, MeansVersions, VersionsFault, Kept, Roles, roles_of, roles_from, join_roles}
+use Rattle.nextest_config.specs.NextestVersion.Requirement.{Ask, nothing, MeansVersions, VersionsFaults, Kept, Roles, roles_of, roles_from, join_roles}
 use Rattle.nextest_config.specs.NextestVersion.Source.{Place, Source}
 use Rattle.nextest_config.specs.NextestVersion.Verdict.{Verdict, verdict, IsSelected}
 use Rattle.nextest_config.specs.declared.nextest_version.error.ListRefusal.{ListRefusal}
@@ -39,7 +39,7 @@ IsRead source ask = TextAsks source.contents ask
 
 -- what is wrong with a table
 abbrev pub IsWrongTable : Members → Wrong → Type 0
-IsWrongTable members wrong = (value : Data) × (fault : Fault) × (get_member version_key members ≡ Some value) × VersionsFault value version_key fault × (wrong ≡ setting fault)
+IsWrongTable members wrong = (value : Data) × (fault : Fault) × (get_member version_key members ≡ Some value) × VersionsFaults value version_key fault × (wrong ≡ setting fault)
 
 abbrev pub IsWrongDocument : Option Members → Wrong → Type 0
 IsWrongDocument None wrong = wrong ≡ not_toml

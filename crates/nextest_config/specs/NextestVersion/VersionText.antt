@@ -3,7 +3,7 @@ use Rattle.std.specs.Prelude.{◌≡◌, ◌≢◌, ℕ, ◌<◌, ◌^◌, List,
 use Rattle.std.specs.List.{AllByRecursion}
 use Rattle.std.specs.Str.Parse.{AllDigits, digits_value}
 use Rattle.semver.specs.Parse.{Parts}
-use Rattle.nextest_config_values.specs.Read.Fault.{BrokenRule, pre_release, build_metadata, not_version, Reason, invalid_type, custom, memory}
+use Rattle.nextest_config_values.specs.Read.Fault.{BrokenRule, pre_release, build_metadata, not_version, Reason, custom, memory}
 
 -- major, minor and patch
 abbrev pub Numbers : Type 0
@@ -70,6 +70,7 @@ abbrev pub IsVersionFault : List ℕ → BrokenRule → Type 0
 IsVersionFault text pre_release = HasFirstMark hyphen text
 IsVersionFault text build_metadata = HasFirstMark plus_sign text
 IsVersionFault text (not_version written) = (written ≡ text) × AllByRecursion IsPlain text × ((numbers : Numbers) → ¬ IsVersionText text numbers)
+IsVersionFault text _ = ⊥
 
 -- these are the parts of the text's version
 abbrev pub HasVersion : List ℕ → Parts → Type 0
@@ -78,5 +79,5 @@ HasVersion text parts = (numbers : Numbers) × IsVersionText text numbers × (pa
 -- the text has no version, for this reason, or there was no memory
 abbrev pub BreaksVersion : List ℕ → Reason → Type 0
 BreaksVersion text (custom rule) = IsVersionFault text rule
-BreaksVersion text (invalid_type found expected) = ⊥
 BreaksVersion text memory = Unit {0}
+BreaksVersion text _ = ⊥

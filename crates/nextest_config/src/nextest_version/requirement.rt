@@ -1,13 +1,11 @@
 //! The versions that sources ask for, those that are kept, and the verdict on the current one.
 
-ghost use Rattle.std.specs.Prelude.{◌≡◌, ℕ, IfOk, IfErr, IsOk, OnOk, OnErr, MatchOption, option_map, Some, None};
+ghost use Rattle.std.specs.Prelude.{◌≡◌, true, IfOk, IsOk, OnOk, OnErr, option_map, Some, None};
 ghost use Rattle.semver.specs.Identifiers.{parts_of};
-ghost use Rattle.toml.specs.View.{view};
-ghost use Rattle.nextest_config_values.specs.Read.Fault.{Refuses, fault_of};
 
 use super::source::ConfigSource;
 use super::version_text::parse_version;
-use nextest_config_values::read::ReadFault;
+use nextest_config_values::read::{FromToml, ReadFault};
 use semver::Version;
 use std::alloc::{AllocError, Global};
 use std::cmp::Ordering;
@@ -88,7 +86,7 @@ const EXPECTED: &str =
     "a table ({ required = \"0.9.20\", recommended = \"0.9.30\" }) or a string (\"0.9.50\")";
 
 impl NextestVersionDeserialize {
-    ghost use Rattle.nextest_config.specs.NextestVersion.Requirement.{MeansVersions, VersionsFault, ask_of, nothing};
+    ghost use Rattle.nextest_config.specs.NextestVersion.Requirement.{ask_of, nothing};
 
     /// Asks for no version.
     pub(crate) fn nothing() -> Self
@@ -99,13 +97,23 @@ impl NextestVersionDeserialize {
             recommended: None,
         }
     }
+}
 
-    /// Reads the value of `nextest-version`, whose path is `at`.
-    pub(crate) fn read(alloc: Global, value: &Value, at: &str) -> Result<Self, ReadFault>
-        ensures meant { IfOk result (λ d. MeansVersions (view value.now) (ask_of d)) }
-        ensures refused { IfErr result (λ fault.
-            Refuses (VersionsFault (view value.now) at.now) (fault_of fault)) }
-    {
+impl FromToml for NextestVersionDeserialize {
+    ghost use Rattle.nextest_config.specs.NextestVersion.Requirement.{AskAlike, MeansVersions, VersionsFaults, ask_of};
+    ghost use Rattle.nextest_config.specs.NextestVersion.RequirementLaws.{versions_reading};
+
+    ghost means = { λ value d. MeansVersions value (ask_of d) };
+
+    ghost faults = { VersionsFaults };
+
+    ghost needs_memory = { true };
+
+    ghost alike = { AskAlike };
+
+    ghost laws = { versions_reading };
+
+    fn read(alloc: Global, value: &Value, at: &str) -> Result<Self, ReadFault> {
         match value.as_str() {
             Some(text) => match parse_version(alloc, text) {
                 Ok(version) => Ok(NextestVersionDeserialize {
@@ -120,7 +128,7 @@ impl NextestVersionDeserialize {
 }
 
 impl NextestVersionReq {
-    ghost use Rattle.nextest_config.specs.NextestVersion.Requirement.{asked_from, join_kept, kept_from, kept_of, kept_version};
+    ghost use Rattle.nextest_config.specs.NextestVersion.Requirement.{IsRaised, asked_from, join_kept, kept_from, kept_of, kept_version};
     ghost use Rattle.nextest_config.specs.NextestVersion.Source.{place_of};
     ghost use Rattle.nextest_config.specs.NextestVersion.Verdict.{unmet};
 
@@ -141,8 +149,8 @@ impl NextestVersionReq {
         asked: Option<Version>,
         source: &ConfigSource,
     ) -> Result<Option<NextestVersionReq>, AllocError>
-        ensures { let joined = join_kept (kept_of self.now)
-            (asked_from (place_of source.now) (option_map parts_of asked)) in IfOk result (λ raised. MatchOption raised (joined ≡ kept_of self.now) (λ req. kept_of req ≡ joined)) }
+        ensures { IfOk result (IsRaised (kept_of self.now) (join_kept (kept_of self.now)
+            (asked_from (place_of source.now) (option_map parts_of asked)))) }
     {
         let Some(version) = asked else {
             return Ok(None);

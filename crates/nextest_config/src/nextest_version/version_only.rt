@@ -1,8 +1,7 @@
 //! The configuration of a list of sources.
 
-ghost use Rattle.std.specs.Prelude.{◌≡◌, IfOk, IfErr, OnOk, OnErr, map, option_map};
-ghost use Rattle.toml.specs.Data.{get_member};
-ghost use Rattle.toml.specs.View.{table_view, view};
+ghost use Rattle.std.specs.Prelude.{◌≡◌, IfOk, IfErr, OnOk, OnErr, map};
+ghost use Rattle.toml.specs.View.{table_view};
 ghost use Rattle.nextest_config.specs.NextestVersion.ErrorKind.{UnlessNoMemory, wrong_of};
 ghost use Rattle.nextest_config.specs.NextestVersion.Requirement.{ask_of, roles_of};
 ghost use Rattle.nextest_config.specs.NextestVersion.Source.{source_of};
@@ -13,8 +12,9 @@ use super::error::ListRefusal;
 use super::error_kind::ConfigParseErrorKind;
 use super::requirement::{NextestVersionConfig, NextestVersionDeserialize};
 use super::source::SourceText;
+use nextest_config_values::read::optional_field;
 use std::alloc::Global;
-use toml::{Table, Value};
+use toml::Table;
 
 const VERSION_KEY: &str = "nextest-version";
 
@@ -105,15 +105,9 @@ fn read_table(
     ensures refused { IfErr result (λ kind.
         UnlessNoMemory (wrong_of kind) (IsWrongTable (table_view table.now) (wrong_of kind))) }
 {
-    match field(table, VERSION_KEY) {
-        Some(value) => Ok(NextestVersionDeserialize::read(alloc, value, VERSION_KEY)?),
+    let asked: Option<NextestVersionDeserialize> = optional_field(alloc, table, VERSION_KEY, "")?;
+    match asked {
+        Some(asked) => Ok(asked),
         None => Ok(NextestVersionDeserialize::nothing()),
     }
-}
-
-// The value at a key of the table.
-fn field<'t>(table: &'t Table, key: &str) -> Option<&'t Value>
-    ensures { option_map (λ value. view value.now) result ≡ get_member key.now (table_view table.now) }
-{
-    table.get(key)
 }

@@ -1,6 +1,10 @@
 -- A refused TOML value without where it lies in memory, and how it prints.
-use Rattle.std.specs.Prelude.{ℕ, ◌≡◌, Bool, true, false, List, [], ◌∷◌, ◌++◌, codes, string_bytes}
-use Rattle.nextest_config_values.specs.Read.Text.{quoted_text}
+use Rattle.std.specs.Prelude.{ℕ, ◌≡◌, ℤ, Bool, true, false, List, [], ◌∷◌, ◌++◌, codes, string_bytes}
+use Rattle.std.specs.Fmt.{signed_decimal}
+use Rattle.semver.specs.Identifiers.{parts_of, parts_text}
+use Rattle.semver.specs.Parse.{Parts}
+use Rattle.toml.specs.Data.{Data}
+use Rattle.nextest_config_values.specs.Read.Text.{found_text, quoted_text}
 use Rattle.nextest_config_values.specs.declared.read.fault.ReadFault.{ReadFault}
 use Rattle.nextest_config_values.specs.declared.read.fault.FaultKind.{FaultKind}
 use Rattle.nextest_config_values.specs.declared.read.fault.FaultKind.TheVariants as kinds
@@ -12,10 +16,21 @@ pub data BrokenRule : Type 0 where
   pre_release : BrokenRule
   build_metadata : BrokenRule
   not_version : List ℕ → BrokenRule
+  required_above_recommended : Parts → Parts → BrokenRule
+  jitter_without_delay : BrokenRule
+  count_zero : BrokenRule
+  delay_zero : BrokenRule
+  max_delay_zero : BrokenRule
+  max_delay_below_delay : BrokenRule
+  priority_outside : ℤ → BrokenRule
 
--- a reason: what was found and what was expected, or a broken rule, or no memory
+-- a reason: what was found and what was expected, the path of a missing key, a broken rule, or no memory
 pub data Reason : Type 0 where
   invalid_type : List ℕ → List ℕ → Reason
+  invalid_value : List ℕ → List ℕ → Reason
+  unknown_variant : List ℕ → List ℕ → Reason
+  unknown_field : List ℕ → List ℕ → Reason
+  missing_field : List ℕ → Reason
   custom : BrokenRule → Reason
   memory : Reason
 
@@ -28,22 +43,55 @@ abbrev pub broken_rule : Rule → BrokenRule
 broken_rule rules_of.PreRelease = pre_release
 broken_rule rules_of.BuildMetadata = build_metadata
 broken_rule (rules_of.NotVersion text) = not_version (string_bytes text)
+broken_rule (rules_of.RequiredAboveRecommended required recommended) = required_above_recommended (parts_of required) (parts_of recommended)
+broken_rule rules_of.JitterWithoutDelay = jitter_without_delay
+broken_rule rules_of.CountZero = count_zero
+broken_rule rules_of.DelayZero = delay_zero
+broken_rule rules_of.MaxDelayZero = max_delay_zero
+broken_rule rules_of.MaxDelayBelowDelay = max_delay_below_delay
+broken_rule (rules_of.Priority priority) = priority_outside priority
 
 abbrev pub reason_of : FaultKind → Reason
 reason_of (kinds.InvalidType found expected) = invalid_type (string_bytes found) expected.now
+reason_of (kinds.InvalidValue found expected) = invalid_value (string_bytes found) expected.now
+reason_of (kinds.UnknownVariant found expected) = unknown_variant (string_bytes found) expected.now
+reason_of (kinds.UnknownField found expected) = unknown_field (string_bytes found) expected.now
+reason_of (kinds.MissingField key) = missing_field (string_bytes key)
 reason_of (kinds.Custom rule) = custom (broken_rule rule)
 reason_of kinds.Memory = memory
 
 abbrev pub fault_of : ReadFault → Fault
 fault_of fault = record { path = string_bytes fault.path; reason = reason_of fault.kind }
 
+-- ---- how they print
+
 abbrev pub rule_text : BrokenRule → List ℕ
 rule_text pre_release = codes "pre-release identifiers are not supported in nextest-version"
 rule_text build_metadata = codes "build metadata is not supported in nextest-version"
 rule_text (not_version text) = codes "invalid version " ++ quoted_text text
+rule_text (required_above_recommended required recommended) =
+    codes "required version (" ++ (parts_text required ++ (codes ") must not be greater than recommended version (" ++ (parts_text recommended ++ codes ")")))
+rule_text jitter_without_delay = codes "`jitter` cannot be true if `delay` isn't specified or is zero"
+rule_text count_zero = codes "`count` cannot be zero with exponential backoff"
+rule_text delay_zero = codes "`delay` cannot be zero with exponential backoff"
+rule_text max_delay_zero = codes "`max-delay` cannot be zero with exponential backoff"
+rule_text max_delay_below_delay = codes "`max-delay` cannot be less than delay with exponential backoff"
+rule_text (priority_outside priority) = codes "priority " ++ (signed_decimal priority ++ codes " must be between -100 and 100")
+
+-- what was found, and what was expected
+abbrev pub mismatch_text : List ℕ → List ℕ → List ℕ
+mismatch_text found expected = found ++ (codes ", expected " ++ expected)
+
+-- an unknown name, and the known ones
+abbrev pub unknown_text : List ℕ → List ℕ → List ℕ
+unknown_text found expected = found ++ (codes "`, expected " ++ expected)
 
 abbrev pub reason_text : Reason → List ℕ
-reason_text (invalid_type found expected) = codes "invalid type: " ++ (found ++ (codes ", expected " ++ expected))
+reason_text (invalid_type found expected) = codes "invalid type: " ++ mismatch_text found expected
+reason_text (invalid_value found expected) = codes "invalid value: " ++ mismatch_text found expected
+reason_text (unknown_variant found expected) = codes "unknown variant `" ++ unknown_text found expected
+reason_text (unknown_field found expected) = codes "unknown field `" ++ unknown_text found expected
+reason_text (missing_field key) = codes "missing configuration field \"" ++ (key ++ codes "\"")
 reason_text (custom rule) = rule_text rule
 reason_text memory = codes "out of memory"
 
@@ -55,21 +103,51 @@ path_text (b ∷ rest) = (b ∷ rest) ++ codes ": "
 abbrev pub fault_text : Fault → List ℕ
 fault_text fault = path_text fault.path ++ reason_text fault.reason
 
+-- ---- the faults of a value at a path
+
+abbrev pub fault_at : List ℕ → Reason → Fault
+fault_at path reason = record { path = path; reason = reason }
+
+-- a value whose kind isn't the expected one
+abbrev pub wrong_type : Data → List ℕ → List ℕ → Fault
+wrong_type value at expected = fault_at at (invalid_type (found_text value) expected)
+
+-- a value of the right kind that isn't the expected one
+abbrev pub wrong_value : Data → List ℕ → List ℕ → Fault
+wrong_value value at expected = fault_at at (invalid_value (found_text value) expected)
+
+-- a text that is none of the expected words
+abbrev pub unknown_word : List ℕ → List ℕ → List ℕ → Fault
+unknown_word text at expected = fault_at at (unknown_variant text expected)
+
+-- the path of a key in the table at a path
+abbrev pub path_of : List ℕ → List ℕ → List ℕ
+path_of [] key = key
+path_of (b ∷ at) key = (b ∷ at) ++ (codes "." ++ key)
+
+-- a table that lacks this key
+abbrev pub missing : List ℕ → List ℕ → Fault
+missing key at = fault_at at (missing_field (path_of at key))
+
 -- the fault that says nothing of the value
 abbrev pub no_memory : Fault
-no_memory = record { path = []; reason = memory }
+no_memory = fault_at [] memory
+
+-- ---- refusals
 
 abbrev pub is_memory : Reason → Bool
-is_memory (invalid_type found expected) = false
-is_memory (custom rule) = false
 is_memory memory = true
+is_memory _ = false
 
--- for each reason but want of memory, the last fact; at want of memory the one before it
+-- at want of memory the first fact, at every other reason the second
 abbrev pub UnlessMemory : Reason → Type 0 → Type 0 → Type 0
-UnlessMemory (invalid_type found expected) wanting otherwise = otherwise
-UnlessMemory (custom rule) wanting otherwise = otherwise
 UnlessMemory memory wanting otherwise = wanting
+UnlessMemory _ wanting otherwise = otherwise
 
--- the refusal is a fault of which this holds, or no memory, at the empty path
-abbrev pub Refuses : (Fault → Type 0) → Fault → Type 0
-Refuses IsFault fault = UnlessMemory fault.reason (fault.path ≡ []) (IsFault fault)
+-- the refusal is a fault of which this holds; or want of memory, at the empty path, and only where it was wanted
+abbrev pub Refuses : (Fault → Type 0) → Type 0 → Fault → Type 0
+Refuses IsFault wanted fault = UnlessMemory fault.reason ((fault.path ≡ []) × wanted) (IsFault fault)
+
+-- the refusal is this fault, or want of memory
+abbrev pub RefusesAs : Fault → Fault → Type 0
+RefusesAs expected fault = Refuses (λ other. other ≡ expected) (Unit {0}) fault

@@ -1,12 +1,12 @@
 //! Why a TOML value was refused, and where.
 
-ghost use Rattle.std.specs.Prelude.{◌≡◌, ◌++◌, codes, Some};
+ghost use Rattle.std.specs.Prelude.{◌≡◌, IfOk, Some, string_bytes};
 ghost use Rattle.toml.specs.View.{view};
-ghost use Rattle.nextest_config_values.specs.Read.Text as text;
-ghost use Rattle.nextest_config_values.specs.Read.Fault.{Refuses, broken_rule, fault_of, fault_text, invalid_type, is_memory, no_memory, reason_of, reason_text, rule_text};
+ghost use Rattle.nextest_config_values.specs.Read.Fault.{RefusesAs, broken_rule, fault_at, fault_of, fault_text, is_memory, missing, no_memory, path_of, reason_of, reason_text, rule_text, unknown_word, wrong_type, wrong_value};
 ghost use Rattle.nextest_config_values.specs.declared.read.fault.FaultKind.TheVariants.{Memory};
 
 use super::text::{QuotedText, found_text};
+use semver::Version;
 use std::alloc::{AllocError, Global};
 use std::fmt;
 use toml::Value;
@@ -18,13 +18,32 @@ pub struct ReadFault {
     pub kind: FaultKind,
 }
 
-/// The reason why a TOML value was refused.
+/// The reason why a TOML value was refused. What is expected is written as it is printed.
 #[derive(Debug, PartialEq, Eq, Drop)]
 pub enum FaultKind {
     /// The value is of a kind that the setting doesn't take.
     InvalidType {
         found: String,
         expected: &'static str,
+    },
+    /// The value is of the right kind and outside of what the setting takes.
+    InvalidValue {
+        found: String,
+        expected: &'static str,
+    },
+    /// The text is none of the setting's words.
+    UnknownVariant {
+        found: String,
+        expected: &'static str,
+    },
+    /// The table has a key that the setting doesn't know.
+    UnknownField {
+        found: String,
+        expected: &'static str,
+    },
+    /// The table lacks a key; `key` is its path.
+    MissingField {
+        key: String,
     },
     /// The value breaks a rule of the setting's own.
     Custom(Rule),
@@ -40,13 +59,34 @@ pub enum Rule {
     /// A version text with build metadata (SemVer 2.0.0, item 10).
     BuildMetadata,
     /// A text that is no version, as it is written.
-    NotVersion { text: String },
+    NotVersion {
+        text: String,
+    },
+    /// A required version above the recommended one.
+    RequiredAboveRecommended {
+        required: Version,
+        recommended: Version,
+    },
+    /// Jitter where there is no delay.
+    JitterWithoutDelay,
+    /// No retry, with exponential backoff.
+    CountZero,
+    /// No delay, with exponential backoff.
+    DelayZero,
+    /// A greatest delay of zero, with exponential backoff.
+    MaxDelayZero,
+    /// A greatest delay below the first one, with exponential backoff.
+    MaxDelayBelowDelay,
+    /// A priority outside of -100 to 100.
+    Priority {
+        priority: i8,
+    },
 }
 
 impl ReadFault {
     /// The fault of this kind at this path, or `Memory` where the path finds no room.
     pub fn new(alloc: Global, at: &str, kind: FaultKind) -> ReadFault
-        ensures { Refuses (λ fault. fault ≡ record { path = at.now; reason = reason_of kind }) (fault_of result) }
+        ensures { RefusesAs (fault_at at.now (reason_of kind)) (fault_of result) }
     {
         match kind {
             FaultKind::Memory => ReadFault::memory(alloc),
@@ -59,11 +99,45 @@ impl ReadFault {
 
     /// The fault of a value whose kind the setting doesn't take.
     pub fn invalid_type(alloc: Global, value: &Value, at: &str, expected: &'static str) -> ReadFault
-        ensures { Refuses (λ fault. fault
-            ≡ record { path = at.now; reason = invalid_type (text.found_text (view value.now)) expected.now }) (fault_of result) }
+        ensures { RefusesAs (wrong_type (view value.now) at.now expected.now) (fault_of result) }
     {
         match found_text(alloc, value) {
             Ok(found) => ReadFault::new(alloc, at, FaultKind::InvalidType { found, expected }),
+            Err(AllocError) => ReadFault::memory(alloc),
+        }
+    }
+
+    /// The fault of a value of the right kind, outside of what the setting takes.
+    pub fn invalid_value(
+        alloc: Global,
+        value: &Value,
+        at: &str,
+        expected: &'static str,
+    ) -> ReadFault
+        ensures { RefusesAs (wrong_value (view value.now) at.now expected.now) (fault_of result) }
+    {
+        match found_text(alloc, value) {
+            Ok(found) => ReadFault::new(alloc, at, FaultKind::InvalidValue { found, expected }),
+            Err(AllocError) => ReadFault::memory(alloc),
+        }
+    }
+
+    /// The fault of a text that is none of the setting's words.
+    pub fn unknown_variant(alloc: Global, text: &str, at: &str, expected: &'static str) -> ReadFault
+        ensures { RefusesAs (unknown_word text.now at.now expected.now) (fault_of result) }
+    {
+        match String::from_str(alloc, text) {
+            Ok(found) => ReadFault::new(alloc, at, FaultKind::UnknownVariant { found, expected }),
+            Err(AllocError) => ReadFault::memory(alloc),
+        }
+    }
+
+    /// The fault of a table at this path that lacks this key.
+    pub fn missing_field(alloc: Global, key: &str, at: &str) -> ReadFault
+        ensures { RefusesAs (missing key.now at.now) (fault_of result) }
+    {
+        match field_path(alloc, at, key) {
+            Ok(key) => ReadFault::new(alloc, at, FaultKind::MissingField { key }),
             Err(AllocError) => ReadFault::memory(alloc),
         }
     }
@@ -74,17 +148,34 @@ impl ReadFault {
     {
         match self.kind {
             FaultKind::Memory => true,
-            FaultKind::InvalidType { .. } | FaultKind::Custom(_) => false,
+            FaultKind::InvalidType { .. }
+            | FaultKind::InvalidValue { .. }
+            | FaultKind::UnknownVariant { .. }
+            | FaultKind::UnknownField { .. }
+            | FaultKind::MissingField { .. }
+            | FaultKind::Custom(_) => false,
         }
     }
 
-    fn memory(alloc: Global) -> ReadFault
+    /// The fault that says nothing of the value.
+    pub(crate) fn memory(alloc: Global) -> ReadFault
         ensures { fault_of result ≡ no_memory }
     {
         ReadFault {
             path: String::new(alloc),
             kind: FaultKind::Memory,
         }
+    }
+}
+
+/// The path of a key in the table at a path.
+pub(crate) fn field_path(alloc: Global, at: &str, key: &str) -> Result<String, AllocError>
+    ensures { IfOk result (λ path. string_bytes path ≡ path_of at.now key.now) }
+{
+    if at.is_empty() {
+        String::from_str(alloc, key)
+    } else {
+        format!(in alloc; "{at}.{key}")
     }
 }
 
@@ -115,6 +206,18 @@ impl fmt::Display for FaultKind {
             FaultKind::InvalidType { found, expected } => {
                 write!(f, "invalid type: {found}, expected {expected}")
             }
+            FaultKind::InvalidValue { found, expected } => {
+                write!(f, "invalid value: {found}, expected {expected}")
+            }
+            FaultKind::UnknownVariant { found, expected } => {
+                write!(f, "unknown variant `{found}`, expected {expected}")
+            }
+            FaultKind::UnknownField { found, expected } => {
+                write!(f, "unknown field `{found}`, expected {expected}")
+            }
+            FaultKind::MissingField { key } => {
+                write!(f, "missing configuration field \"{key}\"")
+            }
             FaultKind::Custom(rule) => write!(f, "{rule}"),
             FaultKind::Memory => f.write_str("out of memory"),
         }
@@ -133,6 +236,27 @@ impl fmt::Display for Rule {
                 f.write_str("build metadata is not supported in nextest-version")
             }
             Rule::NotVersion { text } => write!(f, "invalid version {}", QuotedText(text.as_str())),
+            Rule::RequiredAboveRecommended {
+                required,
+                recommended,
+            } => write!(
+                f,
+                "required version ({required}) must not be greater than recommended version ({recommended})"
+            ),
+            Rule::JitterWithoutDelay => {
+                f.write_str("`jitter` cannot be true if `delay` isn't specified or is zero")
+            }
+            Rule::CountZero => f.write_str("`count` cannot be zero with exponential backoff"),
+            Rule::DelayZero => f.write_str("`delay` cannot be zero with exponential backoff"),
+            Rule::MaxDelayZero => {
+                f.write_str("`max-delay` cannot be zero with exponential backoff")
+            }
+            Rule::MaxDelayBelowDelay => {
+                f.write_str("`max-delay` cannot be less than delay with exponential backoff")
+            }
+            Rule::Priority { priority } => {
+                write!(f, "priority {priority} must be between -100 and 100")
+            }
         }
     }
 }

@@ -1,4 +1,4 @@
-use Rattle.nextest_config.proofs.VersionTexts.{mark_at}
+use Rattle.nextest_config.specs.NextestVersion.VersionTextLaws.{mark_at}
 use Rattle.nextest_config.specs.NextestVersion.VersionText.{hyphen, plus_sign}
 use Rattle.nextest_config.proofs.nextest_version.version_text.first_mark.Goals as goal
 

@@ -1,9 +1,9 @@
-use Rattle.std.proofs.Common.{◌≡◌, ◌++◌, List, ℕ, Ok, IsErr, inl, inr, rules}
+use Rattle.std.proofs.Common.{◌≡◌, ◌++◌, Ok, IsErr, inl, inr, rules}
 use Rattle.std.specs.List.{AllByRecursion}
 use Rattle.semver.specs.Identifiers.{parts_of}
 use Rattle.semver.specs.Parse.{version_parts}
 use Rattle.nextest_config.specs.NextestVersion.VersionText.{IsPlain}
-use Rattle.nextest_config.proofs.VersionTexts.{third, read_three, read_two, no_version}
+use Rattle.nextest_config.specs.NextestVersion.VersionTextLaws.{third, read_three, read_two, no_version}
 use Rattle.nextest_config.proofs.nextest_version.version_text.parse_version.Goals as goal
 
 pub returns-in-Some-2-clause-version : goal.returns-in-Some-2-clause-version

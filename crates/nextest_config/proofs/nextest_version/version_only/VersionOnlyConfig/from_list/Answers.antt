@@ -3,7 +3,7 @@ use Rattle.std.proofs.lemmas.List.{take_all}
 use Rattle.nextest_config.specs.NextestVersion.ErrorKind.{wrong_of}
 use Rattle.nextest_config.specs.NextestVersion.Source.{source_of}
 use Rattle.nextest_config.specs.NextestVersion.VersionOnly.{Adds, StandsFor, configuration_of}
-use Rattle.nextest_config.proofs.Lists.{map-take_more}
+use Rattle.nextest_config_values.proofs.Lists.{map-take_more}
 use Rattle.nextest_config.proofs.Readings.{only_memory, refusal_of_list}
 use Rattle.nextest_config.proofs.Selection.{selects}
 use Rattle.nextest_config.proofs.Standing.{stands_more}

@@ -64,3 +64,7 @@ zip_push R [] [] x y h r = (r, tt)
 zip_push R [] (z ∷ ys) x y h r = absurd h
 zip_push R (z ∷ xs) [] x y h r = absurd h
 zip_push R (w ∷ xs) (z ∷ ys) x y h r = (h.0, zip_push R xs ys x y h.1 r)
+
+-- what holds of the front and of the next element holds of one more
+pub all_more : {X : Type 0} (P : X → Type 0) (xs : List X) (i : ℕ) (x : X) → i < length xs → x ≡ get_or xs i x → AllByRecursion P (take i xs) → P x → AllByRecursion P (take (i + 1) xs)
+all_more P xs i x within here h p = rw (take_more xs i x within, ← here) (all_joined P (take i xs) (x ∷ []) h (p, tt))

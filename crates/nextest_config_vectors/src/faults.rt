@@ -1,4 +1,7 @@
-use super::{FaultKind, ReadFault, Rule, found_text, quoted};
+//! The texts of faults.
+
+use nextest_config_values::read::{FaultKind, ReadFault, Rule, found_text, quoted};
+use semver::Version;
 use std::test::Fail;
 use toml::Value;
 
@@ -77,6 +80,44 @@ fn faults_print_their_path_and_reason(rt: HostRuntime) -> Result<(), Fail> {
             "",
             FaultKind::Custom(Rule::BuildMetadata),
             "build metadata is not supported in nextest-version",
+        ),
+        (
+            "nextest-version",
+            FaultKind::Custom(Rule::RequiredAboveRecommended {
+                required: Version::new(0, 9, 60),
+                recommended: Version::new(0, 9, 50),
+            }),
+            "nextest-version: required version (0.9.60) must not be greater than recommended version (0.9.50)",
+        ),
+        (
+            "r",
+            FaultKind::Custom(Rule::JitterWithoutDelay),
+            "r: `jitter` cannot be true if `delay` isn't specified or is zero",
+        ),
+        (
+            "r",
+            FaultKind::Custom(Rule::CountZero),
+            "r: `count` cannot be zero with exponential backoff",
+        ),
+        (
+            "r",
+            FaultKind::Custom(Rule::DelayZero),
+            "r: `delay` cannot be zero with exponential backoff",
+        ),
+        (
+            "r",
+            FaultKind::Custom(Rule::MaxDelayZero),
+            "r: `max-delay` cannot be zero with exponential backoff",
+        ),
+        (
+            "r",
+            FaultKind::Custom(Rule::MaxDelayBelowDelay),
+            "r: `max-delay` cannot be less than delay with exponential backoff",
+        ),
+        (
+            "r",
+            FaultKind::Custom(Rule::Priority { priority: -101 }),
+            "r: priority -101 must be between -100 and 100",
         ),
         ("p", FaultKind::Memory, "out of memory"),
     ] {

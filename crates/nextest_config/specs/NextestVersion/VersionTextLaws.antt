@@ -1,5 +1,5 @@
--- Version texts beside what `semver` reads.
-use Rattle.std.proofs.Common.{◌≡◌, ◌≢◌, ℕ, zero, suc, ◌+◌, ◌<◌, ◌^◌, List, [], ◌∷◌, ◌++◌, length, get_or, take, drop, Ok, Err, IsErr, refl, sym, ap, ◌∙◌, subst, inl, inr, arith, append_assoc}
+-- The laws of version texts, and version texts beside what `semver` reads.
+use Rattle.std.proofs.Common.{◌≡◌, ◌≢◌, ℕ, zero, suc, ◌+◌, ◌<◌, ◌^◌, List, [], ◌∷◌, ◌++◌, length, get_or, take, drop, Ok, IsErr, refl, sym, ap, ◌∙◌, subst, inl, inr, arith, append_assoc}
 use Rattle.std.proofs.lemmas.Bool.{false≢true}
 use Rattle.std.proofs.lemmas.Fmt.{decimal-digits_value, decimal_is_IsNumeral, decimal_digit, decimal_nonempty, first_decimal}
 use Rattle.std.proofs.lemmas.List.{append-nil, drop_more, take-append-drop}
@@ -12,7 +12,7 @@ use Rattle.semver.specs.Identifiers.{marked, parts_text}
 use Rattle.semver.specs.Parse.{Parts, version_parts}
 use Rattle.nextest_config_values.specs.Read.Fault.{BrokenRule, pre_release, build_metadata, not_version}
 use Rattle.nextest_config.specs.NextestVersion.VersionText.{Numbers, plain, dot, hyphen, plus_sign, IsNumeral, IsThree, IsTwo, IsVersionText, IsPlain, HasFirstMark, IsVersionFault}
-use Rattle.nextest_config.proofs.Lists.{all_left, all_right, all_joined, all_middle, all_weaker}
+use Rattle.nextest_config_values.proofs.Lists.{all_right, all_joined, all_middle}
 
 own : IsNumeralModel (AllDigits 10) (digits_value 10)
 own = numerals_by_value (AllDigits 10) tells_digits
@@ -214,11 +214,57 @@ pub version_not_fault : (text : List ℕ) (n : Numbers) (rule : BrokenRule) → 
 version_not_fault text n pre_release h k = (all_middle IsPlain k.before hyphen k.after (subst (AllByRecursion IsPlain) k.whole (version_plain text n h))).0 refl
 version_not_fault text n build_metadata h k = (all_middle IsPlain k.before plus_sign k.after (subst (AllByRecursion IsPlain) k.whole (version_plain text n h))).1 refl
 version_not_fault text n (not_version written) h k = k.2 n h
+version_not_fault text n _ h k = absurd k
 
 -- a text with neither mark that `semver` refuses, with a zero added too, has no version
 pub no_version : (text : List ℕ) → IsErr (version_parts text) → IsErr (version_parts (text ++ third)) → (n : Numbers) → ¬ IsVersionText text n
 no_version text three two n (inl h) = absurd (false≢true (rw (three_read text n h) at three))
 no_version text three two n (inr h) = absurd (false≢true (rw (two_read text n h) at two))
+
+-- ---- one rule
+
+-- the first mark of a text is one
+one_mark : (b d a c : List ℕ) (m n : ℕ) → b ++ (m ∷ a) ≡ d ++ (n ∷ c) → AllByRecursion IsPlain b → AllByRecursion IsPlain d → ¬ IsPlain m → ¬ IsPlain n → m ≡ n
+one_mark [] [] a c m n e p q mark other = cc e
+one_mark [] (x ∷ d) a c m n e p q mark other =
+    let same : m ≡ x = cc e in
+    absurd (mark (subst IsPlain (sym same) q.0))
+one_mark (x ∷ b) [] a c m n e p q mark other =
+    let same : x ≡ n = cc e in
+    absurd (other (subst IsPlain same p.0))
+one_mark (x ∷ b) (y ∷ d) a c m n e p q mark other =
+    let rest : b ++ (m ∷ a) ≡ d ++ (n ∷ c) = cc e in
+    one_mark b d a c m n rest p.1 q.1 mark other
+
+hyphen_is_mark : ¬ IsPlain hyphen
+hyphen_is_mark p = p.0 refl
+
+plus_is_mark : ¬ IsPlain plus_sign
+plus_is_mark p = p.1 refl
+
+not_both_marks : (text : List ℕ) → HasFirstMark hyphen text → HasFirstMark plus_sign text → ⊥
+not_both_marks text h k =
+    let same = one_mark h.before k.before h.after k.after hyphen plus_sign (sym h.whole ∙ k.whole) h.first k.first hyphen_is_mark plus_is_mark in
+    cc same
+
+not_unmarked : (mark : ℕ) (text : List ℕ) → ¬ IsPlain mark → HasFirstMark mark text → AllByRecursion IsPlain text → ⊥
+not_unmarked mark text is_mark h plain = is_mark (all_middle IsPlain h.before mark h.after (subst (AllByRecursion IsPlain) h.whole plain))
+
+-- a text breaks one rule
+pub one_rule : (text : List ℕ) (r s : BrokenRule) → IsVersionFault text r → IsVersionFault text s → r ≡ s
+one_rule text pre_release pre_release h k = refl
+one_rule text pre_release build_metadata h k = absurd (not_both_marks text h k)
+one_rule text pre_release (not_version w) h k = absurd (not_unmarked hyphen text hyphen_is_mark h k.1)
+one_rule text build_metadata pre_release h k = absurd (not_both_marks text k h)
+one_rule text build_metadata build_metadata h k = refl
+one_rule text build_metadata (not_version w) h k = absurd (not_unmarked plus_sign text plus_is_mark h k.1)
+one_rule text (not_version w) pre_release h k = absurd (not_unmarked hyphen text hyphen_is_mark k h.1)
+one_rule text (not_version w) build_metadata h k = absurd (not_unmarked plus_sign text plus_is_mark k h.1)
+one_rule text (not_version w) (not_version v) h k = ap not_version (h.0 ∙ sym k.0)
+one_rule text pre_release _ h k = absurd k
+one_rule text build_metadata _ h k = absurd k
+one_rule text (not_version w) _ h k = absurd k
+one_rule text _ s h k = absurd h
 
 -- ---- the scan for a mark
 

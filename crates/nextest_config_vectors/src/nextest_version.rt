@@ -1,4 +1,9 @@
-use super::*;
+//! What sources ask, and what a current version is told.
+
+use nextest_config::nextest_version::{
+    ConfigParseErrorKind, ConfigSource, ConfigSourceKind, ListRefusal, NextestVersionConfig,
+    NextestVersionDeserialize, NextestVersionEval, Severity, SourceText, VersionOnlyConfig,
+};
 use semver::Version;
 use std::alloc::{AllocError, Global};
 use std::test::Fail;

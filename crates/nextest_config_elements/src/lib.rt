@@ -1,0 +1,9 @@
+//! The settings of nextest's profiles.
+#![tactic(auto)]
+
+pub mod junit;
+pub mod leak_timeout;
+pub mod max_fail;
+pub mod report_skip_policy;
+pub mod retry_policy;
+pub mod slow_timeout;

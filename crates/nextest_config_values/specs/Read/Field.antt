@@ -1,0 +1,40 @@
+-- What the fields of a table mean, by the value at the key, if any.
+use Rattle.std.specs.Prelude.{◌≡◌, ℕ, Bool, List, Option, Some, None}
+use Rattle.toml.specs.Data.{Data}
+use Rattle.nextest_config_values.specs.Read.Fault.{Fault, missing, path_of}
+use Rattle.nextest_config_values.specs.Read.FromToml.{WantsMemory}
+
+-- a missing key means nothing
+abbrev pub MeansOptional : {X : Type 0} → (Data → X → Type 0) → Option Data → Option X → Type 0
+MeansOptional means None found = found ≡ None
+MeansOptional {X} means (Some value) found = (x : X) × (found ≡ Some x) × means value x
+
+-- a missing key is a fault
+abbrev pub MeansRequired : {X : Type 0} → (Data → X → Type 0) → Option Data → X → Type 0
+MeansRequired means None x = ⊥
+MeansRequired means (Some value) x = means value x
+
+-- a missing key means the default
+abbrev pub MeansOr : {X : Type 0} → X → (Data → X → Type 0) → Option Data → X → Type 0
+MeansOr default means None x = x ≡ default
+MeansOr default means (Some value) x = means value x
+
+-- a missing key is all right; a value has the faults of its type, at the path of the key
+abbrev pub OptionalFaults : (Data → List ℕ → Fault → Type 0) → Option Data → List ℕ → Fault → Type 0
+OptionalFaults faults None path fault = ⊥
+OptionalFaults faults (Some value) path fault = faults value path fault
+
+-- a missing key is a fault at the table's path
+abbrev pub RequiredFaults : (Data → List ℕ → Fault → Type 0) → List ℕ → Option Data → List ℕ → Fault → Type 0
+RequiredFaults faults key None at fault = fault ≡ missing key at
+RequiredFaults faults key (Some value) at fault = faults value (path_of at key) fault
+
+-- memory is wanted for no missing key, and for a value as its type says
+abbrev pub WantsIfPresent : {X : Type 0} → (Data → X → Type 0) → Bool → Option Data → Type 0
+WantsIfPresent means needs_memory None = ⊥
+WantsIfPresent means needs_memory (Some value) = WantsMemory (means value) needs_memory
+
+-- memory is wanted for the refusal of a missing key, and for a value as its type says
+abbrev pub WantsIfRequired : {X : Type 0} → (Data → X → Type 0) → Bool → Option Data → Type 0
+WantsIfRequired means needs_memory None = Unit {0}
+WantsIfRequired means needs_memory (Some value) = WantsMemory (means value) needs_memory

@@ -1,0 +1,77 @@
+-- What the plain readers mean by what a value holds.
+use Rattle.std.specs.Prelude.{◌≡◌, ◌≢◌, ℕ, ◌<◌, ◌^◌, ℤ, pos, Bool, List, codes, String, string_bytes}
+use Rattle.std.proofs.Common.{refl, sym, ap, ◌∙◌}
+use Rattle.std.specs.declared.alloc.Global.{Global}
+use Rattle.toml.specs.Data.{Data, as_bool, as_integer, as_str}
+use Rattle.nextest_config_values.specs.Read.Fault.{Fault, is_memory, wrong_value}
+use Rattle.nextest_config_values.specs.Read.FromToml.{FaultsAs, IsHeldReading, IsReading, MeansAs, equality, reading_as}
+
+-- what a value holds is all right
+abbrev pub HasNoFault : {K : Type 0} → K → Data → List ℕ → Fault → Type 0
+HasNoFault held value at fault = ⊥
+
+abbrev pub MeansTruth : Bool → Bool → Type 0
+MeansTruth held truth = truth ≡ held
+
+abbrev pub MeansText : List ℕ → String Global → Type 0
+MeansText held text = string_bytes text ≡ held
+
+abbrev pub SameText : String Global → String Global → Type 0
+SameText a b = string_bytes a ≡ string_bytes b
+
+-- ---- integers of a range
+
+-- the integer is this number, which is in the range
+abbrev pub MeansNumber : (ℕ → Type 0) → ℤ → ℕ → Type 0
+MeansNumber IsIn held number = (held ≡ pos number) × IsIn number
+
+-- the integer is no number of the range
+abbrev pub IsOutside : (ℕ → Type 0) → List ℕ → ℤ → Data → List ℕ → Fault → Type 0
+IsOutside IsIn expected held value at fault = ((number : ℕ) → IsIn number → held ≢ pos number) × (fault ≡ wrong_value value at expected)
+
+abbrev pub IsU32 : ℕ → Type 0
+IsU32 number = number < 2 ^ 32
+
+-- a count is from 1 to the greatest usize
+abbrev pub IsCount : ℕ → Type 0
+IsCount number = (0 < number) × (number < 2 ^ 64)
+
+-- ---- their laws
+
+held_truth : IsHeldReading MeansTruth HasNoFault (λ x y. x ≡ y)
+held_truth = record {
+  equivalence = equality;
+  one_meaning = λ value x y a b. a ∙ sym b;
+  one_fault = λ value at f g a b. absurd a;
+  never_both = λ value at x f a b. b;
+  never_memory = λ value at f a. absurd a;
+}
+
+held_text : IsHeldReading MeansText HasNoFault SameText
+held_text = record {
+  equivalence = record { itself = λ x. refl; back = λ x y e. sym e; through = λ x y z e f. e ∙ f };
+  one_meaning = λ value x y a b. a ∙ sym b;
+  one_fault = λ value at f g a b. absurd a;
+  never_both = λ value at x f a b. b;
+  never_memory = λ value at f a. absurd a;
+}
+
+held_number : (IsIn : ℕ → Type 0) (expected : List ℕ) → IsHeldReading (MeansNumber IsIn) (IsOutside IsIn expected) (λ x y. x ≡ y)
+held_number IsIn expected = record {
+  equivalence = equality;
+  one_meaning = λ value x y a b. cc (a.0, b.0);
+  one_fault = λ value at f g a b. a.1 ∙ sym b.1;
+  never_both = λ value at x f a b. b.0 x a.1 a.0;
+  never_memory = λ value at f a. ap (λ (g : Fault). is_memory g.reason) a.1;
+}
+
+pub bool_reading : IsReading (MeansAs as_bool MeansTruth) (FaultsAs as_bool (codes "a boolean") HasNoFault) (λ x y. x ≡ y)
+bool_reading = reading_as as_bool (codes "a boolean") MeansTruth HasNoFault (λ x y. x ≡ y) held_truth
+
+pub string_reading : IsReading (MeansAs as_str MeansText) (FaultsAs as_str (codes "a string") HasNoFault) SameText
+string_reading = reading_as as_str (codes "a string") MeansText HasNoFault SameText held_text
+
+-- the reading of an integer of a range
+pub number_reading : (IsIn : ℕ → Type 0) (expected : List ℕ)
+    → IsReading (MeansAs as_integer (MeansNumber IsIn)) (FaultsAs as_integer expected (IsOutside IsIn expected)) (λ x y. x ≡ y)
+number_reading IsIn expected = reading_as as_integer expected (MeansNumber IsIn) (IsOutside IsIn expected) (λ x y. x ≡ y) (held_number IsIn expected)

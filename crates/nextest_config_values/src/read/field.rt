@@ -1,0 +1,101 @@
+//! The fields of a table.
+
+ghost use Rattle.std.specs.Prelude.{◌≡◌, IfOk, IfErr, Some, None, option_map};
+ghost use Rattle.toml.specs.Data.{get_member};
+ghost use Rattle.toml.specs.View.{table_view, view};
+ghost use Rattle.nextest_config_values.specs.Read.Fault.{Refuses, fault_of, path_of};
+ghost use Rattle.nextest_config_values.specs.Read.Field.{MeansOptional, MeansOr, MeansRequired, OptionalFaults, RequiredFaults, WantsIfPresent, WantsIfRequired};
+ghost use Rattle.nextest_config_values.specs.Read.FromToml.{WantsMemory};
+
+use super::fault::{ReadFault, field_path};
+use super::from_toml::FromToml;
+use std::alloc::{AllocError, Global};
+use toml::{Table, Value};
+
+/// The value at a key of the table at the path `at`; none where the key is missing.
+pub fn optional_field<T: FromToml>(
+    alloc: Global,
+    table: &Table,
+    key: &str,
+    at: &str,
+) -> Result<Option<T>, ReadFault>
+    ensures meant { IfOk result (MeansOptional T.means (get_member key.now (table_view table.now))) }
+    ensures refused { IfErr result (λ fault. Refuses
+        (OptionalFaults T.faults (get_member key.now (table_view table.now)) (path_of at.now key.now))
+        (WantsIfPresent T.means T.needs_memory (get_member key.now (table_view table.now)))
+        (fault_of fault)) }
+{
+    match find(table, key) {
+        Some(value) => {
+            let x = read_field(alloc, value, key, at)?;
+            Ok(Some(x))
+        }
+        None => Ok(None),
+    }
+}
+
+/// The value at a key of the table at the path `at`. A missing key is a fault at that path.
+pub fn required_field<T: FromToml>(
+    alloc: Global,
+    table: &Table,
+    key: &str,
+    at: &str,
+) -> Result<T, ReadFault>
+    ensures meant { IfOk result (MeansRequired T.means (get_member key.now (table_view table.now))) }
+    ensures refused { IfErr result (λ fault. Refuses
+        (RequiredFaults T.faults key.now (get_member key.now (table_view table.now)) at.now)
+        (WantsIfRequired T.means T.needs_memory (get_member key.now (table_view table.now)))
+        (fault_of fault)) }
+{
+    match find(table, key) {
+        Some(value) => read_field(alloc, value, key, at),
+        None => Err(ReadFault::missing_field(alloc, key, at)),
+    }
+}
+
+/// The value at a key of the table at the path `at`, or `default` where the key is missing.
+pub fn field_or<T: FromToml + Drop>(
+    alloc: Global,
+    table: &Table,
+    key: &str,
+    at: &str,
+    default: T,
+) -> Result<T, ReadFault>
+    ensures meant { IfOk result (MeansOr default T.means (get_member key.now (table_view table.now))) }
+    ensures refused { IfErr result (λ fault. Refuses
+        (OptionalFaults T.faults (get_member key.now (table_view table.now)) (path_of at.now key.now))
+        (WantsIfPresent T.means T.needs_memory (get_member key.now (table_view table.now)))
+        (fault_of fault)) }
+{
+    match find(table, key) {
+        Some(value) => read_field(alloc, value, key, at),
+        None => Ok(default),
+    }
+}
+
+// The value at a key.
+fn find<'t>(table: &'t Table, key: &str) -> Option<&'t Value>
+    ensures { option_map (λ value. view value.now) result ≡ get_member key.now (table_view table.now) }
+{
+    table.get(key)
+}
+
+// Reads the value of a key. The path is put together only after a fault.
+fn read_field<T: FromToml>(
+    alloc: Global,
+    value: &Value,
+    key: &str,
+    at: &str,
+) -> Result<T, ReadFault>
+    ensures meant { IfOk result (T.means (view value.now)) }
+    ensures refused { IfErr result (λ fault. Refuses (T.faults (view value.now) (path_of at.now key.now))
+        (WantsMemory (T.means (view value.now)) T.needs_memory) (fault_of fault)) }
+{
+    match T::read(alloc, value, key) {
+        Ok(x) => Ok(x),
+        Err(_) => match field_path(alloc, at, key) {
+            Ok(path) => T::read(alloc, value, path.as_str()),
+            Err(AllocError) => Err(ReadFault::memory(alloc)),
+        },
+    }
+}

@@ -1,0 +1,37 @@
+//! The reading of a TOML value.
+
+ghost use Rattle.std.specs.Prelude.{ℕ, Bool, List, IfOk, IfErr};
+ghost use Rattle.toml.specs.Data.{Data};
+ghost use Rattle.toml.specs.View.{view};
+ghost use Rattle.nextest_config_values.specs.Read.Fault.{Fault, Refuses, fault_of};
+ghost use Rattle.nextest_config_values.specs.Read.FromToml.{IsReading, WantsMemory};
+
+use super::fault::ReadFault;
+use std::alloc::Global;
+use toml::Value;
+
+/// A type that is read from a TOML value.
+///
+/// A value means a Self or has a fault, and never both. So, want of memory aside, `read` answers Ok
+/// exactly where a Self is meant.
+pub trait FromToml: Sized {
+    // What a value means.
+    ghost means: { Data → Self → Type 0 };
+
+    // What is wrong with a value at a path. Want of memory is none of these.
+    ghost faults: { Data → List ℕ → Fault → Type 0 };
+
+    // Whether the result of an accepted value takes memory.
+    ghost needs_memory: { Bool };
+
+    // The two say the same.
+    ghost alike: { Self → Self → Type 0 };
+
+    /// Reads the value; a fault names its path, which begins with `at`. A `Memory` has the empty path.
+    fn read(alloc: Global, value: &Value, at: &str) -> Result<Self, ReadFault>
+        ensures meant { IfOk result (means (view value.now)) }
+        ensures refused { IfErr result (λ fault. Refuses (faults (view value.now) at.now)
+            (WantsMemory (means (view value.now)) needs_memory) (fault_of fault)) };
+
+    ghost laws: { IsReading means faults alike };
+}

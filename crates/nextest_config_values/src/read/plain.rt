@@ -1,0 +1,146 @@
+//! The plain readers.
+
+ghost use Rattle.std.specs.Prelude.{◌≡◌, ◌≢◌, ◌<◌, ◌↔◌, ℕ, pos, true, false, codes, IsSome, IfSome, MatchOption};
+ghost use Rattle.toml.specs.Data.{as_bool, as_integer, as_str};
+ghost use Rattle.nextest_config_values.specs.Read.FromToml.{FaultsAs, MeansAs};
+ghost use Rattle.nextest_config_values.specs.Read.Plain.{HasNoFault, IsCount, IsOutside, IsU32, MeansNumber, MeansText, MeansTruth, SameText, bool_reading, number_reading, string_reading};
+
+use super::fault::ReadFault;
+use super::from_toml::FromToml;
+use std::alloc::{AllocError, Global};
+use std::marker::Model;
+use toml::Value;
+
+impl FromToml for bool {
+    ghost means = { MeansAs as_bool MeansTruth };
+
+    ghost faults = { FaultsAs as_bool (codes "a boolean") HasNoFault };
+
+    ghost needs_memory = { false };
+
+    ghost alike = { ◌≡◌ };
+
+    ghost laws = { bool_reading };
+
+    fn read(alloc: Global, value: &Value, at: &str) -> Result<Self, ReadFault> {
+        match value.as_bool() {
+            Some(truth) => Ok(truth),
+            None => Err(ReadFault::invalid_type(alloc, value, at, "a boolean")),
+        }
+    }
+}
+
+impl FromToml for u32 {
+    ghost means = { MeansAs as_integer (MeansNumber IsU32) };
+
+    ghost faults = { FaultsAs as_integer (codes "u32") (IsOutside IsU32 (codes "u32")) };
+
+    ghost needs_memory = { false };
+
+    ghost alike = { ◌≡◌ };
+
+    ghost laws = { number_reading IsU32 (codes "u32") };
+
+    fn read(alloc: Global, value: &Value, at: &str) -> Result<Self, ReadFault> {
+        match value.as_integer() {
+            Some(number) => match u32::try_from(number) {
+                Ok(number) => Ok(number),
+                Err(_) => Err(ReadFault::invalid_value(alloc, value, at, "u32")),
+            },
+            None => Err(ReadFault::invalid_type(alloc, value, at, "u32")),
+        }
+    }
+}
+
+impl FromToml for String {
+    ghost means = { MeansAs as_str MeansText };
+
+    ghost faults = { FaultsAs as_str (codes "a string") HasNoFault };
+
+    ghost needs_memory = { true };
+
+    ghost alike = { SameText };
+
+    ghost laws = { string_reading };
+
+    fn read(alloc: Global, value: &Value, at: &str) -> Result<Self, ReadFault> {
+        match value.as_str() {
+            Some(text) => match String::from_str(alloc, text) {
+                Ok(text) => Ok(text),
+                Err(AllocError) => Err(ReadFault::memory(alloc)),
+            },
+            None => Err(ReadFault::invalid_type(alloc, value, at, "a string")),
+        }
+    }
+}
+
+/// A count that isn't zero.
+#[derive(Clone, Copy, Debug, PartialEq, Eq)]
+pub struct NonZeroCount {
+    count: usize,
+}
+
+impl Model for NonZeroCount {
+    ghost Value = { ℕ };
+
+    ghost view = { λ it. it.count };
+
+    ghost invariant = { λ it. 0 < it.count };
+
+    ghost inverse = { λ count. record { count = count } };
+}
+
+impl NonZeroCount {
+    /// The count, unless it is zero.
+    pub fn new(count: usize) -> Option<Self>
+        ensures some { IsSome result ↔ (0 < count) }
+        ensures value { IfSome result (λ it. it ≡ count) }
+    {
+        if count == 0 {
+            None
+        } else {
+            Some(NonZeroCount { count })
+        }
+    }
+
+    /// The count.
+    pub fn get(self) -> usize
+        ensures value { result ≡ self }
+        ensures positive { 0 < result }
+    {
+        self.count
+    }
+}
+
+impl FromToml for NonZeroCount {
+    ghost means = { MeansAs as_integer (MeansNumber IsCount) };
+
+    ghost faults = { FaultsAs as_integer (codes "a nonzero usize") (IsOutside IsCount (codes "a nonzero usize")) };
+
+    ghost needs_memory = { false };
+
+    ghost alike = { ◌≡◌ };
+
+    ghost laws = { number_reading IsCount (codes "a nonzero usize") };
+
+    fn read(alloc: Global, value: &Value, at: &str) -> Result<Self, ReadFault> {
+        match value.as_integer() {
+            Some(number) => match count_of(number) {
+                Some(count) => Ok(count),
+                None => Err(ReadFault::invalid_value(alloc, value, at, "a nonzero usize")),
+            },
+            None => Err(ReadFault::invalid_type(alloc, value, at, "a nonzero usize")),
+        }
+    }
+}
+
+// The count that a TOML integer is, if any.
+fn count_of(number: i64) -> Option<NonZeroCount>
+    ensures { MatchOption result ((count : ℕ) → IsCount count → number ≢ pos count)
+        (MeansNumber IsCount number) }
+{
+    match usize::try_from(number) {
+        Ok(count) => NonZeroCount::new(count),
+        Err(_) => None,
+    }
+}

@@ -1,0 +1,67 @@
+//! Enums whose values are words.
+
+ghost use Rattle.std.specs.Prelude.{◌≡◌, ◌≢◌, ℕ, List, Some, false, map, MatchOption};
+ghost use Rattle.toml.specs.Data.{as_str};
+ghost use Rattle.nextest_config_values.specs.Read.FromToml.{FaultsAs, MeansAs};
+ghost use Rattle.nextest_config_values.specs.Read.Word.{IsNoWord, MeansWord, text_expected, value_of, word_reading, words_text};
+
+use super::fault::ReadFault;
+use super::from_toml::FromToml;
+use std::alloc::Global;
+use toml::Value;
+
+/// An enum whose values are words. It is read from a text that is one of them.
+pub trait Word: Copy + 'static {
+    // The values in the order of their words, and the word of each.
+    ghost all: { List Self };
+
+    ghost word: { Self → List ℕ };
+
+    /// The values, in the order of their words.
+    fn all() -> &'static [Self]
+        ensures { result.now ≡ all };
+
+    /// The word of the value.
+    fn as_word(self) -> &'static str
+        ensures { result.now ≡ word self };
+
+    /// The words, as a refusal lists them.
+    fn expected() -> &'static str
+        ensures { result.now ≡ words_text (map word all) };
+
+    ghost reads_back: { (x : Self) → value_of word all (word x) ≡ Some x };
+}
+
+impl<T: Word> FromToml for T {
+    ghost means = { MeansAs as_str (MeansWord T.word) };
+
+    ghost faults = { FaultsAs as_str text_expected (IsNoWord T.word (words_text (map T.word T.all))) };
+
+    ghost needs_memory = { false };
+
+    ghost alike = { ◌≡◌ };
+
+    ghost laws = { word_reading T.all T.word T.reads_back };
+
+    fn read(alloc: Global, value: &Value, at: &str) -> Result<Self, ReadFault> {
+        match value.as_str() {
+            Some(text) => match find_word(text) {
+                Some(word) => Ok(word),
+                None => Err(ReadFault::unknown_variant(alloc, text, at, T::expected())),
+            },
+            None => Err(ReadFault::invalid_type(alloc, value, at, "a string")),
+        }
+    }
+}
+
+// The value whose word is the text.
+fn find_word<T: Word>(text: &str) -> Option<T>
+    ensures { MatchOption result ((x : T) → T.word x ≢ text.now) (λ x. T.word x ≡ text.now) }
+{
+    for value in T::all() {
+        if value.as_word() == text {
+            return Some(*value);
+        }
+    }
+    None
+}

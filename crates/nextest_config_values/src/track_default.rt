@@ -1,0 +1,56 @@
+//! Values that know whether they are a default.
+
+ghost use Rattle.std.specs.Prelude.{◌≡◌, true, false};
+ghost use Rattle.toml.specs.Data.{Data};
+
+use crate::read::{FromToml, ReadFault};
+use std::alloc::Global;
+use toml::Value;
+
+/// A value, and whether it was read rather than taken as the default.
+#[derive(Clone, Copy, Debug, Default, PartialEq, Eq)]
+pub struct TrackDefault<T> {
+    pub value: T,
+    pub is_deserialized: bool,
+}
+
+impl<T> TrackDefault<T> {
+    /// A value that is the default.
+    pub fn with_default_value(value: T) -> Self
+        ensures { result ≡ record { value = value; is_deserialized = false } }
+    {
+        TrackDefault {
+            value,
+            is_deserialized: false,
+        }
+    }
+
+    /// A value that was read.
+    pub fn with_deserialized_value(value: T) -> Self
+        ensures { result ≡ record { value = value; is_deserialized = true } }
+    {
+        TrackDefault {
+            value,
+            is_deserialized: true,
+        }
+    }
+}
+
+impl<T: FromToml> FromToml for TrackDefault<T> {
+    ghost use Rattle.nextest_config_values.specs.TrackDefault.{AreTrackedAlike, MeansTracked, tracked_reading};
+
+    ghost means = { MeansTracked T.means };
+
+    ghost faults = { T.faults };
+
+    ghost needs_memory = { T.needs_memory };
+
+    ghost alike = { AreTrackedAlike T.alike };
+
+    ghost laws = { tracked_reading T.means T.faults T.alike T.laws };
+
+    fn read(alloc: Global, value: &Value, at: &str) -> Result<Self, ReadFault> {
+        let value = T::read(alloc, value, at)?;
+        Ok(TrackDefault::with_deserialized_value(value))
+    }
+}
