@@ -1,3 +1,4 @@
+pub mod Enough
 pub mod Precedences
 pub mod Readings
 pub mod Standing

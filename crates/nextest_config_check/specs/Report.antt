@@ -6,32 +6,28 @@ use Rattle.semver.specs.Identifiers.{parts_text}
 use Rattle.semver.specs.Parse.{Parts}
 use Rattle.nextest_config.specs.NextestVersion.Error.{Refusal, refusal_text}
 use Rattle.nextest_config.specs.NextestVersion.Source.{Place, Source, place_text}
-use Rattle.nextest_config.specs.NextestVersion.Verdict.{Verdict, satisfied, warn, error, Shortfall, IsSelected}
+use Rattle.nextest_config.specs.NextestVersion.Verdict.{Verdict, satisfied, warn, error, IsSelected}
 use Rattle.nextest_config.specs.NextestVersion.VersionOnly.{Asked, AreRead, IsFirstRefused, alone}
 use Rattle.nextest_config_check.specs.Layout.{AreBlocks, IsFaultyLine}
 use Rattle.nextest_config_check.specs.declared.report.Outcome.{Outcome}
 use Rattle.nextest_config_check.specs.declared.report.Report.{Report}
 use Rattle.nextest_config_check.specs.declared.report.Outcome.TheVariants.{Passed, Failed, Refused}
 
--- what an overridden verdict says of it
-abbrev pub override_text : Bool → List ℕ
-override_text true = codes " (overridden): "
-override_text false = codes ": "
+-- what a verdict is called, by whether it is overridden
+abbrev pub called : List ℕ → Bool → List ℕ
+called says true = says ++ codes " (overridden)"
+called says false = says
 
-abbrev pub shortfall_text : List ℕ → Shortfall → List ℕ
-shortfall_text asks shortfall =
-    override_text shortfall.overridden ++ (parts_text shortfall.asked ++ (asks ++ (place_text shortfall.place ++ (codes ", current " ++ parts_text shortfall.current))))
-
--- the same, from its words
-abbrev pub shortfall_line_text : List ℕ → Parts → List ℕ → Place → Parts → List ℕ
-shortfall_line_text says asked asks place current =
-    says ++ (codes ": " ++ (parts_text asked ++ (codes " " ++ (asks ++ (codes " by " ++ (place_text place ++ (codes ", current " ++ parts_text current)))))))
+-- the current version isn't enough for the one that a place asks in this role
+abbrev pub shortfall_text : List ℕ → Parts → List ℕ → Place → Parts → List ℕ
+shortfall_text says asked role place current =
+    says ++ (codes ": " ++ (parts_text asked ++ (codes " " ++ (role ++ (codes " by " ++ (place_text place ++ (codes ", current " ++ parts_text current)))))))
 
 -- a verdict on the current version
 abbrev pub verdict_text : Parts → Verdict → List ℕ
 verdict_text current satisfied = codes "satisfied: " ++ parts_text current
-verdict_text current (warn shortfall) = codes "warning" ++ shortfall_text (codes " recommended by ") shortfall
-verdict_text current (error shortfall) = codes "error" ++ shortfall_text (codes " required by ") shortfall
+verdict_text current (warn s) = shortfall_text (called (codes "warning") s.overridden) s.asked (codes "recommended") s.place s.current
+verdict_text current (error s) = shortfall_text (called (codes "error") s.overridden) s.asked (codes "required") s.place s.current
 
 -- the lines of a list that reads
 abbrev pub read_text : Parts → Verdict → List ℕ

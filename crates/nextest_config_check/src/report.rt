@@ -5,7 +5,7 @@ ghost use Rattle.semver.specs.Identifiers.{parts_of};
 ghost use Rattle.nextest_config.specs.NextestVersion.Requirement.{roles_of};
 ghost use Rattle.nextest_config.specs.NextestVersion.Source.{place_of, source_of};
 ghost use Rattle.nextest_config.specs.NextestVersion.Verdict.{verdict, verdict_of};
-ghost use Rattle.nextest_config_check.specs.Report.{IsReportFor, IsReportForSources, IsReportOf, outcome_of, shortfall_line_text, status_of, verdict_text};
+ghost use Rattle.nextest_config_check.specs.Report.{IsReportFor, IsReportForSources, IsReportOf, outcome_of, shortfall_text, status_of, verdict_text};
 
 use crate::layout::{self, LayoutFault};
 use nextest_config::nextest_version::{
@@ -192,7 +192,7 @@ fn shortfall_line(
     source: &ConfigSource,
     current: &Version,
 ) -> Result<String, AllocError>
-    ensures { IfOk result (λ text. string_bytes text ≡ shortfall_line_text verdict.now
+    ensures { IfOk result (λ text. string_bytes text ≡ shortfall_text verdict.now
         (parts_of asked.now) asks.now (place_of source.now) (parts_of current.now)) }
 {
     format!(in alloc; "{verdict}: {asked} {asks} by {source}, current {current}")
