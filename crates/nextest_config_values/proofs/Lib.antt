@@ -1,2 +1,7 @@
+pub mod Arguments
+pub mod Components
+pub mod Faults
 pub mod Lists
+pub mod Paths
+pub mod Texts
 pub mod Words

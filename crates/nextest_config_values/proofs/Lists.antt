@@ -1,7 +1,9 @@
 -- What holds of each element, by recursion on the list.
-use Rattle.std.proofs.Common.{◌≡◌, ℕ, ◌+◌, ◌<◌, List, [], ◌∷◌, ◌++◌, length, get_or, take, drop, map, refl, sym, ap, ◌∙◌}
+use Rattle.std.proofs.Common.{◌≡◌, ◌↔◌, ℕ, zero, suc, ◌+◌, ◌<◌, Bool, true, false, IsTrue, List, [], ◌∷◌, ◌++◌, length, get_or, take, drop, map, refl, sym, ap, ◌∙◌, arith}
 use Rattle.std.proofs.lemmas.List.{drop_more, map-append, take-append-drop, take_more}
-use Rattle.std.specs.List.{AllByRecursion, AllZip}
+use Rattle.std.proofs.lemmas.List.Elements.{All-from_all_within, recursion_from_All}
+use Rattle.std.specs.Bool.{MatchBool}
+use Rattle.std.specs.List.{AllByRecursion, AllWithin, AllZip, HoldsAt}
 
 pub all_left : {X : Type 0} (P : X → Type 0) (xs ys : List X) → AllByRecursion P (xs ++ ys) → AllByRecursion P xs
 all_left P [] ys h = tt
@@ -68,3 +70,15 @@ zip_push R (w ∷ xs) (z ∷ ys) x y h r = (h.0, zip_push R xs ys x y h.1 r)
 -- what holds of the front and of the next element holds of one more
 pub all_more : {X : Type 0} (P : X → Type 0) (xs : List X) (i : ℕ) (x : X) → i < length xs → x ≡ get_or xs i x → AllByRecursion P (take i xs) → P x → AllByRecursion P (take (i + 1) xs)
 all_more P xs i x within here h p = rw (take_more xs i x within, ← here) (all_joined P (take i xs) (x ∷ []) h (p, tt))
+
+-- the answer of `all`, said by recursion
+pub decided_all : {X : Type 0} (P Q : X → Type 0) (xs : List X) (r : Bool) → ((x : X) → P x → Q x → ⊥)
+    → MatchBool r (AllWithin P xs 0 (length xs)) ((k : ℕ) × (k < length xs) × HoldsAt Q xs k) → IsTrue r ↔ AllByRecursion P xs
+decided_all P Q xs true apart h = (λ e. recursion_from_All P xs (All-from_all_within P xs h), λ a. refl)
+decided_all P Q xs false apart h =
+    (λ e. cc e, λ a. absurd (apart_somewhere P Q apart xs a h.0 h.1 h.2))
+  where
+    apart_somewhere : {X : Type 0} (P Q : X → Type 0) → ((x : X) → P x → Q x → ⊥) → (xs : List X) → AllByRecursion P xs → (k : ℕ) → k < length xs → HoldsAt Q xs k → ⊥
+    apart_somewhere P Q apart [] a k within h = absurd (omega arith)
+    apart_somewhere P Q apart (x ∷ xs) a zero within h = apart x a.0 (h x)
+    apart_somewhere P Q apart (x ∷ xs) a (suc k) within h = apart_somewhere P Q apart xs a.1 k (omega arith) h

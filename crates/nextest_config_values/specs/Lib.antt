@@ -1,2 +1,5 @@
+pub mod Helpers
+pub mod Identifier
 pub mod Read
+pub mod ToolConfig
 pub mod TrackDefault

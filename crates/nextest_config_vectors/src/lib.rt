@@ -4,8 +4,14 @@
 #[cfg(test)]
 mod faults;
 #[cfg(test)]
+mod identifiers;
+#[cfg(test)]
 mod nextest_version;
+#[cfg(test)]
+mod paths;
 #[cfg(test)]
 mod percent;
 #[cfg(test)]
 mod readers;
+#[cfg(test)]
+mod tool_config;

@@ -4,6 +4,8 @@ use Rattle.std.specs.Fmt.{signed_decimal}
 use Rattle.semver.specs.Identifiers.{parts_of, parts_text}
 use Rattle.semver.specs.Parse.{Parts}
 use Rattle.toml.specs.Data.{Data}
+use Rattle.nextest_config_values.specs.Identifier.Error.{IdentifierFlaw, NameRefusal, ToolNameFlaw, flawed, identifier_refusal, identifier_refusal_text, tool_name_refusal, tool_name_refusal_text}
+use Rattle.nextest_config_values.specs.Identifier.Error.{no_memory as no_memory_for_name}
 use Rattle.nextest_config_values.specs.Read.Text.{found_text, quoted_text}
 use Rattle.nextest_config_values.specs.declared.read.fault.ReadFault.{ReadFault}
 use Rattle.nextest_config_values.specs.declared.read.fault.FaultKind.{FaultKind}
@@ -24,7 +26,7 @@ pub data BrokenRule : Type 0 where
   max_delay_below_delay : BrokenRule
   priority_outside : ℤ → BrokenRule
 
--- a reason: what was found and what was expected, the path of a missing key, a broken rule, or no memory
+-- a reason: what was found and what was expected, the path of a missing key, a broken rule, a refused name, or no memory
 pub data Reason : Type 0 where
   invalid_type : List ℕ → List ℕ → Reason
   invalid_value : List ℕ → List ℕ → Reason
@@ -32,6 +34,8 @@ pub data Reason : Type 0 where
   unknown_field : List ℕ → List ℕ → Reason
   missing_field : List ℕ → Reason
   custom : BrokenRule → Reason
+  identifier : NameRefusal IdentifierFlaw → Reason
+  tool_name : NameRefusal ToolNameFlaw → Reason
   memory : Reason
 
 -- a refused value
@@ -58,6 +62,8 @@ reason_of (kinds.UnknownVariant found expected) = unknown_variant (string_bytes 
 reason_of (kinds.UnknownField found expected) = unknown_field (string_bytes found) expected.now
 reason_of (kinds.MissingField key) = missing_field (string_bytes key)
 reason_of (kinds.Custom rule) = custom (broken_rule rule)
+reason_of (kinds.Identifier error) = identifier (identifier_refusal error)
+reason_of (kinds.ToolName error) = tool_name (tool_name_refusal error)
 reason_of kinds.Memory = memory
 
 abbrev pub fault_of : ReadFault → Fault
@@ -93,6 +99,8 @@ reason_text (unknown_variant found expected) = codes "unknown variant `" ++ unkn
 reason_text (unknown_field found expected) = codes "unknown field `" ++ unknown_text found expected
 reason_text (missing_field key) = codes "missing configuration field \"" ++ (key ++ codes "\"")
 reason_text (custom rule) = rule_text rule
+reason_text (identifier refusal) = identifier_refusal_text refusal
+reason_text (tool_name refusal) = tool_name_refusal_text refusal
 reason_text memory = codes "out of memory"
 
 -- the path before a reason, unless it is empty
@@ -138,6 +146,18 @@ no_memory = fault_at [] memory
 abbrev pub is_memory : Reason → Bool
 is_memory memory = true
 is_memory _ = false
+
+-- want of memory, also within the refusal of a name
+abbrev pub holds_memory : Reason → Bool
+holds_memory memory = true
+holds_memory (identifier no_memory_for_name) = true
+holds_memory (tool_name no_memory_for_name) = true
+holds_memory _ = false
+
+-- the reason of a refused name: want of memory is that of the whole
+abbrev pub name_reason : {Flaw : Type 0} → (NameRefusal Flaw → Reason) → NameRefusal Flaw → Reason
+name_reason reason (flawed flaw text) = reason (flawed flaw text)
+name_reason reason no_memory_for_name = memory
 
 -- at want of memory the first fact, at every other reason the second
 abbrev pub UnlessMemory : Reason → Type 0 → Type 0 → Type 0

@@ -2,7 +2,7 @@
 use Rattle.std.specs.Prelude.{◌≡◌, ℕ, Bool, false, List, Option, Some, None, IsTrue, ◌⊎◌}
 use Rattle.std.proofs.Common.{ap, inl, inr, refl, sym, ◌∙◌, subst}
 use Rattle.toml.specs.Data.{Data}
-use Rattle.nextest_config_values.specs.Read.Fault.{Fault, is_memory, wrong_type}
+use Rattle.nextest_config_values.specs.Read.Fault.{Fault, holds_memory, wrong_type}
 
 pub record IsEquivalence {X : Type 0} (alike : X → X → Type 0) : Type 0 where
   pub itself : (x : X) → alike x x
@@ -15,7 +15,7 @@ pub record IsReading {D X : Type 0} (means : D → X → Type 0) (faults : D →
   pub one_meaning : (value : D) (x y : X) → means value x → means value y → alike x y
   pub one_fault : (value : D) (at : List ℕ) (f g : Fault) → faults value at f → faults value at g → f ≡ g
   pub never_both : (value : D) (at : List ℕ) (x : X) (f : Fault) → means value x → faults value at f → ⊥
-  pub never_memory : (value : D) (at : List ℕ) (f : Fault) → faults value at f → is_memory f.reason ≡ false
+  pub never_memory : (value : D) (at : List ℕ) (f : Fault) → faults value at f → holds_memory f.reason ≡ false
 
 -- where the value means something, memory was wanted for the result
 abbrev pub WantsMemory : {X : Type 0} → (X → Type 0) → Bool → Type 0
@@ -75,8 +75,8 @@ module _ {K X : Type 0} (accessor : Data → Option K) (expected : List ℕ) (me
       let same : b.0 ≡ a.0 = cc (a.1, b.1) in
       inner.never_both (a.0, value) at x f a.2 (subst (λ (k : K). faults k value at f) same b.2)
 
-  never_memory_as : (value : Data) (at : List ℕ) (f : Fault) → FaultsAs accessor expected faults value at f → is_memory f.reason ≡ false
-  never_memory_as value at f (inl a) = ap (λ (g : Fault). is_memory g.reason) a.1
+  never_memory_as : (value : Data) (at : List ℕ) (f : Fault) → FaultsAs accessor expected faults value at f → holds_memory f.reason ≡ false
+  never_memory_as value at f (inl a) = ap (λ (g : Fault). holds_memory g.reason) a.1
   never_memory_as value at f (inr a) = inner.never_memory (a.0, value) at f a.2
 
   -- a value of one kind, whose contents mean something or have a fault

@@ -3,7 +3,7 @@ use Rattle.std.specs.Prelude.{◌≡◌, ◌≢◌, ℕ, ◌<◌, ◌^◌, ℤ, 
 use Rattle.std.proofs.Common.{refl, sym, ap, ◌∙◌}
 use Rattle.std.specs.declared.alloc.Global.{Global}
 use Rattle.toml.specs.Data.{Data, as_bool, as_integer, as_str}
-use Rattle.nextest_config_values.specs.Read.Fault.{Fault, is_memory, wrong_value}
+use Rattle.nextest_config_values.specs.Read.Fault.{Fault, holds_memory, wrong_value}
 use Rattle.nextest_config_values.specs.Read.FromToml.{FaultsAs, IsHeldReading, IsReading, MeansAs, equality, reading_as}
 
 -- what a value holds is all right
@@ -62,7 +62,7 @@ held_number IsIn expected = record {
   one_meaning = λ value x y a b. cc (a.0, b.0);
   one_fault = λ value at f g a b. a.1 ∙ sym b.1;
   never_both = λ value at x f a b. b.0 x a.1 a.0;
-  never_memory = λ value at f a. ap (λ (g : Fault). is_memory g.reason) a.1;
+  never_memory = λ value at f a. ap (λ (g : Fault). holds_memory g.reason) a.1;
 }
 
 pub bool_reading : IsReading (MeansAs as_bool MeansTruth) (FaultsAs as_bool (codes "a boolean") HasNoFault) (λ x y. x ≡ y)

@@ -6,6 +6,7 @@ ghost use Rattle.nextest_config_values.specs.Read.Fault.{RefusesAs, broken_rule,
 ghost use Rattle.nextest_config_values.specs.declared.read.fault.FaultKind.TheVariants.{Memory};
 
 use super::text::{QuotedText, found_text};
+use crate::identifier::{InvalidIdentifier, InvalidToolName};
 use semver::Version;
 use std::alloc::{AllocError, Global};
 use std::fmt;
@@ -47,6 +48,10 @@ pub enum FaultKind {
     },
     /// The value breaks a rule of the setting's own.
     Custom(Rule),
+    /// The text is no identifier.
+    Identifier(InvalidIdentifier),
+    /// The text is no tool name.
+    ToolName(InvalidToolName),
     /// A request for memory was refused, and so nothing is said of the value.
     Memory,
 }
@@ -153,7 +158,9 @@ impl ReadFault {
             | FaultKind::UnknownVariant { .. }
             | FaultKind::UnknownField { .. }
             | FaultKind::MissingField { .. }
-            | FaultKind::Custom(_) => false,
+            | FaultKind::Custom(_)
+            | FaultKind::Identifier(_)
+            | FaultKind::ToolName(_) => false,
         }
     }
 
@@ -184,6 +191,34 @@ impl From<AllocError> for FaultKind {
 
     fn from(_error: AllocError) -> FaultKind {
         FaultKind::Memory
+    }
+}
+
+impl From<InvalidIdentifier> for FaultKind {
+    ghost use Rattle.nextest_config_values.specs.Identifier.Error.{identifier_refusal};
+    ghost use Rattle.nextest_config_values.specs.Read.Fault.{identifier, name_reason, reason_of};
+
+    ghost from_gives = { λ error kind. reason_of kind ≡ name_reason identifier (identifier_refusal error) };
+
+    fn from(error: InvalidIdentifier) -> FaultKind {
+        match error {
+            InvalidIdentifier::Memory => FaultKind::Memory,
+            error => FaultKind::Identifier(error),
+        }
+    }
+}
+
+impl From<InvalidToolName> for FaultKind {
+    ghost use Rattle.nextest_config_values.specs.Identifier.Error.{tool_name_refusal};
+    ghost use Rattle.nextest_config_values.specs.Read.Fault.{name_reason, reason_of, tool_name};
+
+    ghost from_gives = { λ error kind. reason_of kind ≡ name_reason tool_name (tool_name_refusal error) };
+
+    fn from(error: InvalidToolName) -> FaultKind {
+        match error {
+            InvalidToolName::Memory => FaultKind::Memory,
+            error => FaultKind::ToolName(error),
+        }
     }
 }
 
@@ -219,6 +254,8 @@ impl fmt::Display for FaultKind {
                 write!(f, "missing configuration field \"{key}\"")
             }
             FaultKind::Custom(rule) => write!(f, "{rule}"),
+            FaultKind::Identifier(error) => write!(f, "{error}"),
+            FaultKind::ToolName(error) => write!(f, "{error}"),
             FaultKind::Memory => f.write_str("out of memory"),
         }
     }

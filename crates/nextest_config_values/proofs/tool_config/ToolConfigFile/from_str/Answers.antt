@@ -1,0 +1,30 @@
+use Rattle.std.proofs.Common.{◌∙◌, Some, None, ap, sym, inl}
+use Rattle.std.proofs.lemmas.Result.{err_from_is_err_and}
+use Rattle.nextest_config_values.proofs.Arguments.{argument_mapped, bad_name, bad_path}
+use Rattle.nextest_config_values.proofs.Texts.{split_colon}
+use Rattle.nextest_config_values.specs.Identifier.Error.{tool_name_refusal}
+use Rattle.nextest_config_values.specs.ToolConfig.{argument_refusal, invalid_format}
+use Rattle.nextest_config_values.proofs.tool_config.ToolConfigFile.from_str.Goals as goal
+
+pub returns-in_default-clause-refused : goal.returns-in_default-clause-refused
+returns-in_default-clause-refused c =
+    inl (split_colon c.args.input.now None c.utf8.input c.in_default.ensures.cases, ap invalid_format c.in_ok-input.ensures.ok)
+
+pub returns-in-Err-clause-refused : goal.returns-in-Err-clause-refused
+returns-in-Err-clause-refused c =
+    let cut = split_colon c.args.input.now (Some (c.in-Some.name, c.in-Some.path)) c.utf8.input c.in-Some.ensures.cases in
+    argument_mapped (argument_refusal c.invalid_tool_name.result) c.invalid_tool_name.ensures
+    (bad_name c.args.input.now c.in-Some.name.now c.in-Some.path.now (tool_name_refusal c.in-Err.error) cut.bytes c.in-Err.ensures.refused)
+
+pub returns-in_err-config_file-clause-refused : goal.returns-in_err-config_file-clause-refused
+returns-in_err-config_file-clause-refused c =
+    let cut = split_colon c.args.input.now (Some (c.in-Some.name, c.in-Some.path)) c.utf8.input c.in-Some.ensures.cases in
+    let p = err_from_is_err_and c.from_residual-in_err-config_file.result c.from_residual-in_err-config_file.ensures.1 in
+    rw (p.1, p.2) (argument_mapped (argument_refusal c.in_err-config_file.field-0.0) c.in_err-config_file.ensures.refused
+    (bad_path c.args.input.now c.in-Some.name.now c.in-Some.path.now c.in-Ok.tool cut.bytes c.in-Ok.ensures.accepted))
+
+pub returns-clause-accepted : goal.returns-clause-accepted
+returns-clause-accepted c =
+    let cut = split_colon c.args.input.now (Some (c.in-Some.name, c.in-Some.path)) c.utf8.input c.in-Some.ensures.cases in
+    let path = c.in_ok-config_file.ensures.accepted in
+    rw path.0 (record { name = c.in-Some.name.now; cut = cut.bytes; tool = c.in-Ok.ensures.accepted; absolute = path.1 })

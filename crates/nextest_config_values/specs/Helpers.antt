@@ -1,0 +1,59 @@
+-- Identifiers without a tool, and relative paths.
+use Rattle.std.specs.Prelude.{◌≡◌, ◌≢◌, ℕ, ◌==◌, ◌||◌, List, [], ◌∷◌, ◌++◌, codes, IsTrue, ◌⊎◌, String, string_bytes}
+use Rattle.std.specs.List.{AllByRecursion}
+use Rattle.std.specs.declared.alloc.Global.{Global}
+use Rattle.toml.specs.Data.{Data, as_str}
+use Rattle.unicode_ident.specs.Ident.{is_xid_start, is_xid_continue}
+use Rattle.nextest_config_values.specs.Read.Fault.{Fault, wrong_value}
+use Rattle.nextest_config_values.specs.Read.FromToml.{FaultsAs, MeansAs}
+use Rattle.nextest_config_values.specs.declared.helpers.InvalidIdentifierKind.{InvalidIdentifierKind}
+use Rattle.nextest_config_values.specs.declared.helpers.InvalidIdentifierKind.TheVariants as flaws
+
+-- ---- identifiers, by their characters
+
+-- a character behind the first one: XID_Continue (UAX 31), or '-'
+abbrev pub GoesOn : ℕ → Type 0
+GoesOn c = IsTrue ((c == 45) || is_xid_continue c)
+
+-- one character of XID_Start (UAX 31), and then such as go on
+abbrev pub IsPlainIdentifier : List ℕ → Type 0
+IsPlainIdentifier [] = ⊥
+IsPlainIdentifier (first ∷ rest) = IsTrue (is_xid_start first) × AllByRecursion GoesOn rest
+
+-- what is wrong with characters that are no identifier
+abbrev pub IsPlainFlaw : List ℕ → InvalidIdentifierKind → Type 0
+IsPlainFlaw cs flaws.Empty = cs ≡ []
+IsPlainFlaw cs flaws.InvalidXid = (cs ≢ []) × ¬ (IsPlainIdentifier cs)
+
+-- ---- relative paths
+
+-- the text begins with a slash
+abbrev pub BeginsWithSlash : List ℕ → Type 0
+BeginsWithSlash text = (rest : List ℕ) × (text ≡ 47 ∷ rest)
+
+abbrev pub EndsWithSlash : List ℕ → Type 0
+EndsWithSlash text = (front : List ℕ) × (text ≡ front ++ (47 ∷ []))
+
+-- one of the pieces between slashes is `..`
+pub record HasParentPiece (text : List ℕ) : Type 0 where
+  pub before : List ℕ
+  pub after : List ℕ
+  pub whole : text ≡ before ++ (codes ".." ++ after)
+  pub begins : (before ≡ []) ⊎ EndsWithSlash before
+  pub ends : (after ≡ []) ⊎ BeginsWithSlash after
+
+abbrev pub IsRelativePath : List ℕ → Type 0
+IsRelativePath text = ¬ (BeginsWithSlash text) × ¬ (HasParentPiece text)
+
+-- the path is the text as it is written
+abbrev pub MeansPathText : List ℕ → String Global → Type 0
+MeansPathText held path = (string_bytes path ≡ held) × IsRelativePath held
+
+abbrev pub PathTextFaults : List ℕ → Data → List ℕ → Fault → Type 0
+PathTextFaults held value at fault = ¬ (IsRelativePath held) × (fault ≡ wrong_value value at (codes "a relative path with no parent components"))
+
+abbrev pub MeansPath : Data → String Global → Type 0
+MeansPath = MeansAs as_str MeansPathText
+
+abbrev pub PathFaults : Data → List ℕ → Fault → Type 0
+PathFaults = FaultsAs as_str (codes "a string") PathTextFaults

@@ -1,0 +1,71 @@
+-- The grammar of identifiers, by the characters of a normal form.
+use Rattle.std.specs.Prelude.{◌≡◌, ◌≢◌, ℕ, List, ◌∷◌, ◌++◌, codes, chars, ◌⊎◌}
+use Rattle.std.specs.List.{AllByRecursion}
+use Rattle.toml.specs.Data.{Data}
+use Rattle.nextest_config_values.specs.Read.Fault.{Fault, identifier}
+use Rattle.nextest_config_values.specs.Helpers.{IsPlainFlaw, IsPlainIdentifier}
+use Rattle.nextest_config_values.specs.declared.helpers.InvalidIdentifierKind.{InvalidIdentifierKind}
+use Rattle.nextest_config_values.specs.Identifier.Error.{Component, IdentifierFlaw, NameRefusal, OneComponent, Whole}
+use Rattle.nextest_config_values.specs.Identifier.Normal.{IsNormalFault, IsNormalRefusal, IsNormalText, NameFaults}
+
+-- what a tool identifier begins with
+abbrev pub tool_mark : List ℕ
+tool_mark = codes "@tool:"
+
+abbrev pub HasNoColon : List ℕ → Type 0
+HasNoColon = AllByRecursion (λ c. c ≢ 58)
+
+-- cut at its first colon
+pub record IsCutAtColon (text before after : List ℕ) : Type 0 where
+  pub cut : text ≡ before ++ (58 ∷ after)
+  pub first : HasNoColon before
+
+-- an identifier without a tool
+abbrev pub IsUnmarked : List ℕ → Type 0
+IsUnmarked cs = (rest : List ℕ) → cs ≢ tool_mark ++ rest
+
+-- `@tool:`, an identifier, a colon and an identifier
+pub record IsMarkedPair (cs tool name : List ℕ) : Type 0 where
+  pub marked : cs ≡ tool_mark ++ (tool ++ (58 ∷ name))
+  pub tool_is_plain : IsPlainIdentifier tool
+  pub name_is_plain : IsPlainIdentifier name
+
+abbrev pub IsIdentifierForm : List ℕ → Type 0
+IsIdentifierForm cs = IsPlainIdentifier cs ⊎ ((tool name : List ℕ) × IsMarkedPair cs tool name)
+
+-- the first of two components that is flawed
+abbrev pub AreFlawed : List ℕ → List ℕ → InvalidIdentifierKind → Type 0
+AreFlawed tool name kind = IsPlainFlaw tool kind ⊎ (IsPlainIdentifier tool × IsPlainFlaw name kind)
+
+-- characters that are no identifier: unmarked, and flawed as a whole; marked, and with no colon behind the mark; or marked, and the first part that is flawed
+abbrev pub IsIdentifierFlaw : List ℕ → IdentifierFlaw → Type 0
+IsIdentifierFlaw cs (Whole kind) = IsUnmarked cs × IsPlainFlaw cs kind
+IsIdentifierFlaw cs OneComponent = (rest : List ℕ) × (cs ≡ tool_mark ++ rest) × HasNoColon rest
+IsIdentifierFlaw cs (Component kind) = (rest tool name : List ℕ) × (cs ≡ tool_mark ++ rest) × IsCutAtColon rest tool name × AreFlawed tool name kind
+
+-- the text's identifier
+abbrev pub IsIdentifier : List ℕ → List ℕ → Type 0
+IsIdentifier = IsNormalText IsIdentifierForm
+
+-- the fault of a text without one
+abbrev pub IsIdentifierFault : List ℕ → NameRefusal IdentifierFlaw → Type 0
+IsIdentifierFault = IsNormalFault IsIdentifierFlaw
+
+abbrev pub IsIdentifierRefusal : List ℕ → NameRefusal IdentifierFlaw → Type 0
+IsIdentifierRefusal = IsNormalRefusal IsIdentifierFlaw
+
+-- the two components of a kept tool identifier
+pub record AreComponents (text tool name : List ℕ) : Type 0 where
+  pub whole : text ≡ tool_mark ++ (tool ++ (58 ∷ name))
+  pub tool_is_plain : IsPlainIdentifier (chars tool)
+  pub name_is_plain : IsPlainIdentifier (chars name)
+  pub tool_uncut : HasNoColon tool
+  pub name_uncut : HasNoColon name
+
+-- a kept tool identifier
+abbrev pub IsMarked : List ℕ → Type 0
+IsMarked text = (tool name : List ℕ) × AreComponents text tool name
+
+-- what is wrong with a TOML text that is no identifier
+abbrev pub IdentifierFaults : List ℕ → Data → List ℕ → Fault → Type 0
+IdentifierFaults = NameFaults identifier IsIdentifierFlaw

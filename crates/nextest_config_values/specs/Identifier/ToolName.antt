@@ -1,0 +1,33 @@
+-- The grammar of tool names, by the characters of a normal form.
+use Rattle.std.specs.Prelude.{◌≡◌, ◌≢◌, ℕ, List, [], ◌++◌, codes}
+use Rattle.toml.specs.Data.{Data}
+use Rattle.nextest_config_values.specs.Read.Fault.{Fault, tool_name}
+use Rattle.nextest_config_values.specs.Helpers.{IsPlainIdentifier}
+use Rattle.nextest_config_values.specs.Identifier.Error.{NameRefusal, ToolNameFlaw}
+use Rattle.nextest_config_values.specs.declared.identifier.error.ToolNameFlaw.TheVariants.{Empty, StartsWithToolPrefix, InvalidXid}
+use Rattle.nextest_config_values.specs.Identifier.Normal.{IsNormalFault, IsNormalRefusal, IsNormalText, NameFaults}
+
+-- what no tool name begins with
+abbrev pub BeginsWithTool : List ℕ → Type 0
+BeginsWithTool cs = (rest : List ℕ) × (cs ≡ codes "@tool" ++ rest)
+
+-- the first that applies: empty, kept for tool identifiers, not of the form
+abbrev pub IsToolNameFlaw : List ℕ → ToolNameFlaw → Type 0
+IsToolNameFlaw cs Empty = cs ≡ []
+IsToolNameFlaw cs StartsWithToolPrefix = BeginsWithTool cs
+IsToolNameFlaw cs InvalidXid = (cs ≢ []) × ¬ (BeginsWithTool cs) × ¬ (IsPlainIdentifier cs)
+
+-- the tool name that the text is
+abbrev pub IsToolName : List ℕ → List ℕ → Type 0
+IsToolName = IsNormalText IsPlainIdentifier
+
+-- the fault of a text that is none
+abbrev pub IsToolNameFault : List ℕ → NameRefusal ToolNameFlaw → Type 0
+IsToolNameFault = IsNormalFault IsToolNameFlaw
+
+abbrev pub IsToolNameRefusal : List ℕ → NameRefusal ToolNameFlaw → Type 0
+IsToolNameRefusal = IsNormalRefusal IsToolNameFlaw
+
+-- what is wrong with a TOML text that is no tool name
+abbrev pub ToolNameFaults : List ℕ → Data → List ℕ → Fault → Type 0
+ToolNameFaults = NameFaults tool_name IsToolNameFlaw

@@ -1,0 +1,165 @@
+//! Why a text was refused as an identifier or as a tool name.
+
+ghost use Rattle.std.specs.Prelude.{◌≡◌, [], Some, string_bytes};
+ghost use Rattle.nextest_config_values.specs.Identifier.Error.{flawed, identifier_refusal, identifier_refusal_text, tool_name_refusal, tool_name_refusal_text};
+ghost use Rattle.nextest_config_values.specs.declared.helpers.InvalidIdentifierKind.TheVariants as kinds;
+ghost use Rattle.nextest_config_values.specs.declared.identifier.error.IdentifierFlaw.TheVariants as identifiers;
+ghost use Rattle.nextest_config_values.specs.declared.identifier.error.ToolNameFlaw.TheVariants as names;
+
+use crate::helpers::InvalidIdentifierKind;
+use crate::read::QuotedText;
+use std::alloc::AllocError;
+use std::fmt;
+
+/// Why a text is no identifier. The text that is named is in Normalization Form C.
+#[derive(Debug, PartialEq, Eq, Drop)]
+pub enum InvalidIdentifier {
+    /// The text is empty.
+    Empty,
+    /// The text isn't marked as a tool identifier, and isn't of the form of UAX 31.
+    InvalidXid(String),
+    /// The text begins with `@tool:`, and there is no colon behind that.
+    ToolIdentifierInvalidFormat(String),
+    /// One of the two components of a tool identifier is empty.
+    ToolComponentEmpty(String),
+    /// One of the two components of a tool identifier isn't of the form of UAX 31.
+    ToolIdentifierInvalidXid(String),
+    /// A request for memory was refused, and so nothing is said of the text.
+    Memory,
+}
+
+/// Why a text is no tool name. The text that is named is in Normalization Form C.
+#[derive(Debug, PartialEq, Eq, Drop)]
+pub enum InvalidToolName {
+    /// The text is empty.
+    Empty,
+    /// The text begins with `@tool`, which is kept for tool identifiers.
+    StartsWithToolPrefix(String),
+    /// The text isn't of the form of UAX 31.
+    InvalidXid(String),
+    /// A request for memory was refused, and so nothing is said of the text.
+    Memory,
+}
+
+/// What is wrong with the characters of an identifier.
+#[derive(Clone, Copy, Debug, PartialEq, Eq)]
+pub(crate) enum IdentifierFlaw {
+    /// The whole text, which isn't marked as a tool identifier.
+    Whole(InvalidIdentifierKind),
+    /// A text that is marked as a tool identifier and has one component.
+    OneComponent,
+    /// One of the two components of a tool identifier.
+    Component(InvalidIdentifierKind),
+}
+
+/// What is wrong with the characters of a tool name.
+#[derive(Clone, Copy, Debug, PartialEq, Eq)]
+pub(crate) enum ToolNameFlaw {
+    Empty,
+    StartsWithToolPrefix,
+    InvalidXid,
+}
+
+impl IdentifierFlaw {
+    /// The refusal of a text with this flaw.
+    pub(crate) fn of(self, text: String) -> InvalidIdentifier
+        requires { self ≡ identifiers.Whole kinds.Empty → string_bytes text ≡ [] }
+        ensures { identifier_refusal result ≡ flawed self (string_bytes text) }
+    {
+        match self {
+            IdentifierFlaw::Whole(InvalidIdentifierKind::Empty) => InvalidIdentifier::Empty,
+            IdentifierFlaw::Whole(InvalidIdentifierKind::InvalidXid) => {
+                InvalidIdentifier::InvalidXid(text)
+            }
+            IdentifierFlaw::OneComponent => InvalidIdentifier::ToolIdentifierInvalidFormat(text),
+            IdentifierFlaw::Component(InvalidIdentifierKind::Empty) => {
+                InvalidIdentifier::ToolComponentEmpty(text)
+            }
+            IdentifierFlaw::Component(InvalidIdentifierKind::InvalidXid) => {
+                InvalidIdentifier::ToolIdentifierInvalidXid(text)
+            }
+        }
+    }
+}
+
+impl ToolNameFlaw {
+    /// The refusal of a text with this flaw.
+    pub(crate) fn of(self, text: String) -> InvalidToolName
+        requires { self ≡ names.Empty → string_bytes text ≡ [] }
+        ensures { tool_name_refusal result ≡ flawed self (string_bytes text) }
+    {
+        match self {
+            ToolNameFlaw::Empty => InvalidToolName::Empty,
+            ToolNameFlaw::StartsWithToolPrefix => InvalidToolName::StartsWithToolPrefix(text),
+            ToolNameFlaw::InvalidXid => InvalidToolName::InvalidXid(text),
+        }
+    }
+}
+
+impl fmt::Display for InvalidIdentifier {
+    ghost output = { λ error. Some (identifier_refusal_text (identifier_refusal error)) };
+
+    fn fmt<W: fmt::Write>(&self, f: &mut fmt::Formatter<W>) -> fmt::Result {
+        match self {
+            InvalidIdentifier::Empty => f.write_str("identifier is empty"),
+            InvalidIdentifier::InvalidXid(text) => {
+                write!(f, "invalid identifier {}", QuotedText(text.as_str()))
+            }
+            InvalidIdentifier::ToolIdentifierInvalidFormat(text) => write!(
+                f,
+                "tool identifier isn't @tool:name:identifier: {}",
+                QuotedText(text.as_str())
+            ),
+            InvalidIdentifier::ToolComponentEmpty(text) => write!(
+                f,
+                "tool identifier has an empty component: {}",
+                QuotedText(text.as_str())
+            ),
+            InvalidIdentifier::ToolIdentifierInvalidXid(text) => {
+                write!(f, "invalid tool identifier {}", QuotedText(text.as_str()))
+            }
+            InvalidIdentifier::Memory => f.write_str("out of memory"),
+        }
+    }
+}
+
+impl fmt::Display for InvalidToolName {
+    ghost output = { λ error. Some (tool_name_refusal_text (tool_name_refusal error)) };
+
+    fn fmt<W: fmt::Write>(&self, f: &mut fmt::Formatter<W>) -> fmt::Result {
+        match self {
+            InvalidToolName::Empty => f.write_str("tool name is empty"),
+            InvalidToolName::StartsWithToolPrefix(text) => {
+                write!(
+                    f,
+                    "tool name begins with @tool: {}",
+                    QuotedText(text.as_str())
+                )
+            }
+            InvalidToolName::InvalidXid(text) => {
+                write!(f, "invalid tool name {}", QuotedText(text.as_str()))
+            }
+            InvalidToolName::Memory => f.write_str("out of memory"),
+        }
+    }
+}
+
+impl From<AllocError> for InvalidIdentifier {
+    ghost use Rattle.nextest_config_values.specs.declared.identifier.error.InvalidIdentifier.TheVariants.{Memory};
+
+    ghost from_gives = { λ _ error. error ≡ Memory };
+
+    fn from(_error: AllocError) -> InvalidIdentifier {
+        InvalidIdentifier::Memory
+    }
+}
+
+impl From<AllocError> for InvalidToolName {
+    ghost use Rattle.nextest_config_values.specs.declared.identifier.error.InvalidToolName.TheVariants.{Memory};
+
+    ghost from_gives = { λ _ error. error ≡ Memory };
+
+    fn from(_error: AllocError) -> InvalidToolName {
+        InvalidToolName::Memory
+    }
+}

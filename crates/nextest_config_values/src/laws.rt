@@ -1,0 +1,32 @@
+//! Laws of the definitions, for every value. They call nothing.
+
+ghost use Rattle.std.specs.Prelude.{◌≡◌, ℕ, List};
+ghost use Rattle.nextest_config_values.specs.Identifier.ConfigIdentifier.{IsIdentifier, IsIdentifierFault};
+ghost use Rattle.nextest_config_values.specs.Identifier.Error.{IdentifierFlaw, NameRefusal, ToolNameFlaw};
+ghost use Rattle.nextest_config_values.specs.Identifier.Normal.{AnswersAlike, normal_chars};
+ghost use Rattle.nextest_config_values.specs.Identifier.ToolName.{IsToolName, IsToolNameFault};
+ghost use Rattle.nextest_config_values.specs.ToolConfig.{Argument, ArgumentRefusal, IsArgumentFault, IsToolArgument};
+
+/// No text has two identifiers.
+pub fn law_identifier_once()
+    ensures { (text m n : List ℕ) → IsIdentifier text m → IsIdentifier text n → m ≡ n }
+{}
+
+/// No text has two tool arguments, two faults as one, or both.
+pub fn law_argument_once()
+    ensures one_argument { (text : List ℕ) (a b : Argument)
+        → IsToolArgument text a → IsToolArgument text b → a ≡ b }
+    ensures one_fault { (text : List ℕ) (e f : ArgumentRefusal)
+        → IsArgumentFault text e → IsArgumentFault text f → e ≡ f }
+    ensures never_both { (text : List ℕ) (a : Argument) (f : ArgumentRefusal)
+        → IsToolArgument text a → IsArgumentFault text f → ⊥ }
+{}
+
+/// Texts with the same Normalization Form C are the same identifier, or have the same fault as one,
+/// and so for tool names.
+pub fn law_same_normal_form()
+    ensures identifiers { (s t : List ℕ) → normal_chars s ≡ normal_chars t
+        → AnswersAlike (IsIdentifier s) (IsIdentifier t) × AnswersAlike (IsIdentifierFault s) (IsIdentifierFault t) }
+    ensures tool_names { (s t : List ℕ) → normal_chars s ≡ normal_chars t
+        → AnswersAlike (IsToolName s) (IsToolName t) × AnswersAlike (IsToolNameFault s) (IsToolNameFault t) }
+{}
