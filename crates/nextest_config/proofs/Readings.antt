@@ -2,10 +2,10 @@
 use Rattle.std.proofs.Common.{◌≡◌, ◌≢◌, ℕ, ◌+◌, ◌<◌, List, length, get_or, take, drop, map, Option, Some, None, refl, subst, sym, ◌∙◌, arith}
 use Rattle.std.proofs.lemmas.List.{length-map, length-take-le}
 use Rattle.toml.specs.Data.{Data, Members}
+use Rattle.nextest_config.specs.NextestVersion.Ask.{Ask}
+use Rattle.nextest_config.specs.NextestVersion.AskLaws.{asking}
 use Rattle.nextest_config.specs.NextestVersion.Error.{Refusal, IsRefusalAt, refusal_of}
 use Rattle.nextest_config.specs.NextestVersion.ErrorKind.{Wrong, not_toml, setting, no_memory, UnlessNoMemory}
-use Rattle.nextest_config.specs.NextestVersion.Requirement.{Ask}
-use Rattle.nextest_config.specs.NextestVersion.RequirementLaws.{asking}
 use Rattle.nextest_config.specs.NextestVersion.Source.{Source, place_of, source_of}
 use Rattle.nextest_config.specs.NextestVersion.VersionOnly.{version_key, Asks, AsksVersions, TextAsks, IsRead, IsWrongTable, IsWrongDocument, IsWrong, IsRefused, IsReadAs, AreRead, Reads, IsFirstRefused, IsRefusalOf}
 use Rattle.nextest_config.specs.declared.nextest_version.error.ListRefusal.{ListRefusal}

@@ -4,8 +4,9 @@ use Rattle.std.proofs.lemmas.Bool.{cases_Bool}
 use Rattle.std.proofs.lemmas.List.{map-append}
 use Rattle.std.specs.List.{AllByRecursion}
 use Rattle.semver.specs.Parse.{Parts}
+use Rattle.nextest_config.specs.NextestVersion.Ask.{Ask}
 use Rattle.nextest_config.specs.NextestVersion.Precedence.{IsBelow, is_below}
-use Rattle.nextest_config.specs.NextestVersion.Requirement.{Ask, Kept, Roles, asked_from}
+use Rattle.nextest_config.specs.NextestVersion.Requirement.{Kept, Roles, asked_from}
 use Rattle.nextest_config.specs.NextestVersion.Source.{Place}
 use Rattle.nextest_config.specs.NextestVersion.Verdict.{Verdict, satisfied, warn, error, Shortfall, unmet, short_of, judged, gravity, named_version, IsSatisfied, IsNoGraver, IsNoGreaterOfItsKind, IsOtherOfItsKind, IsGravest, IsSelected}
 use Rattle.nextest_config.specs.NextestVersion.VersionOnly.{Asked, AsksNone, AsksOther, AsksNoGreater, IsGreatest, StandsIn, StandsForAsks, Configuration, SelectsAmong, alone}
@@ -90,7 +91,7 @@ enough_for : (b : Bool) (current v : Parts) (place : Place) → ¬ (b ≡ true) 
 enough_for true current v place above e = absurd (above refl)
 enough_for false current v place above e = rw e refl
 
-not_short : (kept : Kept) (current : Parts) → unmet (Some kept) current ≡ None → ¬ IsBelow current kept.version
+pub not_short : (kept : Kept) (current : Parts) → unmet (Some kept) current ≡ None → ¬ IsBelow current kept.version
 not_short kept current met short = cc (rw short at met)
 
 no_greater_met : (kept : Kept) (current : Parts) (place : Place) (more : Option Parts) → ¬ IsBelow current kept.version → IfSome more (λ greater. ¬ IsBelow kept.version greater)
@@ -125,7 +126,7 @@ alone-met current overridden a met = rw (judged-tiers, met) refl
 alone-satisfied : (current : Parts) (overridden : Bool) (a : Asked) → IsMetAlone required current a → IsMetAlone recommended current a → alone current overridden a ≡ satisfied
 alone-satisfied current overridden a met also = rw (met, also) refl
 
-unmet_is : (o : Option Kept) (current : Parts) (kept : Kept) → unmet o current ≡ Some kept → (o ≡ Some kept) × (is_below current kept.version ≡ true)
+pub unmet_is : (o : Option Kept) (current : Parts) (kept : Kept) → unmet o current ≡ Some kept → (o ≡ Some kept) × (is_below current kept.version ≡ true)
 unmet_is None current kept e = cc e
 unmet_is (Some k) current kept e = elim (cases_Bool (is_below current k.version)) [
   | inl short ↦

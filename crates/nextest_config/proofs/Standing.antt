@@ -3,8 +3,9 @@ use Rattle.std.proofs.Common.{◌≡◌, List, [], ◌∷◌, ◌++◌, Option, 
 use Rattle.std.proofs.lemmas.Bool.{cases_Bool, false≢true}
 use Rattle.std.specs.List.{AllByRecursion}
 use Rattle.semver.specs.Parse.{Parts}
+use Rattle.nextest_config.specs.NextestVersion.Ask.{Ask}
 use Rattle.nextest_config.specs.NextestVersion.Precedence.{IsBelow, is_below}
-use Rattle.nextest_config.specs.NextestVersion.Requirement.{Ask, Kept, asked_from, join_kept}
+use Rattle.nextest_config.specs.NextestVersion.Requirement.{Kept, asked_from, join_kept}
 use Rattle.nextest_config.specs.NextestVersion.Source.{Source}
 use Rattle.nextest_config.specs.NextestVersion.VersionOnly.{Asked, AsksNone, AsksOther, AsksNoGreater, IsGreatest, StandsIn, IsReadAs, StandsFor, Configuration, Adds, neutral}
 use Rattle.nextest_config_values.proofs.Lists.{all_joined, all_weaker, zip_push}

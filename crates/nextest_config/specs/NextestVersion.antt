@@ -3,8 +3,9 @@ pub mod VersionText
 pub mod VersionTextLaws
 pub mod Precedence
 pub mod Source
+pub mod Ask
+pub mod AskLaws
 pub mod Requirement
-pub mod RequirementLaws
 pub mod Verdict
 pub mod ErrorKind
 pub mod Error

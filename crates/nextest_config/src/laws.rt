@@ -1,11 +1,14 @@
 //! Laws of the definitions, for every value. They call nothing.
 
-ghost use Rattle.std.specs.Prelude.{◌≡◌, ◌↔◌, ℕ, List, Bool, true, false};
+ghost use Rattle.std.specs.Prelude.{◌≡◌, ◌≢◌, ◌↔◌, ℕ, List, Bool, true, false, map, Some};
+ghost use Rattle.std.specs.List.{AllByRecursion};
 ghost use Rattle.semver.specs.Parse.{Parts};
 ghost use Rattle.nextest_config.specs.NextestVersion.VersionText.{Numbers, IsVersionText, plain};
-ghost use Rattle.nextest_config.specs.NextestVersion.Precedence.{IsEnough, IsEnoughByNumbers};
-ghost use Rattle.nextest_config.specs.NextestVersion.Requirement.{Roles};
-ghost use Rattle.nextest_config.specs.NextestVersion.Verdict.{IsOverriding, verdict};
+ghost use Rattle.nextest_config.specs.NextestVersion.Precedence.{IsBelow, IsEnough, IsEnoughByNumbers};
+ghost use Rattle.nextest_config.specs.NextestVersion.Requirement.{Kept, Roles};
+ghost use Rattle.nextest_config.specs.NextestVersion.Verdict.{IsNoGraver, IsOverriding, IsSatisfied, IsSelected, Shortfall, Verdict, satisfied, verdict, warn};
+ghost use Rattle.nextest_config.specs.NextestVersion.VersionOnly.{Asked, IsFromSource, IsSelectedFor, alone};
+ghost use Rattle.nextest_config.specs.NextestVersion.Source.{Source};
 
 /// No text has two versions.
 pub fn law_version_once()
@@ -25,4 +28,41 @@ pub fn law_enough()
 pub fn law_override()
     ensures { (roles : Roles) (current : Parts)
         → IsOverriding (verdict roles current false) (verdict roles current true) }
+{}
+
+/// No list of sources has two selected verdicts.
+pub fn law_verdict_once()
+    ensures { (sources : List Source) (current : Parts) (overridden : Bool) (v w : Verdict)
+        → IsSelectedFor sources current overridden v → IsSelectedFor sources current overridden w → v ≡ w }
+{}
+
+/// A verdict comes from a source: where the selected one isn't satisfied, some source whose place it
+/// names gives it, read alone. It is satisfied exactly where that of each source alone is.
+pub fn law_verdict_from_source()
+    ensures source { (asked : List Asked) (current : Parts) (overridden : Bool) (v : Verdict)
+        → IsSelected (map (alone current overridden) asked) v → v ≢ satisfied
+        → IsFromSource current overridden asked v }
+    ensures satisfied { (asked : List Asked) (current : Parts) (overridden : Bool) (v : Verdict)
+        → IsSelected (map (alone current overridden) asked) v
+        → (v ≡ satisfied) ↔ AllByRecursion IsSatisfied (map (alone current overridden) asked) }
+{}
+
+/// Where both roles stand and the recommended version isn't greater than the required one, the
+/// verdict is never a warning.
+pub fn law_lower_recommendation()
+    ensures { (required recommended : Kept) (current : Parts) (overridden : Bool) (s : Shortfall)
+        → ¬ IsBelow required.version recommended.version
+        → verdict (record { required = Some required; recommended = Some recommended }) current overridden
+        ≢ warn s }
+{}
+
+/// Of two current versions, the one that isn't below the other is never told the graver verdict, by
+/// two roles and by a list of asks.
+pub fn law_greater_current()
+    ensures roles { (roles : Roles) (lesser greater : Parts) (overridden : Bool)
+        → ¬ IsBelow greater lesser
+        → IsNoGraver (verdict roles lesser overridden) (verdict roles greater overridden) }
+    ensures list { (asked : List Asked) (lesser greater : Parts) (overridden : Bool) (v w : Verdict)
+        → ¬ IsBelow greater lesser → IsSelected (map (alone lesser overridden) asked) v
+        → IsSelected (map (alone greater overridden) asked) w → IsNoGraver v w }
 {}

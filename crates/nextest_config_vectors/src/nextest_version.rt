@@ -10,6 +10,8 @@ use std::test::Fail;
 
 const A: &str = "nextest-version = \"0.9.50\"";
 
+const B: &str = "nextest-version = { recommended = \"0.9.60\" }";
+
 fn repository(alloc: Global, path: &str) -> Result<ConfigSource, AllocError> {
     Ok(ConfigSource {
         kind: ConfigSourceKind::DiscoveredRepository,
@@ -178,6 +180,71 @@ fn version_texts(rt: HostRuntime) -> Result<(), Fail> {
         let line = read_and_told(alloc, &[contents.as_str()], "0.0.0", false)?;
         assert_eq!(rt; line, format!(in alloc; "{before}{want}")?);
     }
+    Ok(())
+}
+
+#[test]
+fn a_recommended_version_warns(rt: HostRuntime) -> Result<(), Fail> {
+    let line = read_and_told(rt.alloc(), &[A, B], "0.9.55", false)?;
+    assert_eq!(rt; line.as_str(), "Warn: 0.9.60, repository 1.toml, 0.9.55");
+    Ok(())
+}
+
+#[test]
+fn a_lower_recommendation_is_without_effect(rt: HostRuntime) -> Result<(), Fail> {
+    let required = "nextest-version = \"0.9.60\"";
+    let recommended = "nextest-version = { recommended = \"0.9.50\" }";
+    let line = read_and_told(rt.alloc(), &[required, recommended], "0.9.55", false)?;
+    assert_eq!(rt; line.as_str(), "Error: 0.9.60, repository 0.toml, 0.9.55");
+    Ok(())
+}
+
+#[test]
+fn tables(rt: HostRuntime) -> Result<(), Fail> {
+    let alloc = rt.alloc();
+    let refused = "source 0: repository 0.toml: nextest-version";
+    for (table, before, want) in [
+        ("{ extra = 1 }", "Satisfied", ""),
+        ("{}", "Satisfied", ""),
+        (
+            "{ required = \"0.9.60\", recommended = \"0.9.60\" }",
+            "Error: ",
+            "0.9.60, repository 0.toml, 0.0.0",
+        ),
+        (
+            "{ required = \"0.9.60\", recommended = \"0.9.50\" }",
+            refused,
+            ": required version (0.9.60) must not be greater than recommended version (0.9.50)",
+        ),
+        (
+            "{ required = \"1\", recommended = 2 }",
+            refused,
+            ".required: invalid version \"1\"",
+        ),
+        (
+            "{ required = \"1.0\", recommended = 2 }",
+            refused,
+            ".recommended: invalid type: integer `2`, expected a string",
+        ),
+    ] {
+        let contents = format!(in alloc; "nextest-version = {table}")?;
+        let line = read_and_told(alloc, &[contents.as_str()], "0.0.0", false)?;
+        assert_eq!(rt; line, format!(in alloc; "{before}{want}")?);
+    }
+    Ok(())
+}
+
+#[test]
+fn a_table_keeps_both_versions(rt: HostRuntime) -> Result<(), Fail> {
+    let alloc = rt.alloc();
+    let contents = "nextest-version = { required = \"0.9\", recommended = \"0.9.0\" }";
+    let config = VersionOnlyConfig::from_list(alloc, &sources(alloc, &[contents])?)?;
+    let version = Version::new(0, 9, 0);
+    assert_eq!(rt; config.nextest_version().required.version(), Some(&version));
+    assert_eq!(rt;
+        config.nextest_version().recommended.version(),
+        Some(&version)
+    );
     Ok(())
 }
 

@@ -1,57 +1,15 @@
--- What one source asks of the nextest version, and what is kept of all asks.
-use Rattle.std.specs.Prelude.{◌≡◌, ℕ, List, codes, Option, Some, None, option_map, if◌then◌else◌}
+-- What is kept of all asks.
+use Rattle.std.specs.Prelude.{◌≡◌, Option, Some, None, option_map, if◌then◌else◌}
 use Rattle.semver.specs.Identifiers.{parts_of}
 use Rattle.semver.specs.Parse.{Parts}
 use Rattle.semver.specs.declared.Version.{Version}
-use Rattle.toml.specs.Data.{Data, as_str}
-use Rattle.nextest_config_values.specs.Read.Fault.{BrokenRule, Fault, custom, fault_at}
-use Rattle.nextest_config_values.specs.Read.FromToml.{FaultsAs, MeansAs}
+use Rattle.nextest_config.specs.NextestVersion.Ask.{Ask}
 use Rattle.nextest_config.specs.NextestVersion.Precedence.{is_below}
 use Rattle.nextest_config.specs.NextestVersion.Source.{Place, place_of}
-use Rattle.nextest_config.specs.NextestVersion.VersionText.{Numbers, plain, IsVersionText, IsVersionFault}
 use Rattle.nextest_config.specs.declared.nextest_version.source.ConfigSource.{ConfigSource}
-use Rattle.nextest_config.specs.declared.nextest_version.requirement.NextestVersionDeserialize.{NextestVersionDeserialize}
 use Rattle.nextest_config.specs.declared.nextest_version.requirement.NextestVersionReq.{NextestVersionReq}
 use Rattle.nextest_config.specs.declared.nextest_version.requirement.NextestVersionReq.TheVariants as kept_as
 use Rattle.nextest_config.specs.declared.nextest_version.requirement.NextestVersionConfig.{NextestVersionConfig}
-
--- the versions that a source asks for
-pub record Ask : Type 0 where
-  pub required : Option Parts
-  pub recommended : Option Parts
-
-abbrev pub nothing : Ask
-nothing = record { required = None; recommended = None }
-
-abbrev pub requires : Numbers → Ask
-requires numbers = record { required = Some (plain numbers); recommended = None }
-
-abbrev pub ask_of : NextestVersionDeserialize → Ask
-ask_of d = record { required = option_map parts_of d.required; recommended = option_map parts_of d.recommended }
-
--- two of them ask the same
-abbrev pub AskAlike : NextestVersionDeserialize → NextestVersionDeserialize → Type 0
-AskAlike a b = ask_of a ≡ ask_of b
-
--- the text asks this: its version is required
-abbrev pub MeansVersionText : List ℕ → Ask → Type 0
-MeansVersionText text ask = (numbers : Numbers) × IsVersionText text numbers × (ask ≡ requires numbers)
-
--- the text asks nothing, since it breaks a rule
-abbrev pub VersionTextFaults : List ℕ → Data → List ℕ → Fault → Type 0
-VersionTextFaults text value at fault = (rule : BrokenRule) × IsVersionFault text rule × (fault ≡ fault_at at (custom rule))
-
--- what the setting takes
-abbrev pub versions_expected : List ℕ
-versions_expected = codes "a table ({ required = \"0.9.20\", recommended = \"0.9.30\" }) or a string (\"0.9.50\")"
-
--- the value of `nextest-version` asks this
-abbrev pub MeansVersions : Data → Ask → Type 0
-MeansVersions = MeansAs as_str MeansVersionText
-
--- what is wrong with the value of `nextest-version` at a path
-abbrev pub VersionsFaults : Data → List ℕ → Fault → Type 0
-VersionsFaults = FaultsAs as_str versions_expected VersionTextFaults
 
 -- a version that is kept, and the place that asked for it
 pub record Kept : Type 0 where

@@ -74,6 +74,12 @@ named_version satisfied = None
 named_version (warn shortfall) = Some shortfall.asked
 named_version (error shortfall) = Some shortfall.asked
 
+-- the place that a verdict names
+abbrev pub named_place : Verdict → Option Place
+named_place satisfied = None
+named_place (warn shortfall) = Some shortfall.place
+named_place (error shortfall) = Some shortfall.place
+
 abbrev pub IsSatisfied : Verdict → Type 0
 IsSatisfied v = v ≡ satisfied
 

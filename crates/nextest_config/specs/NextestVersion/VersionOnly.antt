@@ -5,12 +5,13 @@ use Rattle.semver.specs.Parse.{Parts}
 use Rattle.toml.specs.Data.{Data, Members, get_member}
 use Rattle.toml.specs.Parse.{parse_document}
 use Rattle.nextest_config_values.specs.Read.Fault.{Fault}
+use Rattle.nextest_config.specs.NextestVersion.Ask.{Ask, nothing, MeansVersions, VersionsFaults}
 use Rattle.nextest_config.specs.NextestVersion.Error.{Refusal, refusal_of}
 use Rattle.nextest_config.specs.NextestVersion.ErrorKind.{Wrong, not_toml, setting, UnlessNoMemory}
 use Rattle.nextest_config.specs.NextestVersion.Precedence.{IsBelow}
-use Rattle.nextest_config.specs.NextestVersion.Requirement.{Ask, nothing, MeansVersions, VersionsFaults, Kept, Roles, roles_of, roles_from, join_roles}
+use Rattle.nextest_config.specs.NextestVersion.Requirement.{Kept, Roles, roles_of, roles_from, join_roles}
 use Rattle.nextest_config.specs.NextestVersion.Source.{Place, Source}
-use Rattle.nextest_config.specs.NextestVersion.Verdict.{Verdict, verdict, IsSelected}
+use Rattle.nextest_config.specs.NextestVersion.Verdict.{Verdict, verdict, named_place, IsSelected}
 use Rattle.nextest_config.specs.declared.nextest_version.error.ListRefusal.{ListRefusal}
 use Rattle.nextest_config.specs.declared.nextest_version.error.ListRefusal.TheVariants as refusals
 use Rattle.nextest_config.specs.declared.nextest_version.version_only.VersionOnlyConfig.{VersionOnlyConfig}
@@ -146,6 +147,19 @@ SelectsAmong asked roles = (current : Parts) (overridden : Bool) → IsSelected 
 
 abbrev pub SelectsFor : List Source → Roles → Type 0
 SelectsFor sources roles = (asked : List Asked) × AreRead sources asked × SelectsAmong asked roles
+
+-- the verdict is selected from those of the sources, each read alone
+abbrev pub IsSelectedFor : List Source → Parts → Bool → Verdict → Type 0
+IsSelectedFor sources current overridden v = (asked : List Asked) × AreRead sources asked × IsSelected (map (alone current overridden) asked) v
+
+-- some source, read alone, gives this verdict, which names its place
+pub record IsFromSource (current : Parts) (overridden : Bool) (asked : List Asked) (v : Verdict) : Type 0 where
+  pub before : List Asked
+  pub source : Asked
+  pub after : List Asked
+  pub whole : asked ≡ before ++ (source ∷ after)
+  pub given : alone current overridden source ≡ v
+  pub named : named_place v ≡ Some source.place
 
 -- the list is refused at the first refused position with its one error, or there was no memory
 abbrev pub IsRefusalOf : List Source → ListRefusal → Type 0

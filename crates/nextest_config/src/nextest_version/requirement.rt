@@ -1,24 +1,13 @@
-//! The versions that sources ask for, those that are kept, and the verdict on the current one.
+//! The versions that are kept, and the verdict on the current one.
 
 ghost use Rattle.std.specs.Prelude.{◌≡◌, true, IfOk, IsOk, OnOk, OnErr, option_map, Some, None};
 ghost use Rattle.semver.specs.Identifiers.{parts_of};
 
+use super::ask::NextestVersionDeserialize;
 use super::source::ConfigSource;
-use super::version_text::parse_version;
-use nextest_config_values::read::{FromToml, ReadFault};
 use semver::Version;
 use std::alloc::{AllocError, Global};
 use std::cmp::Ordering;
-use toml::Value;
-
-/// The versions that one source asks for.
-#[derive(Debug, PartialEq, Eq, Drop)]
-pub struct NextestVersionDeserialize {
-    /// The least version that the source requires.
-    pub required: Option<Version>,
-    /// The least version that the source recommends.
-    pub recommended: Option<Version>,
-}
 
 /// The version that is kept in one role, and the source that asked for it.
 #[derive(Debug, Default, PartialEq, Eq, Drop)]
@@ -82,51 +71,6 @@ pub enum Severity {
     Error,
 }
 
-const EXPECTED: &str =
-    "a table ({ required = \"0.9.20\", recommended = \"0.9.30\" }) or a string (\"0.9.50\")";
-
-impl NextestVersionDeserialize {
-    ghost use Rattle.nextest_config.specs.NextestVersion.Requirement.{ask_of, nothing};
-
-    /// Asks for no version.
-    pub(crate) fn nothing() -> Self
-        ensures { ask_of result ≡ nothing }
-    {
-        NextestVersionDeserialize {
-            required: None,
-            recommended: None,
-        }
-    }
-}
-
-impl FromToml for NextestVersionDeserialize {
-    ghost use Rattle.nextest_config.specs.NextestVersion.Requirement.{AskAlike, MeansVersions, VersionsFaults, ask_of};
-    ghost use Rattle.nextest_config.specs.NextestVersion.RequirementLaws.{versions_reading};
-
-    ghost means = { λ value d. MeansVersions value (ask_of d) };
-
-    ghost faults = { VersionsFaults };
-
-    ghost needs_memory = { true };
-
-    ghost alike = { AskAlike };
-
-    ghost laws = { versions_reading };
-
-    fn read(alloc: Global, value: &Value, at: &str) -> Result<Self, ReadFault> {
-        match value.as_str() {
-            Some(text) => match parse_version(alloc, text) {
-                Ok(version) => Ok(NextestVersionDeserialize {
-                    required: Some(version),
-                    recommended: None,
-                }),
-                Err(kind) => Err(ReadFault::new(alloc, at, kind)),
-            },
-            None => Err(ReadFault::invalid_type(alloc, value, at, EXPECTED)),
-        }
-    }
-}
-
 impl NextestVersionReq {
     ghost use Rattle.nextest_config.specs.NextestVersion.Requirement.{IsRaised, asked_from, join_kept, kept_from, kept_of, kept_version};
     ghost use Rattle.nextest_config.specs.NextestVersion.Source.{place_of};
@@ -184,7 +128,8 @@ impl NextestVersionReq {
 }
 
 impl NextestVersionConfig {
-    ghost use Rattle.nextest_config.specs.NextestVersion.Requirement.{ask_of, join_roles, roles_from, roles_of};
+    ghost use Rattle.nextest_config.specs.NextestVersion.Ask.{ask_of};
+    ghost use Rattle.nextest_config.specs.NextestVersion.Requirement.{join_roles, roles_from, roles_of};
     ghost use Rattle.nextest_config.specs.NextestVersion.Source.{place_of};
     ghost use Rattle.nextest_config.specs.NextestVersion.Verdict.{satisfied, verdict, verdict_of};
 

@@ -2,15 +2,17 @@
 
 ghost use Rattle.std.specs.Prelude.{◌≡◌, IfOk, IfErr, OnOk, OnErr, map};
 ghost use Rattle.toml.specs.View.{table_view};
+ghost use Rattle.nextest_config.specs.NextestVersion.Ask.{ask_of};
 ghost use Rattle.nextest_config.specs.NextestVersion.ErrorKind.{UnlessNoMemory, wrong_of};
-ghost use Rattle.nextest_config.specs.NextestVersion.Requirement.{ask_of, roles_of};
+ghost use Rattle.nextest_config.specs.NextestVersion.Requirement.{roles_of};
 ghost use Rattle.nextest_config.specs.NextestVersion.Source.{source_of};
 ghost use Rattle.nextest_config.specs.NextestVersion.VersionOnly.{Adds, Asks, IsRead, IsRefusalOf, IsWrongOrMemory, IsWrongTable, Reads, SelectsFor, StandsFor, configuration_of, neutral};
 ghost use Rattle.nextest_config.specs.declared.nextest_version.error.ListRefusal.TheVariants.{Memory};
 
+use super::ask::NextestVersionDeserialize;
 use super::error::ListRefusal;
 use super::error_kind::ConfigParseErrorKind;
-use super::requirement::{NextestVersionConfig, NextestVersionDeserialize};
+use super::requirement::NextestVersionConfig;
 use super::source::SourceText;
 use nextest_config_values::read::optional_field;
 use std::alloc::Global;

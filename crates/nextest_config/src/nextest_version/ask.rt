@@ -1,0 +1,178 @@
+//! The versions that one source asks for.
+
+ghost use Rattle.std.specs.Prelude.{◌≡◌, true, IfOk, IfErr, OnOk, option_map};
+ghost use Rattle.semver.specs.Identifiers.{parts_of};
+ghost use Rattle.toml.specs.View.{table_view};
+ghost use Rattle.nextest_config_values.specs.Read.Fault.{Refuses, fault_of};
+ghost use Rattle.nextest_config_values.specs.Read.FromToml.{reading_on};
+ghost use Rattle.nextest_config.specs.NextestVersion.Ask.{AreInOrder, AskAlike, MeansRole, MeansTable, MeansVersion, MeansVersions, OrderFaults, RoleFaults, TableFaults, VersionFaults, VersionTextFaults, VersionsFaults, ask_of, asks, nothing};
+ghost use Rattle.nextest_config.specs.NextestVersion.VersionText.{HasVersion};
+ghost use Rattle.nextest_config.specs.NextestVersion.AskLaws.{version_reading, versions_reading};
+
+use super::version_text::parse_version;
+use nextest_config_values::read::{FaultKind, FromToml, ReadFault, Rule, optional_field};
+use semver::Version;
+use std::alloc::Global;
+use std::cmp::Ordering;
+use toml::{Table, Value};
+
+const EXPECTED: &str =
+    "a table ({ required = \"0.9.20\", recommended = \"0.9.30\" }) or a string (\"0.9.50\")";
+
+const REQUIRED_KEY: &str = "required";
+
+const RECOMMENDED_KEY: &str = "recommended";
+
+/// The versions that one source asks for.
+#[derive(Debug, PartialEq, Eq, Drop)]
+pub struct NextestVersionDeserialize {
+    /// The least version that the source requires.
+    pub required: Option<Version>,
+    /// The least version that the source recommends.
+    pub recommended: Option<Version>,
+}
+
+// A version, as a setting writes it.
+#[derive(Drop)]
+struct VersionText {
+    version: Version,
+}
+
+impl NextestVersionDeserialize {
+    /// Asks for no version.
+    pub(crate) fn nothing() -> Self
+        ensures { ask_of result ≡ nothing }
+    {
+        NextestVersionDeserialize {
+            required: None,
+            recommended: None,
+        }
+    }
+
+    // What a table asks.
+    fn read_table(alloc: Global, table: &Table, at: &str) -> Result<Self, ReadFault>
+        ensures meant { IfOk result (λ d. MeansTable (table_view table.now) (ask_of d)) }
+        ensures refused { IfErr result (λ fault. Refuses
+            (TableFaults (table_view table.now) at.now) (Unit {0}) (fault_of fault)) }
+    {
+        let required = read_role(alloc, table, REQUIRED_KEY, at)?;
+        let recommended = read_role(alloc, table, RECOMMENDED_KEY, at)?;
+        let asked = NextestVersionDeserialize::in_order(alloc, required, recommended, at)?;
+        Ok(asked)
+    }
+
+    // The ask for both versions, unless the required one is above the recommended one.
+    fn in_order(
+        alloc: Global,
+        required: Option<Version>,
+        recommended: Option<Version>,
+        at: &str,
+    ) -> Result<Self, ReadFault>
+        ensures both { IfOk result (λ d. ask_of d
+            ≡ asks (option_map parts_of required) (option_map parts_of recommended)) }
+        ensures in_order { OnOk result
+            (AreInOrder (option_map parts_of required) (option_map parts_of recommended)) }
+        ensures refused { IfErr result (λ fault. Refuses
+            (OrderFaults at.now (option_map parts_of required) (option_map parts_of recommended))
+            (Unit {0}) (fault_of fault)) }
+    {
+        match (required, recommended) {
+            (Some(required), Some(recommended)) => {
+                if recommended.cmp_precedence(&required) == Ordering::Less {
+                    let rule = Rule::RequiredAboveRecommended {
+                        required,
+                        recommended,
+                    };
+                    return Err(ReadFault::new(alloc, at, FaultKind::Custom(rule)));
+                }
+                Ok(NextestVersionDeserialize {
+                    required: Some(required),
+                    recommended: Some(recommended),
+                })
+            }
+            (required, recommended) => Ok(NextestVersionDeserialize {
+                required,
+                recommended,
+            }),
+        }
+    }
+}
+
+impl FromToml for NextestVersionDeserialize {
+    ghost means = { λ value d. MeansVersions value (ask_of d) };
+
+    ghost faults = { VersionsFaults };
+
+    ghost needs_memory = { true };
+
+    ghost alike = { AskAlike };
+
+    ghost laws = { versions_reading };
+
+    fn read(alloc: Global, value: &Value, at: &str) -> Result<Self, ReadFault> {
+        if let Some(text) = value.as_str() {
+            let required = read_version(alloc, text, at)?;
+            return Ok(NextestVersionDeserialize {
+                required: Some(required),
+                recommended: None,
+            });
+        }
+        match value.as_table() {
+            Some(table) => NextestVersionDeserialize::read_table(alloc, table, at),
+            None => Err(ReadFault::invalid_type(alloc, value, at, EXPECTED)),
+        }
+    }
+}
+
+impl FromToml for VersionText {
+    ghost means = { λ value text. MeansVersion value (parts_of text.version) };
+
+    ghost faults = { VersionFaults };
+
+    ghost needs_memory = { true };
+
+    ghost alike = { λ a b. parts_of a.version ≡ parts_of b.version };
+
+    ghost laws = { reading_on (λ text. parts_of text.version) version_reading };
+
+    fn read(alloc: Global, value: &Value, at: &str) -> Result<Self, ReadFault> {
+        match value.as_str() {
+            Some(text) => {
+                let version = read_version(alloc, text, at)?;
+                Ok(VersionText { version })
+            }
+            None => Err(ReadFault::invalid_type(alloc, value, at, "a string")),
+        }
+    }
+}
+
+// The version at a key of the table at the path `at`; none where the key is missing.
+fn read_role(
+    alloc: Global,
+    table: &Table,
+    key: &str,
+    at: &str,
+) -> Result<Option<Version>, ReadFault>
+    ensures meant { IfOk result (λ found.
+        MeansRole key.now (table_view table.now) (option_map parts_of found)) }
+    ensures refused { IfErr result (λ fault. Refuses
+        (RoleFaults key.now (table_view table.now) at.now) (Unit {0}) (fault_of fault)) }
+{
+    let found: Option<VersionText> = optional_field(alloc, table, key, at)?;
+    match found {
+        Some(text) => Ok(Some(text.version)),
+        None => Ok(None),
+    }
+}
+
+// The version of a text.
+fn read_version(alloc: Global, text: &str, at: &str) -> Result<Version, ReadFault>
+    ensures meant { IfOk result (λ v. HasVersion text.now (parts_of v)) }
+    ensures refused { IfErr result (λ fault. Refuses
+        (VersionTextFaults text.now at.now) (Unit {0}) (fault_of fault)) }
+{
+    match parse_version(alloc, text) {
+        Ok(version) => Ok(version),
+        Err(kind) => Err(ReadFault::new(alloc, at, kind)),
+    }
+}
