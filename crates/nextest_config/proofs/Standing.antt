@@ -71,7 +71,7 @@ module _ (role : Ask → Option Parts) where
   ]
 
 -- joined with what one more source asks, the configuration stands for one more source
-pub stands_more : (sources : List Source) (source : Source) (old new : Configuration) → StandsFor sources old → Adds source old new → StandsFor (sources ++ (source ∷ [])) new
+pub stands_more : (sources : List Source) (source : Source) (old new : Configuration) → StandsFor sources old → Adds source.place source.contents old new → StandsFor (sources ++ (source ∷ [])) new
 stands_more sources source old new stands adds =
     let a : Asked = record { place = source.place; ask = adds.0 } in
     let one : IsReadAs source a = record { place = refl; read = adds.1 } in

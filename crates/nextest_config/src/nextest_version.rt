@@ -12,5 +12,5 @@ pub use ask::NextestVersionDeserialize;
 pub use error::{ConfigParseError, ListRefusal};
 pub use error_kind::ConfigParseErrorKind;
 pub use requirement::{NextestVersionConfig, NextestVersionEval, NextestVersionReq, Severity};
-pub use source::{ConfigSource, ConfigSourceKind, SourceText};
+pub use source::{ConfigSource, ConfigSourceKind, RepositoryText, SourceText, ToolText};
 pub use version_only::VersionOnlyConfig;

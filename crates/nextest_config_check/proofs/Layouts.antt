@@ -1,13 +1,12 @@
 -- An input is laid out in one way, or has one faulty line, and not both.
-use Rattle.std.proofs.Common.{◌≡◌, ◌≢◌, ℕ, ◌<◌, ◌==◌, Bool, true, false, if◌then◌else◌, List, [], ◌∷◌, ◌++◌, length, get_or, codes, Some, refl, sym, ap, ◌∙◌, subst, inl, inr, ◌⊎◌, append_assoc, append-nil, length-append, arith}
+use Rattle.std.proofs.Common.{◌≡◌, ℕ, ◌<◌, ◌==◌, Bool, true, false, if◌then◌else◌, List, [], ◌∷◌, ◌++◌, length, Some, refl, sym, ap, ◌∙◌, subst, inl, inr, ◌⊎◌, append_assoc, append-nil, length-append, arith}
 use Rattle.std.specs.List.{AllByRecursion}
-use Rattle.std.proofs.lemmas.List.{append_cancel_left, append_cancel_right}
-use Rattle.nextest_config.specs.NextestVersion.Source.{Place, Source, place_text}
-use Rattle.nextest_config.specs.declared.nextest_version.source.ConfigSourceKind.{ConfigSourceKind}
-use Rattle.nextest_config.specs.declared.nextest_version.source.ConfigSourceKind.TheVariants.{ExplicitRepository, DiscoveredRepository}
+use Rattle.std.proofs.lemmas.List.{append_cancel_right}
+use Rattle.nextest_config.specs.NextestVersion.Source.{Place, Source}
 use Rattle.nextest_config_check.specs.Layout.{line_feed, carriage_return, line_number, mark, trimmed, AreBlocks, AreSourcesBefore, EndsLine, IsBlock, IsCut, IsFaultyBlock, IsFaultyLine, IsFirstLine, IsInLine, IsSourceLine, IsUnmarked, IsUnmarkedBelow, OwesSourceLine}
 use Rattle.nextest_config_check.proofs.Lines.{first_line-append, not_in_line}
 use Rattle.nextest_config_check.proofs.Blocks.{ends_line_rest}
+use Rattle.nextest_config_check.proofs.SourceLines.{place_once}
 
 -- ---- the first line of a text
 
@@ -33,36 +32,6 @@ first_line_once text line rest other after (inr first) (inl second) =
     absurd (not_in_line second.bytes after (subst (AllByRecursion IsInLine) second.whole first.one_line))
 first_line_once text line rest other after (inr first) (inr second) =
     (first.line_is ∙ sym second.line_is, first.no_rest ∙ sym second.no_rest)
-
--- ---- the place that a source line names
-
--- a text's first byte, if it has one
-abbrev first_byte : List ℕ → ℕ
-first_byte text = get_or text 0 0
-
--- the two kinds print with different first bytes
-kinds_apart : first_byte (codes "explicit ") ≢ first_byte (codes "repository ")
-kinds_apart e = omega (arith, e)
-
--- two kinds with their paths print alike only if they are the same
-kind_once : (kind other : ConfigSourceKind) (path another : List ℕ) → place_text (record { kind = kind; path = path }) ≡ place_text (record { kind = other; path = another }) → (kind ≡ other) × (path ≡ another)
-kind_once ExplicitRepository ExplicitRepository path another e = (refl, cc e)
-kind_once ExplicitRepository DiscoveredRepository path another e = absurd (kinds_apart (ap first_byte e))
-kind_once DiscoveredRepository ExplicitRepository path another e = absurd (kinds_apart (sym (ap first_byte e)))
-kind_once DiscoveredRepository DiscoveredRepository path another e = (refl, cc e)
-
--- a place is its kind and its path
-place_is : (place other : Place) → place.kind ≡ other.kind → place.path ≡ other.path → place ≡ other
-place_is place other kind path =
-    let with_kind : ConfigSourceKind → Place = λ (k : ConfigSourceKind). record { kind = k; path = place.path } in
-    let with_path : List ℕ → Place = λ (p : List ℕ). record { kind = other.kind; path = p } in
-    ap with_kind kind ∙ ap with_path path
-
--- a source line names one place
-place_once : (line : List ℕ) (place other : Place) → IsSourceLine line place → IsSourceLine line other → place ≡ other
-place_once line place other names others =
-    let same = kind_once place.kind other.kind place.path other.path (append_cancel_left mark (place_text place) (place_text other) (sym names.whole ∙ others.whole)) in
-    place_is place other same.0 same.1
 
 -- ---- the source of a block
 
@@ -108,7 +77,7 @@ first_line_front text line rest (inr last) = ([], sym last.line_is ∙ sym (appe
 block_marked : (text : List ℕ) (source : Source) → IsBlock text source → IsMarked text
 block_marked text source block =
     let front = first_line_front text block.line block.contents block.first in
-    (place_text source.place ++ front.0, front.1 ∙ ap (λ l. l ++ front.0) block.names.whole ∙ append_assoc mark (place_text source.place) front.0)
+    (block.names.named ++ front.0, front.1 ∙ ap (λ l. l ++ front.0) block.names.whole ∙ append_assoc mark block.names.named front.0)
 
 -- a text with the mark isn't empty
 marked_some : (text : List ℕ) → IsMarked text → 0 < length text

@@ -2,4 +2,5 @@ pub mod Lines
 pub mod Blocks
 pub mod Reports
 pub mod Versions
+pub mod SourceLines
 pub mod Layouts

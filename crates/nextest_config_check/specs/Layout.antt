@@ -1,7 +1,11 @@
 -- How the input is laid out: blocks, one after the other, each a source line and the contents of that source.
-use Rattle.std.specs.Prelude.{◌≡◌, ◌≢◌, ℕ, ◌+◌, ◌<◌, ◌==◌, List, [], ◌∷◌, ◌++◌, length, codes, count_by, Some, ◌⊎◌, if◌then◌else◌}
+use Rattle.std.specs.Prelude.{◌≡◌, ◌≢◌, ℕ, ◌+◌, ◌<◌, ◌==◌, List, [], ◌∷◌, ◌++◌, length, codes, count_by, Option, Some, MatchOption, ◌⊎◌, if◌then◌else◌}
 use Rattle.std.specs.List.{AllByRecursion}
-use Rattle.nextest_config.specs.NextestVersion.Source.{Place, Source, place_text}
+use Rattle.nextest_config_values.specs.ToolConfig.{IsToolArgument}
+use Rattle.nextest_config.specs.NextestVersion.Source.{Place, Source, place_of}
+use Rattle.nextest_config.specs.declared.nextest_version.source.ConfigSource.{ConfigSource}
+use Rattle.nextest_config.specs.declared.nextest_version.source.ConfigSourceKind.{ConfigSourceKind}
+use Rattle.nextest_config.specs.declared.nextest_version.source.ConfigSourceKind.TheVariants.{Tool, ExplicitRepository, DiscoveredRepository}
 use Rattle.nextest_config_check.specs.declared.layout.LayoutFault.{LayoutFault}
 use Rattle.nextest_config_check.specs.declared.layout.LayoutFault.TheVariants as faults
 
@@ -53,10 +57,35 @@ pub record IsLastLine (text line rest : List ℕ) : Type 0 where
 abbrev pub IsFirstLine : List ℕ → List ℕ → List ℕ → Type 0
 IsFirstLine text line rest = IsEndedLine text line rest ⊎ IsLastLine text line rest
 
--- the line is the source line of this place, whose path isn't empty
+-- the text is the word and a path, which isn't empty
+pub record IsWordAndPath (word text path : List ℕ) : Type 0 where
+  pub whole : text ≡ word ++ path
+  pub some : 0 < length path
+
+-- the text is the word `tool ` and the argument that hands in the file of this tool at this path
+pub record IsWordAndArgument (text tool path : List ℕ) : Type 0 where
+  pub argument : List ℕ
+  pub whole : text ≡ codes "tool " ++ argument
+  pub names : IsToolArgument argument (record { tool = tool; path = path })
+
+-- the text names a source of this kind with this path
+abbrev pub NamesSource : List ℕ → ConfigSourceKind → List ℕ → Type 0
+NamesSource text (Tool name) path = IsWordAndArgument text name path
+NamesSource text ExplicitRepository path = IsWordAndPath (codes "explicit ") text path
+NamesSource text DiscoveredRepository path = IsWordAndPath (codes "repository ") text path
+
+abbrev pub NamesPlace : List ℕ → Place → Type 0
+NamesPlace text place = NamesSource text place.kind place.path
+
+-- the line is the mark and a text that names this place
 pub record IsSourceLine (line : List ℕ) (place : Place) : Type 0 where
-  pub whole : line ≡ mark ++ place_text place
-  pub path : 0 < length place.path
+  pub named : List ℕ
+  pub whole : line ≡ mark ++ named
+  pub names : NamesPlace named place
+
+-- the source is at such a place; or there is no source, and no such place
+abbrev pub IsSourceIfAny : (Place → Type 0) → Option ConfigSource → Type 0
+IsSourceIfAny IsSuch source = MatchOption source ((place : Place) → ¬ IsSuch place) (λ source. IsSuch (place_of source))
 
 -- the text is a source line and the contents of that source, in which no line is marked
 pub record IsBlock (text : List ℕ) (source : Source) : Type 0 where

@@ -1,10 +1,12 @@
-//! How the input is laid out: source lines, each with the contents of its source below it.
+//! How the input is laid out: source lines, each with the contents of its source below it. A source
+//! line is `=== tool NAME:PATH`, `=== explicit PATH` or `=== repository PATH`.
 
-ghost use Rattle.std.specs.Prelude.{◌≡◌, ◌+◌, ◌-◌, ◌<◌, ◌≤◌, length, map, take, IfOk, IfErr, MatchOption};
-ghost use Rattle.nextest_config.specs.NextestVersion.Source.{Place, source_of};
-ghost use Rattle.nextest_config_check.specs.Layout.{AreBlocks, IsBlock, IsCut, IsFaultyBlock, IsFaultyInput, IsFirstLine, IsSourceLine, IsUnmarkedBelow, line_number, trimmed};
+ghost use Rattle.std.specs.Prelude.{◌≡◌, ◌+◌, ◌-◌, ◌<◌, ◌≤◌, ◌++◌, ℕ, List, codes, length, map, take, IfOk, IfErr, MatchOption};
+ghost use Rattle.nextest_config.specs.NextestVersion.Source.{source_of};
+ghost use Rattle.nextest_config_check.specs.Layout.{AreBlocks, IsBlock, IsCut, IsFaultyBlock, IsFaultyInput, IsFirstLine, IsSourceIfAny, IsSourceLine, IsUnmarkedBelow, IsWordAndPath, NamesPlace, line_number, trimmed};
 
 use nextest_config::nextest_version::{ConfigSource, ConfigSourceKind, SourceText};
+use nextest_config_values::tool_config::{ToolConfigFile, ToolConfigFileParseError};
 use std::alloc::{AllocError, Global};
 
 /// What a source line begins with.
@@ -75,14 +77,11 @@ fn source(alloc: Global, block: &str) -> Result<Option<SourceText>, AllocError>
         (λ source. IsBlock block.now (source_of source))) }
 {
     let (line, contents) = split_line(block);
-    let Some((kind, path)) = source_line(line) else {
+    let Some(source) = source_line(alloc, line)? else {
         return Ok(None);
     };
-    let path = String::from_str(alloc, path)?;
-    Ok(Some(SourceText {
-        source: ConfigSource { kind, path },
-        contents: Some(String::from_str(alloc, contents)?),
-    }))
+    let contents = Some(String::from_str(alloc, contents)?);
+    Ok(Some(SourceText { source, contents }))
 }
 
 // The first line of the text, without its end, and what follows it.
@@ -102,20 +101,56 @@ fn trimmed(line: &str) -> &str
     line.strip_suffix('\r').unwrap_or(line)
 }
 
-// The kind and the path that a source line names.
-fn source_line(line: &str) -> Option<(ConfigSourceKind, &str)>
-    ensures { MatchOption result ((place : Place) → ¬ IsSourceLine line.now place)
-        (λ named. IsSourceLine line.now (record { kind = named.0; path = named.1.now })) }
+// The source that the line names, if it is a source line.
+fn source_line(alloc: Global, line: &str) -> Result<Option<ConfigSource>, AllocError>
+    ensures { IfOk result (IsSourceIfAny (IsSourceLine line.now)) }
 {
-    let named = line.strip_prefix(MARK)?;
-    let (kind, path) = if let Some(path) = named.strip_prefix("explicit ") {
+    match line.strip_prefix(MARK) {
+        Some(named) => named_source(alloc, named),
+        None => Ok(None),
+    }
+}
+
+// The source that a text behind the mark names, if it names one.
+fn named_source(alloc: Global, named: &str) -> Result<Option<ConfigSource>, AllocError>
+    ensures { IfOk result (IsSourceIfAny (NamesPlace named.now)) }
+{
+    if let Some(argument) = named.strip_prefix("tool ") {
+        return tool_source(alloc, argument);
+    }
+    let (kind, path) = if let Some(path) = path_behind(named, "explicit ") {
         (ConfigSourceKind::ExplicitRepository, path)
-    } else {
-        let path = named.strip_prefix("repository ")?;
+    } else if let Some(path) = path_behind(named, "repository ") {
         (ConfigSourceKind::DiscoveredRepository, path)
+    } else {
+        return Ok(None);
     };
+    let path = String::from_str(alloc, path)?;
+    Ok(Some(ConfigSource { kind, path }))
+}
+
+// The source that a tool's argument names, if the text is one.
+fn tool_source(alloc: Global, argument: &str) -> Result<Option<ConfigSource>, AllocError>
+    ensures { IfOk result (IsSourceIfAny (NamesPlace (codes "tool " ++ argument.now))) }
+{
+    match ToolConfigFile::from_str(alloc, argument) {
+        Ok(file) => Ok(Some(ConfigSource {
+            kind: ConfigSourceKind::Tool(file.tool),
+            path: file.config_file,
+        })),
+        Err(ToolConfigFileParseError::Memory) => Err(AllocError),
+        Err(_) => Ok(None),
+    }
+}
+
+// The path behind the word that the text begins with, if it does and the path isn't empty.
+fn path_behind<'a>(named: &'a str, word: &str) -> Option<&'a str>
+    ensures { MatchOption result ((path : List ℕ) → ¬ IsWordAndPath word.now named.now path)
+        (λ path. IsWordAndPath word.now named.now path.now) }
+{
+    let path = named.strip_prefix(word)?;
     if path.is_empty() {
         return None;
     }
-    Some((kind, path))
+    Some(path)
 }

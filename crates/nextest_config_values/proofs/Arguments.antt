@@ -1,5 +1,5 @@
 -- Tool arguments: a text has one, or one fault.
-use Rattle.std.proofs.Common.{◌≡◌, ◌≢◌, ◌∙◌, ℕ, List, [], ◌∷◌, ap, refl, sym, subst, inl, inr}
+use Rattle.std.proofs.Common.{◌≡◌, ◌≢◌, ◌∙◌, ℕ, List, ap, refl, sym, subst, inl, inr}
 use Rattle.nextest_config_values.specs.Helpers.{BeginsWithSlash, IsPlainIdentifier}
 use Rattle.nextest_config_values.specs.Identifier.ConfigIdentifier.{HasNoColon, IsCutAtColon}
 use Rattle.nextest_config_values.specs.Identifier.Error.{NameRefusal, ToolNameFlaw, flawed, no_memory}

@@ -1,5 +1,5 @@
 -- Identifiers that are kept: their forms by characters, and their parts by bytes.
-use Rattle.std.proofs.Common.{◌≡◌, ◌≢◌, ◌↔◌, ℕ, is_some, IsTrue, List, [], ◌∷◌, ◌++◌, codes, Option, Some, None, refl, sym, ap, ◌∙◌, subst, inl, inr}
+use Rattle.std.proofs.Common.{◌≡◌, ◌≢◌, ◌↔◌, ℕ, is_some, IsTrue, List, [], ◌∷◌, ◌++◌, Option, Some, None, refl, sym, ap, ◌∙◌, subst, inl, inr}
 use Rattle.std.specs.Prelude.{MatchOption, IsUtf8, chars, encode_utf8_all, String, string_bytes}
 use Rattle.std.specs.Borrow.{Bor}
 use Rattle.std.specs.declared.alloc.Global.{Global}
@@ -7,9 +7,9 @@ use Rattle.std.proofs.lemmas.Str.{IsUtf8-string_bytes, chars_from_encodes, encod
 use Rattle.std.proofs.lemmas.Str.Pattern.{IsSplitOnceResult}
 use Rattle.unicode_normalization.specs.Forms.{nfc}
 use Rattle.nextest_config_values.specs.Helpers.{IsPlainIdentifier}
-use Rattle.nextest_config_values.specs.Identifier.ConfigIdentifier.{AreComponents, HasNoColon, IsCutAtColon, IsIdentifierForm, IsMarked, IsMarkedPair, tool_mark}
+use Rattle.nextest_config_values.specs.Identifier.ConfigIdentifier.{AreComponents, HasNoColon, IsIdentifierForm, IsMarked, tool_mark}
 use Rattle.nextest_config_values.specs.Identifier.Laws.{behind_mark, no_colon_uncut, one_cut, plain_no_at_sign, plain_no_colon}
-use Rattle.nextest_config_values.specs.Identifier.Normal.{normal_chars, normal_form}
+use Rattle.nextest_config_values.specs.Identifier.Normal.{normal_chars}
 use Rattle.nextest_config_values.proofs.Texts.{IsTextCut, chars_behind, mark_plain, no_colon_bytes, no_colon_chars, not_behind, split_colon}
 
 -- the text that `to_nfc` made has the characters of the normal form

@@ -1,5 +1,5 @@
 -- Refusals: what follows whatever their reason is, and when memory was wanted.
-use Rattle.std.proofs.Common.{◌≡◌, ◌∙◌, ℕ, Bool, true, false, List, [], Some, refl, sym, ap, subst, inr}
+use Rattle.std.proofs.Common.{◌≡◌, ℕ, Bool, true, false, List, Some, refl, sym, ap, subst, inr}
 use Rattle.toml.specs.Data.{Data, as_str}
 use Rattle.nextest_config_values.specs.Identifier.Error.{NameRefusal, flawed, no_memory as no_memory_for_name}
 use Rattle.nextest_config_values.specs.Identifier.Normal.{IsNormalRefusal, NameFaults}

@@ -1,5 +1,5 @@
 -- The pieces of a path between slashes.
-use Rattle.std.proofs.Common.{◌≡◌, ◌≢◌, ◌⊎◌, ◌↔◌, ℕ, eqb, T, Bool, true, false, List, [], ◌∷◌, ◌++◌, codes, drop, Some, None, refl, sym, ap, ◌∙◌, subst, inl, inr, append_assoc, eqb→eq}
+use Rattle.std.proofs.Common.{◌≡◌, ◌≢◌, ◌⊎◌, ◌↔◌, ℕ, eqb, T, Bool, true, false, List, [], ◌∷◌, ◌++◌, codes, refl, sym, ap, ◌∙◌, subst, inl, inr, append_assoc, eqb→eq}
 use Rattle.std.proofs.lemmas.Bool.{cases_Bool}
 use Rattle.std.proofs.lemmas.List.Splits.{slice_split-cons_no, slice_split-cons_yes}
 use Rattle.std.specs.List.{AllByRecursion, onto_first, slice_split}

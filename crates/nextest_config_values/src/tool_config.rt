@@ -14,7 +14,7 @@ use thiserror::Error;
 pub struct ToolConfigFile {
     /// The name of the tool.
     pub tool: ToolName,
-    /// The path of the file, which begins with `/`.
+    /// The path of the file; it begins with `/` where it was read from an argument.
     pub config_file: String,
 }
 

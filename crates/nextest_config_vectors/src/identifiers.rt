@@ -110,7 +110,10 @@ fn an_identifier_is_kept_in_its_normal_form(rt: HostRuntime) -> Result<(), Fail>
     let spelled = ConfigIdentifier::new(alloc, "e\u{301}x")?;
     assert_eq!(rt; spelled.as_str().as_bytes(), [0xc3, 0xa9, 0x78].as_slice());
     assert_eq!(rt; spelled, ConfigIdentifier::new(alloc, "\u{e9}x")?);
-    assert_eq!(rt; identifier(alloc, "e\u{301} ")?.as_str(), "InvalidXid \u{e9} ");
+    assert_eq!(rt;
+        identifier(alloc, "e\u{301} ")?.as_str(),
+        "InvalidXid \u{e9} "
+    );
     assert_eq!(rt; tool_name(alloc, "\u{212b}")?.as_str(), "\u{c5}");
     Ok(())
 }

@@ -14,4 +14,6 @@ mod percent;
 #[cfg(test)]
 mod readers;
 #[cfg(test)]
+mod sources;
+#[cfg(test)]
 mod tool_config;

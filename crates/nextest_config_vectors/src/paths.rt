@@ -17,7 +17,15 @@ fn path(alloc: Global, value: &Value, at: &str) -> Result<String, Fail> {
 fn relative_paths_are_kept_as_written(rt: HostRuntime) -> Result<(), Fail> {
     let alloc = rt.alloc();
     for text in [
-        "", ".", "foo", "foo/bar", "foo/./bar", "./foo/bar", "foo/", "..a/b..", "...",
+        "",
+        ".",
+        "foo",
+        "foo/bar",
+        "foo/./bar",
+        "./foo/bar",
+        "foo/",
+        "..a/b..",
+        "...",
     ] {
         let value = Value::string(alloc, text)?;
         assert_eq!(rt; path(alloc, &value, "p")?.as_str(), text);

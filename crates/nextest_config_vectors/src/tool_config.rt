@@ -41,18 +41,12 @@ fn arguments_are_cut_at_their_first_colon(rt: HostRuntime) -> Result<(), Fail> {
         ("tool:foo/bar", "ConfigFileNotAbsolute foo/bar"),
         ("tool:./foo", "ConfigFileNotAbsolute ./foo"),
         ("tool:", "EmptyConfigFile tool:"),
-        (
-            "_a:",
-            "InvalidToolName _a:: invalid tool name \"_a\"",
-        ),
+        ("_a:", "InvalidToolName _a:: invalid tool name \"_a\""),
         (
             "_invalid:/foo/bar",
             "InvalidToolName _invalid:/foo/bar: invalid tool name \"_invalid\"",
         ),
-        (
-            ":/foo/bar",
-            "InvalidToolName :/foo/bar: tool name is empty",
-        ),
+        (":/foo/bar", "InvalidToolName :/foo/bar: tool name is empty"),
         (
             "@tool:/path",
             "InvalidToolName @tool:/path: tool name begins with @tool: \"@tool\"",
@@ -66,9 +60,10 @@ fn arguments_are_cut_at_their_first_colon(rt: HostRuntime) -> Result<(), Fail> {
 #[test]
 fn a_refused_tool_name_is_handed_on(rt: HostRuntime) -> Result<(), Fail> {
     let alloc = rt.alloc();
-    let Err(ToolConfigFileParseError::InvalidToolName { input, error }) =
-        ToolConfigFile::from_str(alloc, "@tool:/path")
-    else {
+    let Err(ToolConfigFileParseError::InvalidToolName { input, error }) = ToolConfigFile::from_str(
+        alloc,
+        "@tool:/path",
+    ) else {
         return Err(Fail::from("the tool name was taken"));
     };
     assert_eq!(rt; input.as_str(), "@tool:/path");
@@ -81,12 +76,12 @@ fn a_refused_tool_name_is_handed_on(rt: HostRuntime) -> Result<(), Fail> {
 fn refused_arguments_are_printed(rt: HostRuntime) -> Result<(), Fail> {
     let alloc = rt.alloc();
     for (text, printed) in [
-        ("a", "tool configuration file isn't of the form NAME:PATH: a"),
-        ("a:", "tool configuration file without a path: a:"),
         (
-            "a:b",
-            "tool configuration file isn't an absolute path: b",
+            "a",
+            "tool configuration file isn't of the form NAME:PATH: a",
         ),
+        ("a:", "tool configuration file without a path: a:"),
+        ("a:b", "tool configuration file isn't an absolute path: b"),
         (
             ":/b",
             "tool configuration file without a valid tool name: :/b: tool name is empty",

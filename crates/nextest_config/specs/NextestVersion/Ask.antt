@@ -16,17 +16,17 @@ pub record Ask : Type 0 where
   pub required : Option Parts
   pub recommended : Option Parts
 
-abbrev pub nothing : Ask
-nothing = record { required = None; recommended = None }
-
-abbrev pub requires : Parts → Ask
-requires version = record { required = Some version; recommended = None }
-
 abbrev pub asks : Option Parts → Option Parts → Ask
 asks required recommended = record { required = required; recommended = recommended }
 
+abbrev pub nothing : Ask
+nothing = asks None None
+
+abbrev pub requires : Parts → Ask
+requires version = asks (Some version) None
+
 abbrev pub ask_of : NextestVersionDeserialize → Ask
-ask_of d = record { required = option_map parts_of d.required; recommended = option_map parts_of d.recommended }
+ask_of d = asks (option_map parts_of d.required) (option_map parts_of d.recommended)
 
 -- two of them ask the same
 abbrev pub AskAlike : NextestVersionDeserialize → NextestVersionDeserialize → Type 0
@@ -42,7 +42,7 @@ VersionTextFaults text at fault = (rule : BrokenRule) × IsVersionFault text rul
 abbrev pub MeansVersion : Data → Parts → Type 0
 MeansVersion = MeansAs as_str HasVersion
 
--- the value is no text, or one with no version
+-- the value is no text, or a text that breaks a rule
 abbrev pub VersionFaults : Data → List ℕ → Fault → Type 0
 VersionFaults = FaultsAs as_str text_expected (λ text value. VersionTextFaults text)
 

@@ -15,6 +15,15 @@ pub record Refusal : Type 0 where
 abbrev pub refusal_of : ConfigParseError → Refusal
 refusal_of error = record { place = option_map place_of error.source; wrong = wrong_of error.kind }
 
+-- the error that says nothing of any source
+abbrev pub out_of_memory : Refusal
+out_of_memory = record { place = None; wrong = no_memory }
+
+-- this is wrong with the source of that place; or there was no memory
+abbrev pub IsErrorOf : Place → Wrong → Refusal → Type 0
+IsErrorOf place no_memory refusal = refusal ≡ out_of_memory
+IsErrorOf place wrong refusal = refusal ≡ record { place = Some place; wrong = wrong }
+
 -- the source before what is wrong with it
 abbrev pub source_text : Option Place → List ℕ
 source_text None = []

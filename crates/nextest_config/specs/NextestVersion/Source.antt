@@ -1,9 +1,11 @@
 -- Configuration sources without where they lie in memory.
-use Rattle.std.specs.Prelude.{ℕ, List, ◌++◌, codes, Option, string_bytes, option_map}
+use Rattle.std.specs.Prelude.{ℕ, List, [], ◌∷◌, ◌++◌, map, reverse, codes, Option, string_bytes, option_map, if◌then◌else◌}
 use Rattle.nextest_config.specs.declared.nextest_version.source.ConfigSource.{ConfigSource}
 use Rattle.nextest_config.specs.declared.nextest_version.source.ConfigSourceKind.{ConfigSourceKind}
-use Rattle.nextest_config.specs.declared.nextest_version.source.ConfigSourceKind.TheVariants.{ExplicitRepository, DiscoveredRepository}
+use Rattle.nextest_config.specs.declared.nextest_version.source.ConfigSourceKind.TheVariants.{Tool, ExplicitRepository, DiscoveredRepository}
+use Rattle.nextest_config.specs.declared.nextest_version.source.RepositoryText.{RepositoryText}
 use Rattle.nextest_config.specs.declared.nextest_version.source.SourceText.{SourceText}
+use Rattle.nextest_config.specs.declared.nextest_version.source.ToolText.{ToolText}
 
 -- what kind of source it is, and its path
 pub record Place : Type 0 where
@@ -21,10 +23,29 @@ place_of source = record { kind = source.kind; path = string_bytes source.path }
 abbrev pub source_of : SourceText → Source
 source_of text = record { place = place_of text.source; contents = option_map string_bytes text.contents }
 
+-- a tool's file, as a source
+abbrev pub tool_source : ToolText → Source
+tool_source text = record {
+  place = record { kind = Tool text.file.tool; path = string_bytes text.file.config_file };
+  contents = option_map string_bytes text.contents;
+}
+
+-- a repository's file, as a source
+abbrev pub repository_source : RepositoryText → Source
+repository_source text = record {
+  place = record { kind = if text.explicit then ExplicitRepository else DiscoveredRepository; path = string_bytes text.path };
+  contents = option_map string_bytes text.contents;
+}
+
+-- the sources, lowest priority first: the tools' files in reverse, and then the repository's
+abbrev pub sources_of : RepositoryText → List ToolText → List Source
+sources_of repository tools = map tool_source (reverse tools) ++ (repository_source repository ∷ [])
+
 -- how a place prints
 abbrev pub place_text : Place → List ℕ
-place_text place = place_kind_text place.kind ++ place.path
+place_text place = kind_text place.kind place.path
   where
-    place_kind_text : ConfigSourceKind → List ℕ
-    place_kind_text ExplicitRepository = codes "explicit "
-    place_kind_text DiscoveredRepository = codes "repository "
+    kind_text : ConfigSourceKind → List ℕ → List ℕ
+    kind_text (Tool name) path = codes "tool " ++ (name ++ (codes " (" ++ (path ++ codes ")")))
+    kind_text ExplicitRepository path = codes "explicit " ++ path
+    kind_text DiscoveredRepository path = codes "repository " ++ path

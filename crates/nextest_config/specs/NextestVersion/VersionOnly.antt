@@ -1,12 +1,12 @@
 -- Lists of sources: what each asks, the first that is refused, and what stands for them all.
-use Rattle.std.specs.Prelude.{◌≡◌, ◌≢◌, ℕ, List, ◌∷◌, ◌++◌, length, map, codes, Bool, Option, Some, None, IfSome}
+use Rattle.std.specs.Prelude.{◌≡◌, ◌≢◌, ℕ, List, ◌∷◌, ◌++◌, length, map, codes, Bool, Option, Some, None, IfSome, ◌⊎◌}
 use Rattle.std.specs.List.{AllByRecursion, AllZip}
 use Rattle.semver.specs.Parse.{Parts}
 use Rattle.toml.specs.Data.{Data, Members, get_member}
 use Rattle.toml.specs.Parse.{parse_document}
 use Rattle.nextest_config_values.specs.Read.Fault.{Fault}
 use Rattle.nextest_config.specs.NextestVersion.Ask.{Ask, nothing, MeansVersions, VersionsFaults}
-use Rattle.nextest_config.specs.NextestVersion.Error.{Refusal, refusal_of}
+use Rattle.nextest_config.specs.NextestVersion.Error.{Refusal, out_of_memory, refusal_of}
 use Rattle.nextest_config.specs.NextestVersion.ErrorKind.{Wrong, not_toml, setting, UnlessNoMemory}
 use Rattle.nextest_config.specs.NextestVersion.Precedence.{IsBelow}
 use Rattle.nextest_config.specs.NextestVersion.Requirement.{Kept, Roles, roles_of, roles_from, join_roles}
@@ -51,9 +51,9 @@ abbrev pub IsWrong : Option (List ℕ) → Wrong → Type 0
 IsWrong None wrong = ⊥
 IsWrong (Some text) wrong = IsWrongDocument (parse_document text) wrong
 
--- this is wrong with the source, or there was no memory
-abbrev pub IsWrongOrMemory : Source → Wrong → Type 0
-IsWrongOrMemory source wrong = UnlessNoMemory wrong (IsWrong source.contents wrong)
+-- this is wrong with the contents, or there was no memory
+abbrev pub IsWrongOrMemory : Option (List ℕ) → Wrong → Type 0
+IsWrongOrMemory contents wrong = UnlessNoMemory wrong (IsWrong contents wrong)
 
 -- the source is outside its grammar, with this one error, which carries the source
 pub record IsRefused (source : Source) (refusal : Refusal) : Type 0 where
@@ -166,6 +166,10 @@ abbrev pub IsRefusalOf : List Source → ListRefusal → Type 0
 IsRefusalOf sources (refusals.Refused position error) = IsFirstRefused sources position (refusal_of error)
 IsRefusalOf sources refusals.Memory = Unit {0}
 
--- the new configuration is the old one joined with what the source asks
-abbrev pub Adds : Source → Configuration → Configuration → Type 0
-Adds source old new = (ask : Ask) × IsRead source ask × (new.roles ≡ join_roles old.roles (roles_from source.place ask))
+-- the error is that of the first refused position of the list, or there was no memory
+abbrev pub IsErrorOfList : List Source → Refusal → Type 0
+IsErrorOfList sources refusal = (refusal ≡ out_of_memory) ⊎ ((position : ℕ) × IsFirstRefused sources position refusal)
+
+-- the new configuration is the old one joined with what the contents of the place ask
+abbrev pub Adds : Place → Option (List ℕ) → Configuration → Configuration → Type 0
+Adds place contents old new = (ask : Ask) × TextAsks contents ask × (new.roles ≡ join_roles old.roles (roles_from place ask))

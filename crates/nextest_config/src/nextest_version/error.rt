@@ -18,8 +18,28 @@ pub struct ConfigParseError {
 }
 
 impl ConfigParseError {
-    ghost use Rattle.nextest_config.specs.NextestVersion.Error.{refusal_of};
+    ghost use Rattle.nextest_config.specs.NextestVersion.Error.{IsErrorOf, out_of_memory, refusal_of};
     ghost use Rattle.nextest_config.specs.NextestVersion.Source.{place_of};
+
+    // The error of a source; of none where a request for memory was refused.
+    pub(crate) fn of(source: ConfigSource, kind: ConfigParseErrorKind) -> Self
+        ensures { IsErrorOf (place_of source) (wrong_of kind) (refusal_of result) }
+    {
+        if kind.is_memory() {
+            return ConfigParseError::memory();
+        }
+        ConfigParseError::new(source, kind)
+    }
+
+    // The error that says nothing of any source.
+    fn memory() -> Self
+        ensures { refusal_of result ≡ out_of_memory }
+    {
+        ConfigParseError {
+            kind: ConfigParseErrorKind::Memory,
+            source: None,
+        }
+    }
 
     // The error of a source that was judged.
     fn new(source: ConfigSource, kind: ConfigParseErrorKind) -> Self
@@ -45,6 +65,16 @@ impl ConfigParseError {
         ensures none { IsNone result ↔ ((refusal_of self.now).wrong ≡ no_memory) }
     {
         self.source.as_ref()
+    }
+}
+
+impl From<AllocError> for ConfigParseError {
+    ghost use Rattle.nextest_config.specs.NextestVersion.Error.{out_of_memory, refusal_of};
+
+    ghost from_gives = { λ _ error. refusal_of error ≡ out_of_memory };
+
+    fn from(_error: AllocError) -> ConfigParseError {
+        ConfigParseError::memory()
     }
 }
 

@@ -156,6 +156,21 @@ fn names_the_source_of_the_greatest_version(rt: HostRuntime) -> Result<(), Fail>
 }
 
 #[test]
+fn reads_a_tool_and_the_repository(rt: HostRuntime) -> Result<(), Fail> {
+    let input =
+        b"=== tool my-tool:/etc/t.toml\nnextest-version = \"0.9.50\"\n=== repository .config/nextest.toml\nnextest-version = { recommended = \"0.9.60\" }\n";
+    let warning =
+        "warning: 0.9.60 recommended by repository .config/nextest.toml, current 0.9.55\nknown: none\n";
+    let error =
+        "error: 0.9.50 required by tool my-tool (/etc/t.toml), current 0.9.49\nknown: none\n";
+    let overridden =
+        "error (overridden): 0.9.50 required by tool my-tool (/etc/t.toml), current 0.9.49\nknown: none\n";
+    expect_report(&rt, &["0.9.55"], input, 0, warning)?;
+    expect_report(&rt, &["0.9.49"], input, 1, error)?;
+    expect_report(&rt, &["0.9.49", "--override"], input, 0, overridden)
+}
+
+#[test]
 fn refuses_a_source_with_a_pre_release(rt: HostRuntime) -> Result<(), Fail> {
     let input = b"=== explicit a.toml\nnextest-version = \"1-b+c\"\n";
     let output =
@@ -205,7 +220,7 @@ fn refuses_a_line_that_is_no_source_line(rt: HostRuntime) -> Result<(), Fail> {
             b"\n=== explicit a.toml\n",
             "refused: line 1 isn't a source line\n",
         ),
-        (b"=== tool a:/b\n", "refused: line 1 isn't a source line\n"),
+        (b"=== tool _a:/x\n", "refused: line 1 isn't a source line\n"),
         (b"=== explicit \n", "refused: line 1 isn't a source line\n"),
         (
             b"=== repository \r\n",

@@ -1,15 +1,15 @@
 -- The laws of identifiers and tool names.
-use Rattle.std.proofs.Common.{◌≡◌, ◌≢◌, ◌⊎◌, ℕ, true, false, List, [], ◌∷◌, ◌++◌, drop, codes, refl, sym, ap, ◌∙◌, subst, inl, inr, lit<}
-use Rattle.std.specs.Prelude.{Bool, ◌==◌, ◌||◌, IsTrue}
+use Rattle.std.proofs.Common.{◌≡◌, ◌≢◌, ℕ, true, false, List, [], ◌∷◌, ◌++◌, drop, refl, sym, ap, ◌∙◌, subst, inl, inr, lit<}
+use Rattle.std.specs.Prelude.{Bool, ◌==◌, ◌||◌}
 use Rattle.std.specs.List.{AllByRecursion}
-use Rattle.toml.specs.Data.{Data, as_str}
+use Rattle.toml.specs.Data.{as_str}
 use Rattle.unicode_ident.proofs.IdentLemmas.{is_xid_continue-ascii, is_xid_start-ascii}
 use Rattle.unicode_ident.specs.Ident.{is_xid_continue, is_xid_start}
 use Rattle.nextest_config_values.specs.Helpers.{GoesOn, IsPlainFlaw, IsPlainIdentifier}
 use Rattle.nextest_config_values.specs.Identifier.ConfigIdentifier.{AreFlawed, HasNoColon, IdentifierFaults, IsCutAtColon, IsIdentifier, IsIdentifierFlaw, IsIdentifierForm, IsMarkedPair, tool_mark}
 use Rattle.nextest_config_values.specs.Identifier.Error.{Component, IdentifierFlaw, NameRefusal, OneComponent, ToolNameFlaw, Whole, flawed, no_memory}
-use Rattle.nextest_config_values.specs.Identifier.Normal.{IsNormalFault, IsNormalText, NameFaults, normal_chars, normal_form}
-use Rattle.nextest_config_values.specs.Identifier.ToolName.{BeginsWithTool, IsToolName, IsToolNameFlaw, ToolNameFaults}
+use Rattle.nextest_config_values.specs.Identifier.Normal.{IsNormalFault, IsNormalText, NameFaults, normal_chars}
+use Rattle.nextest_config_values.specs.Identifier.ToolName.{IsToolName, IsToolNameFlaw, ToolNameFaults}
 use Rattle.nextest_config_values.specs.Read.Fault.{Fault, Reason, fault_at, holds_memory, identifier, tool_name}
 use Rattle.nextest_config_values.specs.Read.FromToml.{FaultsAs, IsHeldReading, IsReading, MeansAs, equality, reading_as}
 use Rattle.nextest_config_values.specs.Read.Word.{text_expected}

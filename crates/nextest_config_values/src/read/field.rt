@@ -80,7 +80,8 @@ fn find<'t>(table: &'t Table, key: &str) -> Option<&'t Value>
     table.get(key)
 }
 
-// Reads the value of a key. The path is put together only after a fault.
+// Reads the value of a key. The path is put together only after a fault, and only where it isn't the
+// key itself.
 fn read_field<T: FromToml>(
     alloc: Global,
     value: &Value,
@@ -93,6 +94,7 @@ fn read_field<T: FromToml>(
 {
     match T::read(alloc, value, key) {
         Ok(x) => Ok(x),
+        Err(fault) if at.is_empty() => Err(fault),
         Err(_) => match field_path(alloc, at, key) {
             Ok(path) => T::read(alloc, value, path.as_str()),
             Err(AllocError) => Err(ReadFault::memory(alloc)),

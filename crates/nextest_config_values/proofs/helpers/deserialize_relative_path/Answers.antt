@@ -1,4 +1,4 @@
-use Rattle.std.proofs.Common.{◌∙◌, codes, refl, sym, inr}
+use Rattle.std.proofs.Common.{◌∙◌, codes, refl, inr}
 use Rattle.toml.specs.View.{view}
 use Rattle.nextest_config_values.proofs.Faults.{refused_as}
 use Rattle.nextest_config_values.specs.Helpers.{IsRelativePath, MeansPath, PathFaults}

@@ -1,6 +1,5 @@
-use Rattle.std.proofs.Common.{◌≡◌, ◌∙◌, ◌∷◌, chars, refl, sym, subst}
+use Rattle.std.proofs.Common.{◌∙◌, refl, sym}
 use Rattle.std.proofs.lemmas.Str.{chars_past_char}
-use Rattle.nextest_config_values.specs.Helpers.{IsPlainIdentifier}
 use Rattle.nextest_config_values.proofs.helpers.is_valid_identifier_unicode.Goals.{else-is_xid_start-via-then-is_xid_start+else-may_follow, else-is_xid_start-via-else-is_xid_start}
 use Rattle.nextest_config_values.proofs.helpers.is_valid_identifier_unicode.Goals as goal
 

@@ -1,4 +1,4 @@
-use Rattle.std.proofs.Common.{rules, tests, ◌≡◌, ◌==◌, ◌||◌, false, IsTrue}
+use Rattle.std.proofs.Common.{rules, tests, ◌≡◌, ◌==◌, ◌||◌, false}
 use Rattle.std.proofs.lemmas.Iterator.{YieldsList-from_chars, cases_from_all}
 use Rattle.unicode_ident.specs.Ident.{is_xid_continue}
 use Rattle.nextest_config_values.proofs.Lists.{decided_all}

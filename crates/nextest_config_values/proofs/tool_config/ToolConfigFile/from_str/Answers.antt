@@ -1,4 +1,4 @@
-use Rattle.std.proofs.Common.{◌∙◌, Some, None, ap, sym, inl}
+use Rattle.std.proofs.Common.{Some, None, ap, inl}
 use Rattle.std.proofs.lemmas.Result.{err_from_is_err_and}
 use Rattle.nextest_config_values.proofs.Arguments.{argument_mapped, bad_name, bad_path}
 use Rattle.nextest_config_values.proofs.Texts.{split_colon}

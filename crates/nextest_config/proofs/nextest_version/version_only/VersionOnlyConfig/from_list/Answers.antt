@@ -21,12 +21,13 @@ returns-in-Err-clause-only c reads = only_memory (map source_of c.args.sources.n
 
 pub loop-position-preserved : goal.loop-position-preserved
 loop-position-preserved c =
-    let adds : Adds (source_of c.index-sources-position.result) (configuration_of c.loop-position.config) (configuration_of c.add.new.self) = search rules in
+    let source = source_of c.index-sources-position.result in
+    let adds : Adds source.place source.contents (configuration_of c.loop-position.so_far) (configuration_of c.add.new.self) = search rules in
     rw (map-take_more source_of c.args.sources.now c.loop-position.position c.index-sources-position.result c.loop-position-test.true c.index-sources-position.is)
     (stands_more _ _ _ _ c.loop-position.invariant adds)
 
 pub returns-clause-selected : goal.returns-clause-selected
 returns-clause-selected c =
     let all = take_all c.loop-position.position c.args.sources.now c.loop-position-test.false in
-    let stands : StandsFor (map source_of c.args.sources.now) (configuration_of c.loop-position.config) = rw all at c.loop-position.invariant in
+    let stands : StandsFor (map source_of c.args.sources.now) (configuration_of c.loop-position.so_far) = rw all at c.loop-position.invariant in
     (stands.0, stands.1, selects stands.0 _ stands.2)

@@ -5,4 +5,4 @@ use Rattle.nextest_config.proofs.nextest_version.version_only.VersionOnlyConfig.
 
 -- the configuration stands for the sources so far
 abbrev pub invariant-loop-position : goal.invariant-loop-position
-invariant-loop-position l = StandsFor (map source_of (take l.position l.sources)) (configuration_of l.config)
+invariant-loop-position l = StandsFor (map source_of (take l.position l.sources)) (configuration_of l.so_far)

@@ -1,6 +1,4 @@
-use Rattle.std.proofs.Common.{◌∙◌, ap, chars, sym, subst}
 use Rattle.nextest_config_values.proofs.Components.{empty_decoded, normal_decoded}
-use Rattle.nextest_config_values.specs.Identifier.ConfigIdentifier.{IsIdentifierFlaw}
 use Rattle.nextest_config_values.proofs.identifier.config_identifier.ConfigIdentifier.new.Goals as goal
 
 pub of-requires : goal.of-requires

@@ -1,4 +1,3 @@
-use Rattle.std.proofs.Common.{◌∙◌, ap, chars, sym, subst}
 use Rattle.nextest_config_values.proofs.Components.{empty_decoded, normal_decoded}
 use Rattle.nextest_config_values.proofs.identifier.tool_name.ToolName.new.Goals as goal
 

@@ -1,0 +1,34 @@
+use Rattle.std.proofs.Common.{◌∙◌, [], ◌∷◌, length, map, reverse, take, ap, rules}
+use Rattle.std.proofs.lemmas.Iterator.Adapters.{YieldsList-from_rev_slice}
+use Rattle.std.proofs.lemmas.Iterator.Consumers.{YieldsList-end, YieldsList-so_far, YieldsList-turn}
+use Rattle.std.proofs.lemmas.List.{map-append}
+use Rattle.nextest_config.specs.NextestVersion.Error.{IsErrorOf, refusal_of}
+use Rattle.nextest_config.specs.NextestVersion.ErrorKind.{wrong_of}
+use Rattle.nextest_config.specs.NextestVersion.Source.{tool_source}
+use Rattle.nextest_config.specs.NextestVersion.VersionOnly.{Adds, Reads, configuration_of}
+use Rattle.nextest_config.proofs.Readings.{error_at}
+use Rattle.nextest_config.proofs.Standing.{stands_more}
+use Rattle.nextest_config.proofs.nextest_version.version_only.VersionOnlyConfig.of_tools.Goals as goal
+
+-- the file of the tool is wrong, and those before it read
+pub returns-in-Err-clause-refused : goal.returns-in-Err-clause-refused
+returns-in-Err-clause-refused c =
+    let tools = reverse c.args.tools.now in
+    let chain = YieldsList-from_rev_slice c.args.tools.now (search rules) in
+    let turn = YieldsList-turn chain c.loop-tool.yielded _ c.loop-tool.yielded_by _ _ c.in-Some.tool c.in-Some.is c.next.ensures.steps in
+    let stands = c.loop-tool.invariant in
+    let before : Reads (map tool_source (take (length c.loop-tool.yielded) tools)) = rw (← YieldsList-so_far chain c.loop-tool.yielded _ c.loop-tool.yielded_by) (stands.0, stands.1) in
+    let error : IsErrorOf (tool_source c.in-Some.tool.now).place (wrong_of c.in-Err.kind) (refusal_of c.of.result) = rw (← c.in_ok-source.ensures) c.of.ensures in
+    error_at tool_source tools (length c.loop-tool.yielded) c.in-Some.tool.now (wrong_of c.in-Err.kind) (refusal_of c.of.result) turn.0 turn.1 before c.in-Err.ensures.refused error
+
+pub loop-tool-preserved : goal.loop-tool-preserved
+loop-tool-preserved c =
+    let source = tool_source c.in-Some.tool.now in
+    let adds : Adds source.place source.contents (configuration_of c.loop-tool.config) (configuration_of c.add.new.self) = rw (← c.in_ok-source.ensures) c.in_default.ensures.added in
+    let more = ap (map tool_source) (map-append (λ tool. tool.now) c.loop-tool.yielded (c.in-Some.tool ∷ [])) ∙ map-append tool_source (map (λ tool. tool.now) c.loop-tool.yielded) (c.in-Some.tool.now ∷ []) in
+    rw more (stands_more _ source _ _ c.loop-tool.invariant adds)
+
+pub returns-clause-stands : goal.returns-clause-stands
+returns-clause-stands c =
+    let all = YieldsList-end (YieldsList-from_rev_slice c.args.tools.now (search rules)) c.loop-tool.yielded _ c.loop-tool.yielded_by _ _ c.in-None.is c.next.ensures.steps in
+    rw (← all.0) c.loop-tool.invariant
