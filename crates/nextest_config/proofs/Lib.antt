@@ -6,3 +6,6 @@ pub mod Standing
 pub mod Selection
 pub mod Verdicts
 pub mod OneVerdict
+pub mod Members
+pub mod Features
+pub mod Naming

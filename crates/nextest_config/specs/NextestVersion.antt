@@ -10,3 +10,6 @@ pub mod Verdict
 pub mod ErrorKind
 pub mod Error
 pub mod VersionOnly
+pub mod Experimental
+pub mod ExperimentalDeserialize
+pub mod ExperimentalLaws

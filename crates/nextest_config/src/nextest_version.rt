@@ -3,6 +3,8 @@
 mod ask;
 mod error;
 mod error_kind;
+mod experimental;
+mod experimental_deserialize;
 mod requirement;
 mod source;
 mod version_only;
@@ -11,6 +13,8 @@ mod version_text;
 pub use ask::NextestVersionDeserialize;
 pub use error::{ConfigParseError, ListRefusal};
 pub use error_kind::ConfigParseErrorKind;
+pub use experimental::{ConfigExperimental, KnownFeatures};
+pub use experimental_deserialize::ExperimentalDeserialize;
 pub use requirement::{NextestVersionConfig, NextestVersionEval, NextestVersionReq, Severity};
 pub use source::{ConfigSource, ConfigSourceKind, RepositoryText, SourceText, ToolText};
 pub use version_only::VersionOnlyConfig;

@@ -2,6 +2,8 @@
 #![tactic(auto)]
 
 #[cfg(test)]
+mod experimental;
+#[cfg(test)]
 mod faults;
 #[cfg(test)]
 mod identifiers;

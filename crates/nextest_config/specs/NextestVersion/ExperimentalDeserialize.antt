@@ -1,0 +1,139 @@
+-- What one source says of the experimental features.
+use Rattle.std.specs.Prelude.{◌≡◌, ◌↔◌, ◌⊎◌, ◌++◌, ◌<◌, ℕ, Bool, true, false, List, [], ◌∷◌, map, Contains, codes, decimal, string_bytes, Option, Some, None, IsSome}
+use Rattle.toml.specs.Data.{Data, Items, Members, as_array, as_bool, as_str, as_table, boolean, get_item, get_member, string}
+use Rattle.nextest_config_values.specs.Read.Fault.{Fault, path_of, wrong_type}
+use Rattle.nextest_config_values.specs.Read.Field.{MeansOr, OptionalFaults}
+use Rattle.nextest_config_values.specs.Read.FromToml.{FaultsAs, MeansAs}
+use Rattle.nextest_config_values.specs.Read.Plain.{HasNoFault, MeansTruth}
+use Rattle.nextest_config_values.specs.Read.Word.{text_expected}
+use Rattle.nextest_config.specs.NextestVersion.Experimental.{IsUnknown, all_features, word_of}
+use Rattle.nextest_config.specs.declared.nextest_version.experimental.ConfigExperimental.{ConfigExperimental}
+use Rattle.nextest_config.specs.declared.nextest_version.experimental.ConfigExperimental.TheVariants as features
+use Rattle.nextest_config.specs.declared.nextest_version.experimental_deserialize.ExperimentalDeserialize.{ExperimentalDeserialize}
+use Rattle.nextest_config.specs.declared.nextest_version.experimental_deserialize.Switches.{Switches}
+
+-- the features that a source enables, and the names in it that are those of no feature
+pub record Features : Type 0 where
+  pub known : List ConfigExperimental
+  pub unknown : List (List ℕ)
+
+abbrev pub features_of : ExperimentalDeserialize → Features
+features_of d = record { known = d.known.keys; unknown = map string_bytes d.unknown.keys }
+
+abbrev pub no_features : Features
+no_features = record { known = []; unknown = [] }
+
+-- the two lists have the same elements
+abbrev pub SameElements : {X : Type 0} → List X → List X → Type 0
+SameElements {X} xs ys = (x : X) → Contains xs x ↔ Contains ys x
+
+-- the two have the same features and the same other names
+pub record SameFeatures (a b : Features) : Type 0 where
+  pub same_known : SameElements a.known b.known
+  pub same_unknown : SameElements a.unknown b.unknown
+
+abbrev pub FeaturesAlike : ExperimentalDeserialize → ExperimentalDeserialize → Type 0
+FeaturesAlike a b = SameFeatures (features_of a) (features_of b)
+
+-- the features are those that are enabled, and the other names those that stand there and are words of no feature
+pub record AreNamed (IsEnabled : ConfigExperimental → Type 0) (StandsThere : List ℕ → Type 0) (named : Features) : Type 0 where
+  pub of_known : (feature : ConfigExperimental) → Contains named.known feature ↔ IsEnabled feature
+  pub of_unknown : (text : List ℕ) → Contains named.unknown text ↔ (StandsThere text × IsUnknown text)
+
+-- ---- the array form
+
+-- the element at the index is a text
+abbrev pub IsTextAt : Items → ℕ → Type 0
+IsTextAt items index = (text : List ℕ) × (get_item index items ≡ Some (string text))
+
+-- the text is an element
+abbrev pub IsAmong : Items → List ℕ → Type 0
+IsAmong items text = (index : ℕ) × (get_item index items ≡ Some (string text))
+
+-- each element is a text; a feature is enabled where its word is an element
+pub record MeansArray (items : Items) (named : Features) : Type 0 where
+  pub of_texts : (index : ℕ) → IsSome (get_item index items) → IsTextAt items index
+  pub of_names : AreNamed (λ feature. IsAmong items (word_of feature)) (IsAmong items) named
+
+-- the path of the element at an index of the array at a path
+abbrev pub item_path : List ℕ → ℕ → List ℕ
+item_path at index = at ++ (codes "[" ++ (decimal index ++ codes "]"))
+
+-- the element at an index is no text
+abbrev pub ItemFaults : Data → ℕ → List ℕ → Fault → Type 0
+ItemFaults value index at fault = (as_str value ≡ None) × (fault ≡ wrong_type value (item_path at index) text_expected)
+
+-- the first element that is no text
+abbrev pub ArrayFaults : Items → List ℕ → Fault → Type 0
+ArrayFaults items at fault = (index : ℕ) × (value : Data) × (get_item index items ≡ Some value) × ((earlier : ℕ) → earlier < index → IsTextAt items earlier) × ItemFaults value index at fault
+
+-- ---- the table form
+
+-- whether the key of a feature is true; a missing key is false
+abbrev pub MeansSwitch : ConfigExperimental → Members → Bool → Type 0
+MeansSwitch feature members = MeansOr false (MeansAs as_bool MeansTruth) (get_member (word_of feature) members)
+
+-- the value at the key of a feature is no boolean
+abbrev pub SwitchFaults : ConfigExperimental → Members → List ℕ → Fault → Type 0
+SwitchFaults feature members at = OptionalFaults (FaultsAs as_bool (codes "a boolean") HasNoFault) (get_member (word_of feature) members) (path_of at (word_of feature))
+
+-- the text is a key of the table and the word of no feature
+abbrev pub IsUnknownKey : Members → List ℕ → Type 0
+IsUnknownKey members text = IsSome (get_member text members) × IsUnknown text
+
+-- what the switches say of each feature
+abbrev pub is_on : Switches → ConfigExperimental → Bool
+is_on switches features.SetupScripts = switches.setup_scripts
+is_on switches features.WrapperScripts = switches.wrapper_scripts
+is_on switches features.Benchmarks = switches.benchmarks
+
+-- the value at the key of each feature is a boolean, if there is one; a feature is enabled where it is true; other keys are names whatever their values are
+pub record MeansTable (members : Members) (named : Features) : Type 0 where
+  pub of_switches : (feature : ConfigExperimental) → (on : Bool) × MeansSwitch feature members on
+  pub of_names : AreNamed (λ feature. get_member (word_of feature) members ≡ Some (boolean true)) (λ text. IsSome (get_member text members)) named
+
+-- the first of these features whose key has a value that is no boolean
+abbrev pub FirstSwitchFaults : List ConfigExperimental → Members → List ℕ → Fault → Type 0
+FirstSwitchFaults [] _ at fault = ⊥
+FirstSwitchFaults (feature ∷ rest) members at fault = SwitchFaults feature members at fault ⊎ (((on : Bool) × MeansSwitch feature members on) × FirstSwitchFaults rest members at fault)
+
+-- the first of the features in their order
+abbrev pub TableFaults : Members → List ℕ → Fault → Type 0
+TableFaults = FirstSwitchFaults all_features
+
+-- ---- the setting
+
+-- what the setting takes
+abbrev pub features_expected : List ℕ
+features_expected = codes "a table ({ setup-scripts = true, benchmarks = true }) or an array ([\"setup-scripts\", \"benchmarks\"])"
+
+-- an array, a table, or neither, names these
+abbrev pub MeansForm : Option Items → Option Members → Features → Type 0
+MeansForm (Some items) _ named = MeansArray items named
+MeansForm None (Some members) named = MeansTable members named
+MeansForm None None named = ⊥
+
+-- what is wrong with an array, a table, or neither
+abbrev pub FormFaults : Option Items → Option Members → Data → List ℕ → Fault → Type 0
+FormFaults (Some items) _ value at fault = ArrayFaults items at fault
+FormFaults None (Some members) value at fault = TableFaults members at fault
+FormFaults None None value at fault = fault ≡ wrong_type value at features_expected
+
+-- the value of `experimental` names these
+abbrev pub MeansFeatures : Data → Features → Type 0
+MeansFeatures value named = MeansForm (as_array value) (as_table value) named
+
+-- what is wrong with the value of `experimental` at a path
+abbrev pub FeaturesFaults : Data → List ℕ → Fault → Type 0
+FeaturesFaults value at fault = FormFaults (as_array value) (as_table value) value at fault
+
+-- ---- one more name
+
+-- the second has what the first has, and this name: as the feature whose word it is, or else as another name
+pub record AddsText (before : Features) (text : List ℕ) (after : Features) : Type 0 where
+  pub more_known : (feature : ConfigExperimental) → Contains after.known feature ↔ (Contains before.known feature ⊎ (word_of feature ≡ text))
+  pub more_unknown : (other : List ℕ) → Contains after.unknown other ↔ (Contains before.unknown other ⊎ ((text ≡ other) × IsUnknown other))
+
+-- the value is a text, which is added
+abbrev pub AddsItem : Features → Data → Features → Type 0
+AddsItem before value after = (text : List ℕ) × (as_str value ≡ Some text) × AddsText before text after
