@@ -11,5 +11,5 @@ pub use fault::{FaultKind, ReadFault, Rule};
 pub use field::{field_or, optional_field, required_field};
 pub use from_toml::FromToml;
 pub use plain::NonZeroCount;
-pub use text::{QuotedText, found_text, quoted};
+pub use text::{QuotedText, QuotedTexts, found_text, quoted};
 pub use word::Word;

@@ -1,5 +1,5 @@
 -- The texts of values in refusals.
-use Rattle.std.specs.Prelude.{ℕ, ◌==◌, false, List, ◌++◌, flat_map, codes, encode_utf8, if◌then◌else◌}
+use Rattle.std.specs.Prelude.{ℕ, ◌==◌, false, List, [], ◌∷◌, ◌++◌, map, flat_map, codes, encode_utf8, if◌then◌else◌}
 use Rattle.std.specs.Char.{is_control}
 use Rattle.std.specs.Fmt.{digits, signed_decimal}
 use Rattle.std.specs.Str.{chars}
@@ -23,6 +23,16 @@ escaped c =
 -- a text between double quotes
 unfoldable pub quoted_text : List ℕ → List ℕ
 quoted_text text = codes "\"" ++ (flat_map escaped (chars text) ++ codes "\"")
+
+-- texts joined by a comma and a space
+abbrev pub joined : List (List ℕ) → List ℕ
+joined [] = []
+joined (text ∷ []) = text
+joined (text ∷ next ∷ rest) = text ++ (codes ", " ++ joined (next ∷ rest))
+
+-- texts between double quotes, joined
+abbrev pub quoted_texts : List (List ℕ) → List ℕ
+quoted_texts texts = joined (map quoted_text texts)
 
 -- a value, as a refusal says that it was found
 abbrev pub found_text : Data → List ℕ

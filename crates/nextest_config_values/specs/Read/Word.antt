@@ -1,10 +1,11 @@
 -- Enums whose values are words.
-use Rattle.std.specs.Prelude.{◌≡◌, ◌≢◌, ℕ, List, [], ◌∷◌, ◌++◌, codes, Option, Some, None, nat_eq, if◌then◌else◌}
+use Rattle.std.specs.Prelude.{◌≡◌, ◌≢◌, ℕ, List, [], ◌∷◌, ◌++◌, map, codes, Option, Some, None, nat_eq, if◌then◌else◌}
 use Rattle.std.proofs.Common.{sym, ap, ◌∙◌}
 use Rattle.std.specs.Cmp.Lexicographic.{pointwise}
 use Rattle.toml.specs.Data.{Data, as_str}
 use Rattle.nextest_config_values.specs.Read.Fault.{Fault, holds_memory, unknown_word}
 use Rattle.nextest_config_values.specs.Read.FromToml.{FaultsAs, IsHeldReading, IsReading, MeansAs, equality, reading_as}
+use Rattle.nextest_config_values.specs.Read.Text.{joined}
 
 abbrev pub text_expected : List ℕ
 text_expected = codes "a string"
@@ -13,11 +14,9 @@ text_expected = codes "a string"
 abbrev pub named : List ℕ → List ℕ
 named word = codes "`" ++ (word ++ codes "`")
 
--- named words joined by commas
+-- named words, joined
 abbrev pub listed : List (List ℕ) → List ℕ
-listed [] = []
-listed (word ∷ []) = named word
-listed (word ∷ next ∷ rest) = named word ++ (codes ", " ++ listed (next ∷ rest))
+listed words = joined (map named words)
 
 -- words as a refusal lists them: one, two, or more
 abbrev pub words_text : List (List ℕ) → List ℕ

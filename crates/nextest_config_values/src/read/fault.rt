@@ -164,8 +164,9 @@ impl ReadFault {
         }
     }
 
-    /// The fault that says nothing of the value.
-    pub(crate) fn memory(alloc: Global) -> ReadFault
+    /// The fault of a value whose reading was refused memory, at the empty path: it says nothing of
+    /// the value.
+    pub fn memory(alloc: Global) -> ReadFault
         ensures { fault_of result ≡ no_memory }
     {
         ReadFault {

@@ -1,11 +1,12 @@
 //! Texts of values, as refusals print them.
 
-ghost use Rattle.std.specs.Prelude.{◌≡◌, IfOk, Some, string_bytes};
+ghost use Rattle.std.specs.Prelude.{◌≡◌, IfOk, Some, map, string_bytes};
 ghost use Rattle.std.specs.Fmt.{WritesOnOk};
 ghost use Rattle.toml.specs.View.{view};
-ghost use Rattle.nextest_config_values.specs.Read.Text.{escaped, found_text, quoted_text, unnamed};
+ghost use Rattle.nextest_config_values.specs.Read.Text.{escaped, found_text, quoted_text, quoted_texts, unnamed};
 
 use std::alloc::{AllocError, Global};
+use std::collections::BTreeSet;
 use std::fmt;
 use toml::Value;
 
@@ -18,6 +19,24 @@ impl fmt::Display for QuotedText<'_> {
 
     fn fmt<W: fmt::Write>(&self, f: &mut fmt::Formatter<W>) -> fmt::Result {
         write_quoted(f, self.0)
+    }
+}
+
+/// Texts that print between double quotes, each as `QuotedText`, joined by a comma and a space.
+#[derive(Clone, Copy, Debug, PartialEq, Eq)]
+pub struct QuotedTexts<'a>(pub &'a BTreeSet<String>);
+
+impl fmt::Display for QuotedTexts<'_> {
+    ghost output = { λ texts. Some (quoted_texts (map string_bytes texts.0.now.keys)) };
+
+    fn fmt<W: fmt::Write>(&self, f: &mut fmt::Formatter<W>) -> fmt::Result {
+        let mut separator = "";
+        for text in self.0 {
+            f.write_str(separator)?;
+            write_quoted(f, text.as_str())?;
+            separator = ", ";
+        }
+        Ok(())
     }
 }
 
