@@ -5,3 +5,4 @@ pub mod FromToml
 pub mod Plain
 pub mod Word
 pub mod Field
+pub mod FieldLaws

@@ -1,10 +1,10 @@
 -- What one source asks of the nextest version.
-use Rattle.std.specs.Prelude.{◌≡◌, ℕ, List, codes, Option, Some, None, option_map, ◌⊎◌}
+use Rattle.std.specs.Prelude.{◌≡◌, ℕ, List, codes, Option, Some, None, option_map}
 use Rattle.semver.specs.Identifiers.{parts_of}
 use Rattle.semver.specs.Parse.{Parts}
 use Rattle.toml.specs.Data.{Data, Members, as_str, as_table, get_member}
 use Rattle.nextest_config_values.specs.Read.Fault.{BrokenRule, Fault, custom, fault_at, path_of, required_above_recommended, wrong_type}
-use Rattle.nextest_config_values.specs.Read.Field.{MeansOptional, OptionalFaults}
+use Rattle.nextest_config_values.specs.Read.Field.{MeansOptional, OptionalFaults, Then}
 use Rattle.nextest_config_values.specs.Read.FromToml.{FaultsAs, MeansAs}
 use Rattle.nextest_config_values.specs.Read.Word.{text_expected}
 use Rattle.nextest_config.specs.NextestVersion.Precedence.{IsBelow}
@@ -77,10 +77,6 @@ pub record MeansTable (members : Members) (ask : Ask) : Type 0 where
   pub of_required : MeansRole required_key members ask.required
   pub of_recommended : MeansRole recommended_key members ask.recommended
   pub in_order : AreInOrder ask.required ask.recommended
-
--- a first fault, or one that comes behind a first part that means something
-abbrev pub Then : {X : Type 0} → (Fault → Type 0) → (X → Type 0) → (X → Fault → Type 0) → Fault → Type 0
-Then {X} first means later fault = first fault ⊎ ((x : X) × means x × later x fault)
 
 -- what is wrong with the table: at `required`, behind it at `recommended`, and behind both in their order
 abbrev pub TableFaults : Members → List ℕ → Fault → Type 0

@@ -1,62 +1,16 @@
 -- The laws of the setting `nextest-version`.
 use Rattle.std.specs.Prelude.{ℕ, List, Option, Some, None}
-use Rattle.std.proofs.Common.{◌≡◌, false, sym, ap, ◌∙◌, subst, inl, inr}
+use Rattle.std.proofs.Common.{◌≡◌, false, sym, ap, ◌∙◌}
 use Rattle.semver.specs.Parse.{Parts}
 use Rattle.toml.specs.Data.{Data, Members, as_str, as_table, get_member}
 use Rattle.nextest_config_values.specs.Read.Fault.{Fault, custom, fault_at, holds_memory, path_of}
-use Rattle.nextest_config_values.specs.Read.Field.{MeansOptional, OptionalFaults}
+use Rattle.nextest_config_values.specs.Read.Field.{MeansOptional, OptionalFaults, Then}
+use Rattle.nextest_config_values.specs.Read.FieldLaws.{never_both_then, never_memory_then, one_fault_then, optional_reading}
 use Rattle.nextest_config_values.specs.Read.FromToml.{IsHeldReading, IsReading, equality, reading_as, reading_on}
 use Rattle.nextest_config_values.specs.Read.Word.{text_expected}
-use Rattle.nextest_config.specs.NextestVersion.Ask.{Ask, AskAlike, AreInOrder, FormFaults, MeansForm, MeansRole, MeansTable, MeansVersion, MeansVersions, OrderFaults, RoleFaults, TableFaults, Then, VersionFaults, VersionTextFaults, VersionsFaults, ask_of, recommended_key, required_key, requires}
+use Rattle.nextest_config.specs.NextestVersion.Ask.{Ask, AskAlike, AreInOrder, FormFaults, MeansForm, MeansRole, MeansTable, MeansVersion, MeansVersions, OrderFaults, RoleFaults, TableFaults, VersionFaults, VersionTextFaults, VersionsFaults, ask_of, recommended_key, required_key, requires}
 use Rattle.nextest_config.specs.NextestVersion.VersionText.{HasVersion, plain}
 use Rattle.nextest_config.specs.NextestVersion.VersionTextLaws.{one_rule, version_not_fault, version_once}
-
--- ---- what stands at a key that may be missing
-
-module _ {X : Type 0} {means : Data → X → Type 0} {faults : Data → List ℕ → Fault → Type 0} (reading : IsReading means faults (λ x y. x ≡ y)) where
-  one_optional : (found : Option Data) (x y : Option X) → MeansOptional means found x → MeansOptional means found y → x ≡ y
-  one_optional None x y a b = a ∙ sym b
-  one_optional (Some value) x y a b = a.1 ∙ ap Some (reading.one_meaning value a.0 b.0 a.2 b.2) ∙ sym b.1
-
-  one_optional_fault : (found : Option Data) (at : List ℕ) (f g : Fault) → OptionalFaults faults found at f → OptionalFaults faults found at g → f ≡ g
-  one_optional_fault None at f g a b = absurd a
-  one_optional_fault (Some value) at f g a b = reading.one_fault value at f g a b
-
-  never_both_optional : (found : Option Data) (at : List ℕ) (x : Option X) (f : Fault) → MeansOptional means found x → OptionalFaults faults found at f → ⊥
-  never_both_optional None at x f a b = b
-  never_both_optional (Some value) at x f a b = reading.never_both value at a.0 f a.2 b
-
-  never_memory_optional : (found : Option Data) (at : List ℕ) (f : Fault) → OptionalFaults faults found at f → holds_memory f.reason ≡ false
-  never_memory_optional None at f a = absurd a
-  never_memory_optional (Some value) at f a = reading.never_memory value at f a
-
-  pub optional_reading : IsReading (MeansOptional means) (OptionalFaults faults) (λ x y. x ≡ y)
-  optional_reading = record {
-    equivalence = equality;
-    one_meaning = one_optional;
-    one_fault = one_optional_fault;
-    never_both = never_both_optional;
-    never_memory = never_memory_optional;
-  }
-
--- ---- a part, and what comes behind it
-
-module _ {D X : Type 0} {means : D → X → Type 0} {faults : D → List ℕ → Fault → Type 0} (reading : IsReading means faults (λ x y. x ≡ y)) (value : D) (path : List ℕ) (later : X → Fault → Type 0) where
-  one_fault_then : ((x : X) (f g : Fault) → later x f → later x g → f ≡ g) → (f g : Fault) → Then (faults value path) (means value) later f → Then (faults value path) (means value) later g → f ≡ g
-  one_fault_then one f g (inl a) (inl b) = reading.one_fault value path f g a b
-  one_fault_then one f g (inl a) (inr b) = absurd (reading.never_both value path b.0 f b.1 a)
-  one_fault_then one f g (inr a) (inl b) = absurd (reading.never_both value path a.0 g a.1 b)
-  one_fault_then one f g (inr a) (inr b) =
-      let same : b.0 ≡ a.0 = reading.one_meaning value b.0 a.0 b.1 a.1 in
-      one a.0 f g a.2 (subst (λ (x : X). later x g) same b.2)
-
-  never_both_then : (x : X) → means value x → ((f : Fault) → later x f → ⊥) → (f : Fault) → Then (faults value path) (means value) later f → ⊥
-  never_both_then x meant none f (inl a) = reading.never_both value path x f meant a
-  never_both_then x meant none f (inr a) = none f (subst (λ (y : X). later y f) (reading.one_meaning value a.0 x a.1 meant) a.2)
-
-  never_memory_then : ((x : X) (f : Fault) → later x f → holds_memory f.reason ≡ false) → (f : Fault) → Then (faults value path) (means value) later f → holds_memory f.reason ≡ false
-  never_memory_then none f (inl a) = reading.never_memory value path f a
-  never_memory_then none f (inr a) = none a.0 f a.2
 
 -- ---- a version
 

@@ -4,6 +4,7 @@ use Rattle.std.proofs.Common.{sym, ap, ◌∙◌, inl, inr, refl, arith}
 use Rattle.toml.specs.Data.{Data, Items, Members, as_array, as_bool, as_str, as_table, get_item, get_member}
 use Rattle.nextest_config_values.specs.Read.Fault.{Fault, holds_memory, path_of}
 use Rattle.nextest_config_values.specs.Read.Field.{MeansOr, OptionalFaults}
+use Rattle.nextest_config_values.specs.Read.FieldLaws.{or_reading}
 use Rattle.nextest_config_values.specs.Read.FromToml.{FaultsAs, IsEquivalence, IsReading, MeansAs, reading_on}
 use Rattle.nextest_config_values.specs.Read.Plain.{HasNoFault, MeansTruth, bool_reading}
 use Rattle.nextest_config.specs.NextestVersion.Experimental.{all_features, word_of}
@@ -73,20 +74,9 @@ never_memory_array items at f (i, value, here, texts, wrong) = ap (λ (g : Fault
 
 -- ---- the table form
 
-abbrev BoolFaults : Data → List ℕ → Fault → Type 0
-BoolFaults = FaultsAs as_bool (codes "a boolean") HasNoFault
-
-one_switch_fault : (found : Option Data) (path : List ℕ) (f g : Fault) → OptionalFaults BoolFaults found path f → OptionalFaults BoolFaults found path g → f ≡ g
-one_switch_fault None path f g a b = absurd a
-one_switch_fault (Some value) path f g a b = bool_reading.one_fault value path f g a b
-
-never_both_switch : (found : Option Data) (path : List ℕ) (on : Bool) (f : Fault) → MeansOr false (MeansAs as_bool MeansTruth) found on → OptionalFaults BoolFaults found path f → ⊥
-never_both_switch None path on f h a = a
-never_both_switch (Some value) path on f h a = bool_reading.never_both value path on f h a
-
-never_memory_switch : (found : Option Data) (path : List ℕ) (f : Fault) → OptionalFaults BoolFaults found path f → holds_memory f.reason ≡ false
-never_memory_switch None path f a = absurd a
-never_memory_switch (Some value) path f a = bool_reading.never_memory value path f a
+-- what stands at a feature's key
+switch : IsReading (MeansOr false (MeansAs as_bool MeansTruth)) (OptionalFaults (FaultsAs as_bool (codes "a boolean") HasNoFault)) (λ a b. a ≡ b)
+switch = or_reading false bool_reading
 
 module _ (members : Members) (at : List ℕ) where
   abbrev found : ConfigExperimental → Option Data
@@ -97,19 +87,19 @@ module _ (members : Members) (at : List ℕ) where
 
   one_first : (of : List ConfigExperimental) (f g : Fault) → FirstSwitchFaults of members at f → FirstSwitchFaults of members at g → f ≡ g
   one_first [] f g a b = absurd a
-  one_first (x ∷ rest) f g (inl a) (inl b) = one_switch_fault (found x) (path x) f g a b
-  one_first (x ∷ rest) f g (inl a) (inr b) = absurd (never_both_switch (found x) (path x) b.0.0 f b.0.1 a)
-  one_first (x ∷ rest) f g (inr a) (inl b) = absurd (never_both_switch (found x) (path x) a.0.0 g a.0.1 b)
+  one_first (x ∷ rest) f g (inl a) (inl b) = switch.one_fault (found x) (path x) f g a b
+  one_first (x ∷ rest) f g (inl a) (inr b) = absurd (switch.never_both (found x) (path x) b.0.0 f b.0.1 a)
+  one_first (x ∷ rest) f g (inr a) (inl b) = absurd (switch.never_both (found x) (path x) a.0.0 g a.0.1 b)
   one_first (x ∷ rest) f g (inr a) (inr b) = one_first rest f g a.1 b.1
 
   never_both_first : (of : List ConfigExperimental) (f : Fault) → ((feature : ConfigExperimental) → (on : Bool) × MeansSwitch feature members on) → FirstSwitchFaults of members at f → ⊥
   never_both_first [] f meant a = a
-  never_both_first (x ∷ rest) f meant (inl a) = never_both_switch (found x) (path x) (meant x).0 f (meant x).1 a
+  never_both_first (x ∷ rest) f meant (inl a) = switch.never_both (found x) (path x) (meant x).0 f (meant x).1 a
   never_both_first (x ∷ rest) f meant (inr a) = never_both_first rest f meant a.1
 
   never_memory_first : (of : List ConfigExperimental) (f : Fault) → FirstSwitchFaults of members at f → holds_memory f.reason ≡ false
   never_memory_first [] f a = absurd a
-  never_memory_first (x ∷ rest) f (inl a) = never_memory_switch (found x) (path x) f a
+  never_memory_first (x ∷ rest) f (inl a) = switch.never_memory (found x) (path x) f a
   never_memory_first (x ∷ rest) f (inr a) = never_memory_first rest f a.1
 
 -- ---- the setting

@@ -1,5 +1,5 @@
 -- What the fields of a table mean, by the value at the key, if any.
-use Rattle.std.specs.Prelude.{◌≡◌, ℕ, Bool, List, Option, Some, None}
+use Rattle.std.specs.Prelude.{◌≡◌, ℕ, Bool, List, Option, Some, None, ◌⊎◌}
 use Rattle.toml.specs.Data.{Data}
 use Rattle.nextest_config_values.specs.Read.Fault.{Fault, missing, path_of}
 use Rattle.nextest_config_values.specs.Read.FromToml.{WantsMemory}
@@ -38,3 +38,7 @@ WantsIfPresent means needs_memory (Some value) = WantsMemory (means value) needs
 abbrev pub WantsIfRequired : {X : Type 0} → (Data → X → Type 0) → Bool → Option Data → Type 0
 WantsIfRequired means needs_memory None = Unit {0}
 WantsIfRequired means needs_memory (Some value) = WantsMemory (means value) needs_memory
+
+-- a first fault, or one that comes behind a first part that means something
+abbrev pub Then : {X : Type 0} → (Fault → Type 0) → (X → Type 0) → (X → Fault → Type 0) → Fault → Type 0
+Then {X} first means later fault = first fault ⊎ ((x : X) × means x × later x fault)
