@@ -31,7 +31,7 @@ module _ (variables : BTreeMap (String Global) (String Global)) (feature : Confi
       none_some same = cc same
 
 -- each feature is one of them all
-pub among_all : (feature : ConfigExperimental) → Contains all_features feature
+among_all : (feature : ConfigExperimental) → Contains all_features feature
 among_all features.SetupScripts = (0, omega arith, refl)
 among_all features.WrapperScripts = (1, omega arith, refl)
 among_all features.Benchmarks = (2, omega arith, refl)

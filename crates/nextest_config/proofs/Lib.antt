@@ -6,6 +6,11 @@ pub mod Standing
 pub mod Selection
 pub mod Verdicts
 pub mod OneVerdict
+pub mod OneRefusal
+pub mod OneConfiguration
+pub mod AddedSource
 pub mod Members
+pub mod Orders
 pub mod Features
+pub mod Entries
 pub mod Naming

@@ -1,39 +1,43 @@
 -- A list of sources has one selected verdict.
-use Rattle.std.proofs.Common.{◌≡◌, ℕ, ◌<◌, ◌≤◌, Bool, List, [], ◌∷◌, ◌++◌, map, Option, Some, None, IfSome, ◌⊎◌, refl, sym, ap, ◌∙◌, inl, inr, subst, arith}
+use Rattle.std.proofs.Common.{◌≡◌, ℕ, ◌<◌, ◌≤◌, Bool, List, [], ◌∷◌, map, Option, Some, None, IfSome, ◌⊎◌, refl, sym, ap, ◌∙◌, inl, inr, subst, arith}
 use Rattle.std.specs.List.{AllByRecursion}
 use Rattle.semver.specs.Parse.{Parts}
 use Rattle.toml.specs.Data.{Data, Members, as_str, as_table, get_member}
 use Rattle.nextest_config_values.specs.Read.Field.{MeansOptional}
-use Rattle.nextest_config.specs.NextestVersion.Ask.{Ask, MeansForm, MeansVersion, nothing}
-use Rattle.nextest_config.specs.NextestVersion.AskLaws.{asking}
+use Rattle.nextest_config.specs.NextestVersion.Ask.{Versions, MeansForm, MeansVersion, no_versions}
+use Rattle.nextest_config.specs.NextestVersion.ExperimentalDeserialize.{Features}
 use Rattle.nextest_config.specs.NextestVersion.Precedence.{IsBelow, IsEnoughByNumbers}
 use Rattle.nextest_config.specs.NextestVersion.Requirement.{Kept, asked_from}
 use Rattle.nextest_config.specs.NextestVersion.Source.{Place, Source}
 use Rattle.nextest_config.specs.NextestVersion.Verdict.{IsGravest, IsNoGraver, IsNoGreaterOfItsKind, IsOtherOfItsKind, IsSatisfied, IsSelected, NamesNoGreater, Verdict, error, gravity, judged, named_version, satisfied, unmet, warn}
-use Rattle.nextest_config.specs.NextestVersion.VersionOnly.{AreRead, Asked, Asks, AsksVersions, IsReadAs, IsSelectedFor, TextAsks, alone, version_key}
+use Rattle.nextest_config.specs.NextestVersion.VersionOnly.{AreRead, Asked, IsReadAs, IsSelectedFor, alone}
+use Rattle.nextest_config.specs.NextestVersion.VersionOnlyDeserialize.{Ask, Asks, AsksVersions, TextAsks, experimental_key, version_key}
 use Rattle.nextest_config.specs.NextestVersion.VersionText.{Numbers, plain}
-use Rattle.nextest_config_values.proofs.Lists.{all_middle}
+use Rattle.nextest_config_values.proofs.Lists.{all_middle, one_last}
+use Rattle.nextest_config.specs.declared.nextest_version.source.ConfigSourceKind.{ConfigSourceKind}
 use Rattle.nextest_config.proofs.Enough.{enough_by_numbers}
+use Rattle.nextest_config.proofs.Readings.{features_asked, versions_asked}
 use Rattle.nextest_config.proofs.Verdicts.{image_at, unmet_alone}
 
 -- ---- sources ask one thing
 
-asks_once : (found : Option Data) (a b : Ask) → AsksVersions found a → AsksVersions found b → a ≡ b
-asks_once None a b h k = h ∙ sym k
-asks_once (Some value) a b h k = asking.one_meaning value a b h k
+asks_once : (kind : ConfigSourceKind) (table : Members) (a b : Ask) → Asks kind table a → Asks kind table b → a ≡ b
+asks_once kind table a b h k =
+    ap (λ (versions : Versions). record { versions = versions; features = a.features }) (versions_asked.one_meaning (get_member version_key table) a.versions b.versions h.of_versions k.of_versions)
+    ∙ ap (λ (features : Features). record { versions = b.versions; features = features }) (features_asked.one_meaning (get_member experimental_key table) a.features b.features h.of_features k.of_features)
 
-text_asks_once : (contents : Option (List ℕ)) (a b : Ask) → TextAsks contents a → TextAsks contents b → a ≡ b
-text_asks_once None a b h k = h ∙ sym k
-text_asks_once (Some text) a b h k =
+text_asks_once : (kind : ConfigSourceKind) (contents : Option (List ℕ)) (a b : Ask) → TextAsks kind contents a → TextAsks kind contents b → a ≡ b
+text_asks_once kind None a b h k = h ∙ sym k
+text_asks_once kind (Some text) a b h k =
     let same : k.0 ≡ h.0 = cc (h.1, k.1) in
-    asks_once (get_member version_key h.0) a b h.2 (subst (λ (table : Members). Asks table b) same k.2)
+    asks_once kind h.0 a b h.2 (subst (λ (table : Members). Asks kind table b) same k.2)
 
 read_once : (source : Source) (a b : Asked) → IsReadAs source a → IsReadAs source b → a ≡ b
 read_once source a b h k =
     ap (λ (place : Place). record { place = place; ask = a.ask }) (h.place ∙ sym k.place)
-    ∙ ap (λ (ask : Ask). record { place = b.place; ask = ask }) (text_asks_once source.contents a.ask b.ask h.read k.read)
+    ∙ ap (λ (ask : Ask). record { place = b.place; ask = ask }) (text_asks_once source.place.kind source.contents a.ask b.ask h.read k.read)
 
-all_read_once : (sources : List Source) (a b : List Asked) → AreRead sources a → AreRead sources b → a ≡ b
+pub all_read_once : (sources : List Source) (a b : List Asked) → AreRead sources a → AreRead sources b → a ≡ b
 all_read_once [] [] [] h k = refl
 all_read_once [] (x ∷ a) b h k = absurd h
 all_read_once [] [] (y ∷ b) h k = absurd k
@@ -43,51 +47,51 @@ all_read_once (source ∷ sources) (x ∷ a) (y ∷ b) h k = rw (read_once sourc
 
 -- ---- and versions with numbers alone
 
-abbrev IsPlainVersion : Option Parts → Type 0
+abbrev pub IsPlainVersion : Option Parts → Type 0
 IsPlainVersion asked = IfSome asked (λ version. (numbers : Numbers) × (version ≡ plain numbers))
 
-record AsksPlain (ask : Ask) : Type 0 where
-  of_required : IsPlainVersion ask.required
-  of_recommended : IsPlainVersion ask.recommended
+pub record AsksPlain (versions : Versions) : Type 0 where
+  pub of_required : IsPlainVersion versions.required
+  pub of_recommended : IsPlainVersion versions.recommended
 
-nothing_plain : (ask : Ask) → ask ≡ nothing → AsksPlain ask
-nothing_plain ask is = rw is (record { of_required = tt; of_recommended = tt })
+nothing_plain : (versions : Versions) → versions ≡ no_versions → AsksPlain versions
+nothing_plain versions is = rw is (record { of_required = tt; of_recommended = tt })
 
 role_plain : (found : Option Data) (asked : Option Parts) → MeansOptional MeansVersion found asked → IsPlainVersion asked
 role_plain None asked h = rw h tt
 role_plain (Some value) asked h = rw h.1 (h.2.2.0, h.2.2.2)
 
-form_plain : (text : Option (List ℕ)) (table : Option Members) (ask : Ask) → MeansForm text table ask → AsksPlain ask
-form_plain (Some text) table ask h = rw h.2 (record { of_required = (h.1.0, h.1.2); of_recommended = tt })
-form_plain None (Some table) ask h = record { of_required = role_plain _ _ h.of_required; of_recommended = role_plain _ _ h.of_recommended }
-form_plain None None ask h = absurd h
+form_plain : (text : Option (List ℕ)) (table : Option Members) (versions : Versions) → MeansForm text table versions → AsksPlain versions
+form_plain (Some text) table versions h = rw h.2 (record { of_required = (h.1.0, h.1.2); of_recommended = tt })
+form_plain None (Some table) versions h = record { of_required = role_plain _ _ h.of_required; of_recommended = role_plain _ _ h.of_recommended }
+form_plain None None versions h = absurd h
 
-value_plain : (found : Option Data) (ask : Ask) → AsksVersions found ask → AsksPlain ask
-value_plain None ask h = nothing_plain ask h
-value_plain (Some value) ask h = form_plain (as_str value) (as_table value) ask h
+value_plain : (found : Option Data) (versions : Versions) → AsksVersions found versions → AsksPlain versions
+value_plain None versions h = nothing_plain versions h
+value_plain (Some value) versions h = form_plain (as_str value) (as_table value) versions h
 
-text_plain : (contents : Option (List ℕ)) (ask : Ask) → TextAsks contents ask → AsksPlain ask
-text_plain None ask h = nothing_plain ask h
-text_plain (Some text) ask h = value_plain (get_member version_key h.0) ask h.2
+text_plain : (kind : ConfigSourceKind) (contents : Option (List ℕ)) (ask : Ask) → TextAsks kind contents ask → AsksPlain ask.versions
+text_plain kind None ask h = nothing_plain ask.versions (ap (λ (a : Ask). a.versions) h)
+text_plain kind (Some text) ask h = value_plain (get_member version_key h.0) ask.versions h.2.of_versions
 
-abbrev IsPlainAsked : Asked → Type 0
-IsPlainAsked asked = AsksPlain asked.ask
+abbrev pub IsPlainAsked : Asked → Type 0
+IsPlainAsked asked = AsksPlain asked.ask.versions
 
-all_plain : (sources : List Source) (asked : List Asked) → AreRead sources asked → AllByRecursion IsPlainAsked asked
+pub all_plain : (sources : List Source) (asked : List Asked) → AreRead sources asked → AllByRecursion IsPlainAsked asked
 all_plain [] [] h = tt
 all_plain [] (a ∷ asked) h = absurd h
 all_plain (source ∷ sources) [] h = absurd h
-all_plain (source ∷ sources) (a ∷ asked) h = (text_plain source.contents a.ask h.0.read, all_plain sources asked h.1)
+all_plain (source ∷ sources) (a ∷ asked) h = (text_plain source.place.kind source.contents a.ask h.0.read, all_plain sources asked h.1)
 
 -- ---- and so do their verdicts
 
 abbrev NamesPlain : Verdict → Type 0
 NamesPlain v = IsPlainVersion (named_version v)
 
-judged_plain : (current : Parts) (overridden : Bool) (a : Asked) (r m : Option Kept) → IsPlainAsked a → unmet (asked_from a.place a.ask.required) current ≡ r → unmet (asked_from a.place a.ask.recommended) current ≡ m
+judged_plain : (current : Parts) (overridden : Bool) (a : Asked) (r m : Option Kept) → IsPlainAsked a → unmet (asked_from a.place a.ask.versions.required) current ≡ r → unmet (asked_from a.place a.ask.versions.recommended) current ≡ m
     → NamesPlain (judged r m current overridden)
-judged_plain current overridden a (Some kept) m h r_is m_is = subst IsPlainVersion (unmet_alone a.place a.ask.required current kept r_is).0 h.of_required
-judged_plain current overridden a None (Some kept) h r_is m_is = subst IsPlainVersion (unmet_alone a.place a.ask.recommended current kept m_is).0 h.of_recommended
+judged_plain current overridden a (Some kept) m h r_is m_is = subst IsPlainVersion (unmet_alone a.place a.ask.versions.required current kept r_is).0 h.of_required
+judged_plain current overridden a None (Some kept) h r_is m_is = subst IsPlainVersion (unmet_alone a.place a.ask.versions.recommended current kept m_is).0 h.of_recommended
 judged_plain current overridden a None None h r_is m_is = tt
 
 selected_plain : (asked : List Asked) (current : Parts) (overridden : Bool) (v : Verdict) → AllByRecursion IsPlainAsked asked → IsSelected (map (alone current overridden) asked) v → NamesPlain v
@@ -112,7 +116,7 @@ same_numbers m n h k =
     let patch = neither_greater m.2 n.2 _ _ minor.1.0 minor.1.1 in
     ap (λ (x : ℕ). (x, m.1, m.2)) major.0 ∙ ap (λ (x : ℕ). (n.0, x, m.2)) minor.0 ∙ ap (λ (x : ℕ). (n.0, n.1, x)) patch.0
 
-same_version : (v w : Parts) → IsPlainVersion (Some v) → IsPlainVersion (Some w) → ¬ IsBelow v w → ¬ IsBelow w v → v ≡ w
+pub same_version : (v w : Parts) → IsPlainVersion (Some v) → IsPlainVersion (Some w) → ¬ IsBelow v w → ¬ IsBelow w v → v ≡ w
 same_version v w p q above below =
     let m_enough : ¬ IsBelow (plain p.0) (plain q.0) = subst (λ (u : Parts). ¬ IsBelow u (plain q.0)) p.1 (subst (λ (u : Parts). ¬ IsBelow v u) q.1 above) in
     let n_enough : ¬ IsBelow (plain q.0) (plain p.0) = subst (λ (u : Parts). ¬ IsBelow u (plain p.0)) q.1 (subst (λ (u : Parts). ¬ IsBelow w u) p.1 below) in
@@ -131,22 +135,8 @@ same_named (error s) (warn t) e p q h k = absurd (omega (arith, e))
 
 -- ---- one verdict is selected
 
--- two verdicts of one kind and version, each with no such one behind it, are one
-one_last : (v w : Verdict) (b c a d : List Verdict) → gravity v ≡ gravity w → named_version v ≡ named_version w → b ++ (v ∷ a) ≡ c ++ (w ∷ d)
-    → AllByRecursion (IsOtherOfItsKind v) a → AllByRecursion (IsOtherOfItsKind w) d → v ≡ w
-one_last v w [] [] a d kind named e h k = cc e
-one_last v w [] (y ∷ c) a d kind named e h k =
-    let rest : a ≡ c ++ (w ∷ d) = cc e in
-    absurd (all_middle (IsOtherOfItsKind v) c w d (subst (AllByRecursion (IsOtherOfItsKind v)) rest h) (sym kind) (sym named))
-one_last v w (x ∷ b) [] a d kind named e h k =
-    let rest : d ≡ b ++ (v ∷ a) = cc e in
-    absurd (all_middle (IsOtherOfItsKind w) b v a (subst (AllByRecursion (IsOtherOfItsKind w)) rest k) kind named)
-one_last v w (x ∷ b) (y ∷ c) a d kind named e h k =
-    let rest : b ++ (v ∷ a) ≡ c ++ (w ∷ d) = cc e in
-    one_last v w b c a d kind named rest h k
-
 -- a gravest verdict stands in the list
-stands_in : (P : Verdict → Type 0) (verdicts : List Verdict) (v : Verdict) → IsGravest verdicts v → AllByRecursion P verdicts → P v
+pub stands_in : (P : Verdict → Type 0) (verdicts : List Verdict) (v : Verdict) → IsGravest verdicts v → AllByRecursion P verdicts → P v
 stands_in P verdicts v gravest all = all_middle P gravest.before v gravest.after (subst (AllByRecursion P) gravest.whole all)
 
 one_gravest : (verdicts : List Verdict) (v w : Verdict) → NamesPlain v → NamesPlain w → IsGravest verdicts v → IsGravest verdicts w → v ≡ w
@@ -155,7 +145,7 @@ one_gravest verdicts v w p q h k =
     let v_below : gravity v ≤ gravity w = stands_in (IsNoGraver w) verdicts v h k.gravest in
     let kind : gravity v ≡ gravity w = omega (arith, w_below, v_below) in
     let named = same_named v w kind p q (stands_in (IsNoGreaterOfItsKind v) verdicts w k h.no_greater (sym kind)) (stands_in (IsNoGreaterOfItsKind w) verdicts v h k.no_greater kind) in
-    one_last v w h.before k.before h.after k.after kind named (sym h.whole ∙ k.whole) h.last k.last
+    one_last (IsOtherOfItsKind v) (IsOtherOfItsKind w) v w h.before k.before h.after k.after (λ other. other (sym kind) (sym named)) (λ other. other kind named) (sym h.whole ∙ k.whole) h.last k.last
 
 one_selected : (verdicts : List Verdict) (v w : Verdict) → NamesPlain v → NamesPlain w → IsSelected verdicts v → IsSelected verdicts w → v ≡ w
 one_selected verdicts v w p q (inl h) (inl k) = h.1 ∙ sym k.1

@@ -4,12 +4,12 @@ use Rattle.std.proofs.lemmas.Bool.{cases_Bool}
 use Rattle.std.proofs.lemmas.List.{map-append}
 use Rattle.std.specs.List.{AllByRecursion}
 use Rattle.semver.specs.Parse.{Parts}
-use Rattle.nextest_config.specs.NextestVersion.Ask.{Ask}
 use Rattle.nextest_config.specs.NextestVersion.Precedence.{IsBelow, is_below}
 use Rattle.nextest_config.specs.NextestVersion.Requirement.{Kept, Roles, asked_from}
 use Rattle.nextest_config.specs.NextestVersion.Source.{Place}
 use Rattle.nextest_config.specs.NextestVersion.Verdict.{Verdict, satisfied, warn, error, Shortfall, unmet, short_of, judged, gravity, named_version, IsSatisfied, IsNoGraver, IsNoGreaterOfItsKind, IsOtherOfItsKind, IsGravest, IsSelected}
 use Rattle.nextest_config.specs.NextestVersion.VersionOnly.{Asked, AsksNone, AsksOther, AsksNoGreater, IsGreatest, StandsIn, StandsForAsks, Configuration, SelectsAmong, alone}
+use Rattle.nextest_config.specs.NextestVersion.VersionOnlyDeserialize.{Ask}
 use Rattle.nextest_config_values.proofs.Lists.{all_always, all_both, all_mapped, all_weaker, map_agrees}
 use Rattle.nextest_config.proofs.Precedences.{not_below_trans}
 
@@ -113,14 +113,14 @@ met_alone role asked (Some kept) current h met =
 -- ---- the three verdicts
 
 abbrev required : Ask → Option Parts
-required ask = ask.required
+required ask = ask.versions.required
 
 abbrev recommended : Ask → Option Parts
-recommended ask = ask.recommended
+recommended ask = ask.versions.recommended
 
 -- the verdict of a source alone, where its required version is met
 alone-met : (current : Parts) (overridden : Bool) (a : Asked) → IsMetAlone required current a
-    → alone current overridden a ≡ told warn 1 warn_tier current overridden a.place a.ask.recommended satisfied
+    → alone current overridden a ≡ told warn 1 warn_tier current overridden a.place a.ask.versions.recommended satisfied
 alone-met current overridden a met = rw (judged-tiers, met) refl
 
 alone-satisfied : (current : Parts) (overridden : Bool) (a : Asked) → IsMetAlone required current a → IsMetAlone recommended current a → alone current overridden a ≡ satisfied
@@ -143,17 +143,17 @@ below_error None current overridden = omega arith
 selects_error : (asked : List Asked) (kept : Kept) (current : Parts) (overridden : Bool) → IsGreatest required asked kept → is_below current kept.version ≡ true
     → IsGravest (map (alone current overridden) asked) (error (short_of kept current overridden))
 selects_error asked kept current overridden greatest short =
-    let lower : Asked → Verdict = λ a. tier warn (unmet (asked_from a.place a.ask.recommended) current) current overridden satisfied in
-    let tells : Asked → Verdict = λ a. told error 2 error_tier current overridden a.place a.ask.required (lower a) in
+    let lower : Asked → Verdict = λ a. tier warn (unmet (asked_from a.place a.ask.versions.recommended) current) current overridden satisfied in
+    let tells : Asked → Verdict = λ a. told error 2 error_tier current overridden a.place a.ask.versions.required (lower a) in
     let same : map (alone current overridden) asked ≡ map tells asked =
-    map_agrees (alone current overridden) tells asked (all_always (λ a. judged-tiers (unmet (asked_from a.place a.ask.required) current) _ current overridden) asked) in
+    map_agrees (alone current overridden) tells asked (all_always (λ a. judged-tiers (unmet (asked_from a.place a.ask.versions.required) current) _ current overridden) asked) in
     rw same (gravest_in_tier error 2 error_tier current overridden required lower asked kept (λ a. below_error _ current overridden) greatest short)
 
 -- an unmet recommended version, where the required one is met
 selects_warning : (asked : List Asked) (kept : Kept) (current : Parts) (overridden : Bool) → IsGreatest recommended asked kept → is_below current kept.version ≡ true
     → AllByRecursion (IsMetAlone required current) asked → IsGravest (map (alone current overridden) asked) (warn (short_of kept current overridden))
 selects_warning asked kept current overridden greatest short met =
-    let tells : Asked → Verdict = λ a. told warn 1 warn_tier current overridden a.place a.ask.recommended satisfied in
+    let tells : Asked → Verdict = λ a. told warn 1 warn_tier current overridden a.place a.ask.versions.recommended satisfied in
     let same : map (alone current overridden) asked ≡ map tells asked =
     map_agrees (alone current overridden) tells asked (all_weaker (IsMetAlone required current) _ (alone-met current overridden) asked met) in
     rw same (gravest_in_tier warn 1 warn_tier current overridden recommended (λ a. satisfied) asked kept (λ a. omega arith) greatest short)

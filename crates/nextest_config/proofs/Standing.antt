@@ -1,14 +1,20 @@
 -- The configuration that stands for a list, after one more source.
-use Rattle.std.proofs.Common.{◌≡◌, List, [], ◌∷◌, ◌++◌, Option, Some, None, IfSome, refl, sym, ◌∙◌, inl, inr, subst, append_assoc}
+use Rattle.std.proofs.Common.{◌≡◌, ◌↔◌, ◌⊎◌, List, [], ◌∷◌, ◌++◌, flat_map, Contains, Option, Some, None, IfSome, refl, sym, ap, ◌∙◌, inl, inr, subst, append_assoc}
 use Rattle.std.proofs.lemmas.Bool.{cases_Bool, false≢true}
+use Rattle.std.proofs.lemmas.List.{flat_map_more}
+use Rattle.std.proofs.lemmas.List.Elements.{Contains-append_left, Contains-push, Contains-push_cases}
 use Rattle.std.specs.List.{AllByRecursion}
 use Rattle.semver.specs.Parse.{Parts}
-use Rattle.nextest_config.specs.NextestVersion.Ask.{Ask}
+use Rattle.nextest_config.specs.NextestVersion.Experimental.{feature_cmp}
+use Rattle.nextest_config.specs.NextestVersion.ExperimentalConfig.{AddsFeatures, Experimental}
 use Rattle.nextest_config.specs.NextestVersion.Precedence.{IsBelow, is_below}
 use Rattle.nextest_config.specs.NextestVersion.Requirement.{Kept, asked_from, join_kept}
 use Rattle.nextest_config.specs.NextestVersion.Source.{Source}
-use Rattle.nextest_config.specs.NextestVersion.VersionOnly.{Asked, AsksNone, AsksOther, AsksNoGreater, IsGreatest, StandsIn, IsReadAs, StandsFor, Configuration, Adds, neutral}
+use Rattle.nextest_config.specs.NextestVersion.VersionOnly.{Adds, AreEnabled, Asked, AsksNone, AsksNoGreater, AsksOther, Configuration, IsEnabledBySome, IsGreatest, IsReadAs, StandsFor, StandsIn, entry_of, neutral}
+use Rattle.nextest_config.specs.NextestVersion.VersionOnlyDeserialize.{Ask}
 use Rattle.nextest_config_values.proofs.Lists.{all_joined, all_weaker, zip_push}
+use Rattle.nextest_config.specs.declared.nextest_version.experimental.ConfigExperimental.{ConfigExperimental}
+use Rattle.nextest_config.proofs.Members.{contains_none, none_in_order}
 use Rattle.nextest_config.proofs.Precedences.{not_below_itself, not_below_both, not_below_trans}
 
 module _ (role : Ask → Option Parts) where
@@ -70,21 +76,62 @@ module _ (role : Ask → Option Parts) where
         (all_weaker (AsksNoGreater role kept.version) (AsksNoGreater role v) (λ x. no_greater_still kept.version v x (role x.ask) not_below) asked h.none_greater))
   ]
 
+-- ---- the features
+
+-- a feature that one of the sources enables, or one more source
+enabled_more : (asked : List Asked) (a : Asked) (feature : ConfigExperimental) → (IsEnabledBySome asked feature ⊎ Contains a.ask.features.known feature) ↔ IsEnabledBySome (asked ++ (a ∷ [])) feature
+enabled_more asked a feature = (into, λ (one, there, known). back one (Contains-push_cases asked a one there) known)
+  where
+    into : IsEnabledBySome asked feature ⊎ Contains a.ask.features.known feature → IsEnabledBySome (asked ++ (a ∷ [])) feature
+    into (inl (one, there, known)) = (one, Contains-append_left asked (a ∷ []) one there, known)
+    into (inr h) = (a, Contains-push asked a, h)
+
+    back : (one : Asked) → Contains asked one ⊎ (a ≡ one) → Contains one.ask.features.known feature → IsEnabledBySome asked feature ⊎ Contains a.ask.features.known feature
+    back one (inl h) known = inl (one, h, known)
+    back one (inr same) known = inr (subst (λ (b : Asked). Contains b.ask.features.known feature) (sym same) known)
+
+enabled_by : (asked : List Asked) (a : Asked) (before after : Experimental) → AreEnabled asked before.known → AddsFeatures a.place a.ask.features before after → AreEnabled (asked ++ (a ∷ [])) after.known
+enabled_by asked a before after enabled adds = record {
+  of_some = λ feature. (
+    λ h. (enabled_more asked a feature).0 (into feature ((adds.more_known feature).0 h)),
+    λ h. (adds.more_known feature).1 (back feature ((enabled_more asked a feature).1 h)),
+  );
+  in_order = adds.known_in_order;
+}
+  where
+    into : (feature : ConfigExperimental) → Contains before.known feature ⊎ Contains a.ask.features.known feature → IsEnabledBySome asked feature ⊎ Contains a.ask.features.known feature
+    into feature (inl h) = inl ((enabled.of_some feature).0 h)
+    into feature (inr h) = inr h
+
+    back : (feature : ConfigExperimental) → IsEnabledBySome asked feature ⊎ Contains a.ask.features.known feature → Contains before.known feature ⊎ Contains a.ask.features.known feature
+    back feature (inl h) = inl ((enabled.of_some feature).1 h)
+    back feature (inr h) = inr h
+
+entries_by : (asked : List Asked) (a : Asked) (before after : Experimental) → before.unknown ≡ flat_map entry_of asked → AddsFeatures a.place a.ask.features before after → after.unknown ≡ flat_map entry_of (asked ++ (a ∷ []))
+entries_by asked a before after all adds = adds.more_unknown ∙ ap (λ entries. entries ++ entry_of a) all ∙ flat_map_more entry_of [] asked a
+
+-- ---- the configuration
+
 -- joined with what one more source asks, the configuration stands for one more source
 pub stands_more : (sources : List Source) (source : Source) (old new : Configuration) → StandsFor sources old → Adds source.place source.contents old new → StandsFor (sources ++ (source ∷ [])) new
 stands_more sources source old new stands adds =
-    let a : Asked = record { place = source.place; ask = adds.0 } in
-    let one : IsReadAs source a = record { place = refl; read = adds.1 } in
-    let required = stands_by (λ ask. ask.required) stands.0 a old.roles.required adds.0.required refl stands.2.required in
-    let recommended = stands_by (λ ask. ask.recommended) stands.0 a old.roles.recommended adds.0.recommended refl stands.2.recommended in (
+    let a : Asked = record { place = source.place; ask = adds.ask } in
+    let one : IsReadAs source a = record { place = refl; read = adds.read } in
+    let required = stands_by (λ ask. ask.versions.required) stands.0 a old.roles.required adds.ask.versions.required refl stands.2.required in
+    let recommended = stands_by (λ ask. ask.versions.recommended) stands.0 a old.roles.recommended adds.ask.versions.recommended refl stands.2.recommended in (
       stands.0 ++ (a ∷ []),
       zip_push IsReadAs sources stands.0 source a stands.1 one,
       record {
-        required = rw adds.2 required;
-        recommended = rw adds.2 recommended;
+        required = rw adds.roles required;
+        recommended = rw adds.roles recommended;
+        known = enabled_by stands.0 a old.experimental new.experimental stands.2.known adds.experimental;
+        unknown = entries_by stands.0 a old.experimental new.experimental stands.2.unknown adds.experimental;
       },
     )
 
+none_enabled : AreEnabled [] []
+none_enabled = record { of_some = λ feature. (λ h. absurd (contains_none h), λ (one, there, known). absurd (contains_none there)); in_order = none_in_order feature_cmp }
+
 -- the neutral configuration stands for no source
 pub stands_none : (c : Configuration) → c ≡ neutral → StandsFor [] c
-stands_none c e = ([], tt, record { required = rw e tt; recommended = rw e tt })
+stands_none c e = ([], tt, rw e (record { required = tt; recommended = tt; known = none_enabled; unknown = refl }))

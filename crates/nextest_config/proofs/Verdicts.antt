@@ -40,10 +40,10 @@ unmet_alone place (Some version) current kept e =
     let is : record { version = version; place = place } ≡ kept = cc same in
     (ap (λ (k : Kept). Some k.version) is, sym (ap (λ (k : Kept). k.place) is))
 
-names_its_place : (current : Parts) (overridden : Bool) (a : Asked) (r m : Option Kept) → unmet (asked_from a.place a.ask.required) current ≡ r → unmet (asked_from a.place a.ask.recommended) current ≡ m
+names_its_place : (current : Parts) (overridden : Bool) (a : Asked) (r m : Option Kept) → unmet (asked_from a.place a.ask.versions.required) current ≡ r → unmet (asked_from a.place a.ask.versions.recommended) current ≡ m
     → judged r m current overridden ≢ satisfied → named_place (judged r m current overridden) ≡ Some a.place
-names_its_place current overridden a (Some kept) m r_is m_is told = ap Some (unmet_alone a.place a.ask.required current kept r_is).1
-names_its_place current overridden a None (Some kept) r_is m_is told = ap Some (unmet_alone a.place a.ask.recommended current kept m_is).1
+names_its_place current overridden a (Some kept) m r_is m_is told = ap Some (unmet_alone a.place a.ask.versions.required current kept r_is).1
+names_its_place current overridden a None (Some kept) r_is m_is told = ap Some (unmet_alone a.place a.ask.versions.recommended current kept m_is).1
 names_its_place current overridden a None None r_is m_is told = absurd (told refl)
 
 -- a selected verdict that isn't satisfied is that of a source alone, whose place it names
@@ -61,7 +61,7 @@ from_source asked current overridden v (inr gravest) told =
           (names_its_place current overridden found.x _ _ refl refl (λ e. told (sym found.image ∙ e)));
     }
 
-pub no_gravity : (v : Verdict) → gravity v ≤ 0 → v ≡ satisfied
+no_gravity : (v : Verdict) → gravity v ≤ 0 → v ≡ satisfied
 no_gravity satisfied h = refl
 no_gravity (warn s) h = absurd (omega (arith, h))
 no_gravity (error s) h = absurd (omega (arith, h))
@@ -121,7 +121,7 @@ no_graver_by roles lesser greater overridden None None above r_is m_is =
 pub no_graver_greater : (roles : Roles) (lesser greater : Parts) (overridden : Bool) → ¬ IsBelow greater lesser → IsNoGraver (verdict roles lesser overridden) (verdict roles greater overridden)
 no_graver_greater roles lesser greater overridden above = no_graver_by roles lesser greater overridden _ _ above refl refl
 
-none_graver : (verdicts : List Verdict) (v : Verdict) → IsSelected verdicts v → AllByRecursion (IsNoGraver v) verdicts
+pub none_graver : (verdicts : List Verdict) (v : Verdict) → IsSelected verdicts v → AllByRecursion (IsNoGraver v) verdicts
 none_graver verdicts v (inl all) = all_weaker IsSatisfied (IsNoGraver v) (λ w is. rw is (omega arith)) verdicts all.0
 none_graver verdicts v (inr gravest) = gravest.gravest
 
@@ -135,5 +135,5 @@ no_graver_selected asked lesser greater overridden v w above h (inr gravest) =
     let all : AllByRecursion (IsNoGraver v) (map tells found.before ++ (tells found.x ∷ map tells found.after)) =
     subst (AllByRecursion (IsNoGraver v)) (ap (map tells) found.whole ∙ map-append tells found.before (found.x ∷ found.after)) (none_graver (map tells asked) v h) in
     let here : gravity (tells found.x) ≤ gravity v = all_middle (IsNoGraver v) (map tells found.before) (tells found.x) (map tells found.after) all in
-    let step : gravity (alone greater overridden found.x) ≤ gravity (tells found.x) = no_graver_greater (roles_from found.x.place found.x.ask) lesser greater overridden above in
+    let step : gravity (alone greater overridden found.x) ≤ gravity (tells found.x) = no_graver_greater (roles_from found.x.place found.x.ask.versions) lesser greater overridden above in
     subst (λ (u : Verdict). gravity u ≤ gravity v) found.image (omega (arith, here, step))

@@ -1,4 +1,4 @@
--- What configuration sources ask of the nextest version, and what follows for a current version.
+-- What configuration sources ask of the nextest version, the experimental features that they name, and what follows for a current version.
 pub mod VersionText
 pub mod VersionTextLaws
 pub mod Precedence
@@ -9,7 +9,9 @@ pub mod Requirement
 pub mod Verdict
 pub mod ErrorKind
 pub mod Error
-pub mod VersionOnly
 pub mod Experimental
 pub mod ExperimentalDeserialize
 pub mod ExperimentalLaws
+pub mod ExperimentalConfig
+pub mod VersionOnlyDeserialize
+pub mod VersionOnly

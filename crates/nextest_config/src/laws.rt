@@ -1,13 +1,14 @@
 //! Laws of the definitions, for every value. They call nothing.
 
-ghost use Rattle.std.specs.Prelude.{◌≡◌, ◌≢◌, ◌↔◌, ℕ, List, Bool, true, false, map, Some};
+ghost use Rattle.std.specs.Prelude.{◌≡◌, ◌≢◌, ◌↔◌, ◌++◌, ◌∷◌, ℕ, List, Bool, true, false, map, Some};
 ghost use Rattle.std.specs.List.{AllByRecursion};
 ghost use Rattle.semver.specs.Parse.{Parts};
 ghost use Rattle.nextest_config.specs.NextestVersion.VersionText.{Numbers, IsVersionText, plain};
+ghost use Rattle.nextest_config.specs.NextestVersion.Error.{Refusal};
 ghost use Rattle.nextest_config.specs.NextestVersion.Precedence.{IsBelow, IsEnough, IsEnoughByNumbers};
 ghost use Rattle.nextest_config.specs.NextestVersion.Requirement.{Kept, Roles};
 ghost use Rattle.nextest_config.specs.NextestVersion.Verdict.{IsNoGraver, IsOverriding, IsSatisfied, IsSelected, Shortfall, Verdict, satisfied, verdict, warn};
-ghost use Rattle.nextest_config.specs.NextestVersion.VersionOnly.{Asked, IsFromSource, IsSelectedFor, alone};
+ghost use Rattle.nextest_config.specs.NextestVersion.VersionOnly.{Asked, Configuration, IsFirstRefused, IsFromSource, IsSelectedFor, StandsFor, alone};
 ghost use Rattle.nextest_config.specs.NextestVersion.Source.{Source};
 
 /// No text has two versions.
@@ -28,6 +29,19 @@ pub fn law_enough()
 pub fn law_override()
     ensures { (roles : Roles) (current : Parts)
         → IsOverriding (verdict roles current false) (verdict roles current true) }
+{}
+
+/// No list of sources has two first refused positions, and no refused source two errors.
+pub fn law_refusal_once()
+    ensures { (sources : List Source) (i k : ℕ) (refusal other : Refusal)
+        → IsFirstRefused sources i refusal → IsFirstRefused sources k other
+        → (i ≡ k) × (refusal ≡ other) }
+{}
+
+/// No list of sources has two configurations that stand for it.
+pub fn law_configuration_once()
+    ensures { (sources : List Source) (configuration other : Configuration)
+        → StandsFor sources configuration → StandsFor sources other → configuration ≡ other }
 {}
 
 /// No list of sources has two selected verdicts.
@@ -65,4 +79,11 @@ pub fn law_greater_current()
     ensures list { (asked : List Asked) (lesser greater : Parts) (overridden : Bool) (v w : Verdict)
         → ¬ IsBelow greater lesser → IsSelected (map (alone lesser overridden) asked) v
         → IsSelected (map (alone greater overridden) asked) w → IsNoGraver v w }
+{}
+
+/// A source that reads, added at any position, never lowers the severity of the selected verdict.
+pub fn law_added_source()
+    ensures { (before after : List Source) (added : Source) (current : Parts) (overridden : Bool)
+        (v w : Verdict) → IsSelectedFor (before ++ after) current overridden v
+        → IsSelectedFor (before ++ (added ∷ after)) current overridden w → IsNoGraver w v }
 {}

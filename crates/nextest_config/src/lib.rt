@@ -1,5 +1,5 @@
-//! The nextest version that configuration sources ask for: reading the sources, keeping the greatest
-//! version of each role with its source, and judging the current version by it.
+//! What configuration sources ask before all else, the nextest version and the experimental features:
+//! reading the sources, keeping what stands for them all, and judging the current version by it.
 #![tactic(auto)]
 
 pub mod laws;

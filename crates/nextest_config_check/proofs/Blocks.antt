@@ -1,6 +1,5 @@
 -- Blocks of a text, each with its source.
 use Rattle.std.proofs.Common.{◌≡◌, ℕ, ◌-◌, ◌<◌, List, [], ◌∷◌, ◌++◌, length, take, Some, refl, sym, ap, ◌∙◌, subst, inl, inr, ◌⊎◌, append_assoc, append-nil, length-append, take_at, arith}
-use Rattle.std.proofs.lemmas.List.{nil_from_length}
 use Rattle.nextest_config.specs.NextestVersion.Source.{Place, Source}
 use Rattle.nextest_config_check.specs.Layout.{line_feed, mark, line_number, AreBlocks, AreSourcesBefore, EndsLine, IsBlock, IsCut, IsFaultyBlock, IsFaultyLine, IsFirstLine, IsSourceLine, IsUnmarkedBelow, OwesSourceLine}
 use Rattle.nextest_config_check.proofs.Lines.{first_line-append, unmarked_below_first}
@@ -41,13 +40,6 @@ blocks-append (first ∷ sources) front block source (text, rest, whole, is_firs
     ends_first : (text rest : List ℕ) → front ≡ text ++ rest → (rest ≡ []) ⊎ EndsLine text → EndsLine text
     ends_first text rest whole (inl empty) = subst EndsLine (whole ∙ ap (λ l. text ++ l) empty ∙ append-nil text) ends
     ends_first text rest whole (inr ended) = ended
-
-pub sources_before-start : (input : List ℕ) → AreSourcesBefore input [] input
-sources_before-start input = record { front = []; whole = refl; blocks = refl; ended = inl (inl refl); owed = inl (inl refl) }
-
-pub blocks_at_end : (input rest : List ℕ) (sources : List Source) → AreSourcesBefore input sources rest → length rest ≡ 0 → AreBlocks sources input
-blocks_at_end input rest sources before empty =
-    subst (AreBlocks sources) (sym (before.whole ∙ ap (λ l. before.front ++ l) (nil_from_length rest empty) ∙ append-nil before.front)) before.blocks
 
 -- what holds of the text before a rest that isn't empty
 unless_empty : {P : Type 0} (rest : List ℕ) → 0 < length rest → P ⊎ (rest ≡ []) → P

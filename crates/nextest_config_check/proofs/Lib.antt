@@ -4,3 +4,4 @@ pub mod Reports
 pub mod Versions
 pub mod SourceLines
 pub mod Layouts
+pub mod OneReport

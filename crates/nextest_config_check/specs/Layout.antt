@@ -106,6 +106,10 @@ AreBlocks (source ∷ sources) text =
 abbrev pub OwesSourceLine : List ℕ → List ℕ → Type 0
 OwesSourceLine front rest = (front ≡ []) ⊎ ((more : List ℕ) × (rest ≡ mark ++ more))
 
+-- the number, counted from 1, of the line that begins behind the text
+abbrev pub line_number : List ℕ → ℕ
+line_number front = count_by (λ byte. byte == line_feed) front + 1
+
 -- the line with this number, counted from 1, is the first that is no source line where one has to be
 pub record IsFaultyLine (input : List ℕ) (number : ℕ) : Type 0 where
   pub front : List ℕ
@@ -120,7 +124,7 @@ pub record IsFaultyLine (input : List ℕ) (number : ℕ) : Type 0 where
   pub owed : OwesSourceLine front rest
   pub first : IsFirstLine rest line more
   pub faulty : (place : Place) → ¬ IsSourceLine line place
-  pub counted : number ≡ count_by (λ byte. byte == line_feed) front + 1
+  pub counted : number ≡ line_number front
 
 -- the input is refused for this: a faulty line, or want of memory
 abbrev pub IsFaultyInput : List ℕ → LayoutFault → Type 0
@@ -137,10 +141,6 @@ pub record IsCut (text block rest : List ℕ) : Type 0 where
 -- the first line of the text is no source line
 abbrev pub IsFaultyBlock : List ℕ → Type 0
 IsFaultyBlock text = (line : List ℕ) × (more : List ℕ) × IsFirstLine text line more × ((place : Place) → ¬ IsSourceLine line place)
-
--- the number, counted from 1, of the line that begins behind the text
-abbrev pub line_number : List ℕ → ℕ
-line_number front = count_by (λ byte. byte == line_feed) front + 1
 
 -- the input up to the rest is blocks of these sources, and a source line is owed where the rest begins, if it isn't empty
 pub record AreSourcesBefore (input : List ℕ) (sources : List Source) (rest : List ℕ) : Type 0 where

@@ -1,13 +1,17 @@
 -- The report on an input.
-use Rattle.std.specs.Prelude.{◌≡◌, ℕ, Bool, true, false, List, ◌++◌, map, codes, string_bytes}
+use Rattle.std.specs.Prelude.{◌≡◌, ℕ, Bool, true, false, List, [], ◌∷◌, ◌++◌, map, flat_map, codes, string_bytes}
 use Rattle.std.specs.Str.{IsUtf8}
 use Rattle.std.specs.Fmt.{decimal}
 use Rattle.semver.specs.Identifiers.{parts_text}
 use Rattle.semver.specs.Parse.{Parts}
+use Rattle.nextest_config_values.specs.Read.Text.{joined, quoted_texts}
 use Rattle.nextest_config.specs.NextestVersion.Error.{Refusal, refusal_text}
+use Rattle.nextest_config.specs.NextestVersion.Experimental.{word_of}
+use Rattle.nextest_config.specs.NextestVersion.ExperimentalConfig.{Experimental, Unknown}
 use Rattle.nextest_config.specs.NextestVersion.Source.{Place, Source, place_text}
-use Rattle.nextest_config.specs.NextestVersion.Verdict.{Verdict, satisfied, warn, error, IsSelected}
-use Rattle.nextest_config.specs.NextestVersion.VersionOnly.{Asked, AreRead, IsFirstRefused, alone}
+use Rattle.nextest_config.specs.NextestVersion.Verdict.{Verdict, satisfied, warn, error}
+use Rattle.nextest_config.specs.NextestVersion.VersionOnly.{Configuration, IsFirstRefused, IsSelectedFor, StandsFor}
+use Rattle.nextest_config.specs.declared.nextest_version.experimental.ConfigExperimental.{ConfigExperimental}
 use Rattle.nextest_config_check.specs.Layout.{AreBlocks, IsFaultyLine}
 use Rattle.nextest_config_check.specs.declared.report.Outcome.{Outcome}
 use Rattle.nextest_config_check.specs.declared.report.Report.{Report}
@@ -29,9 +33,19 @@ verdict_text current satisfied = codes "satisfied: " ++ parts_text current
 verdict_text current (warn s) = shortfall_text (called (codes "warning") s.overridden) s.asked (codes "recommended") s.place s.current
 verdict_text current (error s) = shortfall_text (called (codes "error") s.overridden) s.asked (codes "required") s.place s.current
 
+-- the words of the known features, or that there is none
+abbrev pub known_text : List ConfigExperimental → List ℕ
+known_text [] = codes "none"
+known_text (feature ∷ features) = joined (map word_of (feature ∷ features))
+
+-- the line of a source that has names of no feature
+abbrev pub unknown_text : Unknown → List ℕ
+unknown_text unknown = codes "unknown in " ++ (place_text unknown.place ++ (codes ": " ++ (quoted_texts unknown.names ++ codes "\n")))
+
 -- the lines of a list that reads
-abbrev pub read_text : Parts → Verdict → List ℕ
-read_text current v = verdict_text current v ++ codes "\nknown: none\n"
+abbrev pub read_text : Parts → Verdict → Experimental → List ℕ
+read_text current v experimental =
+    verdict_text current v ++ (codes "\nknown: " ++ (known_text experimental.known ++ (codes "\n" ++ flat_map unknown_text experimental.unknown)))
 
 -- an error that isn't overridden fails
 abbrev pub outcome_of : Verdict → Outcome
@@ -50,12 +64,12 @@ pub data IsReport (input : List ℕ) (current : Parts) (overridden : Bool) : Lis
       → IsReport input current overridden (codes "refused: line " ++ (decimal number ++ codes " isn't a source line\n")) Refused
   refused_list : (sources : List Source) (position : ℕ) (refusal : Refusal) → IsUtf8 input → AreBlocks sources input → IsFirstRefused sources position refusal
       → IsReport input current overridden (codes "refused at " ++ (decimal position ++ (codes ": " ++ (refusal_text refusal ++ codes "\n")))) Refused
-  read_list : (sources : List Source) (asked : List Asked) (v : Verdict) → IsUtf8 input → AreBlocks sources input → AreRead sources asked
-      → IsSelected (map (alone current overridden) asked) v → IsReport input current overridden (read_text current v) (outcome_of v)
+  read_list : (sources : List Source) (v : Verdict) (configuration : Configuration) → IsUtf8 input → AreBlocks sources input → IsSelectedFor sources current overridden v
+      → StandsFor sources configuration → IsReport input current overridden (read_text current v configuration.experimental) (outcome_of v)
 
--- the report is that of a list that reads, with this verdict
-pub record IsReportOf (current : Parts) (v : Verdict) (report : Report) : Type 0 where
-  pub text : string_bytes report.text ≡ read_text current v
+-- the report is that of a list that reads, with this verdict and these features
+pub record IsReportOf (current : Parts) (v : Verdict) (experimental : Experimental) (report : Report) : Type 0 where
+  pub text : string_bytes report.text ≡ read_text current v experimental
   pub outcome : report.outcome ≡ outcome_of v
 
 -- the report on each input that holds these sources, and its outcome

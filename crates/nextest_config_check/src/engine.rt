@@ -8,7 +8,8 @@ ghost use Rattle.semver.specs.Parse.{version_parts};
 ghost use Rattle.nextest_config_check.specs.Engine.{AsksCheck, IfCheck, IfComplaint, IsChecked, IsWordsFault, Writes, asked_by, check_of, words_status};
 ghost use Rattle.nextest_config_check.specs.Report.{IsReport};
 
-use crate::report::{Outcome, report_on};
+pub use crate::report::Outcome;
+use crate::report::report_on;
 use semver::Version;
 use std::alloc::{AllocError, Global};
 use std::fmt;
@@ -68,21 +69,21 @@ impl fmt::Display for RunFault {
     }
 }
 
-/// The check that the words of the command line ask for.
+// The check that the words of the command line ask for.
 #[derive(Debug, Drop)]
 struct Check {
     current: Version,
     override_version_check: bool,
 }
 
-/// Why the words of the command line ask for no check.
+// Why the words of the command line ask for no check.
 #[derive(Clone, Copy, Debug)]
 enum WordsFault<'a> {
-    /// They are neither one word nor one word and the flag.
+    // They are neither one word nor one word and the flag.
     Usage,
-    /// This word is no version.
+    // This word is no version.
     NotVersion(&'a str),
-    /// A request for memory was refused.
+    // A request for memory was refused.
     Memory,
 }
 

@@ -1,8 +1,12 @@
-//! A law of the definitions, for every value. It calls nothing.
+//! Laws of the definitions, for every value. They call nothing.
 
-ghost use Rattle.std.specs.Prelude.{◌≡◌, ℕ, List};
+ghost use Rattle.std.specs.Prelude.{◌≡◌, ℕ, Bool, List};
+ghost use Rattle.semver.specs.Parse.{Parts};
 ghost use Rattle.nextest_config.specs.NextestVersion.Source.{Source};
 ghost use Rattle.nextest_config_check.specs.Layout.{AreBlocks, IsFaultyLine};
+ghost use Rattle.nextest_config_check.specs.Report.{IsReport};
+
+use crate::report::Outcome;
 
 /// An input is laid out in one way, or has one faulty line, and not both.
 pub fn law_layout_once()
@@ -12,4 +16,11 @@ pub fn law_layout_once()
         → IsFaultyLine input m → IsFaultyLine input n → m ≡ n }
     ensures never_both { (input : List ℕ) (sources : List Source) (n : ℕ)
         → AreBlocks sources input → IsFaultyLine input n → ⊥ }
+{}
+
+/// For a current version and the flag, an input has one report, with one outcome.
+pub fn law_report_once()
+    ensures { (input : List ℕ) (current : Parts) (overridden : Bool) (text other : List ℕ)
+        (outcome another : Outcome) → IsReport input current overridden text outcome
+        → IsReport input current overridden other another → (text ≡ other) × (outcome ≡ another) }
 {}

@@ -9,7 +9,7 @@ use nextest_config::nextest_version::{ConfigSource, ConfigSourceKind, SourceText
 use nextest_config_values::tool_config::{ToolConfigFile, ToolConfigFileParseError};
 use std::alloc::{AllocError, Global};
 
-/// What a source line begins with.
+// What a source line begins with.
 const MARK: &str = "=== ";
 
 /// Why the input is no list of sources.

@@ -1,19 +1,23 @@
 //! The report on an input.
 
-ghost use Rattle.std.specs.Prelude.{◌≡◌, IfOk, map, string_bytes};
+ghost use Rattle.std.specs.Prelude.{◌≡◌, ◌++◌, IfOk, OnOk, codes, flat_map, map, string_bytes};
 ghost use Rattle.semver.specs.Identifiers.{parts_of};
-ghost use Rattle.nextest_config.specs.NextestVersion.Requirement.{roles_of};
+ghost use Rattle.nextest_config.specs.NextestVersion.ExperimentalConfig.{errors_left, experimental_of};
 ghost use Rattle.nextest_config.specs.NextestVersion.Source.{place_of, source_of};
 ghost use Rattle.nextest_config.specs.NextestVersion.Verdict.{verdict, verdict_of};
-ghost use Rattle.nextest_config_check.specs.Report.{IsReportFor, IsReportForSources, IsReportOf, outcome_of, shortfall_text, status_of, verdict_text};
+ghost use Rattle.nextest_config.specs.NextestVersion.VersionOnly.{configuration_of};
+ghost use Rattle.nextest_config_check.specs.Report.{IsReportFor, IsReportForSources, IsReportOf, known_text, outcome_of, shortfall_text, status_of, unknown_text, verdict_text};
 
 use crate::layout::{self, LayoutFault};
 use nextest_config::nextest_version::{
-    ConfigSource, ListRefusal, NextestVersionConfig, NextestVersionEval, SourceText,
-    VersionOnlyConfig,
+    ConfigExperimental, ConfigSource, ExperimentalConfig, ListRefusal, NextestVersionEval,
+    SourceErrors, SourceText, VersionOnlyConfig,
 };
+use nextest_config_values::read::QuotedTexts;
 use semver::Version;
 use std::alloc::{AllocError, Global};
+use std::collections::BTreeSet;
+use std::fmt::Write;
 use std::str;
 
 /// How a check came out.
@@ -89,10 +93,7 @@ fn report_on_sources(
         override_version_check) }
 {
     match VersionOnlyConfig::from_list(alloc, sources) {
-        Ok(config) => {
-            let kept = config.nextest_version();
-            report_on_kept(alloc, kept, current, override_version_check)
-        }
+        Ok(config) => report_on_read(alloc, &config, current, override_version_check),
         Err(ListRefusal::Refused { position, error }) => Ok(refused(format!(in alloc;
             "refused at {position}: {error}\n"
         )?)),
@@ -100,30 +101,38 @@ fn report_on_sources(
     }
 }
 
-// The report on a list that reads, of which these versions are kept.
-fn report_on_kept(
+// The report on a list that reads, for which this configuration stands.
+fn report_on_read(
     alloc: Global,
-    kept: &NextestVersionConfig,
+    config: &VersionOnlyConfig,
     current: &Version,
     override_version_check: bool,
 ) -> Result<Report, AllocError>
-    ensures { IfOk result (IsReportOf (parts_of current.now)
-        (verdict (roles_of kept.now) (parts_of current.now) override_version_check)) }
+    ensures { let configuration = configuration_of config.now in
+        IfOk result (IsReportOf (parts_of current.now)
+        (verdict configuration.roles (parts_of current.now) override_version_check)
+        configuration.experimental) }
 {
+    let kept = config.nextest_version();
     let eval = kept.eval(alloc, current, override_version_check)?;
-    report_on_eval(alloc, &eval, current)
+    report_on_eval(alloc, &eval, current, config.experimental())
 }
 
-// The report of a verdict on the current version.
+// The report of a verdict on the current version, with these features.
 fn report_on_eval(
     alloc: Global,
     eval: &NextestVersionEval,
     current: &Version,
+    experimental: &ExperimentalConfig,
 ) -> Result<Report, AllocError>
-    ensures { IfOk result (IsReportOf (parts_of current.now) (verdict_of eval.now)) }
+    ensures { IfOk result (IsReportOf (parts_of current.now) (verdict_of eval.now)
+        (experimental_of experimental.now)) }
 {
     let mut text = verdict_line(alloc, eval, current)?;
-    text.push_str("\nknown: none\n")?;
+    text.push_str("\nknown: ")?;
+    push_known(&mut text, experimental.known())?;
+    text.push_str("\n")?;
+    push_unknown(&mut text, experimental.source_errors())?;
     let outcome = verdict_outcome(eval);
     Ok(Report { text, outcome })
 }
@@ -143,59 +152,95 @@ fn verdict_line(
             required,
             current,
             source,
-        } => shortfall_line(alloc, "error", required, "required", source, current),
+        } => error_line(alloc, "error", required, source, current),
         NextestVersionEval::Warn {
             recommended,
             current,
             source,
-        } => shortfall_line(
-            alloc,
-            "warning",
-            recommended,
-            "recommended",
-            source,
-            current,
-        ),
+        } => warning_line(alloc, "warning", recommended, source, current),
         NextestVersionEval::ErrorOverride {
             required,
             current,
             source,
-        } => shortfall_line(
-            alloc,
-            "error (overridden)",
-            required,
-            "required",
-            source,
-            current,
-        ),
+        } => error_line(alloc, "error (overridden)", required, source, current),
         NextestVersionEval::WarnOverride {
             recommended,
             current,
             source,
-        } => shortfall_line(
-            alloc,
-            "warning (overridden)",
-            recommended,
-            "recommended",
-            source,
-            current,
-        ),
+        } => warning_line(alloc, "warning (overridden)", recommended, source, current),
     }
 }
 
-// The line of a verdict that the current version isn't enough.
+// The line of a verdict that the current version isn't enough for a required one.
+fn error_line(
+    alloc: Global,
+    says: &str,
+    required: &Version,
+    source: &ConfigSource,
+    current: &Version,
+) -> Result<String, AllocError>
+    ensures { IfOk result (λ text. string_bytes text ≡ shortfall_text says.now
+        (parts_of required.now) (codes "required") (place_of source.now) (parts_of current.now)) }
+{
+    shortfall_line(alloc, says, required, "required", source, current)
+}
+
+// The line of a verdict that the current version isn't enough for a recommended one.
+fn warning_line(
+    alloc: Global,
+    says: &str,
+    recommended: &Version,
+    source: &ConfigSource,
+    current: &Version,
+) -> Result<String, AllocError>
+    ensures { IfOk result (λ text. string_bytes text ≡ shortfall_text says.now
+        (parts_of recommended.now) (codes "recommended") (place_of source.now)
+        (parts_of current.now)) }
+{
+    shortfall_line(alloc, says, recommended, "recommended", source, current)
+}
+
+// The line of a verdict that the current version isn't enough for the one that is asked in a role.
 fn shortfall_line(
     alloc: Global,
-    verdict: &str,
+    says: &str,
     asked: &Version,
     asks: &str,
     source: &ConfigSource,
     current: &Version,
 ) -> Result<String, AllocError>
-    ensures { IfOk result (λ text. string_bytes text ≡ shortfall_text verdict.now
+    ensures { IfOk result (λ text. string_bytes text ≡ shortfall_text says.now
         (parts_of asked.now) asks.now (place_of source.now) (parts_of current.now)) }
 {
-    format!(in alloc; "{verdict}: {asked} {asks} by {source}, current {current}")
+    format!(in alloc; "{says}: {asked} {asks} by {source}, current {current}")
+}
+
+// Pushes the words of the features, or that there is none.
+fn push_known(text: &mut String, known: &BTreeSet<ConfigExperimental>) -> Result<(), AllocError>
+    ensures { OnOk result (string_bytes text.new
+        ≡ string_bytes text.old ++ known_text known.now.keys) }
+{
+    if known.is_empty() {
+        return text.push_str("none");
+    }
+    let mut separator = "";
+    for feature in known {
+        text.push_str(separator)?;
+        text.push_str(feature.as_word())?;
+        separator = ", ";
+    }
+    Ok(())
+}
+
+// Pushes a line for each source that has names of no feature.
+fn push_unknown(text: &mut String, errors: SourceErrors<'_>) -> Result<(), AllocError>
+    ensures { OnOk result (string_bytes text.new
+        ≡ string_bytes text.old ++ flat_map unknown_text (errors_left errors.entry)) }
+{
+    for (source, names) in errors {
+        writeln!(text, "unknown in {source}: {}", QuotedTexts(names))?;
+    }
+    Ok(())
 }
 
 // How a check with this verdict comes out.

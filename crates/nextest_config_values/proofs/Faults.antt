@@ -4,8 +4,7 @@ use Rattle.toml.specs.Data.{Data, as_str}
 use Rattle.nextest_config_values.specs.Identifier.Error.{NameRefusal, flawed, no_memory as no_memory_for_name}
 use Rattle.nextest_config_values.specs.Identifier.Normal.{IsNormalRefusal, NameFaults}
 use Rattle.nextest_config_values.specs.Read.Fault.{Fault, Reason, Refuses, RefusesAs, UnlessMemory, custom, fault_at, identifier, is_memory, invalid_type, invalid_value, memory, missing_field, name_reason, no_memory, tool_name, unknown_field, unknown_variant}
-use Rattle.nextest_config_values.specs.Read.FromToml.{FaultsAs, WantsMemory}
-use Rattle.nextest_config_values.specs.Read.Word.{text_expected}
+use Rattle.nextest_config_values.specs.Read.FromToml.{FaultsAs, WantsMemory, text_expected}
 
 -- what follows from each of the two facts
 pub unless_mapped : {A B : Type 0} (reason : Reason) (wanting otherwise : Type 0) → UnlessMemory reason wanting otherwise → (wanting → A) → (is_memory reason ≡ false → otherwise → B) → UnlessMemory reason A B

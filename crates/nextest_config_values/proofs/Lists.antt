@@ -1,5 +1,5 @@
 -- What holds of each element, by recursion on the list.
-use Rattle.std.proofs.Common.{◌≡◌, ◌↔◌, ℕ, zero, suc, ◌+◌, ◌<◌, Bool, true, false, IsTrue, List, [], ◌∷◌, ◌++◌, length, get_or, take, drop, map, refl, sym, ap, ◌∙◌, arith}
+use Rattle.std.proofs.Common.{◌≡◌, ◌↔◌, ℕ, zero, suc, ◌+◌, ◌<◌, Bool, true, false, IsTrue, List, [], ◌∷◌, ◌++◌, length, get_or, take, drop, map, refl, sym, ap, subst, ◌∙◌, arith}
 use Rattle.std.proofs.lemmas.List.{drop_more, map-append, take-append-drop, take_more}
 use Rattle.std.proofs.lemmas.List.Elements.{All-from_all_within, recursion_from_All}
 use Rattle.std.specs.Bool.{MatchBool}
@@ -42,6 +42,13 @@ pub map_agrees : {X Y : Type 0} (f g : X → Y) (xs : List X) → AllByRecursion
 map_agrees f g [] h = refl
 map_agrees f g (x ∷ xs) h = rw (h.0, map_agrees f g xs h.1)
 
+-- where partners have the same image, the lists have the same images
+pub zip_same_images : {X Y : Type 0} (f : X → Y) (xs ys : List X) → AllZip (λ x y. f y ≡ f x) xs ys → map f ys ≡ map f xs
+zip_same_images f [] [] h = refl
+zip_same_images f [] (y ∷ ys) h = absurd h
+zip_same_images f (x ∷ xs) [] h = absurd h
+zip_same_images f (x ∷ xs) (y ∷ ys) h = rw (h.0, zip_same_images f xs ys h.1) refl
+
 -- the partner of an element between others
 pub zip_middle : {X Y : Type 0} (R : X → Y → Type 0) (xs : List X) (x : X) (rest : List X) (ys : List Y) → AllZip R (xs ++ (x ∷ rest)) ys → (y : Y) × R x y
 zip_middle R [] x rest [] h = absurd h
@@ -82,3 +89,16 @@ decided_all P Q xs false apart h =
     apart_somewhere P Q apart [] a k within h = absurd (omega arith)
     apart_somewhere P Q apart (x ∷ xs) a zero within h = apart x a.0 (h x)
     apart_somewhere P Q apart (x ∷ xs) a (suc k) within h = apart_somewhere P Q apart xs a.1 k (omega arith) h
+
+-- of two elements, each with none like it behind it in the same list, both are the last
+pub one_last : {X : Type 0} (P Q : X → Type 0) (x y : X) (b c a d : List X) → (P y → ⊥) → (Q x → ⊥) → b ++ (x ∷ a) ≡ c ++ (y ∷ d) → AllByRecursion P a → AllByRecursion Q d → x ≡ y
+one_last P Q x y [] [] a d p q same h k = cc same
+one_last P Q x y [] (z ∷ c) a d p q same h k =
+    let rest : a ≡ c ++ (y ∷ d) = cc same in
+    absurd (p (all_middle P c y d (subst (AllByRecursion P) rest h)))
+one_last P Q x y (z ∷ b) [] a d p q same h k =
+    let rest : d ≡ b ++ (x ∷ a) = cc same in
+    absurd (q (all_middle Q b x a (subst (AllByRecursion Q) rest k)))
+one_last P Q x y (z ∷ b) (w ∷ c) a d p q same h k =
+    let rest : b ++ (x ∷ a) ≡ c ++ (y ∷ d) = cc same in
+    one_last P Q x y b c a d p q rest h k

@@ -5,7 +5,7 @@ use Rattle.std.specs.declared.alloc.Global.{Global}
 use Rattle.toml.specs.Data.{Data, as_str}
 use Rattle.unicode_ident.specs.Ident.{is_xid_start, is_xid_continue}
 use Rattle.nextest_config_values.specs.Read.Fault.{Fault, wrong_value}
-use Rattle.nextest_config_values.specs.Read.FromToml.{FaultsAs, MeansAs}
+use Rattle.nextest_config_values.specs.Read.FromToml.{FaultsAs, MeansAs, text_expected}
 use Rattle.nextest_config_values.specs.declared.helpers.InvalidIdentifierKind.{InvalidIdentifierKind}
 use Rattle.nextest_config_values.specs.declared.helpers.InvalidIdentifierKind.TheVariants as flaws
 
@@ -56,4 +56,4 @@ abbrev pub MeansPath : Data → String Global → Type 0
 MeansPath = MeansAs as_str MeansPathText
 
 abbrev pub PathFaults : Data → List ℕ → Fault → Type 0
-PathFaults = FaultsAs as_str (codes "a string") PathTextFaults
+PathFaults = FaultsAs as_str text_expected PathTextFaults

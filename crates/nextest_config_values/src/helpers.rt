@@ -1,6 +1,6 @@
 //! Checks of texts that several settings share.
 
-ghost use Rattle.std.specs.Prelude.{◌≡◌, ◌↔◌, true, IfErr, IfOk, IsTrue, OnOk, chars, codes};
+ghost use Rattle.std.specs.Prelude.{◌↔◌, true, IfErr, IfOk, IsTrue, OnOk, chars};
 ghost use Rattle.std.specs.List.{AllByRecursion};
 ghost use Rattle.toml.specs.View.{view};
 ghost use Rattle.nextest_config_values.specs.Helpers.{IsPlainFlaw, IsPlainIdentifier, IsRelativePath, MeansPath, PathFaults, GoesOn};

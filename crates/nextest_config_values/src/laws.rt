@@ -2,7 +2,6 @@
 
 ghost use Rattle.std.specs.Prelude.{◌≡◌, ℕ, List};
 ghost use Rattle.nextest_config_values.specs.Identifier.ConfigIdentifier.{IsIdentifier, IsIdentifierFault};
-ghost use Rattle.nextest_config_values.specs.Identifier.Error.{IdentifierFlaw, NameRefusal, ToolNameFlaw};
 ghost use Rattle.nextest_config_values.specs.Identifier.Normal.{AnswersAlike, normal_chars};
 ghost use Rattle.nextest_config_values.specs.Identifier.ToolName.{IsToolName, IsToolNameFault};
 ghost use Rattle.nextest_config_values.specs.ToolConfig.{Argument, ArgumentRefusal, IsArgumentFault, IsToolArgument};

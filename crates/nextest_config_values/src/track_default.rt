@@ -1,7 +1,6 @@
 //! Values that know whether they are a default.
 
 ghost use Rattle.std.specs.Prelude.{◌≡◌, true, false};
-ghost use Rattle.toml.specs.Data.{Data};
 
 use crate::read::{FromToml, ReadFault};
 use std::alloc::Global;

@@ -1,5 +1,6 @@
 //! Experimental features.
 
+use crate::made::words;
 use nextest_config::nextest_version::{ConfigExperimental, ExperimentalDeserialize};
 use nextest_config_values::read::FromToml;
 use std::alloc::Global;
@@ -46,6 +47,8 @@ fn the_value_one_alone_enables_a_feature(rt: HostRuntime) -> Result<(), Fail> {
         assert_eq!(rt; features.contains(&ConfigExperimental::Benchmarks), enabled);
         assert_eq!(rt; features.len(), usize::from(enabled));
     }
+    let none: BTreeMap<String, String> = BTreeMap::new(alloc);
+    assert!(rt; ConfigExperimental::from_env(alloc, &none)?.is_empty());
     Ok(())
 }
 
@@ -59,12 +62,8 @@ fn told(alloc: Global, text: &str) -> Result<String, Fail> {
 }
 
 fn names(alloc: Global, asked: &ExperimentalDeserialize) -> Result<String, Fail> {
-    let mut line = String::from_str(alloc, "known")?;
-    for feature in &asked.known {
-        line.push(' ')?;
-        line.push_str(feature.as_word())?;
-    }
-    line.push_str("; unknown")?;
+    let known = words(alloc, &asked.known)?;
+    let mut line = format!(in alloc; "known{known}; unknown")?;
     for name in &asked.unknown {
         line.push(' ')?;
         line.push_str(name.as_str())?;

@@ -1,7 +1,8 @@
 //! The texts of faults.
 
-use nextest_config_values::read::{FaultKind, ReadFault, Rule, found_text, quoted};
+use nextest_config_values::read::{FaultKind, QuotedTexts, ReadFault, Rule, found_text, quoted};
 use semver::Version;
+use std::collections::BTreeSet;
 use std::test::Fail;
 use toml::Value;
 
@@ -36,6 +37,20 @@ fn quoted_leaves_every_other_character_as_it_is(rt: HostRuntime) -> Result<(), F
     ] {
         assert_eq!(rt; quoted(rt.alloc(), text)?.as_str(), printed, "of {text:?}");
     }
+    Ok(())
+}
+
+#[test]
+fn quoted_texts_stand_in_order_behind_commas(rt: HostRuntime) -> Result<(), Fail> {
+    let alloc = rt.alloc();
+    let mut texts: BTreeSet<String> = BTreeSet::new(alloc);
+    assert_eq!(rt; QuotedTexts(&texts).to_string(alloc)?.as_str(), "");
+    texts.insert(String::from_str(alloc, "x")?)?;
+    texts.insert(String::from_str(alloc, "a\u{85}b")?)?;
+    assert_eq!(rt;
+        QuotedTexts(&texts).to_string(alloc)?.as_str(),
+        r#""a\u{85}b", "x""#
+    );
     Ok(())
 }
 

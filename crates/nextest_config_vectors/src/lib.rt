@@ -2,13 +2,21 @@
 #![tactic(auto)]
 
 #[cfg(test)]
+mod copies;
+#[cfg(test)]
 mod experimental;
+#[cfg(test)]
+mod experimental_sources;
 #[cfg(test)]
 mod faults;
 #[cfg(test)]
 mod identifiers;
 #[cfg(test)]
+mod made;
+#[cfg(test)]
 mod nextest_version;
+#[cfg(test)]
+mod nextest_version_values;
 #[cfg(test)]
 mod paths;
 #[cfg(test)]

@@ -1,8 +1,9 @@
 //! What sources ask, and what a current version is told.
 
+use crate::made::{missing, repository, repository_with};
 use nextest_config::nextest_version::{
-    ConfigParseErrorKind, ConfigSource, ConfigSourceKind, ListRefusal, NextestVersionConfig,
-    NextestVersionDeserialize, NextestVersionEval, Severity, SourceText, VersionOnlyConfig,
+    ConfigParseErrorKind, ListRefusal, NextestVersionConfig, NextestVersionDeserialize,
+    NextestVersionEval, Severity, SourceText, VersionOnlyConfig,
 };
 use semver::Version;
 use std::alloc::{AllocError, Global};
@@ -12,22 +13,12 @@ const A: &str = "nextest-version = \"0.9.50\"";
 
 const B: &str = "nextest-version = { recommended = \"0.9.60\" }";
 
-fn repository(alloc: Global, path: &str) -> Result<ConfigSource, AllocError> {
-    Ok(ConfigSource {
-        kind: ConfigSourceKind::DiscoveredRepository,
-        path: String::from_str(alloc, path)?,
-    })
-}
-
 // Sources named by their positions, `0.toml` first.
 fn sources(alloc: Global, contents: &[&str]) -> Result<Vec<SourceText>, AllocError> {
     let mut sources = Vec::new(alloc);
     for (position, text) in contents.iter().enumerate() {
         let path = format!(in alloc; "{position}.toml")?;
-        sources.push(SourceText {
-            source: repository(alloc, path.as_str())?,
-            contents: Some(String::from_str(alloc, text)?),
-        })?;
+        sources.push(repository_with(alloc, path.as_str(), text)?)?;
     }
     Ok(sources)
 }
@@ -87,7 +78,7 @@ fn read_and_told(
 }
 
 #[test]
-fn no_source_asks_nothing(rt: HostRuntime) -> Result<(), Fail> {
+fn an_empty_list_asks_nothing(rt: HostRuntime) -> Result<(), Fail> {
     let line = read_and_told(rt.alloc(), &[], "0.9.50", false)?;
     assert_eq!(rt; line.as_str(), "Satisfied");
     Ok(())
@@ -276,14 +267,8 @@ fn a_recommended_version_warns_behind_a_required_one(rt: HostRuntime) -> Result<
 #[test]
 fn a_source_with_no_contents_asks_nothing(rt: HostRuntime) -> Result<(), Fail> {
     let alloc = rt.alloc();
-    let missing = SourceText {
-        source: ConfigSource {
-            kind: ConfigSourceKind::ExplicitRepository,
-            path: String::from_str(alloc, "a.toml")?,
-        },
-        contents: None,
-    };
-    let config = VersionOnlyConfig::from_list(alloc, &[missing])?;
+    let sources = [missing(alloc, "a.toml")?];
+    let config = VersionOnlyConfig::from_list(alloc, &sources)?;
     assert_eq!(rt; config.nextest_version().required.version(), None);
     assert_eq!(rt; config.nextest_version().recommended.version(), None);
     Ok(())

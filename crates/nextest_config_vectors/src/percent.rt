@@ -1,6 +1,6 @@
 //! A reader of this crate's own: an integer from 0 to 100.
 
-ghost use Rattle.std.specs.Prelude.{◌≡◌, ℕ, ◌≤◌, codes, false};
+ghost use Rattle.std.specs.Prelude.{◌≡◌, ◌≤◌, codes, false};
 ghost use Rattle.toml.specs.Data.{as_integer};
 ghost use Rattle.nextest_config_values.specs.Read.FromToml.{FaultsAs, MeansAs, reading_on};
 ghost use Rattle.nextest_config_values.specs.Read.Plain.{IsOutside, MeansNumber, number_reading};

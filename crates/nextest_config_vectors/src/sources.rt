@@ -1,7 +1,8 @@
 //! Tools' files and the repository's, read together.
 
+use crate::made::words;
 use nextest_config::nextest_version::{
-    NextestVersionEval, RepositoryText, ToolText, VersionOnlyConfig,
+    ConfigParseError, NextestVersionEval, RepositoryText, ToolText, VersionOnlyConfig,
 };
 use nextest_config_values::tool_config::ToolConfigFile;
 use semver::Version;
@@ -44,19 +45,27 @@ fn line(alloc: Global, eval: &NextestVersionEval) -> Result<String, Fail> {
     Ok(line)
 }
 
-// What the files of `one` and `two` and the repository's tell a current version, or why they are
-// refused, as a line.
+// What stands for the files of `one` and `two` and the repository's, or why they are refused.
+fn read(
+    alloc: Global,
+    tools: [&str; 2],
+    repository: &RepositoryText,
+) -> Result<Result<VersionOnlyConfig, ConfigParseError>, Fail> {
+    let tools = vec![in alloc;
+        tool(alloc, "one:/1.toml", tools[0])?,
+        tool(alloc, "two:/2.toml", tools[1])?,
+    ]?;
+    Ok(VersionOnlyConfig::from_sources(alloc, repository, &tools))
+}
+
+// What these files tell a current version, or why they are refused, as a line.
 fn told(
     alloc: Global,
     tools: [&str; 2],
     repository: &RepositoryText,
     current: &str,
 ) -> Result<String, Fail> {
-    let tools = vec![in alloc;
-        tool(alloc, "one:/1.toml", tools[0])?,
-        tool(alloc, "two:/2.toml", tools[1])?,
-    ]?;
-    match VersionOnlyConfig::from_sources(alloc, repository, &tools) {
+    match read(alloc, tools, repository)? {
         Ok(config) => {
             let current = Version::parse(alloc, current)?;
             let eval = config.nextest_version().eval(alloc, &current, false)?;
@@ -102,5 +111,35 @@ fn of_equal_versions_the_earlier_tool_is_named(rt: HostRuntime) -> Result<(), Fa
     let named = repository(alloc, true, "x =")?;
     let line = told(alloc, [A, A], &named, "0.9.49")?;
     assert_eq!(rt; line.as_str(), "explicit r.toml: not a TOML document");
+    Ok(())
+}
+
+// The features that the files of `one` and `two` and the repository's enable, or why they are refused,
+// as a line.
+fn enabled(alloc: Global, tools: [&str; 2], repository: &RepositoryText) -> Result<String, Fail> {
+    match read(alloc, tools, repository)? {
+        Ok(config) => Ok(words(alloc, config.experimental().known())?),
+        Err(error) => Ok(error.to_string(alloc)?),
+    }
+}
+
+#[test]
+fn the_repository_enables_features_and_a_tool_is_refused(rt: HostRuntime) -> Result<(), Fail> {
+    let alloc = rt.alloc();
+    let none = "experimental = []";
+    let found = repository(alloc, false, "experimental = [\"wrapper-scripts\"]")?;
+    for (tools, want) in [
+        ([none, ""], " wrapper-scripts"),
+        (
+            ["experimental = [\"wrapper-scripts\"]", none],
+            "tool one (/1.toml): experimental features in a tool configuration: \"wrapper-scripts\"",
+        ),
+        (
+            [none, "experimental = { x = true }"],
+            "tool two (/2.toml): experimental features in a tool configuration: \"x\"",
+        ),
+    ] {
+        assert_eq!(rt; enabled(alloc, tools, &found)?.as_str(), want);
+    }
     Ok(())
 }

@@ -5,32 +5,35 @@ use Rattle.semver.specs.Parse.{Parts}
 use Rattle.toml.specs.Data.{Data, Members, as_str, as_table, get_member}
 use Rattle.nextest_config_values.specs.Read.Fault.{BrokenRule, Fault, custom, fault_at, path_of, required_above_recommended, wrong_type}
 use Rattle.nextest_config_values.specs.Read.Field.{MeansOptional, OptionalFaults, Then}
-use Rattle.nextest_config_values.specs.Read.FromToml.{FaultsAs, MeansAs}
-use Rattle.nextest_config_values.specs.Read.Word.{text_expected}
+use Rattle.nextest_config_values.specs.Read.FromToml.{FaultsAs, MeansAs, text_expected}
 use Rattle.nextest_config.specs.NextestVersion.Precedence.{IsBelow}
 use Rattle.nextest_config.specs.NextestVersion.VersionText.{HasVersion, IsVersionFault}
 use Rattle.nextest_config.specs.declared.nextest_version.ask.NextestVersionDeserialize.{NextestVersionDeserialize}
 
 -- the versions that a source asks for
-pub record Ask : Type 0 where
+pub record Versions : Type 0 where
   pub required : Option Parts
   pub recommended : Option Parts
 
-abbrev pub asks : Option Parts → Option Parts → Ask
+-- these versions
+abbrev pub asks : Option Parts → Option Parts → Versions
 asks required recommended = record { required = required; recommended = recommended }
 
-abbrev pub nothing : Ask
-nothing = asks None None
+-- no version
+abbrev pub no_versions : Versions
+no_versions = asks None None
 
-abbrev pub requires : Parts → Ask
+-- this version alone, required
+abbrev pub requires : Parts → Versions
 requires version = asks (Some version) None
 
-abbrev pub ask_of : NextestVersionDeserialize → Ask
-ask_of d = asks (option_map parts_of d.required) (option_map parts_of d.recommended)
+-- what a setting asks for
+abbrev pub versions_of : NextestVersionDeserialize → Versions
+versions_of d = asks (option_map parts_of d.required) (option_map parts_of d.recommended)
 
 -- two of them ask the same
-abbrev pub AskAlike : NextestVersionDeserialize → NextestVersionDeserialize → Type 0
-AskAlike a b = ask_of a ≡ ask_of b
+abbrev pub VersionsAlike : NextestVersionDeserialize → NextestVersionDeserialize → Type 0
+VersionsAlike a b = versions_of a ≡ versions_of b
 
 -- ---- a version
 
@@ -48,9 +51,11 @@ VersionFaults = FaultsAs as_str text_expected (λ text value. VersionTextFaults 
 
 -- ---- the table form
 
+-- the key of the required version
 abbrev pub required_key : List ℕ
 required_key = codes "required"
 
+-- the key of the recommended version
 abbrev pub recommended_key : List ℕ
 recommended_key = codes "recommended"
 
@@ -73,10 +78,10 @@ OrderFaults at (Some required) (Some recommended) fault = IsBelow recommended re
 OrderFaults at _ _ fault = ⊥
 
 -- the table asks for the versions at its two keys; other keys don't count
-pub record MeansTable (members : Members) (ask : Ask) : Type 0 where
-  pub of_required : MeansRole required_key members ask.required
-  pub of_recommended : MeansRole recommended_key members ask.recommended
-  pub in_order : AreInOrder ask.required ask.recommended
+pub record MeansTable (members : Members) (versions : Versions) : Type 0 where
+  pub of_required : MeansRole required_key members versions.required
+  pub of_recommended : MeansRole recommended_key members versions.recommended
+  pub in_order : AreInOrder versions.required versions.recommended
 
 -- what is wrong with the table: at `required`, behind it at `recommended`, and behind both in their order
 abbrev pub TableFaults : Members → List ℕ → Fault → Type 0
@@ -88,18 +93,18 @@ TableFaults members at =
 -- ---- the setting
 
 -- the text asks this: its version is required
-abbrev pub MeansVersionText : List ℕ → Ask → Type 0
-MeansVersionText text ask = (version : Parts) × HasVersion text version × (ask ≡ requires version)
+abbrev pub MeansVersionText : List ℕ → Versions → Type 0
+MeansVersionText text versions = (version : Parts) × HasVersion text version × (versions ≡ requires version)
 
 -- what the setting takes
 abbrev pub versions_expected : List ℕ
 versions_expected = codes "a table ({ required = \"0.9.20\", recommended = \"0.9.30\" }) or a string (\"0.9.50\")"
 
 -- a text, a table, or neither, asks this
-abbrev pub MeansForm : Option (List ℕ) → Option Members → Ask → Type 0
-MeansForm (Some text) _ ask = MeansVersionText text ask
-MeansForm None (Some members) ask = MeansTable members ask
-MeansForm None None ask = ⊥
+abbrev pub MeansForm : Option (List ℕ) → Option Members → Versions → Type 0
+MeansForm (Some text) _ versions = MeansVersionText text versions
+MeansForm None (Some members) versions = MeansTable members versions
+MeansForm None None versions = ⊥
 
 -- what is wrong with a text, a table, or neither
 abbrev pub FormFaults : Option (List ℕ) → Option Members → Data → List ℕ → Fault → Type 0
@@ -108,8 +113,8 @@ FormFaults None (Some members) value at fault = TableFaults members at fault
 FormFaults None None value at fault = fault ≡ wrong_type value at versions_expected
 
 -- the value of `nextest-version` asks this
-abbrev pub MeansVersions : Data → Ask → Type 0
-MeansVersions value ask = MeansForm (as_str value) (as_table value) ask
+abbrev pub MeansVersions : Data → Versions → Type 0
+MeansVersions value versions = MeansForm (as_str value) (as_table value) versions
 
 -- what is wrong with the value of `nextest-version` at a path
 abbrev pub VersionsFaults : Data → List ℕ → Fault → Type 0

@@ -6,9 +6,8 @@ use Rattle.toml.specs.Data.{Data, Members, as_str, as_table, get_member}
 use Rattle.nextest_config_values.specs.Read.Fault.{Fault, custom, fault_at, holds_memory, path_of}
 use Rattle.nextest_config_values.specs.Read.Field.{MeansOptional, OptionalFaults, Then}
 use Rattle.nextest_config_values.specs.Read.FieldLaws.{never_both_then, never_memory_then, one_fault_then, optional_reading}
-use Rattle.nextest_config_values.specs.Read.FromToml.{IsHeldReading, IsReading, equality, reading_as, reading_on}
-use Rattle.nextest_config_values.specs.Read.Word.{text_expected}
-use Rattle.nextest_config.specs.NextestVersion.Ask.{Ask, AskAlike, AreInOrder, FormFaults, MeansForm, MeansRole, MeansTable, MeansVersion, MeansVersions, OrderFaults, RoleFaults, TableFaults, VersionFaults, VersionTextFaults, VersionsFaults, ask_of, recommended_key, required_key, requires}
+use Rattle.nextest_config_values.specs.Read.FromToml.{IsHeldReading, IsReading, equality, reading_as, reading_on, text_expected}
+use Rattle.nextest_config.specs.NextestVersion.Ask.{AreInOrder, FormFaults, MeansForm, MeansRole, MeansTable, MeansVersion, MeansVersions, OrderFaults, RoleFaults, TableFaults, VersionFaults, VersionTextFaults, Versions, VersionsAlike, VersionsFaults, recommended_key, required_key, requires, versions_of}
 use Rattle.nextest_config.specs.NextestVersion.VersionText.{HasVersion, plain}
 use Rattle.nextest_config.specs.NextestVersion.VersionTextLaws.{one_rule, version_not_fault, version_once}
 
@@ -47,7 +46,7 @@ never_memory_order at (Some required) (Some recommended) f a = ap (λ (g : Fault
 never_memory_order at (Some required) None f a = absurd a
 never_memory_order at None recommended f a = absurd a
 
-same_ask : (a b : Ask) → a.required ≡ b.required → a.recommended ≡ b.recommended → a ≡ b
+same_ask : (a b : Versions) → a.required ≡ b.required → a.recommended ≡ b.recommended → a ≡ b
 same_ask a b required recommended =
     ap (λ (version : Option Parts). record { required = version; recommended = a.recommended }) required
     ∙ ap (λ (version : Option Parts). record { required = b.required; recommended = version }) recommended
@@ -64,23 +63,23 @@ module _ (members : Members) (at : List ℕ) where
   one_table_fault = one_fault_then role (found required_key) (path_of at required_key) behind_required (λ required.
       one_fault_then role (found recommended_key) (path_of at recommended_key) (OrderFaults at required) (one_order_fault at required))
 
-  never_both_table : (ask : Ask) (f : Fault) → MeansTable members ask → TableFaults members at f → ⊥
-  never_both_table ask f meant = never_both_then role (found required_key) (path_of at required_key) behind_required ask.required meant.of_required
-      (never_both_then role (found recommended_key) (path_of at recommended_key) (OrderFaults at ask.required) ask.recommended meant.of_recommended
-      (never_both_orders at ask.required ask.recommended meant.in_order)) f
+  never_both_table : (versions : Versions) (f : Fault) → MeansTable members versions → TableFaults members at f → ⊥
+  never_both_table versions f meant = never_both_then role (found required_key) (path_of at required_key) behind_required versions.required meant.of_required
+      (never_both_then role (found recommended_key) (path_of at recommended_key) (OrderFaults at versions.required) versions.recommended meant.of_recommended
+      (never_both_orders at versions.required versions.recommended meant.in_order)) f
 
   never_memory_table : (f : Fault) → TableFaults members at f → holds_memory f.reason ≡ false
   never_memory_table = never_memory_then role (found required_key) (path_of at required_key) behind_required (λ required.
       never_memory_then role (found recommended_key) (path_of at recommended_key) (OrderFaults at required) (never_memory_order at required))
 
-one_table : (members : Members) (a b : Ask) → MeansTable members a → MeansTable members b → a ≡ b
+one_table : (members : Members) (a b : Versions) → MeansTable members a → MeansTable members b → a ≡ b
 one_table members a b h k = same_ask a b
     (role.one_meaning (get_member required_key members) a.required b.required h.of_required k.of_required)
     (role.one_meaning (get_member recommended_key members) a.recommended b.recommended h.of_recommended k.of_recommended)
 
 -- ---- the setting
 
-one_ask : (text : Option (List ℕ)) (table : Option Members) (value : Data) (a b : Ask) → MeansForm text table a → MeansForm text table b → a ≡ b
+one_ask : (text : Option (List ℕ)) (table : Option Members) (value : Data) (a b : Versions) → MeansForm text table a → MeansForm text table b → a ≡ b
 one_ask (Some text) table value a b h k = h.2 ∙ ap requires (held_version.one_meaning (text, value) h.0 k.0 h.1 k.1) ∙ sym k.2
 one_ask None (Some members) value a b h k = one_table members a b h k
 one_ask None None value a b h k = absurd h
@@ -90,10 +89,10 @@ one_form_fault (Some text) table value at f g a b = held_version.one_fault (text
 one_form_fault None (Some members) value at f g a b = one_table_fault members at f g a b
 one_form_fault None None value at f g a b = a ∙ sym b
 
-never_both_forms : (text : Option (List ℕ)) (table : Option Members) (value : Data) (at : List ℕ) (ask : Ask) (f : Fault) → MeansForm text table ask → FormFaults text table value at f → ⊥
-never_both_forms (Some text) table value at ask f h a = held_version.never_both (text, value) at h.0 f h.1 a
-never_both_forms None (Some members) value at ask f h a = never_both_table members at ask f h a
-never_both_forms None None value at ask f h a = h
+never_both_forms : (text : Option (List ℕ)) (table : Option Members) (value : Data) (at : List ℕ) (versions : Versions) (f : Fault) → MeansForm text table versions → FormFaults text table value at f → ⊥
+never_both_forms (Some text) table value at versions f h a = held_version.never_both (text, value) at h.0 f h.1 a
+never_both_forms None (Some members) value at versions f h a = never_both_table members at versions f h a
+never_both_forms None None value at versions f h a = h
 
 never_memory_form : (text : Option (List ℕ)) (table : Option Members) (value : Data) (at : List ℕ) (f : Fault) → FormFaults text table value at f → holds_memory f.reason ≡ false
 never_memory_form (Some text) table value at f a = held_version.never_memory (text, value) at f a
@@ -110,5 +109,5 @@ asking = record {
   never_memory = λ value. never_memory_form (as_str value) (as_table value) value;
 }
 
-pub versions_reading : IsReading (λ value d. MeansVersions value (ask_of d)) VersionsFaults AskAlike
-versions_reading = reading_on ask_of asking
+pub versions_reading : IsReading (λ value d. MeansVersions value (versions_of d)) VersionsFaults VersionsAlike
+versions_reading = reading_on versions_of asking

@@ -1,12 +1,11 @@
 -- What one source says of the experimental features.
 use Rattle.std.specs.Prelude.{◌≡◌, ◌↔◌, ◌⊎◌, ◌++◌, ◌<◌, ℕ, Bool, true, false, List, [], ◌∷◌, map, Contains, codes, decimal, string_bytes, Option, Some, None, IsSome}
-use Rattle.toml.specs.Data.{Data, Items, Members, as_array, as_bool, as_str, as_table, boolean, get_item, get_member, string}
+use Rattle.toml.specs.Data.{Data, Items, Members, as_array, as_bool, as_str, as_table, get_item, get_member}
 use Rattle.nextest_config_values.specs.Read.Fault.{Fault, path_of, wrong_type}
-use Rattle.nextest_config_values.specs.Read.Field.{MeansOr, OptionalFaults}
-use Rattle.nextest_config_values.specs.Read.FromToml.{FaultsAs, MeansAs}
+use Rattle.nextest_config_values.specs.Read.Field.{MeansOr, OptionalFaults, Then}
+use Rattle.nextest_config_values.specs.Read.FromToml.{FaultsAs, MeansAs, text_expected}
 use Rattle.nextest_config_values.specs.Read.Plain.{HasNoFault, MeansTruth}
-use Rattle.nextest_config_values.specs.Read.Word.{text_expected}
-use Rattle.nextest_config.specs.NextestVersion.Experimental.{IsUnknown, all_features, word_of}
+use Rattle.nextest_config.specs.NextestVersion.Experimental.{FeaturesInOrder, IsUnknown, TextsInOrder, all_features, word_of}
 use Rattle.nextest_config.specs.declared.nextest_version.experimental.ConfigExperimental.{ConfigExperimental}
 use Rattle.nextest_config.specs.declared.nextest_version.experimental.ConfigExperimental.TheVariants as features
 use Rattle.nextest_config.specs.declared.nextest_version.experimental_deserialize.ExperimentalDeserialize.{ExperimentalDeserialize}
@@ -17,38 +16,43 @@ pub record Features : Type 0 where
   pub known : List ConfigExperimental
   pub unknown : List (List ℕ)
 
+-- what a setting names
 abbrev pub features_of : ExperimentalDeserialize → Features
 features_of d = record { known = d.known.keys; unknown = map string_bytes d.unknown.keys }
 
+-- no feature, and no other name
 abbrev pub no_features : Features
 no_features = record { known = []; unknown = [] }
 
--- the two lists have the same elements
-abbrev pub SameElements : {X : Type 0} → List X → List X → Type 0
-SameElements {X} xs ys = (x : X) → Contains xs x ↔ Contains ys x
-
--- the two have the same features and the same other names
-pub record SameFeatures (a b : Features) : Type 0 where
-  pub same_known : SameElements a.known b.known
-  pub same_unknown : SameElements a.unknown b.unknown
-
+-- two of them name the same
 abbrev pub FeaturesAlike : ExperimentalDeserialize → ExperimentalDeserialize → Type 0
-FeaturesAlike a b = SameFeatures (features_of a) (features_of b)
+FeaturesAlike a b = features_of a ≡ features_of b
+
+-- both sets are written in order: the features in theirs, the names in byte order
+pub record AreInOrder (named : Features) : Type 0 where
+  pub known_in_order : FeaturesInOrder named.known
+  pub unknown_in_order : TextsInOrder named.unknown
 
 -- the features are those that are enabled, and the other names those that stand there and are words of no feature
 pub record AreNamed (IsEnabled : ConfigExperimental → Type 0) (StandsThere : List ℕ → Type 0) (named : Features) : Type 0 where
   pub of_known : (feature : ConfigExperimental) → Contains named.known feature ↔ IsEnabled feature
   pub of_unknown : (text : List ℕ) → Contains named.unknown text ↔ (StandsThere text × IsUnknown text)
+  pub in_order : AreInOrder named
 
 -- ---- the array form
 
+-- the text that a value holds, if there is a value and it is a text
+abbrev pub text_in : Option Data → Option (List ℕ)
+text_in None = None
+text_in (Some value) = as_str value
+
 -- the element at the index is a text
 abbrev pub IsTextAt : Items → ℕ → Type 0
-IsTextAt items index = (text : List ℕ) × (get_item index items ≡ Some (string text))
+IsTextAt items index = IsSome (text_in (get_item index items))
 
 -- the text is an element
 abbrev pub IsAmong : Items → List ℕ → Type 0
-IsAmong items text = (index : ℕ) × (get_item index items ≡ Some (string text))
+IsAmong items text = (index : ℕ) × (text_in (get_item index items) ≡ Some text)
 
 -- each element is a text; a feature is enabled where its word is an element
 pub record MeansArray (items : Items) (named : Features) : Type 0 where
@@ -90,12 +94,12 @@ is_on switches features.Benchmarks = switches.benchmarks
 -- the value at the key of each feature is a boolean, if there is one; a feature is enabled where it is true; other keys are names whatever their values are
 pub record MeansTable (members : Members) (named : Features) : Type 0 where
   pub of_switches : (feature : ConfigExperimental) → (on : Bool) × MeansSwitch feature members on
-  pub of_names : AreNamed (λ feature. get_member (word_of feature) members ≡ Some (boolean true)) (λ text. IsSome (get_member text members)) named
+  pub of_names : AreNamed (λ feature. MeansSwitch feature members true) (λ text. IsSome (get_member text members)) named
 
 -- the first of these features whose key has a value that is no boolean
 abbrev pub FirstSwitchFaults : List ConfigExperimental → Members → List ℕ → Fault → Type 0
 FirstSwitchFaults [] _ at fault = ⊥
-FirstSwitchFaults (feature ∷ rest) members at fault = SwitchFaults feature members at fault ⊎ (((on : Bool) × MeansSwitch feature members on) × FirstSwitchFaults rest members at fault)
+FirstSwitchFaults (feature ∷ rest) members at fault = Then (SwitchFaults feature members at) (MeansSwitch feature members) (λ on. FirstSwitchFaults rest members at) fault
 
 -- the first of the features in their order
 abbrev pub TableFaults : Members → List ℕ → Fault → Type 0
@@ -133,7 +137,19 @@ FeaturesFaults value at fault = FormFaults (as_array value) (as_table value) val
 pub record AddsText (before : Features) (text : List ℕ) (after : Features) : Type 0 where
   pub more_known : (feature : ConfigExperimental) → Contains after.known feature ↔ (Contains before.known feature ⊎ (word_of feature ≡ text))
   pub more_unknown : (other : List ℕ) → Contains after.unknown other ↔ (Contains before.unknown other ⊎ ((text ≡ other) × IsUnknown other))
+  pub still_in_order : AreInOrder before → AreInOrder after
 
 -- the value is a text, which is added
 abbrev pub AddsItem : Features → Data → Features → Type 0
 AddsItem before value after = (text : List ℕ) × (as_str value ≡ Some text) × AddsText before text after
+
+-- ---- the names of both sets
+
+-- the text is the word of one of the features
+abbrev pub IsWordAmong : List ConfigExperimental → List ℕ → Type 0
+IsWordAmong known text = (feature : ConfigExperimental) × Contains known feature × (word_of feature ≡ text)
+
+-- the names of the features that are enabled and of those that are unknown, in byte order
+pub record AreNames (features : Features) (names : List (List ℕ)) : Type 0 where
+  pub of_both : (text : List ℕ) → Contains names text ↔ (Contains features.unknown text ⊎ IsWordAmong features.known text)
+  pub in_order : TextsInOrder names

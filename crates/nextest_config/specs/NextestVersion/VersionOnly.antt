@@ -1,64 +1,30 @@
 -- Lists of sources: what each asks, the first that is refused, and what stands for them all.
-use Rattle.std.specs.Prelude.{◌≡◌, ◌≢◌, ℕ, List, ◌∷◌, ◌++◌, length, map, codes, Bool, Option, Some, None, IfSome, ◌⊎◌}
+use Rattle.std.specs.Prelude.{◌≡◌, ◌≢◌, ◌↔◌, ◌⊎◌, ℕ, List, ◌∷◌, ◌++◌, length, map, flat_map, Contains, Bool, Option, Some, None, IfSome}
 use Rattle.std.specs.List.{AllByRecursion, AllZip}
 use Rattle.semver.specs.Parse.{Parts}
-use Rattle.toml.specs.Data.{Data, Members, get_member}
-use Rattle.toml.specs.Parse.{parse_document}
-use Rattle.nextest_config_values.specs.Read.Fault.{Fault}
-use Rattle.nextest_config.specs.NextestVersion.Ask.{Ask, nothing, MeansVersions, VersionsFaults}
 use Rattle.nextest_config.specs.NextestVersion.Error.{Refusal, out_of_memory, refusal_of}
-use Rattle.nextest_config.specs.NextestVersion.ErrorKind.{Wrong, not_toml, setting, UnlessNoMemory}
+use Rattle.nextest_config.specs.NextestVersion.Experimental.{FeaturesInOrder}
+use Rattle.nextest_config.specs.NextestVersion.ExperimentalConfig.{AddsFeatures, Experimental, Unknown, entry_at, experimental_of, no_experimental}
 use Rattle.nextest_config.specs.NextestVersion.Precedence.{IsBelow}
 use Rattle.nextest_config.specs.NextestVersion.Requirement.{Kept, Roles, roles_of, roles_from, join_roles}
 use Rattle.nextest_config.specs.NextestVersion.Source.{Place, Source}
 use Rattle.nextest_config.specs.NextestVersion.Verdict.{Verdict, verdict, named_place, IsSelected}
+use Rattle.nextest_config.specs.NextestVersion.VersionOnlyDeserialize.{Ask, IsWrong, TextAsks}
 use Rattle.nextest_config.specs.declared.nextest_version.error.ListRefusal.{ListRefusal}
 use Rattle.nextest_config.specs.declared.nextest_version.error.ListRefusal.TheVariants as refusals
+use Rattle.nextest_config.specs.declared.nextest_version.experimental.ConfigExperimental.{ConfigExperimental}
 use Rattle.nextest_config.specs.declared.nextest_version.version_only.VersionOnlyConfig.{VersionOnlyConfig}
 
 -- ---- one source
 
-abbrev pub version_key : List ℕ
-version_key = codes "nextest-version"
-
--- a value of `nextest-version`, or none, asks this
-abbrev pub AsksVersions : Option Data → Ask → Type 0
-AsksVersions None ask = ask ≡ nothing
-AsksVersions (Some value) ask = MeansVersions value ask
-
--- the table of a document asks this
-abbrev pub Asks : Members → Ask → Type 0
-Asks members ask = AsksVersions (get_member version_key members) ask
-
--- the source is in its grammar with this ask: it has no contents and asks nothing, or its contents are a document whose table asks it
-abbrev pub TextAsks : Option (List ℕ) → Ask → Type 0
-TextAsks None ask = ask ≡ nothing
-TextAsks (Some text) ask = (members : Members) × (parse_document text ≡ Some members) × Asks members ask
-
+-- the source is in its grammar with this ask
 abbrev pub IsRead : Source → Ask → Type 0
-IsRead source ask = TextAsks source.contents ask
-
--- what is wrong with a table
-abbrev pub IsWrongTable : Members → Wrong → Type 0
-IsWrongTable members wrong = (value : Data) × (fault : Fault) × (get_member version_key members ≡ Some value) × VersionsFaults value version_key fault × (wrong ≡ setting fault)
-
-abbrev pub IsWrongDocument : Option Members → Wrong → Type 0
-IsWrongDocument None wrong = wrong ≡ not_toml
-IsWrongDocument (Some members) wrong = IsWrongTable members wrong
-
--- what is wrong with the contents of a source outside its grammar
-abbrev pub IsWrong : Option (List ℕ) → Wrong → Type 0
-IsWrong None wrong = ⊥
-IsWrong (Some text) wrong = IsWrongDocument (parse_document text) wrong
-
--- this is wrong with the contents, or there was no memory
-abbrev pub IsWrongOrMemory : Option (List ℕ) → Wrong → Type 0
-IsWrongOrMemory contents wrong = UnlessNoMemory wrong (IsWrong contents wrong)
+IsRead source ask = TextAsks source.place.kind source.contents ask
 
 -- the source is outside its grammar, with this one error, which carries the source
 pub record IsRefused (source : Source) (refusal : Refusal) : Type 0 where
   pub named : refusal.place ≡ Some source.place
-  pub wrong : IsWrong source.contents refusal.wrong
+  pub wrong : IsWrong source.place.kind source.contents refusal.wrong
 
 -- ---- a list of sources, lowest priority first
 
@@ -67,6 +33,7 @@ pub record Asked : Type 0 where
   pub place : Place
   pub ask : Ask
 
+-- the source asks this, at its place
 pub record IsReadAs (source : Source) (asked : Asked) : Type 0 where
   pub place : asked.place ≡ source.place
   pub read : IsRead source asked.ask
@@ -91,12 +58,15 @@ pub record IsFirstRefused (sources : List Source) (position : ℕ) (refusal : Re
 
 -- ---- what stands for a list of asks
 
+-- in this role none is asked
 abbrev pub AsksNone : (Ask → Option Parts) → Asked → Type 0
 AsksNone role asked = role asked.ask ≡ None
 
+-- in this role this version isn't asked
 abbrev pub AsksOther : (Ask → Option Parts) → Parts → Asked → Type 0
 AsksOther role version asked = role asked.ask ≢ Some version
 
+-- in this role none greater is asked
 abbrev pub AsksNoGreater : (Ask → Option Parts) → Parts → Asked → Type 0
 AsksNoGreater role version asked = IfSome (role asked.ask) (λ greater. ¬ IsBelow version greater)
 
@@ -116,20 +86,38 @@ abbrev pub StandsIn : (Ask → Option Parts) → List Asked → Option Kept → 
 StandsIn role asked None = AllByRecursion (AsksNone role) asked
 StandsIn role asked (Some kept) = IsGreatest role asked kept
 
+-- some position enables the feature
+abbrev pub IsEnabledBySome : List Asked → ConfigExperimental → Type 0
+IsEnabledBySome asked feature = (one : Asked) × Contains asked one × Contains one.ask.features.known feature
+
+-- the features that some position enables, in their order
+pub record AreEnabled (asked : List Asked) (known : List ConfigExperimental) : Type 0 where
+  pub of_some : (feature : ConfigExperimental) → Contains known feature ↔ IsEnabledBySome asked feature
+  pub in_order : FeaturesInOrder known
+
+-- the entry of a position with unknown names
+abbrev pub entry_of : Asked → List Unknown
+entry_of asked = entry_at asked.place asked.ask.features.unknown
+
 -- what reading a list gives
 pub record Configuration : Type 0 where
   pub roles : Roles
+  pub experimental : Experimental
 
+-- what was read
 abbrev pub configuration_of : VersionOnlyConfig → Configuration
-configuration_of config = record { roles = roles_of config.nextest_version }
+configuration_of config = record { roles = roles_of config.nextest_version; experimental = experimental_of config.experimental }
 
 -- the configuration that asks nothing
 abbrev pub neutral : Configuration
-neutral = record { roles = record { required = None; recommended = None } }
+neutral = record { roles = record { required = None; recommended = None }; experimental = no_experimental }
 
+-- the configuration stands for the asks
 pub record StandsForAsks (asked : List Asked) (configuration : Configuration) : Type 0 where
-  pub required : StandsIn (λ ask. ask.required) asked configuration.roles.required
-  pub recommended : StandsIn (λ ask. ask.recommended) asked configuration.roles.recommended
+  pub required : StandsIn (λ ask. ask.versions.required) asked configuration.roles.required
+  pub recommended : StandsIn (λ ask. ask.versions.recommended) asked configuration.roles.recommended
+  pub known : AreEnabled asked configuration.experimental.known
+  pub unknown : configuration.experimental.unknown ≡ flat_map entry_of asked
 
 -- the configuration stands for the sources
 abbrev pub StandsFor : List Source → Configuration → Type 0
@@ -139,12 +127,13 @@ StandsFor sources configuration = (asked : List Asked) × AreRead sources asked 
 
 -- the verdict of a source read alone
 abbrev pub alone : Parts → Bool → Asked → Verdict
-alone current overridden asked = verdict (roles_from asked.place asked.ask) current overridden
+alone current overridden asked = verdict (roles_from asked.place asked.ask.versions) current overridden
 
 -- for each current version and both flags, the verdict of the roles is selected from the verdicts of the asks alone
 abbrev pub SelectsAmong : List Asked → Roles → Type 0
 SelectsAmong asked roles = (current : Parts) (overridden : Bool) → IsSelected (map (alone current overridden) asked) (verdict roles current overridden)
 
+-- the roles select among what the sources ask
 abbrev pub SelectsFor : List Source → Roles → Type 0
 SelectsFor sources roles = (asked : List Asked) × AreRead sources asked × SelectsAmong asked roles
 
@@ -171,5 +160,8 @@ abbrev pub IsErrorOfList : List Source → Refusal → Type 0
 IsErrorOfList sources refusal = (refusal ≡ out_of_memory) ⊎ ((position : ℕ) × IsFirstRefused sources position refusal)
 
 -- the new configuration is the old one joined with what the contents of the place ask
-abbrev pub Adds : Place → Option (List ℕ) → Configuration → Configuration → Type 0
-Adds place contents old new = (ask : Ask) × TextAsks contents ask × (new.roles ≡ join_roles old.roles (roles_from place ask))
+pub record Adds (place : Place) (contents : Option (List ℕ)) (old new : Configuration) : Type 0 where
+  pub ask : Ask
+  pub read : TextAsks place.kind contents ask
+  pub roles : new.roles ≡ join_roles old.roles (roles_from place ask.versions)
+  pub experimental : AddsFeatures place ask.features old.experimental new.experimental

@@ -5,14 +5,14 @@ ghost use Rattle.semver.specs.Identifiers.{parts_of};
 ghost use Rattle.toml.specs.View.{table_view};
 ghost use Rattle.nextest_config_values.specs.Read.Fault.{Refuses, fault_of};
 ghost use Rattle.nextest_config_values.specs.Read.FromToml.{reading_on};
-ghost use Rattle.nextest_config.specs.NextestVersion.Ask.{AreInOrder, AskAlike, MeansRole, MeansTable, MeansVersion, MeansVersions, OrderFaults, RoleFaults, TableFaults, VersionFaults, VersionTextFaults, VersionsFaults, ask_of, asks, nothing};
+ghost use Rattle.nextest_config.specs.NextestVersion.Ask.{AreInOrder, MeansRole, MeansTable, MeansVersion, MeansVersions, OrderFaults, RoleFaults, TableFaults, VersionFaults, VersionTextFaults, VersionsAlike, VersionsFaults, asks, no_versions, versions_of};
 ghost use Rattle.nextest_config.specs.NextestVersion.VersionText.{HasVersion};
 ghost use Rattle.nextest_config.specs.NextestVersion.AskLaws.{version_reading, versions_reading};
 
 use super::version_text::parse_version;
 use nextest_config_values::read::{FaultKind, FromToml, ReadFault, Rule, optional_field};
 use semver::Version;
-use std::alloc::Global;
+use std::alloc::{AllocError, Global};
 use std::cmp::Ordering;
 use toml::{Table, Value};
 
@@ -41,7 +41,7 @@ struct VersionText {
 impl NextestVersionDeserialize {
     /// Asks for no version.
     pub(crate) fn nothing() -> Self
-        ensures { ask_of result ≡ nothing }
+        ensures { versions_of result ≡ no_versions }
     {
         NextestVersionDeserialize {
             required: None,
@@ -49,9 +49,21 @@ impl NextestVersionDeserialize {
         }
     }
 
+    /// A copy of the versions that are asked for.
+    pub fn clone(&self, _alloc: Global) -> Result<Self, AllocError>
+        ensures { IfOk result (λ d. versions_of d ≡ versions_of self.now) }
+    {
+        let required = self.required.clone()?;
+        let recommended = self.recommended.clone()?;
+        Ok(NextestVersionDeserialize {
+            required,
+            recommended,
+        })
+    }
+
     // What a table asks.
     fn read_table(alloc: Global, table: &Table, at: &str) -> Result<Self, ReadFault>
-        ensures meant { IfOk result (λ d. MeansTable (table_view table.now) (ask_of d)) }
+        ensures meant { IfOk result (λ d. MeansTable (table_view table.now) (versions_of d)) }
         ensures refused { IfErr result (λ fault. Refuses
             (TableFaults (table_view table.now) at.now) (Unit {0}) (fault_of fault)) }
     {
@@ -68,7 +80,7 @@ impl NextestVersionDeserialize {
         recommended: Option<Version>,
         at: &str,
     ) -> Result<Self, ReadFault>
-        ensures both { IfOk result (λ d. ask_of d
+        ensures both { IfOk result (λ d. versions_of d
             ≡ asks (option_map parts_of required) (option_map parts_of recommended)) }
         ensures in_order { OnOk result
             (AreInOrder (option_map parts_of required) (option_map parts_of recommended)) }
@@ -99,13 +111,13 @@ impl NextestVersionDeserialize {
 }
 
 impl FromToml for NextestVersionDeserialize {
-    ghost means = { λ value d. MeansVersions value (ask_of d) };
+    ghost means = { λ value d. MeansVersions value (versions_of d) };
 
     ghost faults = { VersionsFaults };
 
     ghost needs_memory = { true };
 
-    ghost alike = { AskAlike };
+    ghost alike = { VersionsAlike };
 
     ghost laws = { versions_reading };
 

@@ -1,10 +1,11 @@
 //! What is wrong with a source.
 
-ghost use Rattle.std.specs.Prelude.{◌≡◌, ◌↔◌, IsTrue, Some};
+ghost use Rattle.std.specs.Prelude.{◌≡◌, Some};
 ghost use Rattle.nextest_config_values.specs.Read.Fault.{fault_of};
 
-use nextest_config_values::read::ReadFault;
+use nextest_config_values::read::{QuotedTexts, ReadFault};
 use std::alloc::AllocError;
+use std::collections::BTreeSet;
 use std::fmt;
 
 /// What is wrong with a configuration source.
@@ -14,6 +15,8 @@ pub enum ConfigParseErrorKind {
     TomlParseError,
     /// A setting in it is refused.
     VersionOnlyDeserializeError(ReadFault),
+    /// It is a tool's file, which may name no experimental feature, and names these.
+    ExperimentalFeaturesInToolConfig { features: BTreeSet<String> },
     /// Nothing is said of it, since a request for memory was refused.
     Memory,
 }
@@ -28,7 +31,8 @@ impl ConfigParseErrorKind {
         match self {
             ConfigParseErrorKind::Memory => true,
             ConfigParseErrorKind::TomlParseError
-            | ConfigParseErrorKind::VersionOnlyDeserializeError(_) => false,
+            | ConfigParseErrorKind::VersionOnlyDeserializeError(_)
+            | ConfigParseErrorKind::ExperimentalFeaturesInToolConfig { .. } => false,
         }
     }
 }
@@ -66,6 +70,11 @@ impl fmt::Display for ConfigParseErrorKind {
         match self {
             ConfigParseErrorKind::TomlParseError => f.write_str("not a TOML document"),
             ConfigParseErrorKind::VersionOnlyDeserializeError(fault) => write!(f, "{fault}"),
+            ConfigParseErrorKind::ExperimentalFeaturesInToolConfig { features } => write!(
+                f,
+                "experimental features in a tool configuration: {}",
+                QuotedTexts(features)
+            ),
             ConfigParseErrorKind::Memory => f.write_str("out of memory"),
         }
     }

@@ -2,7 +2,7 @@
 
 ghost use Rattle.std.specs.Prelude.{◌≡◌, ◌↔◌, Contains, Some, IfOk, IsTrue, OnErr, OnOk, option_map};
 ghost use Rattle.std.specs.Iterator.{YieldsFirst, item_count};
-ghost use Rattle.nextest_config.specs.NextestVersion.Experimental.{HasOneMore, IsEnabled, IsUnknown, all_features, features_left, variable_of, word_of};
+ghost use Rattle.nextest_config.specs.NextestVersion.Experimental.{FeaturesInOrder, HasOneMore, IsEnabled, IsUnknown, all_features, features_left, variable_of, word_of};
 
 use std::alloc::{AllocError, Global};
 use std::collections::{BTreeMap, BTreeSet};
@@ -107,7 +107,8 @@ pub(crate) fn add_feature(
     features: &mut BTreeSet<ConfigExperimental>,
     feature: ConfigExperimental,
 ) -> Result<(), AllocError>
-    ensures { OnOk result (HasOneMore features.old.keys feature features.new.keys) }
+    ensures added { OnOk result (HasOneMore features.old.keys feature features.new.keys) }
+    ensures in_order { FeaturesInOrder features.new.keys }
 {
     features.insert(feature)?;
     Ok(())

@@ -2,14 +2,14 @@
 
 ghost use Rattle.std.specs.Prelude.{◌≡◌, ◌↔◌, ℕ, List, Contains, true, IfOk, IfErr, IsTrue, OnOk, map, string_bytes};
 ghost use Rattle.toml.specs.View.{array_view, table_view, view};
-ghost use Rattle.nextest_config_values.specs.Read.Fault.{Refuses, RefusesAs, fault_of, no_memory, wrong_type};
-ghost use Rattle.nextest_config_values.specs.Read.Word.{text_expected};
-ghost use Rattle.nextest_config.specs.NextestVersion.Experimental.{HasOneMore, word_of};
-ghost use Rattle.nextest_config.specs.NextestVersion.ExperimentalDeserialize.{AddsItem, AddsText, ArrayFaults, FeaturesAlike, FeaturesFaults, IsUnknownKey, ItemFaults, MeansArray, MeansFeatures, MeansSwitch, MeansTable, SwitchFaults, TableFaults, features_of, is_on, item_path, no_features};
+ghost use Rattle.nextest_config_values.specs.Read.Fault.{Refuses, RefusesAs, fault_of, wrong_type};
+ghost use Rattle.nextest_config_values.specs.Read.FromToml.{text_expected};
+ghost use Rattle.nextest_config.specs.NextestVersion.Experimental.{FeaturesInOrder, HasOneMore, TextsInOrder};
+ghost use Rattle.nextest_config.specs.NextestVersion.ExperimentalDeserialize.{AddsItem, AddsText, AreInOrder, AreNames, ArrayFaults, FeaturesAlike, FeaturesFaults, IsUnknownKey, IsWordAmong, ItemFaults, MeansArray, MeansFeatures, MeansSwitch, MeansTable, SwitchFaults, TableFaults, features_of, is_on, item_path, no_features};
 ghost use Rattle.nextest_config.specs.NextestVersion.ExperimentalLaws.{features_reading};
 
 use super::experimental::{ConfigExperimental, add_feature};
-use nextest_config_values::read::{FaultKind, FromToml, ReadFault, field_or};
+use nextest_config_values::read::{FromToml, ReadFault, field_or};
 use std::alloc::{AllocError, Global};
 use std::collections::BTreeSet;
 use toml::value::Array;
@@ -66,8 +66,9 @@ impl Switches {
 
     // The features that the table enables.
     fn features(self, alloc: Global) -> Result<BTreeSet<ConfigExperimental>, AllocError>
-        ensures { IfOk result (λ features. (feature : ConfigExperimental)
+        ensures on { IfOk result (λ features. (feature : ConfigExperimental)
             → Contains features.keys feature ↔ IsTrue (is_on self feature)) }
+        ensures in_order { IfOk result (λ features. FeaturesInOrder features.keys) }
     {
         let mut features = BTreeSet::new(alloc);
         for feature in ConfigExperimental::known_features() {
@@ -88,6 +89,33 @@ impl ExperimentalDeserialize {
             known: BTreeSet::new(alloc),
             unknown: BTreeSet::new(alloc),
         }
+    }
+
+    /// A copy of the features and the other names.
+    pub fn clone(&self, _alloc: Global) -> Result<Self, AllocError>
+        ensures { IfOk result (λ d. features_of d ≡ features_of self.now) }
+    {
+        let known = self.known.clone()?;
+        let unknown = self.unknown.clone()?;
+        Ok(ExperimentalDeserialize { known, unknown })
+    }
+
+    /// Whether no feature is named.
+    pub(crate) fn is_empty(&self) -> bool
+        ensures { IsTrue result ↔ (features_of self.now ≡ no_features) }
+    {
+        self.known.is_empty() && self.unknown.is_empty()
+    }
+
+    /// The names of the known features and of the unknown ones.
+    pub(crate) fn feature_names(&self, alloc: Global) -> Result<BTreeSet<String>, AllocError>
+        ensures { IfOk result (λ names. AreNames (features_of self.now) (map string_bytes names.keys)) }
+    {
+        let mut names = known_words(alloc, &self.known)?;
+        for name in &self.unknown {
+            add_text(alloc, &mut names, name.as_str())?;
+        }
+        Ok(names)
     }
 
     // The features that an array names.
@@ -121,7 +149,7 @@ impl ExperimentalDeserialize {
         };
         match self.add(alloc, text) {
             Ok(()) => Ok(()),
-            Err(AllocError) => Err(memory_fault(alloc)),
+            Err(AllocError) => Err(ReadFault::memory(alloc)),
         }
     }
 
@@ -134,7 +162,7 @@ impl ExperimentalDeserialize {
         let switches = Switches::read(alloc, table, at)?;
         match ExperimentalDeserialize::of_table(alloc, table, switches) {
             Ok(features) => Ok(features),
-            Err(AllocError) => Err(memory_fault(alloc)),
+            Err(AllocError) => Err(ReadFault::memory(alloc)),
         }
     }
 
@@ -144,6 +172,7 @@ impl ExperimentalDeserialize {
             → Contains (features_of d).known feature ↔ IsTrue (is_on switches feature)) }
         ensures unknown { IfOk result (λ d. (text : List ℕ)
             → Contains (features_of d).unknown text ↔ IsUnknownKey (table_view table.now) text) }
+        ensures in_order { IfOk result (λ d. AreInOrder (features_of d)) }
     {
         let known = switches.features(alloc)?;
         let unknown = unknown_keys(alloc, table)?;
@@ -189,6 +218,22 @@ impl FromToml for ExperimentalDeserialize {
     }
 }
 
+// The words of features.
+fn known_words(
+    alloc: Global,
+    known: &BTreeSet<ConfigExperimental>,
+) -> Result<BTreeSet<String>, AllocError>
+    ensures words { IfOk result (λ words. (text : List ℕ)
+        → Contains (map string_bytes words.keys) text ↔ IsWordAmong known.now.keys text) }
+    ensures in_order { IfOk result (λ words. TextsInOrder (map string_bytes words.keys)) }
+{
+    let mut words = BTreeSet::new(alloc);
+    for feature in known {
+        add_text(alloc, &mut words, feature.as_word())?;
+    }
+    Ok(words)
+}
+
 // Whether the key of a feature is true; a missing key is false.
 fn read_switch(
     alloc: Global,
@@ -206,8 +251,9 @@ fn read_switch(
 
 // The keys of a table that are words of no feature.
 fn unknown_keys(alloc: Global, table: &Table) -> Result<BTreeSet<String>, AllocError>
-    ensures { IfOk result (λ unknown. (text : List ℕ)
+    ensures unknown { IfOk result (λ unknown. (text : List ℕ)
         → Contains (map string_bytes unknown.keys) text ↔ IsUnknownKey (table_view table.now) text) }
+    ensures in_order { IfOk result (λ unknown. TextsInOrder (map string_bytes unknown.keys)) }
 {
     let mut unknown = BTreeSet::new(alloc);
     for key in table.keys() {
@@ -221,8 +267,9 @@ fn unknown_keys(alloc: Global, table: &Table) -> Result<BTreeSet<String>, AllocE
 
 // Adds a text to a set.
 fn add_text(alloc: Global, texts: &mut BTreeSet<String>, text: &str) -> Result<(), AllocError>
-    ensures { OnOk result (HasOneMore (map string_bytes texts.old.keys) text.now
+    ensures added { OnOk result (HasOneMore (map string_bytes texts.old.keys) text.now
         (map string_bytes texts.new.keys)) }
+    ensures in_order { OnOk result (TextsInOrder (map string_bytes texts.new.keys)) }
 {
     let text = String::from_str(alloc, text)?;
     texts.insert(text)?;
@@ -236,16 +283,6 @@ fn item_fault(alloc: Global, value: &Value, index: usize, at: &str) -> ReadFault
 {
     match format!(in alloc; "{at}[{index}]") {
         Ok(path) => ReadFault::invalid_type(alloc, value, path.as_str(), "a string"),
-        Err(AllocError) => memory_fault(alloc),
-    }
-}
-
-// The fault that says nothing of the value.
-fn memory_fault(alloc: Global) -> ReadFault
-    ensures { fault_of result ≡ no_memory }
-{
-    ReadFault {
-        path: String::new(alloc),
-        kind: FaultKind::Memory,
+        Err(AllocError) => ReadFault::memory(alloc),
     }
 }

@@ -86,6 +86,20 @@ impl NextestVersionReq {
         }
     }
 
+    /// A copy of what is kept.
+    pub fn clone(&self, alloc: Global) -> Result<Self, AllocError>
+        ensures { IfOk result (λ req. kept_of req ≡ kept_of self.now) }
+    {
+        match self {
+            NextestVersionReq::Version { version, source } => {
+                let version = version.clone()?;
+                let source = source.clone(alloc)?;
+                Ok(NextestVersionReq::Version { version, source })
+            }
+            NextestVersionReq::None => Ok(NextestVersionReq::None),
+        }
+    }
+
     // What is kept instead once this version is asked from this source; `None` where nothing changes.
     fn raised(
         &self,
@@ -128,7 +142,7 @@ impl NextestVersionReq {
 }
 
 impl NextestVersionConfig {
-    ghost use Rattle.nextest_config.specs.NextestVersion.Ask.{ask_of};
+    ghost use Rattle.nextest_config.specs.NextestVersion.Ask.{versions_of};
     ghost use Rattle.nextest_config.specs.NextestVersion.Requirement.{join_roles, roles_from, roles_of};
     ghost use Rattle.nextest_config.specs.NextestVersion.Source.{place_of};
     ghost use Rattle.nextest_config.specs.NextestVersion.Verdict.{satisfied, verdict, verdict_of};
@@ -142,7 +156,7 @@ impl NextestVersionConfig {
         source: &ConfigSource,
     ) -> Result<(), AllocError>
         ensures joined { OnOk result (roles_of self.new
-            ≡ join_roles (roles_of self.old) (roles_from (place_of source.now) (ask_of v))) }
+            ≡ join_roles (roles_of self.old) (roles_from (place_of source.now) (versions_of v))) }
         ensures unchanged { OnErr result (roles_of self.new ≡ roles_of self.old) }
     {
         let NextestVersionDeserialize {
@@ -158,6 +172,18 @@ impl NextestVersionConfig {
             self.recommended = req;
         }
         Ok(())
+    }
+
+    /// A copy of the versions that are kept.
+    pub fn clone(&self, alloc: Global) -> Result<Self, AllocError>
+        ensures { IfOk result (λ config. roles_of config ≡ roles_of self.now) }
+    {
+        let required = self.required.clone(alloc)?;
+        let recommended = self.recommended.clone(alloc)?;
+        Ok(NextestVersionConfig {
+            required,
+            recommended,
+        })
     }
 
     /// The verdict on the current version.
@@ -252,6 +278,35 @@ impl NextestVersionEval {
                 current,
                 source,
             })
+        }
+    }
+
+    /// A copy of the verdict.
+    pub fn clone(&self, alloc: Global) -> Result<Self, AllocError>
+        ensures { IfOk result (λ eval. verdict_of eval ≡ verdict_of self.now) }
+    {
+        match self {
+            NextestVersionEval::Satisfied => Ok(NextestVersionEval::Satisfied),
+            NextestVersionEval::Error {
+                required,
+                current,
+                source,
+            } => NextestVersionEval::error(alloc, required, current, source, false),
+            NextestVersionEval::Warn {
+                recommended,
+                current,
+                source,
+            } => NextestVersionEval::warning(alloc, recommended, current, source, false),
+            NextestVersionEval::ErrorOverride {
+                required,
+                current,
+                source,
+            } => NextestVersionEval::error(alloc, required, current, source, true),
+            NextestVersionEval::WarnOverride {
+                recommended,
+                current,
+                source,
+            } => NextestVersionEval::warning(alloc, recommended, current, source, true),
         }
     }
 

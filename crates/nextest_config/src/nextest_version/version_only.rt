@@ -1,40 +1,52 @@
 //! The configuration of a list of sources.
 
-ghost use Rattle.std.specs.Prelude.{◌≡◌, IfOk, IfErr, OnOk, OnErr, map, option_map, reverse, string_bytes};
-ghost use Rattle.toml.specs.View.{table_view};
-ghost use Rattle.nextest_config.specs.NextestVersion.Ask.{ask_of};
+ghost use Rattle.std.specs.Prelude.{◌≡◌, IfOk, IfErr, OnOk, map, option_map, reverse, string_bytes};
 ghost use Rattle.nextest_config.specs.NextestVersion.Error.{out_of_memory, refusal_of};
-ghost use Rattle.nextest_config.specs.NextestVersion.ErrorKind.{UnlessNoMemory, wrong_of};
+ghost use Rattle.nextest_config.specs.NextestVersion.ErrorKind.{wrong_of};
+ghost use Rattle.nextest_config.specs.NextestVersion.ExperimentalConfig.{experimental_of};
 ghost use Rattle.nextest_config.specs.NextestVersion.Requirement.{roles_of};
 ghost use Rattle.nextest_config.specs.NextestVersion.Source.{place_of, source_of, sources_of, tool_source};
-ghost use Rattle.nextest_config.specs.NextestVersion.VersionOnly.{Adds, Asks, IsErrorOfList, IsRefusalOf, IsWrongOrMemory, IsWrongTable, Reads, SelectsFor, StandsFor, TextAsks, configuration_of, neutral};
+ghost use Rattle.nextest_config.specs.NextestVersion.VersionOnly.{Adds, IsErrorOfList, IsRefusalOf, Reads, SelectsFor, StandsFor, configuration_of, neutral};
+ghost use Rattle.nextest_config.specs.NextestVersion.VersionOnlyDeserialize.{IsWrongOrMemory};
 ghost use Rattle.nextest_config.specs.declared.nextest_version.error.ListRefusal.TheVariants.{Memory};
 
-use super::ask::NextestVersionDeserialize;
 use super::error::{ConfigParseError, ListRefusal};
 use super::error_kind::ConfigParseErrorKind;
+use super::experimental_config::ExperimentalConfig;
 use super::requirement::NextestVersionConfig;
 use super::source::{ConfigSource, RepositoryText, SourceText, ToolText};
-use nextest_config_values::read::optional_field;
-use std::alloc::Global;
-use toml::Table;
+use super::version_only_deserialize::VersionOnlyDeserialize;
+use std::alloc::{AllocError, Global};
 
-const VERSION_KEY: &str = "nextest-version";
-
-/// The part of the configuration that says which nextest version it needs.
+/// The part of the configuration that is read before any other: which nextest version it needs, and
+/// which experimental features it names.
 #[derive(Debug, PartialEq, Eq, Drop)]
 pub struct VersionOnlyConfig {
     nextest_version: NextestVersionConfig,
+    experimental: ExperimentalConfig,
 }
 
 impl VersionOnlyConfig {
     /// The configuration of no source, which asks nothing.
-    pub fn new(_alloc: Global) -> Self
+    pub fn new(alloc: Global) -> Self
         ensures { configuration_of result ≡ neutral }
     {
         VersionOnlyConfig {
             nextest_version: NextestVersionConfig::default(),
+            experimental: ExperimentalConfig::new(alloc),
         }
+    }
+
+    /// A copy of the configuration.
+    pub fn clone(&self, alloc: Global) -> Result<Self, AllocError>
+        ensures { IfOk result (λ config. configuration_of config ≡ configuration_of self.now) }
+    {
+        let nextest_version = self.nextest_version.clone(alloc)?;
+        let experimental = self.experimental.clone(alloc)?;
+        Ok(VersionOnlyConfig {
+            nextest_version,
+            experimental,
+        })
     }
 
     /// Reads the sources, lowest priority first, up to the first one that is refused.
@@ -106,6 +118,13 @@ impl VersionOnlyConfig {
         &self.nextest_version
     }
 
+    /// The experimental features that the sources name.
+    pub fn experimental(&self) -> &ExperimentalConfig
+        ensures { experimental_of result.now ≡ (configuration_of self.now).experimental }
+    {
+        &self.experimental
+    }
+
     // Takes in one more source.
     fn add(
         &mut self,
@@ -116,50 +135,16 @@ impl VersionOnlyConfig {
         ensures added { OnOk result (Adds (place_of source.now) (option_map string_bytes contents.now)
             (configuration_of self.old) (configuration_of self.new)) }
         ensures refused { IfErr result (λ kind.
-            IsWrongOrMemory (option_map string_bytes contents.now) (wrong_of kind)) }
+            IsWrongOrMemory source.now.kind (option_map string_bytes contents.now) (wrong_of kind)) }
     {
-        let asked = read_contents(alloc, contents)?;
-        self.nextest_version.accumulate(alloc, asked, source)?;
+        let asked = VersionOnlyDeserialize::read(alloc, &source.kind, contents)?;
+        let VersionOnlyDeserialize {
+            nextest_version,
+            experimental,
+        } = asked;
+        self.nextest_version
+            .accumulate(alloc, nextest_version, source)?;
+        self.experimental.accumulate(alloc, experimental, source)?;
         Ok(())
-    }
-}
-
-// What the contents of a source ask.
-fn read_contents(
-    alloc: Global,
-    contents: &Option<String>,
-) -> Result<NextestVersionDeserialize, ConfigParseErrorKind>
-    ensures read { IfOk result (λ d. TextAsks (option_map string_bytes contents.now) (ask_of d)) }
-    ensures refused { IfErr result (λ kind.
-        IsWrongOrMemory (option_map string_bytes contents.now) (wrong_of kind)) }
-{
-    let Some(text) = contents else {
-        return Ok(NextestVersionDeserialize::nothing());
-    };
-    match toml::table_from_str(alloc, text.as_str()) {
-        Ok(table) => read_table(alloc, &table),
-        Err(error) => {
-            if error.is_memory() {
-                Err(ConfigParseErrorKind::Memory)
-            } else {
-                Err(ConfigParseErrorKind::TomlParseError)
-            }
-        }
-    }
-}
-
-// What the table of a document asks.
-fn read_table(
-    alloc: Global,
-    table: &Table,
-) -> Result<NextestVersionDeserialize, ConfigParseErrorKind>
-    ensures read { IfOk result (λ d. Asks (table_view table.now) (ask_of d)) }
-    ensures refused { IfErr result (λ kind.
-        UnlessNoMemory (wrong_of kind) (IsWrongTable (table_view table.now) (wrong_of kind))) }
-{
-    let asked: Option<NextestVersionDeserialize> = optional_field(alloc, table, VERSION_KEY, "")?;
-    match asked {
-        Some(asked) => Ok(asked),
-        None => Ok(NextestVersionDeserialize::nothing()),
     }
 }

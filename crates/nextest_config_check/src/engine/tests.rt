@@ -158,16 +158,33 @@ fn names_the_source_of_the_greatest_version(rt: HostRuntime) -> Result<(), Fail>
 #[test]
 fn reads_a_tool_and_the_repository(rt: HostRuntime) -> Result<(), Fail> {
     let input =
-        b"=== tool my-tool:/etc/t.toml\nnextest-version = \"0.9.50\"\n=== repository .config/nextest.toml\nnextest-version = { recommended = \"0.9.60\" }\n";
+        b"=== tool my-tool:/etc/t.toml\nnextest-version = \"0.9.50\"\n=== repository .config/nextest.toml\nnextest-version = { recommended = \"0.9.60\" }\nexperimental = [\"benchmarks\", \"future\"]\n";
     let warning =
-        "warning: 0.9.60 recommended by repository .config/nextest.toml, current 0.9.55\nknown: none\n";
+        "warning: 0.9.60 recommended by repository .config/nextest.toml, current 0.9.55\nknown: benchmarks\nunknown in repository .config/nextest.toml: \"future\"\n";
     let error =
-        "error: 0.9.50 required by tool my-tool (/etc/t.toml), current 0.9.49\nknown: none\n";
+        "error: 0.9.50 required by tool my-tool (/etc/t.toml), current 0.9.49\nknown: benchmarks\nunknown in repository .config/nextest.toml: \"future\"\n";
     let overridden =
-        "error (overridden): 0.9.50 required by tool my-tool (/etc/t.toml), current 0.9.49\nknown: none\n";
+        "error (overridden): 0.9.50 required by tool my-tool (/etc/t.toml), current 0.9.49\nknown: benchmarks\nunknown in repository .config/nextest.toml: \"future\"\n";
     expect_report(&rt, &["0.9.55"], input, 0, warning)?;
     expect_report(&rt, &["0.9.49"], input, 1, error)?;
     expect_report(&rt, &["0.9.49", "--override"], input, 0, overridden)
+}
+
+#[test]
+fn reports_features_in_order(rt: HostRuntime) -> Result<(), Fail> {
+    let input =
+        b"=== explicit a.toml\nexperimental = [\"y\", \"benchmarks\", \"x\\n\"]\n=== explicit a.toml\nexperimental = { z = 1, wrapper-scripts = true, setup-scripts = true }\n";
+    let output =
+        "satisfied: 1.0.0\nknown: setup-scripts, wrapper-scripts, benchmarks\nunknown in explicit a.toml: \"x\\n\", \"y\"\nunknown in explicit a.toml: \"z\"\n";
+    expect_report(&rt, &["1.0.0"], input, 0, output)
+}
+
+#[test]
+fn refuses_a_tool_with_features(rt: HostRuntime) -> Result<(), Fail> {
+    let input = b"=== tool my-tool:/etc/t.toml\nexperimental = [\"x\", \"benchmarks\"]\n";
+    let output =
+        "refused at 0: tool my-tool (/etc/t.toml): experimental features in a tool configuration: \"benchmarks\", \"x\"\n";
+    expect_report(&rt, &["1.0.0"], input, 2, output)
 }
 
 #[test]

@@ -11,8 +11,7 @@ use Rattle.nextest_config_values.specs.Identifier.Error.{Component, IdentifierFl
 use Rattle.nextest_config_values.specs.Identifier.Normal.{IsNormalFault, IsNormalText, NameFaults, normal_chars}
 use Rattle.nextest_config_values.specs.Identifier.ToolName.{IsToolName, IsToolNameFlaw, ToolNameFaults}
 use Rattle.nextest_config_values.specs.Read.Fault.{Fault, Reason, fault_at, holds_memory, identifier, tool_name}
-use Rattle.nextest_config_values.specs.Read.FromToml.{FaultsAs, IsHeldReading, IsReading, MeansAs, equality, reading_as}
-use Rattle.nextest_config_values.specs.Read.Word.{text_expected}
+use Rattle.nextest_config_values.specs.Read.FromToml.{FaultsAs, IsHeldReading, IsReading, MeansAs, equality, reading_as, text_expected}
 use Rattle.nextest_config_values.specs.declared.helpers.InvalidIdentifierKind.{InvalidIdentifierKind}
 use Rattle.nextest_config_values.specs.declared.helpers.InvalidIdentifierKind.TheVariants as flaws
 use Rattle.nextest_config_values.specs.declared.identifier.error.ToolNameFlaw.TheVariants as of_names

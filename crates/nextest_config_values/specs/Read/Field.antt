@@ -39,6 +39,6 @@ abbrev pub WantsIfRequired : {X : Type 0} → (Data → X → Type 0) → Bool �
 WantsIfRequired means needs_memory None = Unit {0}
 WantsIfRequired means needs_memory (Some value) = WantsMemory (means value) needs_memory
 
--- a first fault, or one that comes behind a first part that means something
-abbrev pub Then : {X : Type 0} → (Fault → Type 0) → (X → Type 0) → (X → Fault → Type 0) → Fault → Type 0
-Then {X} first means later fault = first fault ⊎ ((x : X) × means x × later x fault)
+-- what is wrong first, or behind a first part that means something
+abbrev pub Then : {X F : Type 0} → (F → Type 0) → (X → Type 0) → (X → F → Type 0) → F → Type 0
+Then {X} {F} first means later fault = first fault ⊎ ((x : X) × means x × later x fault)

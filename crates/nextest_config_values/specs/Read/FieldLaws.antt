@@ -61,14 +61,18 @@ module _ {X : Type 0} {means : Data → X → Type 0} {faults : Data → List �
 
 -- ---- a part, and what comes behind it
 
+-- one thing is wrong in turn, where one is wrong first, one behind a first part, and not both
+pub one_then : {X F : Type 0} {first : F → Type 0} {means : X → Type 0} {later : X → F → Type 0} → ((f g : F) → first f → first g → f ≡ g) → ((x : X) (f : F) → means x → first f → ⊥)
+    → ((x y : X) → means x → means y → x ≡ y) → ((x : X) (f g : F) → later x f → later x g → f ≡ g) → (f g : F) → Then first means later f → Then first means later g → f ≡ g
+one_then one never same later_one f g (inl a) (inl b) = one f g a b
+one_then one never same later_one f g (inl a) (inr (x, meant, b)) = absurd (never x f meant a)
+one_then one never same later_one f g (inr (x, meant, a)) (inl b) = absurd (never x g meant b)
+one_then {X} {F} {first} {means} {later} one never same later_one f g (inr (x, meant, a)) (inr (y, also, b)) =
+    later_one x f g a (subst (λ (z : X). later z g) (same y x also meant) b)
+
 module _ {D X : Type 0} {means : D → X → Type 0} {faults : D → List ℕ → Fault → Type 0} (reading : IsReading means faults (λ x y. x ≡ y)) (value : D) (path : List ℕ) (later : X → Fault → Type 0) where
   pub one_fault_then : ((x : X) (f g : Fault) → later x f → later x g → f ≡ g) → (f g : Fault) → Then (faults value path) (means value) later f → Then (faults value path) (means value) later g → f ≡ g
-  one_fault_then one f g (inl a) (inl b) = reading.one_fault value path f g a b
-  one_fault_then one f g (inl a) (inr b) = absurd (reading.never_both value path b.0 f b.1 a)
-  one_fault_then one f g (inr a) (inl b) = absurd (reading.never_both value path a.0 g a.1 b)
-  one_fault_then one f g (inr a) (inr b) =
-      let same : b.0 ≡ a.0 = reading.one_meaning value b.0 a.0 b.1 a.1 in
-      one a.0 f g a.2 (subst (λ (x : X). later x g) same b.2)
+  one_fault_then = one_then (reading.one_fault value path) (reading.never_both value path) (reading.one_meaning value)
 
   pub never_both_then : (x : X) → means value x → ((f : Fault) → later x f → ⊥) → (f : Fault) → Then (faults value path) (means value) later f → ⊥
   never_both_then x meant none f (inl a) = reading.never_both value path x f meant a

@@ -1,5 +1,5 @@
 -- What a reader of TOML values is: a relation of values and results, a relation of values and faults, and their laws.
-use Rattle.std.specs.Prelude.{◌≡◌, ℕ, Bool, false, List, Option, Some, None, IsTrue, ◌⊎◌}
+use Rattle.std.specs.Prelude.{◌≡◌, ℕ, Bool, false, List, codes, Option, Some, None, IsTrue, ◌⊎◌}
 use Rattle.std.proofs.Common.{ap, inl, inr, refl, sym, ◌∙◌, subst}
 use Rattle.toml.specs.Data.{Data}
 use Rattle.nextest_config_values.specs.Read.Fault.{Fault, holds_memory, wrong_type}
@@ -32,6 +32,10 @@ abbrev pub FaultsAs : {K : Type 0} → (Data → Option K) → List ℕ → (K �
 FaultsAs {K} accessor expected faults value at fault =
     ((accessor value ≡ None) × (fault ≡ wrong_type value at expected))
     ⊎ ((held : K) × (accessor value ≡ Some held) × faults held value at fault)
+
+-- what a reader of texts expects
+abbrev pub text_expected : List ℕ
+text_expected = codes "a string"
 
 -- what a value holds means something or has a fault
 abbrev pub IsHeldReading : {K X : Type 0} → (K → X → Type 0) → (K → Data → List ℕ → Fault → Type 0) → (X → X → Type 0) → Type 0

@@ -4,7 +4,7 @@ use Rattle.std.proofs.Common.{refl, sym, ap, ◌∙◌}
 use Rattle.std.specs.declared.alloc.Global.{Global}
 use Rattle.toml.specs.Data.{Data, as_bool, as_integer, as_str}
 use Rattle.nextest_config_values.specs.Read.Fault.{Fault, holds_memory, wrong_value}
-use Rattle.nextest_config_values.specs.Read.FromToml.{FaultsAs, IsHeldReading, IsReading, MeansAs, equality, reading_as}
+use Rattle.nextest_config_values.specs.Read.FromToml.{FaultsAs, IsHeldReading, IsReading, MeansAs, equality, reading_as, text_expected}
 
 -- what a value holds is all right
 abbrev pub HasNoFault : {K : Type 0} → K → Data → List ℕ → Fault → Type 0
@@ -68,8 +68,8 @@ held_number IsIn expected = record {
 pub bool_reading : IsReading (MeansAs as_bool MeansTruth) (FaultsAs as_bool (codes "a boolean") HasNoFault) (λ x y. x ≡ y)
 bool_reading = reading_as as_bool (codes "a boolean") MeansTruth HasNoFault (λ x y. x ≡ y) held_truth
 
-pub string_reading : IsReading (MeansAs as_str MeansText) (FaultsAs as_str (codes "a string") HasNoFault) SameText
-string_reading = reading_as as_str (codes "a string") MeansText HasNoFault SameText held_text
+pub string_reading : IsReading (MeansAs as_str MeansText) (FaultsAs as_str text_expected HasNoFault) SameText
+string_reading = reading_as as_str text_expected MeansText HasNoFault SameText held_text
 
 -- the reading of an integer of a range
 pub number_reading : (IsIn : ℕ → Type 0) (expected : List ℕ)

@@ -4,11 +4,8 @@ use Rattle.std.proofs.Common.{sym, ap, ◌∙◌}
 use Rattle.std.specs.Cmp.Lexicographic.{pointwise}
 use Rattle.toml.specs.Data.{Data, as_str}
 use Rattle.nextest_config_values.specs.Read.Fault.{Fault, holds_memory, unknown_word}
-use Rattle.nextest_config_values.specs.Read.FromToml.{FaultsAs, IsHeldReading, IsReading, MeansAs, equality, reading_as}
+use Rattle.nextest_config_values.specs.Read.FromToml.{FaultsAs, IsHeldReading, IsReading, MeansAs, equality, reading_as, text_expected}
 use Rattle.nextest_config_values.specs.Read.Text.{joined}
-
-abbrev pub text_expected : List ℕ
-text_expected = codes "a string"
 
 -- a word between backquotes
 abbrev pub named : List ℕ → List ℕ

@@ -12,8 +12,7 @@ ghost use Rattle.nextest_config_values.specs.Helpers.{IsPlainIdentifier};
 ghost use Rattle.nextest_config_values.specs.Identifier.ConfigIdentifier.{AreComponents, AreFlawed, IsIdentifier, IsIdentifierFlaw, IsIdentifierForm, IsIdentifierRefusal, IsMarked, tool_mark};
 ghost use Rattle.nextest_config_values.specs.Identifier.Error.{identifier_refusal};
 ghost use Rattle.nextest_config_values.specs.Identifier.Laws.{identifier_reading};
-ghost use Rattle.nextest_config_values.specs.Read.FromToml.{FaultsAs, MeansAs};
-ghost use Rattle.nextest_config_values.specs.Read.Word.{text_expected};
+ghost use Rattle.nextest_config_values.specs.Read.FromToml.{FaultsAs, MeansAs, text_expected};
 
 use super::error::{IdentifierFlaw, InvalidIdentifier};
 use crate::helpers::{InvalidIdentifierKind, is_valid_identifier_unicode};

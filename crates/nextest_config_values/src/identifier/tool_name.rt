@@ -12,8 +12,7 @@ ghost use Rattle.nextest_config_values.specs.Helpers.{IsPlainIdentifier};
 ghost use Rattle.nextest_config_values.specs.Identifier.Error.{tool_name_refusal};
 ghost use Rattle.nextest_config_values.specs.Identifier.Laws.{tool_name_reading};
 ghost use Rattle.nextest_config_values.specs.Identifier.ToolName.{IsToolName, IsToolNameFlaw, IsToolNameRefusal, ToolNameFaults};
-ghost use Rattle.nextest_config_values.specs.Read.FromToml.{FaultsAs, MeansAs};
-ghost use Rattle.nextest_config_values.specs.Read.Word.{text_expected};
+ghost use Rattle.nextest_config_values.specs.Read.FromToml.{FaultsAs, MeansAs, text_expected};
 
 use super::error::{InvalidToolName, ToolNameFlaw};
 use crate::helpers::{InvalidIdentifierKind, is_valid_identifier_unicode};

@@ -2,7 +2,7 @@
 
 ghost use Rattle.std.specs.Prelude.{◌≡◌, ◌≢◌, ◌<◌, ◌↔◌, ℕ, pos, true, false, codes, IsSome, IfSome, MatchOption};
 ghost use Rattle.toml.specs.Data.{as_bool, as_integer, as_str};
-ghost use Rattle.nextest_config_values.specs.Read.FromToml.{FaultsAs, MeansAs};
+ghost use Rattle.nextest_config_values.specs.Read.FromToml.{FaultsAs, MeansAs, text_expected};
 ghost use Rattle.nextest_config_values.specs.Read.Plain.{HasNoFault, IsCount, IsOutside, IsU32, MeansNumber, MeansText, MeansTruth, SameText, bool_reading, number_reading, string_reading};
 
 use super::fault::ReadFault;
@@ -55,7 +55,7 @@ impl FromToml for u32 {
 impl FromToml for String {
     ghost means = { MeansAs as_str MeansText };
 
-    ghost faults = { FaultsAs as_str (codes "a string") HasNoFault };
+    ghost faults = { FaultsAs as_str text_expected HasNoFault };
 
     ghost needs_memory = { true };
 

@@ -7,7 +7,7 @@ pub loop-feature-preserved-in-Continue-1 : goal.loop-feature-preserved-in-Contin
 loop-feature-preserved-in-Continue-1 c =
     let (whole, those) = c.loop-feature.invariant in (
       goes_on c.loop-feature.yielded (features_left c.loop-feature.feature-iterator) (features_left c.next.new.self) c.in-Some.feature whole c.in-Some.ensures.steps,
-      one_that_holds (IsEnabled c.args.variables.now) c.loop-feature.yielded c.loop-feature.features.keys c.add_feature.new.features.keys c.in-Some.feature those c.in_ok-add_feature.ensures (c.is_enabled.ensures.0 c.if-is_enabled.true),
+      one_that_holds (IsEnabled c.args.variables.now) c.loop-feature.yielded c.loop-feature.features.keys c.add_feature.new.features.keys c.in-Some.feature those c.in_ok-add_feature.ensures.added (c.is_enabled.ensures.0 c.if-is_enabled.true),
     )
 
 pub loop-feature-preserved : goal.loop-feature-preserved

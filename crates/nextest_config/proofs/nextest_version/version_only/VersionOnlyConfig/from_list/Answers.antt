@@ -6,8 +6,11 @@ use Rattle.nextest_config.specs.NextestVersion.VersionOnly.{Adds, StandsFor, con
 use Rattle.nextest_config_values.proofs.Lists.{map-take_more}
 use Rattle.nextest_config.proofs.Readings.{only_memory, refusal_of_list}
 use Rattle.nextest_config.proofs.Selection.{selects}
-use Rattle.nextest_config.proofs.Standing.{stands_more}
+use Rattle.nextest_config.proofs.Standing.{stands_more, stands_none}
 use Rattle.nextest_config.proofs.nextest_version.version_only.VersionOnlyConfig.from_list.Goals as goal
+
+pub loop-position-init : goal.loop-position-init
+loop-position-init c = stands_none (configuration_of c.new-so_far.result) c.new-so_far.ensures
 
 -- the source at the position is wrong, and those before it read
 pub returns-in-Err-clause-refused : goal.returns-in-Err-clause-refused

@@ -1,8 +1,8 @@
 use Rattle.std.proofs.Common.{map, reverse}
 use Rattle.std.proofs.lemmas.Result.{err_from_is_err_and}
-use Rattle.nextest_config.specs.NextestVersion.Error.{IsErrorOf, refusal_of}
+use Rattle.nextest_config.specs.NextestVersion.Error.{refusal_of}
 use Rattle.nextest_config.specs.NextestVersion.ErrorKind.{wrong_of}
-use Rattle.nextest_config.specs.NextestVersion.Source.{repository_source, sources_of, tool_source}
+use Rattle.nextest_config.specs.NextestVersion.Source.{place_of, repository_source, sources_of, tool_source}
 use Rattle.nextest_config.specs.NextestVersion.VersionOnly.{Adds, configuration_of}
 use Rattle.nextest_config.proofs.Readings.{error_in_front, error_last, only_no_memory}
 use Rattle.nextest_config.proofs.Selection.{selects}
@@ -39,8 +39,7 @@ pub returns-in-Err-clause-refused : goal.returns-in-Err-clause-refused
 returns-in-Err-clause-refused c =
     let source = repository_source c.args.repository.now in
     let stands = c.in_ok-config.ensures.stands in
-    let error : IsErrorOf source.place (wrong_of c.in-Err.kind) (refusal_of c.of.result) = rw (← c.in_ok-source.ensures) c.of.ensures in
-    error_last (map tool_source (reverse c.args.tools.now)) source (wrong_of c.in-Err.kind) (refusal_of c.of.result) (stands.0, stands.1) c.in-Err.ensures.refused error
+    error_last (map tool_source (reverse c.args.tools.now)) source (place_of c.in_ok-source.source) (wrong_of c.in-Err.kind) (refusal_of c.of.result) (stands.0, stands.1) c.in_ok-source.ensures c.in-Err.ensures.refused c.of.ensures
 
 pub returns-in-Err-clause-only : goal.returns-in-Err-clause-only
 returns-in-Err-clause-only c reads =

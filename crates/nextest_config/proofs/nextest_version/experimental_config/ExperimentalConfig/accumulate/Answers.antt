@@ -1,0 +1,32 @@
+use Rattle.std.proofs.Common.{◌++◌, [], ◌∷◌, map, string_bytes, sym, ap, ◌∙◌}
+use Rattle.std.proofs.lemmas.List.{append-nil, length-map, map_push}
+use Rattle.nextest_config.specs.NextestVersion.ExperimentalConfig.{unknown_of}
+use Rattle.nextest_config.specs.NextestVersion.Source.{Place, place_of}
+use Rattle.nextest_config.proofs.Entries.{no_entry, one_entry}
+use Rattle.nextest_config.proofs.Orders.{features_in_order, features_joined}
+use Rattle.nextest_config.proofs.nextest_version.experimental_config.ExperimentalConfig.accumulate.Goals as goal
+
+pub returns-then-is_empty : goal.returns-then-is_empty
+returns-then-is_empty c =
+    let place = place_of c.args.source.now in
+    let names = map string_bytes c.args.named.unknown.keys in
+    let none = no_entry place names (length-map c.args.named.unknown.keys string_bytes ∙ c.is_empty.ensures.0 c.if-is_empty.true) in
+    let before = map unknown_of c.args.self.now.unknown.items in
+    record {
+      more_known = features_joined c.args.self.now.known.keys c.args.named.known.keys c.append.new.self.keys c.in_ok-append.ensures.inserts_all.0;
+      known_in_order = features_in_order c.append.new.self.keys c.append.ensures.ordered;
+      more_unknown = sym (append-nil before) ∙ ap (λ entries. before ++ entries) (sym none);
+    }
+
+pub returns : goal.returns
+returns c =
+    let names = map string_bytes c.args.named.unknown.keys in
+    let some = one_entry (place_of c.args.source.now) names (λ none. cc (c.is_empty.ensures.1 (sym (length-map c.args.named.unknown.keys string_bytes) ∙ none), c.if-is_empty.false)) in
+    let before = map unknown_of c.args.self.now.unknown.items in
+    let pushed = ap (map unknown_of) c.in_ok-push.ensures.items ∙ map_push unknown_of c.args.self.now.unknown.items _ in
+    let entry = ap (λ (place : Place). before ++ (record { place = place; names = names } ∷ [])) c.in_ok-source.ensures in
+    record {
+      more_known = features_joined c.args.self.now.known.keys c.args.named.known.keys c.append.new.self.keys c.in_ok-append.ensures.inserts_all.0;
+      known_in_order = features_in_order c.append.new.self.keys c.append.ensures.ordered;
+      more_unknown = pushed ∙ entry ∙ ap (λ entries. before ++ entries) (sym some);
+    }

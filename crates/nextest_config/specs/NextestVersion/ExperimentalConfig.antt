@@ -1,0 +1,60 @@
+-- The experimental features of all sources.
+use Rattle.std.specs.Prelude.{◌≡◌, ◌↔◌, ◌⊎◌, ℕ, List, [], ◌∷◌, ◌++◌, map, Contains, String, string_bytes}
+use Rattle.std.proofs.Common.{Bor}
+use Rattle.std.specs.BTreeSet.{BTreeSet}
+use Rattle.std.specs.declared.alloc.Global.{Global}
+use Rattle.nextest_config.specs.NextestVersion.Experimental.{FeaturesInOrder}
+use Rattle.nextest_config.specs.NextestVersion.ExperimentalDeserialize.{Features}
+use Rattle.nextest_config.specs.NextestVersion.Source.{Place, place_of}
+use Rattle.nextest_config.specs.declared.nextest_version.experimental.ConfigExperimental.{ConfigExperimental}
+use Rattle.nextest_config.specs.declared.nextest_version.experimental_config.ExperimentalConfig.{ExperimentalConfig}
+use Rattle.nextest_config.specs.declared.nextest_version.experimental_config.SourceErrors.{SourceErrors}
+use Rattle.nextest_config.specs.declared.nextest_version.experimental_config.UnknownFeatures.{UnknownFeatures}
+use Rattle.nextest_config.specs.declared.nextest_version.source.ConfigSource.{ConfigSource}
+
+-- names of no feature, and the place of the source that names them
+pub record Unknown : Type 0 where
+  pub place : Place
+  pub names : List (List ℕ)
+
+-- the features that are enabled, and the unknown names of each source that has some
+pub record Experimental : Type 0 where
+  pub known : List ConfigExperimental
+  pub unknown : List Unknown
+
+-- these names, at the place of this source
+abbrev pub unknown_from : ConfigSource → BTreeSet (String Global) → Unknown
+unknown_from source names = record { place = place_of source; names = map string_bytes names.keys }
+
+-- the entry of a source
+abbrev pub unknown_of : UnknownFeatures → Unknown
+unknown_of entry = unknown_from entry.source entry.names
+
+-- what a configuration has of features
+abbrev pub experimental_of : ExperimentalConfig → Experimental
+experimental_of config = record { known = config.known.keys; unknown = map unknown_of config.unknown.items }
+
+-- what no source names
+abbrev pub no_experimental : Experimental
+no_experimental = record { known = []; unknown = [] }
+
+-- the entry of a source with these names, none where there are none
+abbrev pub entry_at : Place → List (List ℕ) → List Unknown
+entry_at place [] = []
+entry_at place (name ∷ names) = record { place = place; names = name ∷ names } ∷ []
+
+-- the second is the first one joined with what a source at this place names
+pub record AddsFeatures (place : Place) (named : Features) (before after : Experimental) : Type 0 where
+  pub more_known : (feature : ConfigExperimental) → Contains after.known feature ↔ (Contains before.known feature ⊎ Contains named.known feature)
+  pub known_in_order : FeaturesInOrder after.known
+  pub more_unknown : after.unknown ≡ before.unknown ++ entry_at place named.unknown
+
+-- ---- the iterator over the unknown names
+
+-- what an item of the iterator tells
+abbrev pub told_by : Bor ConfigSource × Bor (BTreeSet (String Global)) → Unknown
+told_by item = unknown_from item.0.now item.1.now
+
+-- the entries that come from the iterator
+abbrev pub errors_left : SourceErrors → List Unknown
+errors_left errors = map unknown_of errors.unknown.rest.now
