@@ -19,15 +19,19 @@ pub data Command : Type 0 where
   check : Parts → Bool → Command
   complain : List ℕ → Command
 
+-- how the program is called
 abbrev pub usage_text : List ℕ
 usage_text = codes "usage: nextest_config_check CURRENT [--override]"
 
+-- words that are no call of it
 abbrev pub usage : Command
 usage = complain (usage_text ++ codes "\n")
 
+-- a word that is no version
 abbrev pub not_version_text : List ℕ → List ℕ
 not_version_text word = codes "not a version: " ++ word
 
+-- what a word asks for, by the version that it spells, if it spells one
 abbrev pub check_of : List ℕ → Bool → Result Parts Error → Command
 check_of word overridden (Ok current) = check current overridden
 check_of word overridden (Err e) = complain (not_version_text word ++ codes "\n")

@@ -9,9 +9,11 @@ use Rattle.nextest_config.specs.declared.nextest_version.source.ConfigSourceKind
 use Rattle.nextest_config_check.specs.declared.layout.LayoutFault.{LayoutFault}
 use Rattle.nextest_config_check.specs.declared.layout.LayoutFault.TheVariants as faults
 
+-- the byte that ends a line
 abbrev pub line_feed : ℕ
 line_feed = 10
 
+-- the byte that may stand before it
 abbrev pub carriage_return : ℕ
 carriage_return = 13
 
@@ -19,6 +21,7 @@ carriage_return = 13
 abbrev pub mark : List ℕ
 mark = codes "=== "
 
+-- the byte doesn't end a line
 abbrev pub IsInLine : ℕ → Type 0
 IsInLine byte = byte ≢ line_feed
 
@@ -74,6 +77,7 @@ NamesSource text (Tool name) path = IsWordAndArgument text name path
 NamesSource text ExplicitRepository path = IsWordAndPath (codes "explicit ") text path
 NamesSource text DiscoveredRepository path = IsWordAndPath (codes "repository ") text path
 
+-- a text behind the mark names this place
 abbrev pub NamesPlace : List ℕ → Place → Type 0
 NamesPlace text place = NamesSource text place.kind place.path
 

@@ -31,6 +31,7 @@ IsPlainFlaw cs flaws.InvalidXid = (cs ≢ []) × ¬ (IsPlainIdentifier cs)
 abbrev pub BeginsWithSlash : List ℕ → Type 0
 BeginsWithSlash text = (rest : List ℕ) × (text ≡ 47 ∷ rest)
 
+-- the text ends with a slash
 abbrev pub EndsWithSlash : List ℕ → Type 0
 EndsWithSlash text = (front : List ℕ) × (text ≡ front ++ (47 ∷ []))
 
@@ -42,6 +43,7 @@ pub record HasParentPiece (text : List ℕ) : Type 0 where
   pub begins : (before ≡ []) ⊎ EndsWithSlash before
   pub ends : (after ≡ []) ⊎ BeginsWithSlash after
 
+-- the text doesn't begin with a slash, and no piece of it is `..`
 abbrev pub IsRelativePath : List ℕ → Type 0
 IsRelativePath text = ¬ (BeginsWithSlash text) × ¬ (HasParentPiece text)
 
@@ -49,11 +51,14 @@ IsRelativePath text = ¬ (BeginsWithSlash text) × ¬ (HasParentPiece text)
 abbrev pub MeansPathText : List ℕ → String Global → Type 0
 MeansPathText held path = (string_bytes path ≡ held) × IsRelativePath held
 
+-- the text is no relative path
 abbrev pub PathTextFaults : List ℕ → Data → List ℕ → Fault → Type 0
 PathTextFaults held value at fault = ¬ (IsRelativePath held) × (fault ≡ wrong_value value at (codes "a relative path with no parent components"))
 
+-- the value is a text that is a relative path
 abbrev pub MeansPath : Data → String Global → Type 0
 MeansPath = MeansAs as_str MeansPathText
 
+-- the value is no text, or no relative path
 abbrev pub PathFaults : Data → List ℕ → Fault → Type 0
 PathFaults = FaultsAs as_str text_expected PathTextFaults

@@ -13,6 +13,7 @@ pub record Argument : Type 0 where
   pub tool : List ℕ
   pub path : List ℕ
 
+-- the tool's name and the path of a tool's file
 abbrev pub argument_of : ToolConfigFile → Argument
 argument_of file = record { tool = file.tool; path = string_bytes file.config_file }
 
@@ -25,6 +26,7 @@ pub record IsToolArgument (text : List ℕ) (argument : Argument) : Type 0 where
 
 -- ---- why a text is none
 
+-- why a text is no tool argument
 pub data ArgumentRefusal : Type 0 where
   invalid_format : List ℕ → ArgumentRefusal
   invalid_tool_name : List ℕ → NameRefusal ToolNameFlaw → ArgumentRefusal
@@ -32,6 +34,7 @@ pub data ArgumentRefusal : Type 0 where
   config_file_not_absolute : List ℕ → ArgumentRefusal
   memory : ArgumentRefusal
 
+-- what a refusal says
 abbrev pub argument_refusal : ToolConfigFileParseError → ArgumentRefusal
 argument_refusal (errors.InvalidFormat input) = invalid_format (string_bytes input)
 argument_refusal (errors.InvalidToolName input error) = invalid_tool_name (string_bytes input) (tool_name_refusal error)

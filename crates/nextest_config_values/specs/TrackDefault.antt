@@ -10,6 +10,7 @@ use Rattle.nextest_config_values.specs.declared.track_default.TrackDefault.{Trac
 abbrev pub MeansTracked : {X : Type 0} → (Data → X → Type 0) → Data → TrackDefault X → Type 0
 MeansTracked means value tracked = means value tracked.value × (tracked.is_deserialized ≡ true)
 
+-- their values are alike, and their marks the same
 abbrev pub AreTrackedAlike : {X : Type 0} → (X → X → Type 0) → TrackDefault X → TrackDefault X → Type 0
 AreTrackedAlike alike a b = alike a.value b.value × (a.is_deserialized ≡ b.is_deserialized)
 

@@ -6,6 +6,7 @@ use Rattle.semver.specs.Order.{pre_cmp}
 use Rattle.semver.specs.Parse.{Parts}
 use Rattle.nextest_config.specs.NextestVersion.VersionText.{Numbers}
 
+-- how two versions compare
 abbrev pub precedence : Parts → Parts → Ordering
 precedence v w = ordering_then (nat_cmp v.0 w.0) (ordering_then (nat_cmp v.1 w.1) (ordering_then (nat_cmp v.2 w.2) (pre_cmp v.3 w.3)))
 
@@ -13,6 +14,7 @@ precedence v w = ordering_then (nat_cmp v.0 w.0) (ordering_then (nat_cmp v.1 w.1
 abbrev pub is_below : Parts → Parts → Bool
 is_below v w = is_lt (precedence v w)
 
+-- the same as a fact
 abbrev pub IsBelow : Parts → Parts → Type 0
 IsBelow v w = is_below v w ≡ true
 

@@ -17,9 +17,11 @@ pub record Source : Type 0 where
   pub place : Place
   pub contents : Option (List ℕ)
 
+-- where a source is
 abbrev pub place_of : ConfigSource → Place
 place_of source = record { kind = source.kind; path = string_bytes source.path }
 
+-- a source and its contents
 abbrev pub source_of : SourceText → Source
 source_of text = record { place = place_of text.source; contents = option_map string_bytes text.contents }
 

@@ -20,11 +20,13 @@ pub record Shortfall : Type 0 where
   pub place : Place
   pub overridden : Bool
 
+-- what a current version is told
 pub data Verdict : Type 0 where
   satisfied : Verdict
   warn : Shortfall → Verdict
   error : Shortfall → Verdict
 
+-- the current version isn't enough for the one that the source asks
 abbrev pub shortfall : Version → Version → ConfigSource → Bool → Shortfall
 shortfall asked current source overridden = record {
   asked = parts_of asked;
@@ -33,6 +35,7 @@ shortfall asked current source overridden = record {
   overridden = overridden;
 }
 
+-- what `eval` answers
 abbrev pub verdict_of : NextestVersionEval → Verdict
 verdict_of evals.Satisfied = satisfied
 verdict_of (evals.Error required current source) = error (shortfall required current source false)
@@ -45,6 +48,7 @@ abbrev pub unmet : Option Kept → Parts → Option Kept
 unmet None current = None
 unmet (Some kept) current = if is_below current kept.version then Some kept else None
 
+-- the current version isn't enough for the kept one
 abbrev pub short_of : Kept → Parts → Bool → Shortfall
 short_of kept current overridden = record { asked = kept.version; current = current; place = kept.place; overridden = overridden }
 
@@ -54,9 +58,11 @@ judged (Some required) recommended current overridden = error (short_of required
 judged None (Some recommended) current overridden = warn (short_of recommended current overridden)
 judged None None current overridden = satisfied
 
+-- the verdict of two roles
 abbrev pub verdict : Roles → Parts → Bool → Verdict
 verdict roles current overridden = judged (unmet roles.required current) (unmet roles.recommended current) current overridden
 
+-- how grave a verdict is, overridden or not
 abbrev pub severity_of : Verdict → Severity
 severity_of satisfied = severities.Satisfied
 severity_of (warn shortfall) = severities.Warn
@@ -80,9 +86,11 @@ named_place satisfied = None
 named_place (warn shortfall) = Some shortfall.place
 named_place (error shortfall) = Some shortfall.place
 
+-- the verdict is satisfied
 abbrev pub IsSatisfied : Verdict → Type 0
 IsSatisfied v = v ≡ satisfied
 
+-- the other verdict is no graver
 abbrev pub IsNoGraver : Verdict → Verdict → Type 0
 IsNoGraver v other = gravity other ≤ gravity v
 
@@ -107,6 +115,7 @@ pub record IsGravest (verdicts : List Verdict) (v : Verdict) : Type 0 where
   pub no_greater : AllByRecursion (IsNoGreaterOfItsKind v) verdicts
   pub last : AllByRecursion (IsOtherOfItsKind v) after
 
+-- all verdicts are satisfied and this one is, or it is the gravest
 abbrev pub IsSelected : List Verdict → Verdict → Type 0
 IsSelected verdicts v = (AllByRecursion IsSatisfied verdicts × (v ≡ satisfied)) ⊎ IsGravest verdicts v
 

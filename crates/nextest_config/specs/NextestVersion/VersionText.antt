@@ -17,9 +17,11 @@ plain numbers = (numbers.0, numbers.1, numbers.2, [], [])
 abbrev pub dot : ℕ
 dot = 46
 
+-- `-`, which begins a pre-release
 abbrev pub hyphen : ℕ
 hyphen = 45
 
+-- `+`, which begins build metadata
 abbrev pub plus_sign : ℕ
 plus_sign = 43
 

@@ -12,6 +12,7 @@ use Rattle.nextest_config_values.specs.Identifier.Normal.{IsNormalFault, IsNorma
 abbrev pub tool_mark : List ℕ
 tool_mark = codes "@tool:"
 
+-- no character is a colon
 abbrev pub HasNoColon : List ℕ → Type 0
 HasNoColon = AllByRecursion (λ c. c ≢ 58)
 
@@ -30,6 +31,7 @@ pub record IsMarkedPair (cs tool name : List ℕ) : Type 0 where
   pub tool_is_plain : IsPlainIdentifier tool
   pub name_is_plain : IsPlainIdentifier name
 
+-- an identifier without a tool, or one with its tool's name
 abbrev pub IsIdentifierForm : List ℕ → Type 0
 IsIdentifierForm cs = IsPlainIdentifier cs ⊎ ((tool name : List ℕ) × IsMarkedPair cs tool name)
 
@@ -51,6 +53,7 @@ IsIdentifier = IsNormalText IsIdentifierForm
 abbrev pub IsIdentifierFault : List ℕ → NameRefusal IdentifierFlaw → Type 0
 IsIdentifierFault = IsNormalFault IsIdentifierFlaw
 
+-- the refusal of a text that is no identifier
 abbrev pub IsIdentifierRefusal : List ℕ → NameRefusal IdentifierFlaw → Type 0
 IsIdentifierRefusal = IsNormalRefusal IsIdentifierFlaw
 

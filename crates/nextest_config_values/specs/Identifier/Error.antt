@@ -16,6 +16,7 @@ pub data NameRefusal (Flaw : Type 0) : Type 0 where
   flawed : Flaw → List ℕ → NameRefusal Flaw
   no_memory : NameRefusal Flaw
 
+-- the flaw that a refused identifier names, and the text that it carries
 abbrev pub identifier_refusal : InvalidIdentifier → NameRefusal IdentifierFlaw
 identifier_refusal identifiers.Empty = flawed (Whole Empty) []
 identifier_refusal (identifiers.InvalidXid text) = flawed (Whole InvalidXid) (string_bytes text)
@@ -24,6 +25,7 @@ identifier_refusal (identifiers.ToolComponentEmpty text) = flawed (Component Emp
 identifier_refusal (identifiers.ToolIdentifierInvalidXid text) = flawed (Component InvalidXid) (string_bytes text)
 identifier_refusal identifiers.Memory = no_memory
 
+-- the flaw that a refused tool name names, and the text that it carries
 abbrev pub tool_name_refusal : InvalidToolName → NameRefusal ToolNameFlaw
 tool_name_refusal names.Empty = flawed of_names.Empty []
 tool_name_refusal (names.StartsWithToolPrefix text) = flawed of_names.StartsWithToolPrefix (string_bytes text)
@@ -32,6 +34,7 @@ tool_name_refusal names.Memory = no_memory
 
 -- ---- how they print
 
+-- how a refused identifier prints
 abbrev pub identifier_refusal_text : NameRefusal IdentifierFlaw → List ℕ
 identifier_refusal_text (flawed (Whole Empty) text) = codes "identifier is empty"
 identifier_refusal_text (flawed (Whole InvalidXid) text) = codes "invalid identifier " ++ quoted_text text
@@ -40,6 +43,7 @@ identifier_refusal_text (flawed (Component Empty) text) = codes "tool identifier
 identifier_refusal_text (flawed (Component InvalidXid) text) = codes "invalid tool identifier " ++ quoted_text text
 identifier_refusal_text no_memory = codes "out of memory"
 
+-- how a refused tool name prints
 abbrev pub tool_name_refusal_text : NameRefusal ToolNameFlaw → List ℕ
 tool_name_refusal_text (flawed of_names.Empty text) = codes "tool name is empty"
 tool_name_refusal_text (flawed of_names.StartsWithToolPrefix text) = codes "tool name begins with @tool: " ++ quoted_text text

@@ -25,6 +25,7 @@ IsToolName = IsNormalText IsPlainIdentifier
 abbrev pub IsToolNameFault : List ℕ → NameRefusal ToolNameFlaw → Type 0
 IsToolNameFault = IsNormalFault IsToolNameFlaw
 
+-- the refusal of a text that is no tool name
 abbrev pub IsToolNameRefusal : List ℕ → NameRefusal ToolNameFlaw → Type 0
 IsToolNameRefusal = IsNormalRefusal IsToolNameFlaw
 

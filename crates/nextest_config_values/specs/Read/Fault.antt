@@ -43,6 +43,7 @@ pub record Fault : Type 0 where
   pub path : List ℕ
   pub reason : Reason
 
+-- the rule that is broken
 abbrev pub broken_rule : Rule → BrokenRule
 broken_rule rules_of.PreRelease = pre_release
 broken_rule rules_of.BuildMetadata = build_metadata
@@ -55,6 +56,7 @@ broken_rule rules_of.MaxDelayZero = max_delay_zero
 broken_rule rules_of.MaxDelayBelowDelay = max_delay_below_delay
 broken_rule (rules_of.Priority priority) = priority_outside priority
 
+-- what a kind of fault says
 abbrev pub reason_of : FaultKind → Reason
 reason_of (kinds.InvalidType found expected) = invalid_type (string_bytes found) expected.now
 reason_of (kinds.InvalidValue found expected) = invalid_value (string_bytes found) expected.now
@@ -66,11 +68,13 @@ reason_of (kinds.Identifier error) = identifier (identifier_refusal error)
 reason_of (kinds.ToolName error) = tool_name (tool_name_refusal error)
 reason_of kinds.Memory = memory
 
+-- what a fault says
 abbrev pub fault_of : ReadFault → Fault
 fault_of fault = record { path = string_bytes fault.path; reason = reason_of fault.kind }
 
 -- ---- how they print
 
+-- how a broken rule prints
 abbrev pub rule_text : BrokenRule → List ℕ
 rule_text pre_release = codes "pre-release identifiers are not supported in nextest-version"
 rule_text build_metadata = codes "build metadata is not supported in nextest-version"
@@ -92,6 +96,7 @@ mismatch_text found expected = found ++ (codes ", expected " ++ expected)
 abbrev pub unknown_text : List ℕ → List ℕ → List ℕ
 unknown_text found expected = found ++ (codes "`, expected " ++ expected)
 
+-- how a reason prints
 abbrev pub reason_text : Reason → List ℕ
 reason_text (invalid_type found expected) = codes "invalid type: " ++ mismatch_text found expected
 reason_text (invalid_value found expected) = codes "invalid value: " ++ mismatch_text found expected
@@ -108,11 +113,13 @@ abbrev pub path_text : List ℕ → List ℕ
 path_text [] = []
 path_text (b ∷ rest) = (b ∷ rest) ++ codes ": "
 
+-- how a fault prints
 abbrev pub fault_text : Fault → List ℕ
 fault_text fault = path_text fault.path ++ reason_text fault.reason
 
 -- ---- the faults of a value at a path
 
+-- this reason, at this path
 abbrev pub fault_at : List ℕ → Reason → Fault
 fault_at path reason = record { path = path; reason = reason }
 
@@ -143,6 +150,7 @@ no_memory = fault_at [] memory
 
 -- ---- refusals
 
+-- whether the reason is want of memory
 abbrev pub is_memory : Reason → Bool
 is_memory memory = true
 is_memory _ = false

@@ -4,6 +4,7 @@ use Rattle.std.proofs.Common.{ap, inl, inr, refl, sym, ◌∙◌, subst}
 use Rattle.toml.specs.Data.{Data}
 use Rattle.nextest_config_values.specs.Read.Fault.{Fault, holds_memory, wrong_type}
 
+-- each is like itself, and what is like another is so both ways and through a third
 pub record IsEquivalence {X : Type 0} (alike : X → X → Type 0) : Type 0 where
   pub itself : (x : X) → alike x x
   pub back : (x y : X) → alike x y → alike y x

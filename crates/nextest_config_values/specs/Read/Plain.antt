@@ -10,12 +10,15 @@ use Rattle.nextest_config_values.specs.Read.FromToml.{FaultsAs, IsHeldReading, I
 abbrev pub HasNoFault : {K : Type 0} → K → Data → List ℕ → Fault → Type 0
 HasNoFault held value at fault = ⊥
 
+-- the boolean is this one
 abbrev pub MeansTruth : Bool → Bool → Type 0
 MeansTruth held truth = truth ≡ held
 
+-- the text is this one
 abbrev pub MeansText : List ℕ → String Global → Type 0
 MeansText held text = string_bytes text ≡ held
 
+-- the two have the same bytes
 abbrev pub SameText : String Global → String Global → Type 0
 SameText a b = string_bytes a ≡ string_bytes b
 
@@ -29,6 +32,7 @@ MeansNumber IsIn held number = (held ≡ pos number) × IsIn number
 abbrev pub IsOutside : (ℕ → Type 0) → List ℕ → ℤ → Data → List ℕ → Fault → Type 0
 IsOutside IsIn expected held value at fault = ((number : ℕ) → IsIn number → held ≢ pos number) × (fault ≡ wrong_value value at expected)
 
+-- the number fits a u32
 abbrev pub IsU32 : ℕ → Type 0
 IsU32 number = number < 2 ^ 32
 
