@@ -69,8 +69,7 @@ impl NextestVersionDeserialize {
     {
         let required = read_role(alloc, table, REQUIRED_KEY, at)?;
         let recommended = read_role(alloc, table, RECOMMENDED_KEY, at)?;
-        let asked = NextestVersionDeserialize::in_order(alloc, required, recommended, at)?;
-        Ok(asked)
+        NextestVersionDeserialize::in_order(alloc, required, recommended, at)
     }
 
     // The ask for both versions, unless the required one is above the recommended one.

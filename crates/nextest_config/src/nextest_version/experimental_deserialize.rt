@@ -245,8 +245,7 @@ fn read_switch(
     ensures refused { IfErr result (λ fault. Refuses
         (SwitchFaults feature (table_view table.now) at.now) (Unit {0}) (fault_of fault)) }
 {
-    let on: bool = field_or(alloc, table, feature.as_word(), at, false)?;
-    Ok(on)
+    field_or(alloc, table, feature.as_word(), at, false)
 }
 
 // The keys of a table that are words of no feature.

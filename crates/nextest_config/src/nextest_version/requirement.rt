@@ -199,24 +199,22 @@ impl NextestVersionConfig {
             ≡ satisfied → IsOk result }
     {
         if let Some((required, source)) = self.required.unmet(current) {
-            let eval = NextestVersionEval::error(
+            return NextestVersionEval::error(
                 alloc,
                 required,
                 current,
                 source,
                 override_version_check,
-            )?;
-            return Ok(eval);
+            );
         }
         if let Some((recommended, source)) = self.recommended.unmet(current) {
-            let eval = NextestVersionEval::warning(
+            return NextestVersionEval::warning(
                 alloc,
                 recommended,
                 current,
                 source,
                 override_version_check,
-            )?;
-            return Ok(eval);
+            );
         }
         Ok(NextestVersionEval::Satisfied)
     }
