@@ -1,17 +1,26 @@
 //! The JUnit report.
 
-ghost use Rattle.std.specs.Prelude.{[], ◌∷◌, codes, refl};
+ghost use Rattle.std.specs.Prelude.{◌≡◌, [], ◌∷◌, codes, refl};
 
 use nextest_config_values::read::Word;
 
 /// How a flaky test that is to fail is reported.
-#[derive(Clone, Copy, Debug, Default, PartialEq, Eq)]
+#[derive(Clone, Copy, Debug, PartialEq, Eq)]
 pub enum JunitFlakyFailStatus {
     /// As a failure.
-    #[default]
     Failure,
     /// As a success.
     Success,
+}
+
+impl Default for JunitFlakyFailStatus {
+    ghost use Rattle.nextest_config_elements.specs.declared.junit.JunitFlakyFailStatus.TheVariants.{Failure};
+
+    ghost is_default = { λ it. it ≡ Failure };
+
+    fn default() -> Self {
+        JunitFlakyFailStatus::Failure
+    }
 }
 
 impl Word for JunitFlakyFailStatus {

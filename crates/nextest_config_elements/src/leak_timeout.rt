@@ -1,17 +1,26 @@
 //! The timeout of handles that a test leaks.
 
-ghost use Rattle.std.specs.Prelude.{[], ◌∷◌, codes, refl};
+ghost use Rattle.std.specs.Prelude.{◌≡◌, [], ◌∷◌, codes, refl};
 
 use nextest_config_values::read::Word;
 
 /// Whether a test that leaks its handles past the timeout fails or passes.
-#[derive(Clone, Copy, Debug, Default, PartialEq, Eq)]
+#[derive(Clone, Copy, Debug, PartialEq, Eq)]
 pub enum LeakTimeoutResult {
     /// It fails.
     Fail,
     /// It passes, and is marked as leaky.
-    #[default]
     Pass,
+}
+
+impl Default for LeakTimeoutResult {
+    ghost use Rattle.nextest_config_elements.specs.declared.leak_timeout.LeakTimeoutResult.TheVariants.{Pass};
+
+    ghost is_default = { λ it. it ≡ Pass };
+
+    fn default() -> Self {
+        LeakTimeoutResult::Pass
+    }
 }
 
 impl Word for LeakTimeoutResult {

@@ -1,19 +1,28 @@
 //! The report of skipped tests.
 
-ghost use Rattle.std.specs.Prelude.{[], ◌∷◌, codes, refl};
+ghost use Rattle.std.specs.Prelude.{◌≡◌, [], ◌∷◌, codes, refl};
 
 use nextest_config_values::read::Word;
 
 /// Which skipped tests are reported.
-#[derive(Clone, Copy, Debug, Default, PartialEq, Eq)]
+#[derive(Clone, Copy, Debug, PartialEq, Eq)]
 pub enum ReportSkipPolicy {
     /// None of them.
-    #[default]
     None,
     /// Those whose ignore status is not the one asked for.
     Ignored,
     /// All but those that are no benchmarks.
     All,
+}
+
+impl Default for ReportSkipPolicy {
+    ghost use Rattle.nextest_config_elements.specs.declared.report_skip_policy.ReportSkipPolicy.TheVariants.{None};
+
+    ghost is_default = { λ it. it ≡ None };
+
+    fn default() -> Self {
+        ReportSkipPolicy::None
+    }
 }
 
 impl Word for ReportSkipPolicy {

@@ -1,17 +1,26 @@
 //! Retries.
 
-ghost use Rattle.std.specs.Prelude.{[], ◌∷◌, codes, refl};
+ghost use Rattle.std.specs.Prelude.{◌≡◌, [], ◌∷◌, codes, refl};
 
 use nextest_config_values::read::Word;
 
 /// Whether a flaky test, one that passes on a later attempt, fails or passes.
-#[derive(Clone, Copy, Debug, Default, PartialEq, Eq)]
+#[derive(Clone, Copy, Debug, PartialEq, Eq)]
 pub enum FlakyResult {
     /// It fails.
     Fail,
     /// It passes.
-    #[default]
     Pass,
+}
+
+impl Default for FlakyResult {
+    ghost use Rattle.nextest_config_elements.specs.declared.retry_policy.FlakyResult.TheVariants.{Pass};
+
+    ghost is_default = { λ it. it ≡ Pass };
+
+    fn default() -> Self {
+        FlakyResult::Pass
+    }
 }
 
 impl Word for FlakyResult {

@@ -1,17 +1,26 @@
 //! The timeout of slow tests.
 
-ghost use Rattle.std.specs.Prelude.{[], ◌∷◌, codes, refl};
+ghost use Rattle.std.specs.Prelude.{◌≡◌, [], ◌∷◌, codes, refl};
 
 use nextest_config_values::read::Word;
 
 /// Whether a test that is terminated by its timeout fails or passes.
-#[derive(Clone, Copy, Debug, Default, PartialEq, Eq)]
+#[derive(Clone, Copy, Debug, PartialEq, Eq)]
 pub enum SlowTimeoutResult {
     /// It fails.
-    #[default]
     Fail,
     /// It passes.
     Pass,
+}
+
+impl Default for SlowTimeoutResult {
+    ghost use Rattle.nextest_config_elements.specs.declared.slow_timeout.SlowTimeoutResult.TheVariants.{Fail};
+
+    ghost is_default = { λ it. it ≡ Fail };
+
+    fn default() -> Self {
+        SlowTimeoutResult::Fail
+    }
 }
 
 impl Word for SlowTimeoutResult {

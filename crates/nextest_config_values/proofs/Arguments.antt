@@ -5,7 +5,7 @@ use Rattle.nextest_config_values.specs.Identifier.ConfigIdentifier.{HasNoColon, 
 use Rattle.nextest_config_values.specs.Identifier.Error.{NameRefusal, ToolNameFlaw, flawed, no_memory}
 use Rattle.nextest_config_values.specs.Identifier.Laws.{no_colon_uncut, no_normal_fault, one_cut, one_normal_fault, one_tool_name_flaw, tool_name_not_flawed}
 use Rattle.nextest_config_values.specs.Identifier.ToolName.{IsToolName, IsToolNameFault, IsToolNameFlaw, IsToolNameRefusal}
-use Rattle.nextest_config_values.specs.ToolConfig.{Argument, ArgumentRefusal, IsArgumentFault, IsBadName, IsPartsFault, IsPathFault, IsToolArgument, RefusesArgument, config_file_not_absolute, empty_config_file, invalid_format, invalid_tool_name, memory}
+use Rattle.nextest_config_values.specs.ToolConfig.{Argument, ArgumentRefusal, HoldsMemory, IsArgumentFault, IsBadName, IsPartsFault, IsPathFault, IsToolArgument, RefusesArgument, config_file_not_absolute, empty_config_file, invalid_format, invalid_tool_name, memory}
 
 same_parts : (text x y u v : List ℕ) → IsCutAtColon text x y → IsCutAtColon text u v → (x ≡ u) × (y ≡ v)
 same_parts text x y u v cut other = one_cut x u y v cut.first other.first (sym cut.cut ∙ other.cut)
@@ -60,6 +60,19 @@ argument_not_refused text a f h (inl b) = uncut text h.name a.path b.0 h.cut
 argument_not_refused text a f h (inr b) =
     let same = same_parts text h.name a.path b.0 b.1 h.cut b.2 in
     no_parts_fault text h.name a.tool a.path f h.tool h.absolute (rw (same.0, same.1) b.3)
+
+path_fault_not_memory : (text path : List ℕ) (f : ArgumentRefusal) → IsPathFault text path f → ¬ (HoldsMemory f)
+path_fault_not_memory text path f (inl a) = λ h. subst HoldsMemory a.1 h
+path_fault_not_memory text path f (inr a) = λ h. subst HoldsMemory a.2 h
+
+parts_fault_not_memory : (text name path : List ℕ) (f : ArgumentRefusal) → IsPartsFault text name path f → ¬ (HoldsMemory f)
+parts_fault_not_memory text name path f (inl a) = λ h. subst (IsToolNameFault name) (subst HoldsMemory a.2 h) a.1
+parts_fault_not_memory text name path f (inr a) = path_fault_not_memory text path f a.2
+
+-- want of memory is no fault, nor held by one
+pub argument_fault_not_memory : (text : List ℕ) (f : ArgumentRefusal) → IsArgumentFault text f → ¬ (HoldsMemory f)
+argument_fault_not_memory text f (inl a) = λ h. subst HoldsMemory a.1 h
+argument_fault_not_memory text f (inr a) = parts_fault_not_memory text a.0 a.1 f a.3
 
 -- ---- refusals
 

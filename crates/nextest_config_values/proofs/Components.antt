@@ -5,16 +5,21 @@ use Rattle.std.specs.Borrow.{Bor}
 use Rattle.std.specs.declared.alloc.Global.{Global}
 use Rattle.std.proofs.lemmas.Str.{IsUtf8-string_bytes, chars_from_encodes, encodes-chars}
 use Rattle.std.proofs.lemmas.Str.Pattern.{IsSplitOnceResult}
+use Rattle.unicode_normalization.proofs.FormsLemmas.{nfc_idem}
 use Rattle.unicode_normalization.specs.Forms.{nfc}
 use Rattle.nextest_config_values.specs.Helpers.{IsPlainIdentifier}
 use Rattle.nextest_config_values.specs.Identifier.ConfigIdentifier.{AreComponents, HasNoColon, IsIdentifierForm, IsMarked, tool_mark}
 use Rattle.nextest_config_values.specs.Identifier.Laws.{behind_mark, no_colon_uncut, one_cut, plain_no_at_sign, plain_no_colon}
-use Rattle.nextest_config_values.specs.Identifier.Normal.{normal_chars}
+use Rattle.nextest_config_values.specs.Identifier.Normal.{IsKeptText, normal_chars}
 use Rattle.nextest_config_values.proofs.Texts.{IsTextCut, chars_behind, mark_plain, no_colon_bytes, no_colon_chars, not_behind, split_colon}
 
 -- the text that `to_nfc` made has the characters of the normal form
 pub normal_decoded : (text : List ℕ) (kept : String Global) → string_bytes kept ≡ encode_utf8_all (nfc (chars text)) → normal_chars text ≡ chars (string_bytes kept)
 normal_decoded text kept e = chars_from_encodes (normal_chars text) (string_bytes kept) (IsUtf8-string_bytes kept) (sym e)
+
+-- and is in that form
+pub normal_kept : {IsInGrammar : List ℕ → Type 0} (text : List ℕ) (kept : String Global) → string_bytes kept ≡ encode_utf8_all (nfc (chars text)) → IsInGrammar (chars (string_bytes kept)) → IsKeptText IsInGrammar (string_bytes kept)
+normal_kept text kept e form = record { form = form; normal = subst (λ cs. nfc cs ≡ cs) (normal_decoded text kept e) (nfc_idem (chars text)) }
 
 -- a text without characters is empty
 pub empty_decoded : (kept : String Global) → chars (string_bytes kept) ≡ [] → string_bytes kept ≡ []

@@ -60,6 +60,12 @@ IsArgumentFault text refusal =
     (HasNoColon text × (refusal ≡ invalid_format text))
     ⊎ ((name path : List ℕ) × IsCutAtColon text name path × IsPartsFault text name path refusal)
 
+-- want of memory, also within the refusal of the tool's name
+abbrev pub HoldsMemory : ArgumentRefusal → Type 0
+HoldsMemory memory = Unit {0}
+HoldsMemory (invalid_tool_name text error) = error ≡ no_memory
+HoldsMemory _ = ⊥
+
 -- the refusal is a fault of which this holds, or want of memory
 abbrev pub RefusesArgument : (ArgumentRefusal → Type 0) → ArgumentRefusal → Type 0
 RefusesArgument IsFault memory = Unit {0}

@@ -2,13 +2,27 @@
 
 ghost use Rattle.std.specs.Prelude.{◌≡◌, ℕ, List};
 ghost use Rattle.nextest_config_values.specs.Identifier.ConfigIdentifier.{IsIdentifier, IsIdentifierFault};
+ghost use Rattle.nextest_config_values.specs.Identifier.Error.{IdentifierFlaw, NameRefusal, ToolNameFlaw, no_memory};
 ghost use Rattle.nextest_config_values.specs.Identifier.Normal.{AnswersAlike, normal_chars};
 ghost use Rattle.nextest_config_values.specs.Identifier.ToolName.{IsToolName, IsToolNameFault};
-ghost use Rattle.nextest_config_values.specs.ToolConfig.{Argument, ArgumentRefusal, IsArgumentFault, IsToolArgument};
+ghost use Rattle.nextest_config_values.specs.ToolConfig.{Argument, ArgumentRefusal, HoldsMemory, IsArgumentFault, IsToolArgument};
 
-/// No text has two identifiers.
+/// No text has two identifiers, two faults as one, or both.
 pub fn law_identifier_once()
-    ensures { (text m n : List ℕ) → IsIdentifier text m → IsIdentifier text n → m ≡ n }
+    ensures one_identifier { (text m n : List ℕ) → IsIdentifier text m → IsIdentifier text n → m ≡ n }
+    ensures one_fault { (text : List ℕ) (e f : NameRefusal IdentifierFlaw)
+        → IsIdentifierFault text e → IsIdentifierFault text f → e ≡ f }
+    ensures never_both { (text n : List ℕ) (f : NameRefusal IdentifierFlaw)
+        → IsIdentifier text n → IsIdentifierFault text f → ⊥ }
+{}
+
+/// No text has two tool names, two faults as one, or both.
+pub fn law_tool_name_once()
+    ensures one_name { (text m n : List ℕ) → IsToolName text m → IsToolName text n → m ≡ n }
+    ensures one_fault { (text : List ℕ) (e f : NameRefusal ToolNameFlaw)
+        → IsToolNameFault text e → IsToolNameFault text f → e ≡ f }
+    ensures never_both { (text n : List ℕ) (f : NameRefusal ToolNameFlaw)
+        → IsToolName text n → IsToolNameFault text f → ⊥ }
 {}
 
 /// No text has two tool arguments, two faults as one, or both.
@@ -19,6 +33,14 @@ pub fn law_argument_once()
         → IsArgumentFault text e → IsArgumentFault text f → e ≡ f }
     ensures never_both { (text : List ℕ) (a : Argument) (f : ArgumentRefusal)
         → IsToolArgument text a → IsArgumentFault text f → ⊥ }
+{}
+
+/// No fault of a text is want of memory, and none of a tool argument holds it within.
+pub fn law_fault_not_memory()
+    ensures identifiers { (text : List ℕ) → ¬ IsIdentifierFault text no_memory }
+    ensures tool_names { (text : List ℕ) → ¬ IsToolNameFault text no_memory }
+    ensures arguments { (text : List ℕ) (f : ArgumentRefusal)
+        → IsArgumentFault text f → ¬ HoldsMemory f }
 {}
 
 /// Texts with the same Normalization Form C are the same identifier, or have the same fault as one,

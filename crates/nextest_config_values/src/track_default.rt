@@ -3,11 +3,11 @@
 ghost use Rattle.std.specs.Prelude.{◌≡◌, true, false};
 
 use crate::read::{FromToml, ReadFault};
-use std::alloc::Global;
+use std::alloc::{AllocError, Global};
 use toml::Value;
 
 /// A value, and whether it was read rather than taken as the default.
-#[derive(Clone, Copy, Debug, Default, PartialEq, Eq)]
+#[derive(Copy, Debug, PartialEq, Eq)]
 pub struct TrackDefault<T> {
     pub value: T,
     pub is_deserialized: bool,
@@ -32,6 +32,28 @@ impl<T> TrackDefault<T> {
             value,
             is_deserialized: true,
         }
+    }
+}
+
+impl<T: Default> Default for TrackDefault<T> {
+    ghost is_default = { λ tracked. T.is_default tracked.value × (tracked.is_deserialized ≡ false) };
+
+    fn default() -> Self {
+        TrackDefault::with_default_value(T::default())
+    }
+}
+
+impl<T: Clone> Clone for TrackDefault<T> {
+    ghost is_clone = { λ tracked copy. T.is_clone tracked.value copy.value
+        × (copy.is_deserialized ≡ tracked.is_deserialized) };
+
+    ghost is_infallible = { λ tracked. T.is_infallible tracked.value };
+
+    fn clone(&self) -> Result<Self, AllocError> {
+        Ok(TrackDefault {
+            value: self.value.clone()?,
+            is_deserialized: self.is_deserialized,
+        })
     }
 }
 

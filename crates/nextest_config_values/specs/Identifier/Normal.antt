@@ -13,6 +13,11 @@ normal_chars text = nfc (chars text)
 abbrev pub normal_form : List ℕ → List ℕ
 normal_form text = encode_utf8_all (normal_chars text)
 
+-- a text that is kept: its characters are of this grammar, and in Normalization Form C
+pub record IsKeptText (IsInGrammar : List ℕ → Type 0) (kept : List ℕ) : Type 0 where
+  pub form : IsInGrammar (chars kept)
+  pub normal : nfc (chars kept) ≡ chars kept
+
 -- the text's normal form is of this grammar, and is kept
 abbrev pub IsNormalText : (List ℕ → Type 0) → List ℕ → List ℕ → Type 0
 IsNormalText IsInGrammar text kept = IsInGrammar (normal_chars text) × (kept ≡ normal_form text)

@@ -12,6 +12,7 @@ ghost use Rattle.nextest_config_values.specs.Helpers.{IsPlainIdentifier};
 ghost use Rattle.nextest_config_values.specs.Identifier.ConfigIdentifier.{AreComponents, AreFlawed, IsIdentifier, IsIdentifierFlaw, IsIdentifierForm, IsIdentifierRefusal, IsMarked, tool_mark};
 ghost use Rattle.nextest_config_values.specs.Identifier.Error.{identifier_refusal};
 ghost use Rattle.nextest_config_values.specs.Identifier.Laws.{identifier_reading};
+ghost use Rattle.nextest_config_values.specs.Identifier.Normal.{IsKeptText};
 ghost use Rattle.nextest_config_values.specs.Read.FromToml.{FaultsAs, MeansAs, text_expected};
 
 use super::error::{IdentifierFlaw, InvalidIdentifier};
@@ -36,14 +37,15 @@ pub struct ConfigIdentifier {
 }
 
 impl Model for ConfigIdentifier {
-    ghost use Rattle.std.specs.Prelude.{ℕ, List, chars, string_bytes};
+    ghost use Rattle.std.specs.Prelude.{ℕ, List, string_bytes};
     ghost use Rattle.nextest_config_values.specs.Identifier.ConfigIdentifier.{IsIdentifierForm};
+    ghost use Rattle.nextest_config_values.specs.Identifier.Normal.{IsKeptText};
 
     ghost Value = { List ℕ };
 
     ghost view = { λ it. string_bytes it.text };
 
-    ghost invariant = { λ it. IsIdentifierForm (chars (string_bytes it.text)) };
+    ghost invariant = { λ it. IsKeptText IsIdentifierForm (string_bytes it.text) };
 }
 
 impl ConfigIdentifier {
@@ -80,7 +82,7 @@ impl ConfigIdentifier {
     /// The text of the identifier.
     pub fn as_str(&self) -> &str
         ensures value { result.now ≡ self.now }
-        ensures form { IsIdentifierForm (chars self.now) }
+        ensures kept { IsKeptText IsIdentifierForm self.now }
     {
         self.text.as_str()
     }
@@ -157,6 +159,8 @@ impl FromToml for ConfigIdentifier {
 
 impl fmt::Display for ConfigIdentifier {
     ghost output = { λ identifier. Some identifier };
+
+    ghost styled_output = { λ identifier _. Some identifier };
 
     fn fmt<W: fmt::Write>(&self, f: &mut fmt::Formatter<W>) -> fmt::Result {
         f.write_str(self.as_str())

@@ -11,6 +11,7 @@ ghost use Rattle.toml.specs.Data.{as_str};
 ghost use Rattle.nextest_config_values.specs.Helpers.{IsPlainIdentifier};
 ghost use Rattle.nextest_config_values.specs.Identifier.Error.{tool_name_refusal};
 ghost use Rattle.nextest_config_values.specs.Identifier.Laws.{tool_name_reading};
+ghost use Rattle.nextest_config_values.specs.Identifier.Normal.{IsKeptText};
 ghost use Rattle.nextest_config_values.specs.Identifier.ToolName.{IsToolName, IsToolNameFlaw, IsToolNameRefusal, ToolNameFaults};
 ghost use Rattle.nextest_config_values.specs.Read.FromToml.{FaultsAs, MeansAs, text_expected};
 
@@ -36,14 +37,15 @@ pub struct ToolName {
 }
 
 impl Model for ToolName {
-    ghost use Rattle.std.specs.Prelude.{ℕ, List, chars, string_bytes};
+    ghost use Rattle.std.specs.Prelude.{ℕ, List, string_bytes};
     ghost use Rattle.nextest_config_values.specs.Helpers.{IsPlainIdentifier};
+    ghost use Rattle.nextest_config_values.specs.Identifier.Normal.{IsKeptText};
 
     ghost Value = { List ℕ };
 
     ghost view = { λ it. string_bytes it.text };
 
-    ghost invariant = { λ it. IsPlainIdentifier (chars (string_bytes it.text)) };
+    ghost invariant = { λ it. IsKeptText IsPlainIdentifier (string_bytes it.text) };
 }
 
 impl ToolName {
@@ -62,7 +64,7 @@ impl ToolName {
     /// The text of the name.
     pub fn as_str(&self) -> &str
         ensures value { result.now ≡ self.now }
-        ensures form { IsPlainIdentifier (chars self.now) }
+        ensures kept { IsKeptText IsPlainIdentifier self.now }
     {
         self.text.as_str()
     }
@@ -116,6 +118,8 @@ impl FromToml for ToolName {
 
 impl fmt::Display for ToolName {
     ghost output = { λ name. Some name };
+
+    ghost styled_output = { λ name _. Some name };
 
     fn fmt<W: fmt::Write>(&self, f: &mut fmt::Formatter<W>) -> fmt::Result {
         f.write_str(self.as_str())

@@ -12,8 +12,8 @@ use toml::Value;
 
 /// A type that is read from a TOML value.
 ///
-/// A value means a Self or has a fault, and never both. So, want of memory aside, `read` answers Ok
-/// exactly where a Self is meant.
+/// A value means at most one Self, up to what counts as alike, has at most one fault at a path, and
+/// never both. So, want of memory aside, `read` answers Ok exactly where a Self is meant.
 pub trait FromToml: Sized {
     // What a value means.
     ghost means: { Data → Self → Type 0 };

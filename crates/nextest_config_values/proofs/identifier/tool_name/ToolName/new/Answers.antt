@@ -1,10 +1,15 @@
-use Rattle.nextest_config_values.proofs.Components.{empty_decoded, normal_decoded}
+use Rattle.nextest_config_values.proofs.Components.{empty_decoded, normal_decoded, normal_kept}
 use Rattle.nextest_config_values.proofs.identifier.tool_name.ToolName.new.Goals as goal
 
 pub of-requires : goal.of-requires
 of-requires c e =
     let empty = rw (e, c.as_str.ensures.value) at c.in-Err.ensures.refused in
     empty_decoded c.in_ok-text.text empty
+
+pub invariant_of-result : goal.invariant_of-result
+invariant_of-result c =
+    let form = rw c.as_str.ensures.value at c.in-Ok.ensures.accepted in
+    normal_kept c.args.name.now c.in_ok-text.text c.in_ok-text.ensures form
 
 pub returns-in-Ok-clause-accepted : goal.returns-in-Ok-clause-accepted
 returns-in-Ok-clause-accepted c =
