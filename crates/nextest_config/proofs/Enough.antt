@@ -1,5 +1,5 @@
 -- When a current version is enough, by its numbers.
-use Rattle.std.proofs.Common.{◌≡◌, ℕ, ◌<◌, ◌↔◌, ◌⊎◌, true, List, [], ◌∷◌, length, refl, sym, inl, inr, arith, nat_cmp}
+use Rattle.std.proofs.Common.{◌≡◌, ℕ, ◌<◌, ◌↔◌, ◌⊎◌, Bool, true, false, not, List, [], ◌∷◌, length, refl, sym, inl, inr, arith, nat_cmp}
 use Rattle.std.proofs.lemmas.Bool.{cases_lt, false≢true, ne_eqb}
 use Rattle.std.specs.Cmp.{nat_cmp_is}
 use Rattle.std.specs.Ordering.{is_lt, ordering_then}
@@ -8,7 +8,7 @@ use Rattle.std.specs.declared.cmp.Ordering.TheVariants.{Less, Equal, Greater}
 use Rattle.semver.specs.Order.{pre_cmp}
 use Rattle.semver.specs.OrderLaws.{pre_cmp-right}
 use Rattle.semver.specs.Parse.{Parts}
-use Rattle.nextest_config.specs.NextestVersion.Precedence.{IsEnough, IsEnoughByNumbers}
+use Rattle.nextest_config.specs.NextestVersion.Precedence.{IsBelow, IsEnough, IsEnoughByNumbers}
 use Rattle.nextest_config.specs.NextestVersion.VersionText.{Numbers, plain}
 
 -- the order isn't "below"
@@ -41,7 +41,15 @@ no_pre_release : (pre : List ℕ) → IsNotLess (pre_cmp pre []) ↔ (pre ≡ []
 no_pre_release [] = (λ e. refl, λ e f. false≢true f)
 no_pre_release (b ∷ pre) = rw (pre_cmp-right (b ∷ pre) [] (ne_eqb (length (b ∷ pre)) 0 (λ e. absurd (omega (arith, e)))) refl) (λ e. absurd (e refl), λ e. cc e)
 
--- enough by precedence is enough by numbers
-pub enough_by_numbers : (current : Parts) (asked : Numbers) → IsEnough current (plain asked) ↔ IsEnoughByNumbers current asked
-enough_by_numbers current asked =
+-- not below by precedence is enough by numbers
+pub not_below_by_numbers : (current : Parts) (asked : Numbers) → ¬ IsBelow current (plain asked) ↔ IsEnoughByNumbers current asked
+not_below_by_numbers current asked =
     then_rest current.0 asked.0 _ _ (then_rest current.1 asked.1 _ _ (then_rest current.2 asked.2 _ _ (no_pre_release current.3)))
+
+enough_if_not_below : (below : Bool) (P : Type 0) → ¬ (below ≡ true) ↔ P → (not below ≡ true) ↔ P
+enough_if_not_below true P h = (λ e. absurd (false≢true e), λ p. absurd (h.1 p refl))
+enough_if_not_below false P h = (λ e. h.0 false≢true, λ p. refl)
+
+-- and so is enough
+pub enough_by_numbers : (current : Parts) (asked : Numbers) → IsEnough current (plain asked) ↔ IsEnoughByNumbers current asked
+enough_by_numbers current asked = enough_if_not_below _ _ (not_below_by_numbers current asked)

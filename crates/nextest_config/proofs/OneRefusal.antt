@@ -1,13 +1,14 @@
--- A list of sources has one first refused position, with one error.
-use Rattle.std.proofs.Common.{◌≡◌, ℕ, List, [], ◌∷◌, ◌++◌, length, Option, Some, None, refl, sym, ap, ◌∙◌, subst}
+-- A list of sources has one first refused position, with one error, which is never want of memory.
+use Rattle.std.proofs.Common.{◌≡◌, ℕ, IsTrue, List, [], ◌∷◌, ◌++◌, length, Option, Some, None, refl, sym, ap, ◌∙◌, subst, inl, inr}
+use Rattle.std.proofs.lemmas.Bool.{false≢true}
 use Rattle.toml.specs.Data.{Data, Members, get_member}
 use Rattle.toml.specs.Parse.{parse_document}
-use Rattle.nextest_config_values.specs.Read.Fault.{Fault}
+use Rattle.nextest_config_values.specs.Read.Fault.{Fault, holds_memory}
 use Rattle.nextest_config_values.specs.Read.Field.{OptionalFaults, Then}
 use Rattle.nextest_config_values.specs.Read.FieldLaws.{one_then}
 use Rattle.nextest_config_values.specs.Read.FromToml.{IsReading}
 use Rattle.nextest_config.specs.NextestVersion.Error.{Refusal}
-use Rattle.nextest_config.specs.NextestVersion.ErrorKind.{Wrong, setting, tool_features}
+use Rattle.nextest_config.specs.NextestVersion.ErrorKind.{HoldsMemory, Wrong, setting, tool_features}
 use Rattle.nextest_config.specs.NextestVersion.ExperimentalDeserialize.{Features}
 use Rattle.nextest_config.specs.NextestVersion.ExperimentalLaws.{texts_in_one_order}
 use Rattle.nextest_config.specs.NextestVersion.Source.{Place, Source}
@@ -92,3 +93,35 @@ refusal_once sources i k refusal other first also =
       sym first.place ∙ ap length found.0 ∙ also.place,
       one_error also.source refusal other (subst (λ (s : Source). IsRefused s refusal) found.1 first.refused) also.refused,
     )
+
+-- ---- an error isn't want of memory
+
+not_memory_setting : {X : Type 0} {means : Option Data → X → Type 0} {faults : Data → List ℕ → Fault → Type 0} → IsReading means (OptionalFaults faults) (λ a b. a ≡ b)
+    → (key : List ℕ) (members : Members) (wrong : Wrong) → IsWrongSetting faults key members wrong → ¬ (HoldsMemory wrong)
+not_memory_setting reading key members wrong (fault, faulty, is) = λ held.
+    let kept : IsTrue (holds_memory fault.reason) = subst HoldsMemory is held in
+    false≢true (sym (reading.never_memory (get_member key members) key fault faulty) ∙ kept)
+
+not_memory_tool : (kind : ConfigSourceKind) (features : Features) (wrong : Wrong) → BreaksToolRule kind features wrong → ¬ (HoldsMemory wrong)
+not_memory_tool (Tool name) features wrong (some, (names, are, is)) = λ held. subst HoldsMemory is held
+not_memory_tool ExplicitRepository features wrong h = absurd h
+not_memory_tool DiscoveredRepository features wrong h = absurd h
+
+not_memory_behind : (kind : ConfigSourceKind) (members : Members) (wrong : Wrong) → IsWrongBehind kind members wrong → ¬ (HoldsMemory wrong)
+not_memory_behind kind members wrong (inl here) = not_memory_setting features_asked experimental_key members wrong here
+not_memory_behind kind members wrong (inr behind) = not_memory_tool kind behind.0 wrong behind.2
+
+not_memory_table : (kind : ConfigSourceKind) (members : Members) (wrong : Wrong) → IsWrongTable kind members wrong → ¬ (HoldsMemory wrong)
+not_memory_table kind members wrong (inl here) = not_memory_setting versions_asked version_key members wrong here
+not_memory_table kind members wrong (inr behind) = not_memory_behind kind members wrong behind.2
+
+not_memory_document : (kind : ConfigSourceKind) (document : Option Members) (wrong : Wrong) → IsWrongDocument kind document wrong → ¬ (HoldsMemory wrong)
+not_memory_document kind None wrong is = λ held. subst HoldsMemory is held
+not_memory_document kind (Some members) wrong h = not_memory_table kind members wrong h
+
+not_memory_wrong : (kind : ConfigSourceKind) (contents : Option (List ℕ)) (wrong : Wrong) → IsWrong kind contents wrong → ¬ (HoldsMemory wrong)
+not_memory_wrong kind None wrong h = absurd h
+not_memory_wrong kind (Some text) wrong h = not_memory_document kind (parse_document text) wrong h
+
+pub refusal_not_memory : (sources : List Source) (position : ℕ) (refusal : Refusal) → IsFirstRefused sources position refusal → ¬ (HoldsMemory refusal.wrong)
+refusal_not_memory sources position refusal h = not_memory_wrong h.source.place.kind h.source.contents refusal.wrong h.refused.wrong

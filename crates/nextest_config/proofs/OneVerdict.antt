@@ -15,7 +15,7 @@ use Rattle.nextest_config.specs.NextestVersion.VersionOnlyDeserialize.{Ask, Asks
 use Rattle.nextest_config.specs.NextestVersion.VersionText.{Numbers, plain}
 use Rattle.nextest_config_values.proofs.Lists.{all_middle, one_last}
 use Rattle.nextest_config.specs.declared.nextest_version.source.ConfigSourceKind.{ConfigSourceKind}
-use Rattle.nextest_config.proofs.Enough.{enough_by_numbers}
+use Rattle.nextest_config.proofs.Enough.{not_below_by_numbers}
 use Rattle.nextest_config.proofs.Readings.{features_asked, versions_asked}
 use Rattle.nextest_config.proofs.Verdicts.{image_at, unmet_alone}
 
@@ -120,7 +120,7 @@ pub same_version : (v w : Parts) → IsPlainVersion (Some v) → IsPlainVersion 
 same_version v w p q above below =
     let m_enough : ¬ IsBelow (plain p.0) (plain q.0) = subst (λ (u : Parts). ¬ IsBelow u (plain q.0)) p.1 (subst (λ (u : Parts). ¬ IsBelow v u) q.1 above) in
     let n_enough : ¬ IsBelow (plain q.0) (plain p.0) = subst (λ (u : Parts). ¬ IsBelow u (plain p.0)) q.1 (subst (λ (u : Parts). ¬ IsBelow w u) p.1 below) in
-    p.1 ∙ ap plain (same_numbers p.0 q.0 ((enough_by_numbers (plain p.0) q.0).0 m_enough) ((enough_by_numbers (plain q.0) p.0).0 n_enough)) ∙ sym q.1
+    p.1 ∙ ap plain (same_numbers p.0 q.0 ((not_below_by_numbers (plain p.0) q.0).0 m_enough) ((not_below_by_numbers (plain q.0) p.0).0 n_enough)) ∙ sym q.1
 
 same_named : (v w : Verdict) → gravity v ≡ gravity w → NamesPlain v → NamesPlain w → NamesNoGreater v w → NamesNoGreater w v → named_version v ≡ named_version w
 same_named satisfied satisfied e p q h k = refl

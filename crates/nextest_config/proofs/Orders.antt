@@ -1,5 +1,5 @@
--- The order of features, as sets of them have it.
-use Rattle.std.proofs.Common.{◌≡◌, true, List, Ordering, refl, sym, ◌∙◌}
+-- The derived orders: of features, as sets of them have it, and of severities.
+use Rattle.std.proofs.Common.{◌≡◌, true, List, Ordering, refl, sym, ◌∙◌, nat_cmp}
 use Rattle.std.proofs.lemmas.Map.Views.{tells_apart}
 use Rattle.std.proofs.lemmas.Map.Lookups.{CmpEqualImpliesEq}
 use Rattle.std.specs.List.Sorted.{IsStrictlySortedBy}
@@ -8,6 +8,10 @@ use Rattle.std.specs.Set.{IsUnion}
 use Rattle.nextest_config.specs.NextestVersion.Experimental.{FeaturesInOrder, feature_cmp}
 use Rattle.nextest_config.specs.NextestVersion.ExperimentalLaws.{one_at_a_place}
 use Rattle.nextest_config.specs.contracts.nextest_version.experimental.ConfigExperimentalOrd.TheImpl as feature_ord
+use Rattle.nextest_config.specs.contracts.nextest_version.requirement.SeverityOrd.TheImpl as severity_ord
+use Rattle.nextest_config.specs.NextestVersion.Verdict.{rank}
+use Rattle.nextest_config.specs.declared.nextest_version.requirement.Severity.{Severity}
+use Rattle.nextest_config.specs.declared.nextest_version.requirement.Severity.TheVariants.{Satisfied, Warn, Error}
 use Rattle.nextest_config.specs.declared.nextest_version.experimental.ConfigExperimental.{ConfigExperimental}
 use Rattle.nextest_config.specs.declared.nextest_version.experimental.ConfigExperimental.TheVariants.{SetupScripts, WrapperScripts, Benchmarks}
 use Rattle.nextest_config.proofs.Members.{HasBoth, has_union, in_order_by}
@@ -36,3 +40,12 @@ features_in_order = in_order_by derived_cmp feature_cmp by_place
 -- a union of two sets of features
 pub features_joined : (xs ys zs : List ConfigExperimental) → IsUnion (eq_by_cmp derived_cmp) xs ys zs → HasBoth xs ys zs
 features_joined = has_union (eq_by_cmp derived_cmp) equal_to_itself (tells_apart derived_exact)
+
+-- ---- severities
+
+pub by_rank : (a b : Severity) → (severity_ord.ghosts).cmp a b ≡ nat_cmp (rank a) (rank b)
+by_rank = elim [
+  | Satisfied ↦ elim [ Satisfied ↦ refl | Warn ↦ refl | Error ↦ refl ]
+  | Warn ↦ elim [ Satisfied ↦ refl | Warn ↦ refl | Error ↦ refl ]
+  | Error ↦ elim [ Satisfied ↦ refl | Warn ↦ refl | Error ↦ refl ]
+]

@@ -2,14 +2,19 @@
 
 ghost use Rattle.std.specs.Prelude.{◌≡◌, ◌≢◌, ◌↔◌, ◌++◌, ◌∷◌, ℕ, List, Bool, true, false, map, Some};
 ghost use Rattle.std.specs.List.{AllByRecursion};
+ghost use Rattle.std.specs.Ordering.{nat_cmp};
 ghost use Rattle.semver.specs.Parse.{Parts};
 ghost use Rattle.nextest_config.specs.NextestVersion.VersionText.{Numbers, IsVersionText, plain};
 ghost use Rattle.nextest_config.specs.NextestVersion.Error.{Refusal};
+ghost use Rattle.nextest_config.specs.NextestVersion.ErrorKind.{HoldsMemory};
 ghost use Rattle.nextest_config.specs.NextestVersion.Precedence.{IsBelow, IsEnough, IsEnoughByNumbers};
 ghost use Rattle.nextest_config.specs.NextestVersion.Requirement.{Kept, Roles};
-ghost use Rattle.nextest_config.specs.NextestVersion.Verdict.{IsNoGraver, IsOverriding, IsSatisfied, IsSelected, Shortfall, Verdict, satisfied, verdict, warn};
+ghost use Rattle.nextest_config.specs.NextestVersion.Verdict.{IsNoGraver, IsOverriding, IsSatisfied, IsSelected, Shortfall, Verdict, rank, satisfied, verdict, warn};
 ghost use Rattle.nextest_config.specs.NextestVersion.VersionOnly.{Asked, Configuration, IsFirstRefused, IsFromSource, IsSelectedFor, StandsFor, alone};
 ghost use Rattle.nextest_config.specs.NextestVersion.Source.{Source};
+ghost use Rattle.nextest_config.specs.declared.nextest_version.requirement.Severity.{Severity};
+
+use crate::nextest_version::Severity;
 
 /// No text has two versions.
 pub fn law_version_once()
@@ -24,6 +29,11 @@ pub fn law_enough()
         → IsEnough current (plain asked) ↔ IsEnoughByNumbers current asked }
 {}
 
+/// The rank of severities that the laws of verdicts speak of is the order of `Severity`.
+pub fn law_severity_order()
+    ensures { (a b : Severity) → ⟦<Severity as Ord>⟧.cmp a b ≡ nat_cmp (rank a) (rank b) }
+{}
+
 /// The override turns an error into an overridden error and a warning into an overridden warning,
 /// with the same contents, and does nothing else.
 pub fn law_override()
@@ -36,6 +46,12 @@ pub fn law_refusal_once()
     ensures { (sources : List Source) (i k : ℕ) (refusal other : Refusal)
         → IsFirstRefused sources i refusal → IsFirstRefused sources k other
         → (i ≡ k) × (refusal ≡ other) }
+{}
+
+/// The error of a first refused source is never want of memory, and never holds it.
+pub fn law_refusal_not_memory()
+    ensures { (sources : List Source) (position : ℕ) (refusal : Refusal)
+        → IsFirstRefused sources position refusal → ¬ HoldsMemory refusal.wrong }
 {}
 
 /// No list of sources has two configurations that stand for it.

@@ -1,6 +1,6 @@
 -- What is wrong with a source, without where it lies in memory.
-use Rattle.std.specs.Prelude.{ℕ, Bool, true, false, List, ◌++◌, map, codes, string_bytes, if◌then◌else◌}
-use Rattle.nextest_config_values.specs.Read.Fault.{Fault, fault_of, fault_text, is_memory as reason_is_memory}
+use Rattle.std.specs.Prelude.{ℕ, Bool, true, false, IsTrue, List, ◌++◌, map, codes, string_bytes, if◌then◌else◌}
+use Rattle.nextest_config_values.specs.Read.Fault.{Fault, fault_of, fault_text, holds_memory, is_memory as reason_is_memory}
 use Rattle.nextest_config_values.specs.Read.Text.{quoted_texts}
 use Rattle.nextest_config.specs.declared.nextest_version.error_kind.ConfigParseErrorKind.{ConfigParseErrorKind}
 use Rattle.nextest_config.specs.declared.nextest_version.error_kind.ConfigParseErrorKind.TheVariants as kinds
@@ -36,6 +36,12 @@ UnlessNoMemory not_toml fact = fact
 UnlessNoMemory (setting fault) fact = fact
 UnlessNoMemory (tool_features names) fact = fact
 UnlessNoMemory no_memory fact = Unit {0}
+
+-- want of memory, also within the refusal of a setting
+abbrev pub HoldsMemory : Wrong → Type 0
+HoldsMemory no_memory = Unit {0}
+HoldsMemory (setting fault) = IsTrue (holds_memory fault.reason)
+HoldsMemory _ = ⊥
 
 -- how it prints
 abbrev pub wrong_text : Wrong → List ℕ

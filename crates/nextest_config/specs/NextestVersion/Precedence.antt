@@ -1,5 +1,5 @@
 -- The precedence of versions (SemVer 2.0.0, item 11): the numbers in turn, then the pre-release; build metadata doesn't count.
-use Rattle.std.specs.Prelude.{◌≡◌, ◌<◌, [], Bool, true, ◌⊎◌}
+use Rattle.std.specs.Prelude.{◌≡◌, ◌<◌, [], Bool, true, not, ◌⊎◌}
 use Rattle.std.specs.Ordering.{nat_cmp, ordering_then, is_lt}
 use Rattle.std.specs.declared.cmp.Ordering.{Ordering}
 use Rattle.semver.specs.Order.{pre_cmp}
@@ -18,9 +18,13 @@ is_below v w = is_lt (precedence v w)
 abbrev pub IsBelow : Parts → Parts → Type 0
 IsBelow v w = is_below v w ≡ true
 
--- the first version, as the current one, is enough for the second
+-- the first version, as the current one, is enough for the second: it isn't below it
+abbrev pub is_enough : Parts → Parts → Bool
+is_enough current asked = not (is_below current asked)
+
+-- the same as a fact
 abbrev pub IsEnough : Parts → Parts → Type 0
-IsEnough current asked = ¬ IsBelow current asked
+IsEnough current asked = is_enough current asked ≡ true
 
 -- a greater major; or the same major and a greater minor; or the same minor, too, and a greater patch; or the same numbers and no pre-release
 abbrev pub IsEnoughByNumbers : Parts → Numbers → Type 0

@@ -38,6 +38,10 @@ kept_of kept_as.None = None
 abbrev pub roles_of : NextestVersionConfig → Roles
 roles_of config = record { required = kept_of config.required; recommended = kept_of config.recommended }
 
+-- no version is kept
+abbrev pub no_roles : Roles
+no_roles = record { required = None; recommended = None }
+
 -- the version that is asked, if any, with its place
 abbrev pub asked_from : Place → Option Parts → Option Kept
 asked_from place asked = option_map (λ version. record { version = version; place = place }) asked

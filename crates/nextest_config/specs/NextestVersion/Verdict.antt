@@ -3,7 +3,7 @@ use Rattle.std.specs.Prelude.{◌≡◌, ◌≢◌, ℕ, ◌≤◌, Bool, true, 
 use Rattle.std.specs.List.{AllByRecursion}
 use Rattle.semver.specs.Identifiers.{parts_of}
 use Rattle.semver.specs.Parse.{Parts}
-use Rattle.nextest_config.specs.NextestVersion.Precedence.{is_below, IsBelow}
+use Rattle.nextest_config.specs.NextestVersion.Precedence.{is_enough, IsBelow}
 use Rattle.nextest_config.specs.NextestVersion.Requirement.{Kept, Roles}
 use Rattle.nextest_config.specs.NextestVersion.Source.{Place, place_of}
 use Rattle.semver.specs.declared.Version.{Version}
@@ -46,7 +46,7 @@ verdict_of (evals.WarnOverride recommended current source) = warn (shortfall rec
 -- the kept version that the current one isn't enough for
 abbrev pub unmet : Option Kept → Parts → Option Kept
 unmet None current = None
-unmet (Some kept) current = if is_below current kept.version then Some kept else None
+unmet (Some kept) current = if is_enough current kept.version then None else Some kept
 
 -- the current version isn't enough for the kept one
 abbrev pub short_of : Kept → Parts → Bool → Shortfall
@@ -69,10 +69,14 @@ severity_of (warn shortfall) = severities.Warn
 severity_of (error shortfall) = severities.Error
 
 -- severities ascend: satisfied, warning, error
+abbrev pub rank : Severity → ℕ
+rank severities.Satisfied = 0
+rank severities.Warn = 1
+rank severities.Error = 2
+
+-- the rank of a verdict's severity
 abbrev pub gravity : Verdict → ℕ
-gravity satisfied = 0
-gravity (warn shortfall) = 1
-gravity (error shortfall) = 2
+gravity v = rank (severity_of v)
 
 -- the version that a verdict names
 abbrev pub named_version : Verdict → Option Parts

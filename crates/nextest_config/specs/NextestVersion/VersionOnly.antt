@@ -6,7 +6,7 @@ use Rattle.nextest_config.specs.NextestVersion.Error.{Refusal, out_of_memory, re
 use Rattle.nextest_config.specs.NextestVersion.Experimental.{FeaturesInOrder}
 use Rattle.nextest_config.specs.NextestVersion.ExperimentalConfig.{AddsFeatures, Experimental, Unknown, entry_at, experimental_of, no_experimental}
 use Rattle.nextest_config.specs.NextestVersion.Precedence.{IsBelow}
-use Rattle.nextest_config.specs.NextestVersion.Requirement.{Kept, Roles, roles_of, roles_from, join_roles}
+use Rattle.nextest_config.specs.NextestVersion.Requirement.{Kept, Roles, no_roles, roles_of, roles_from, join_roles}
 use Rattle.nextest_config.specs.NextestVersion.Source.{Place, Source}
 use Rattle.nextest_config.specs.NextestVersion.Verdict.{Verdict, verdict, named_place, IsSelected}
 use Rattle.nextest_config.specs.NextestVersion.VersionOnlyDeserialize.{Ask, IsWrong, TextAsks}
@@ -110,7 +110,7 @@ configuration_of config = record { roles = roles_of config.nextest_version; expe
 
 -- the configuration that asks nothing
 abbrev pub neutral : Configuration
-neutral = record { roles = record { required = None; recommended = None }; experimental = no_experimental }
+neutral = record { roles = no_roles; experimental = no_experimental }
 
 -- the configuration stands for the asks
 pub record StandsForAsks (asked : List Asked) (configuration : Configuration) : Type 0 where

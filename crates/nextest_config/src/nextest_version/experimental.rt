@@ -117,6 +117,8 @@ pub(crate) fn add_feature(
 impl fmt::Display for ConfigExperimental {
     ghost output = { λ feature. Some (word_of feature) };
 
+    ghost styled_output = { λ feature _. Some (word_of feature) };
+
     fn fmt<W: fmt::Write>(&self, f: &mut fmt::Formatter<W>) -> fmt::Result {
         f.write_str(self.as_word())
     }

@@ -10,7 +10,7 @@ use std::alloc::{AllocError, Global};
 use std::cmp::Ordering;
 
 /// The version that is kept in one role, and the source that asked for it.
-#[derive(Debug, Default, PartialEq, Eq, Drop)]
+#[derive(Debug, PartialEq, Eq, Drop)]
 pub enum NextestVersionReq {
     /// Some source asked for a version.
     Version {
@@ -18,12 +18,11 @@ pub enum NextestVersionReq {
         source: ConfigSource,
     },
     /// No source asked for one.
-    #[default]
     None,
 }
 
 /// The versions that are kept of all sources read so far.
-#[derive(Debug, Default, PartialEq, Eq, Drop)]
+#[derive(Debug, PartialEq, Eq, Drop)]
 pub struct NextestVersionConfig {
     /// The version below which there is an error.
     pub required: NextestVersionReq,
@@ -69,6 +68,29 @@ pub enum Severity {
     Satisfied,
     Warn,
     Error,
+}
+
+impl Default for NextestVersionReq {
+    ghost use Rattle.nextest_config.specs.NextestVersion.Requirement.{kept_of};
+
+    ghost is_default = { λ req. kept_of req ≡ None };
+
+    fn default() -> Self {
+        NextestVersionReq::None
+    }
+}
+
+impl Default for NextestVersionConfig {
+    ghost use Rattle.nextest_config.specs.NextestVersion.Requirement.{no_roles, roles_of};
+
+    ghost is_default = { λ config. roles_of config ≡ no_roles };
+
+    fn default() -> Self {
+        NextestVersionConfig {
+            required: NextestVersionReq::default(),
+            recommended: NextestVersionReq::default(),
+        }
+    }
 }
 
 impl NextestVersionReq {
