@@ -7,7 +7,7 @@ use Rattle.semver.specs.declared.error.ErrorKind.{ErrorKind}
 use Rattle.semver.specs.declared.error.ErrorKind.TheVariants as kind
 use Rattle.semver.specs.declared.error.Position.{Position}
 use Rattle.semver.specs.declared.error.Position.TheVariants as place
-use Rattle.nextest_config_check.specs.Engine.{check_of, IfComplaint}
+use Rattle.nextest_config_check.specs.CommandLine.{check_of, IfComplaint}
 
 -- an error, if any, is none of memory
 record IsOfText {A : Type 0} (r : Result A Error) : Type 0 where
@@ -91,10 +91,10 @@ of_text-version_parts text =
     of_text-then _ _ (of_text-digits_from place.Patch 0 0 u) (λ z.
     of_text-tail_pre x.0 y.0 z.0 z.1))))))
 
-no_complaint : {T : Type 0} (word : List ℕ) (overridden : Bool) (read : Result Parts Error) (parsed : Result T Error) → IsOfText read → IsRefused read parsed → parsed ≡ Err memory_error → IfComplaint (check_of word overridden read) ⊥
+no_complaint : {T : Type 0} (word : List ℕ) (overridden : Bool) (read : Result Parts Error) (parsed : Result T Error) → IsOfText read → IsRefused read parsed → parsed ≡ Err memory_error → IfComplaint (check_of word overridden read) (λ text. ⊥)
 no_complaint word overridden (Ok current) parsed of_text refused memory = tt
 no_complaint word overridden (Err e) parsed of_text refused memory = absurd (of_text.of_text (cc))
 
 -- where memory ran out, the word isn't refused
-pub no_complaint_of_memory : {T : Type 0} (word : List ℕ) (overridden : Bool) (parsed : Result T Error) → IsRefused (version_parts word) parsed → parsed ≡ Err memory_error → IfComplaint (check_of word overridden (version_parts word)) ⊥
+pub no_complaint_of_memory : {T : Type 0} (word : List ℕ) (overridden : Bool) (parsed : Result T Error) → IsRefused (version_parts word) parsed → parsed ≡ Err memory_error → IfComplaint (check_of word overridden (version_parts word)) (λ text. ⊥)
 no_complaint_of_memory word overridden parsed = no_complaint word overridden (version_parts word) parsed (of_text-version_parts word)

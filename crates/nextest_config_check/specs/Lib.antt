@@ -1,3 +1,4 @@
+pub mod CommandLine
+pub mod Engine
 pub mod Layout
 pub mod Report
-pub mod Engine

@@ -1,13 +1,14 @@
 //! From streams to a report, and from the words of the command line to a status.
 
-ghost use Rattle.std.specs.Prelude.{◌≡◌, ◌≢◌, ◌↔◌, ◌⊎◌, ◌++◌, ℕ, List, Some, codes, IfOk, IfErr, OnOk, IfSome, MatchResult};
+ghost use Rattle.std.specs.Prelude.{◌≡◌, ◌≢◌, ◌↔◌, ◌⊎◌, ◌++◌, ℕ, List, Some, codes, IfOk, IfErr, OnOk, IfSome};
 ghost use Rattle.std.specs.IoError.{error_kind};
 ghost use Rattle.std.specs.Io.KnownBytes.{Appends, IsAtEnd, Keeps};
 ghost use Rattle.semver.specs.Identifiers.{parts_of};
-ghost use Rattle.semver.specs.Parse.{version_parts};
-ghost use Rattle.nextest_config_check.specs.Engine.{AsksCheck, IfCheck, IfComplaint, IsChecked, IsWordsFault, Writes, asked_by, check_of, words_status};
+ghost use Rattle.nextest_config_check.specs.CommandLine.{IfCheck, IfComplaint, asked_by, words_fault_text, words_status};
+ghost use Rattle.nextest_config_check.specs.Engine.{AddsFront, IsChecked, IsCutShort, Writes, run_fault_text};
 ghost use Rattle.nextest_config_check.specs.Report.{IsReport};
 
+use crate::command_line::{WordsFault, parse_words};
 pub use crate::report::Outcome;
 use crate::report::report_on;
 use semver::Version;
@@ -34,13 +35,24 @@ pub enum RunFault {
 
 impl RunFault {
     // Why a read gave nothing.
-    pub(crate) fn of_read(error: &io::Error) -> Self
+    fn of_read(error: &io::Error) -> Self
         ensures memory { (result ≡ RunFault.Memory) ↔ (error_kind error.now ≡ ErrorKind.OutOfMemory) }
         ensures read { result ≢ RunFault.Write }
     {
         match error.kind() {
             ErrorKind::OutOfMemory => RunFault::Memory,
             _ => RunFault::Read,
+        }
+    }
+
+    // What the program says of it.
+    fn as_str(self) -> &'static str
+        ensures { result.now ≡ run_fault_text self }
+    {
+        match self {
+            RunFault::Read => "cannot read input",
+            RunFault::Write => "cannot write output",
+            RunFault::Memory => "out of memory",
         }
     }
 }
@@ -56,65 +68,17 @@ impl From<AllocError> for RunFault {
 }
 
 impl fmt::Display for RunFault {
-    ghost use Rattle.nextest_config_check.specs.Engine.{run_fault_text};
-
     ghost output = { λ fault. Some (run_fault_text fault) };
 
-    fn fmt<W: fmt::Write>(&self, f: &mut fmt::Formatter<W>) -> fmt::Result {
-        match self {
-            RunFault::Read => f.write_str("cannot read input"),
-            RunFault::Write => f.write_str("cannot write output"),
-            RunFault::Memory => f.write_str("out of memory"),
-        }
-    }
-}
-
-// The check that the words of the command line ask for.
-#[derive(Debug, Drop)]
-struct Check {
-    current: Version,
-    override_version_check: bool,
-}
-
-// Why the words of the command line ask for no check.
-#[derive(Clone, Copy, Debug)]
-enum WordsFault<'a> {
-    // They are neither one word nor one word and the flag.
-    Usage,
-    // This word is no version.
-    NotVersion(&'a str),
-    // A request for memory was refused.
-    Memory,
-}
-
-impl WordsFault<'_> {
-    // The status that the program ends with.
-    fn status(self) -> u8
-        ensures { result ≡ words_status self.entry }
-    {
-        match self {
-            WordsFault::Usage | WordsFault::NotVersion(_) => 2,
-            WordsFault::Memory => NO_OUTCOME,
-        }
-    }
-}
-
-impl fmt::Display for WordsFault<'_> {
-    ghost use Rattle.nextest_config_check.specs.Engine.{words_fault_text};
-
-    ghost output = { λ fault. Some (words_fault_text fault) };
+    ghost styled_output = { λ fault _. Some (run_fault_text fault) };
 
     fn fmt<W: fmt::Write>(&self, f: &mut fmt::Formatter<W>) -> fmt::Result {
-        match self {
-            WordsFault::Usage => f.write_str("usage: nextest_config_check CURRENT [--override]"),
-            WordsFault::NotVersion(word) => write!(f, "not a version: {word}"),
-            WordsFault::Memory => f.write_str("out of memory"),
-        }
+        f.write_str(self.as_str())
     }
 }
 
 /// Does what the words of the command line, without the program's name, ask for, and answers the
-/// status that the program ends with. What a failing `faults` keeps is left open.
+/// status that the program ends with.
 pub fn serve<R: Read, W: Write, E: Write>(
     alloc: Global,
     words: &[String],
@@ -123,27 +87,29 @@ pub fn serve<R: Read, W: Write, E: Write>(
     faults: &mut E,
 ) -> u8
     // Words that are refused.
-    ensures complaint { IfComplaint (asked_by words.now) (result ≡ 2) }
-    ensures unread { IfComplaint (asked_by words.now)
-        (Keeps (R.remaining reader.old) (R.remaining reader.new)) }
-    ensures unwritten { IfComplaint (asked_by words.now)
-        (Keeps (W.contents writer.old) (W.contents writer.new)) }
+    ensures complaint { IfComplaint (asked_by words.now) (λ _. result ≡ 2) }
+    ensures told { IfComplaint (asked_by words.now) (λ text.
+        AddsFront (E.contents faults.old) (E.contents faults.new) text) }
+    ensures unread { IfComplaint (asked_by words.now) (λ _.
+        Keeps (R.remaining reader.old) (R.remaining reader.new)) }
+    ensures unwritten { IfComplaint (asked_by words.now) (λ _.
+        Keeps (W.contents writer.old) (W.contents writer.new)) }
 
     // Words that ask for a check.
-    ensures checked { IfCheck (asked_by words.now) (λ current overridden. (result ≡ NO_OUTCOME)
+    ensures checked { IfCheck (asked_by words.now) (λ current overridden. (result ≡ 3)
         ⊎ IsChecked (R.remaining reader.old) current overridden result
         (W.contents writer.old) (W.contents writer.new)) }
-    ensures drained { result ≢ NO_OUTCOME → IfCheck (asked_by words.now)
+    ensures drained { result ≢ 3 → IfCheck (asked_by words.now)
         (λ _ _. IsAtEnd (R.remaining reader.new)) }
-    ensures quiet { result ≢ NO_OUTCOME → IfCheck (asked_by words.now)
+    ensures quiet { result ≢ 3 → IfCheck (asked_by words.now)
         (λ _ _. Keeps (E.contents faults.old) (E.contents faults.new)) }
+    ensures cut_short { result ≡ 3 → IfCheck (asked_by words.now) (λ _ _. IsCutShort
+        (R.remaining reader.new) (W.contents writer.old) (W.contents writer.new)
+        (E.contents faults.old) (E.contents faults.new)) }
 {
     let check = match parse_words(alloc, words) {
         Ok(check) => check,
-        Err(fault) => {
-            let _ = complain(faults, fault);
-            return fault.status();
-        }
+        Err(fault) => return refuse(faults, fault),
     };
     match run(
         alloc,
@@ -154,49 +120,53 @@ pub fn serve<R: Read, W: Write, E: Write>(
     ) {
         Ok(outcome) => outcome.status(),
         Err(fault) => {
-            let _ = complain(faults, fault);
+            let _ = complain(faults, fault.as_str(), "");
             NO_OUTCOME
         }
     }
 }
 
-// Prints a fault as a line.
-fn complain<E: Write, D: fmt::Display + Drop>(faults: &mut E, fault: D) -> io::Result<()>
-    ensures { OnOk result (IfSome (D.output fault) (λ text.
-        Appends (E.contents faults.old) (E.contents faults.new) (text ++ codes "\n"))) }
+/// Says why the words of the command line are refused, and answers the status that the program ends
+/// with.
+pub(crate) fn refuse<E: Write>(faults: &mut E, fault: WordsFault<'_>) -> u8
+    ensures status { result ≡ words_status fault.entry }
+    ensures told { AddsFront (E.contents faults.old) (E.contents faults.new)
+        (words_fault_text fault.entry ++ codes "\n") }
 {
-    faults.writeln(fault)?;
+    let (complaint, word) = fault.text();
+    let _ = complain(faults, complaint, word);
+    fault.status()
+}
+
+// Writes a complaint and the word that it is about as a line.
+fn complain<E: Write>(faults: &mut E, complaint: &str, word: &str) -> io::Result<()>
+    ensures { AddsFront (E.contents faults.old) (E.contents faults.new)
+        ((complaint.now ++ word.now) ++ codes "\n") }
+{
+    write_text(faults, complaint)?;
+    write_text(faults, word)?;
+    write_text(faults, "\n")?;
     faults.flush()
 }
 
-// The check that the words ask for.
-fn parse_words<'a>(alloc: Global, words: &'a [String]) -> Result<Check, WordsFault<'a>>
-    ensures { MatchResult result (AsksCheck (asked_by words.now)) (IsWordsFault (asked_by words.now)) }
+// Writes the text; where that fails, a front of it may have been written.
+fn write_text<E: Write>(faults: &mut E, text: &str) -> io::Result<()>
+    ensures whole { OnOk result (Appends (E.contents faults.old) (E.contents faults.new) text.now) }
+    ensures front { AddsFront (E.contents faults.old) (E.contents faults.new) text.now }
 {
-    match words {
-        [current] => parse_check(alloc, current, false),
-        [current, flag] if flag.as_str() == "--override" => parse_check(alloc, current, true),
-        _ => Err(WordsFault::Usage),
+    let mut rest = text.as_bytes();
+    for _ in 0..u64::MAX {
+        if rest.is_empty() {
+            return Ok(());
+        }
+        match faults.write(rest) {
+            Ok(0) => return Err(io::Error::from(ErrorKind::WriteZero)),
+            Ok(count) => rest = &rest[count..],
+            Err(error) if error.kind() == ErrorKind::Interrupted => {}
+            Err(error) => return Err(error),
+        }
     }
-}
-
-// The check of the version that the word spells.
-fn parse_check<'a>(
-    alloc: Global,
-    word: &'a str,
-    override_version_check: bool,
-) -> Result<Check, WordsFault<'a>>
-    ensures { let command = check_of word.now override_version_check (version_parts word.now) in
-        MatchResult result (AsksCheck command) (IsWordsFault command) }
-{
-    match Version::parse(alloc, word) {
-        Ok(current) => Ok(Check {
-            current,
-            override_version_check,
-        }),
-        Err(error) if error == semver::Error::from(AllocError) => Err(WordsFault::Memory),
-        Err(_) => Err(WordsFault::NotVersion(word)),
-    }
+    Err(io::Error::from(ErrorKind::Interrupted))
 }
 
 /// Reads the whole input and then writes the report on it.

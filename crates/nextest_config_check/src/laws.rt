@@ -8,7 +8,7 @@ ghost use Rattle.nextest_config_check.specs.Report.{IsReport};
 
 use crate::report::Outcome;
 
-/// An input is laid out in one way, or has one faulty line, and not both.
+/// An input is laid out in at most one way, has at most one faulty line, and never both.
 pub fn law_layout_once()
     ensures sources { (input : List ℕ) (a b : List Source)
         → AreBlocks a input → AreBlocks b input → a ≡ b }
@@ -18,7 +18,7 @@ pub fn law_layout_once()
         → AreBlocks sources input → IsFaultyLine input n → ⊥ }
 {}
 
-/// For a current version and the flag, an input has one report, with one outcome.
+/// For a current version and the flag, an input has at most one report, with one outcome.
 pub fn law_report_once()
     ensures { (input : List ℕ) (current : Parts) (overridden : Bool) (text other : List ℕ)
         (outcome another : Outcome) → IsReport input current overridden text outcome

@@ -3,12 +3,14 @@
 //! which experimental features they name.
 #![tactic(auto)]
 
+mod command_line;
 pub mod engine;
 pub mod laws;
 mod layout;
 mod report;
 
-use engine::{NO_OUTCOME, RunFault, serve};
+use command_line::WordsFault;
+use engine::{refuse, serve};
 use std::env;
 use std::io::{self, Input};
 use std::process::ExitCode;
@@ -17,8 +19,8 @@ fn main(rt: HostRuntime) -> ExitCode {
     let words = match words(&rt) {
         Ok(words) => words,
         Err(error) => {
-            let _ = rt.eprintln(RunFault::of_read(&error));
-            return ExitCode::from(NO_OUTCOME);
+            let status = refuse(&mut rt.stderr(), WordsFault::of_read(&error));
+            return ExitCode::from(status);
         }
     };
     let mut reader = rt.reader();

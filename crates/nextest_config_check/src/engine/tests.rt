@@ -2,11 +2,58 @@
 
 use super::{Outcome, RunFault, run, serve};
 use semver::Version;
+use std::alloc::{AllocError, Global};
 use std::io::{self, ErrorKind, Read, Write};
-use std::process::Abort;
 use std::test::Fail;
 
-const USAGE: &str = "usage: nextest_config_check CURRENT [--override]\n";
+// Runs of the program: its words, its input, its status, its output and its complaint. A line feed is
+// `¶`, a carriage return `←`.
+const RUNS: &str = r#"
+0.9.49 | === repository .config/nextest.toml¶nextest-version = "0.9.50"¶ | 1 | error: 0.9.50 required by repository .config/nextest.toml, current 0.9.49¶known: none¶ | (nothing)
+0.9.49 --override | === repository .config/nextest.toml¶nextest-version = "0.9.50"¶ | 0 | error (overridden): 0.9.50 required by repository .config/nextest.toml, current 0.9.49¶known: none¶ | (nothing)
+0.9.50 | === repository .config/nextest.toml¶nextest-version = "0.9.50"¶ | 0 | satisfied: 0.9.50¶known: none¶ | (nothing)
+0.9.49-b.1+c | === repository a.toml¶nextest-version = "0.9.60"¶=== explicit b.toml¶nextest-version = "0.9.50"¶ | 1 | error: 0.9.60 required by repository a.toml, current 0.9.49-b.1+c¶known: none¶ | (nothing)
+0.9.55 | === tool my-tool:/etc/t.toml¶nextest-version = "0.9.50"¶=== repository .config/nextest.toml¶nextest-version = { recommended = "0.9.60" }¶experimental = ["benchmarks", "future"]¶ | 0 | warning: 0.9.60 recommended by repository .config/nextest.toml, current 0.9.55¶known: benchmarks¶unknown in repository .config/nextest.toml: "future"¶ | (nothing)
+0.9.55 --override | === tool my-tool:/etc/t.toml¶nextest-version = "0.9.50"¶=== repository .config/nextest.toml¶nextest-version = { recommended = "0.9.60" }¶experimental = ["benchmarks", "future"]¶ | 0 | warning (overridden): 0.9.60 recommended by repository .config/nextest.toml, current 0.9.55¶known: benchmarks¶unknown in repository .config/nextest.toml: "future"¶ | (nothing)
+0.9.49 | === tool my-tool:/etc/t.toml¶nextest-version = "0.9.50"¶=== repository .config/nextest.toml¶nextest-version = { recommended = "0.9.60" }¶experimental = ["benchmarks", "future"]¶ | 1 | error: 0.9.50 required by tool my-tool (/etc/t.toml), current 0.9.49¶known: benchmarks¶unknown in repository .config/nextest.toml: "future"¶ | (nothing)
+0.9.49 --override | === tool my-tool:/etc/t.toml¶nextest-version = "0.9.50"¶=== repository .config/nextest.toml¶nextest-version = { recommended = "0.9.60" }¶experimental = ["benchmarks", "future"]¶ | 0 | error (overridden): 0.9.50 required by tool my-tool (/etc/t.toml), current 0.9.49¶known: benchmarks¶unknown in repository .config/nextest.toml: "future"¶ | (nothing)
+1.0.0 | === explicit a.toml¶experimental = ["y", "benchmarks", "x\n"]¶=== explicit a.toml¶experimental = { z = 1, wrapper-scripts = true, setup-scripts = true }¶ | 0 | satisfied: 1.0.0¶known: setup-scripts, wrapper-scripts, benchmarks¶unknown in explicit a.toml: "x\n", "y"¶unknown in explicit a.toml: "z"¶ | (nothing)
+1.0.0 | === tool my-tool:/etc/t.toml¶experimental = ["x", "benchmarks"]¶ | 2 | refused at 0: tool my-tool (/etc/t.toml): experimental features in a tool configuration: "benchmarks", "x"¶ | (nothing)
+0.9.50 | === explicit a.toml¶nextest-version = "1-b+c"¶ | 2 | refused at 0: explicit a.toml: nextest-version: pre-release identifiers are not supported in nextest-version¶ | (nothing)
+0.9.50 | === explicit a.toml¶nextest-version = "1"¶ | 2 | refused at 0: explicit a.toml: nextest-version: invalid version "1"¶ | (nothing)
+1.0.0 | === explicit a.toml¶nextest-version = 1¶ | 2 | refused at 0: explicit a.toml: nextest-version: invalid type: integer `1`, expected a table ({ required = "0.9.20", recommended = "0.9.30" }) or a string ("0.9.50")¶ | (nothing)
+1.0.0 | === explicit a.toml¶=== repository b.toml¶x = ¶=== explicit c.toml¶y = ¶ | 2 | refused at 1: repository b.toml: not a TOML document¶ | (nothing)
+1.0.0 |  | 0 | satisfied: 1.0.0¶known: none¶ | (nothing)
+0.9.49 | === explicit a.toml←¶nextest-version = "0.9.50"←¶ | 1 | error: 0.9.50 required by explicit a.toml, current 0.9.49¶known: none¶ | (nothing)
+0.9.49 | === explicit café.toml¶nextest-version = "0.9.50"¶ | 1 | error: 0.9.50 required by explicit café.toml, current 0.9.49¶known: none¶ | (nothing)
+1.0.0 | x = 1¶ | 2 | refused: line 1 isn't a source line¶ | (nothing)
+1.0.0 | ¶=== explicit a.toml¶ | 2 | refused: line 1 isn't a source line¶ | (nothing)
+1.0.0 | === tool _a:/x¶ | 2 | refused: line 1 isn't a source line¶ | (nothing)
+1.0.0 | === explicit ¶ | 2 | refused: line 1 isn't a source line¶ | (nothing)
+1.0.0 | === repository ←¶ | 2 | refused: line 1 isn't a source line¶ | (nothing)
+1.0.0 | === Explicit a.toml¶ | 2 | refused: line 1 isn't a source line¶ | (nothing)
+1.0.0 | ===  explicit a.toml¶ | 2 | refused: line 1 isn't a source line¶ | (nothing)
+1.0.0 | === repository a.toml¶x = """¶=== foo¶ | 2 | refused: line 3 isn't a source line¶ | (nothing)
+1.0.0 | === repository a.toml←¶←¶=== explicit b¶=== ¶=== foo | 2 | refused: line 4 isn't a source line¶ | (nothing)
+1.0.0 | === explicit café.toml¶¶=== repository b.toml←¶x = 1¶=== foo¶ | 2 | refused: line 5 isn't a source line¶ | (nothing)
+(none) | x = 1¶ | 2 | (nothing) | usage: nextest_config_check CURRENT [--override]¶
+0.9.50 --table-only | x = 1¶ | 2 | (nothing) | usage: nextest_config_check CURRENT [--override]¶
+--override 0.9.50 | x = 1¶ | 2 | (nothing) | usage: nextest_config_check CURRENT [--override]¶
+x.y --overrid | x = 1¶ | 2 | (nothing) | usage: nextest_config_check CURRENT [--override]¶
+0.9.50 --override --override | x = 1¶ | 2 | (nothing) | usage: nextest_config_check CURRENT [--override]¶
+x.y --override 0.9.50 x.y | x = 1¶ | 2 | (nothing) | usage: nextest_config_check CURRENT [--override]¶
+x.y | x = 1¶ | 2 | (nothing) | not a version: x.y¶
+0.9 | x = 1¶ | 2 | (nothing) | not a version: 0.9¶
+ | x = 1¶ | 2 | (nothing) | not a version: ¶
+x.y --override | x = 1¶ | 2 | (nothing) | not a version: x.y¶
+--override | x = 1¶ | 2 | (nothing) | not a version: --override¶
+"#;
+
+// Sizes around powers of two, and some thousands.
+const SIZES: [usize; 24] = [
+    1, 2, 3, 7, 8, 9, 31, 32, 33, 63, 64, 65, 127, 128, 129, 255, 256, 257, 1023, 1024, 1025, 2048,
+    4096, 5000,
+];
 
 // A reader that gives `step` bytes a call and fails at the end, if it is to.
 #[derive(Drop)]
@@ -30,307 +77,198 @@ impl Read for Pieces<'_> {
     }
 }
 
-// A writer that takes nothing, or holds what it takes and can't pass it on.
+// A writer that keeps what it takes, `step` bytes a call, and fails at one call, if it is to. Calls
+// are counted from 0, with the flushes among them. Behind the failure it takes more.
 #[derive(Drop)]
-struct Broken {
-    takes: bool,
+struct Watched {
+    kept: Vec<u8>,
+    step: usize,
+    calls: usize,
+    fails_at: Option<usize>,
+    is_flushed: bool,
 }
 
-impl Write for Broken {
-    fn write(&mut self, buf: &[u8]) -> io::Result<usize> {
-        if self.takes {
-            Ok(buf.len())
-        } else {
-            Err(io::Error::from(ErrorKind::BrokenPipe))
+impl Watched {
+    fn new(alloc: Global, step: usize, fails_at: Option<usize>) -> Self {
+        Watched {
+            kept: Vec::new(alloc),
+            step,
+            calls: 0,
+            fails_at,
+            is_flushed: true,
         }
     }
 
-    fn flush(&mut self) -> io::Result<()> {
-        Err(io::Error::from(ErrorKind::BrokenPipe))
+    fn count_call(&mut self) -> io::Result<()> {
+        let call = self.calls;
+        self.calls = call.saturating_add(1);
+        if self.fails_at == Some(call) {
+            return Err(io::Error::from(ErrorKind::BrokenPipe));
+        }
+        Ok(())
+    }
+
+    // What was kept, as text, and whether it was passed on.
+    fn told(&self, alloc: Global) -> Result<String, Fail> {
+        if self.kept.is_empty() {
+            return Ok(String::from_str(alloc, "(nothing)")?);
+        }
+        let mut told = String::from_str(alloc, str::from_utf8(&self.kept).unwrap_or("no text"))?;
+        if !self.is_flushed {
+            told.push_str("(not flushed)")?;
+        }
+        Ok(told)
     }
 }
 
-// What a run of the program writes to its two outputs, and its status.
-#[derive(Clone, Copy)]
-struct Served<'a> {
-    status: u8,
-    output: &'a str,
-    faults: &'a str,
+impl Write for Watched {
+    fn write(&mut self, buf: &[u8]) -> io::Result<usize> {
+        self.count_call()?;
+        let count = self.step.min(buf.len());
+        self.kept.extend_from_slice(&buf[..count])?;
+        self.is_flushed = false;
+        Ok(count)
+    }
+
+    fn flush(&mut self) -> io::Result<()> {
+        self.count_call()?;
+        self.is_flushed = true;
+        Ok(())
+    }
 }
 
-// Runs the program and compares what comes of it.
-fn expect<R: Read>(
-    rt: &(impl Abort + AllocGlobal),
-    words: &[&str],
-    reader: &mut R,
-    expected: Served,
-) -> Result<(), Fail> {
-    let alloc = rt.alloc();
+// The words, which stand apart by spaces.
+fn words_of(alloc: Global, words: &str) -> Result<Vec<String>, AllocError> {
     let mut owned = Vec::new(alloc);
-    for word in words {
+    if words == "(none)" {
+        return Ok(owned);
+    }
+    for word in words.split(' ') {
         owned.push(String::from_str(alloc, word)?)?;
     }
-    let mut output = Vec::new(alloc);
-    let mut faults = Vec::new(alloc);
-    let status = serve(alloc, &owned, reader, &mut output, &mut faults);
-    assert_eq!(rt; str::from_utf8(&output).unwrap_or("?"), expected.output);
-    assert_eq!(rt; str::from_utf8(&faults).unwrap_or("?"), expected.faults);
-    assert_eq!(rt; status, expected.status);
-    Ok(())
+    Ok(owned)
 }
 
-fn expect_report(
-    rt: &(impl Abort + AllocGlobal),
-    words: &[&str],
-    mut input: &[u8],
-    status: u8,
-    output: &str,
-) -> Result<(), Fail> {
-    let expected = Served {
-        status,
-        output,
-        faults: "",
+// The text with line feeds and carriage returns for the signs that stand for them.
+fn with_line_ends(alloc: Global, text: &str) -> Result<String, AllocError> {
+    text.replace(alloc, "¶", "\n")?.replace(alloc, "←", "\r")
+}
+
+// Runs the program: its status, what it writes and what it complains of.
+fn served<R: Read>(
+    alloc: Global,
+    words: &str,
+    reader: &mut R,
+    mut writer: Watched,
+    mut faults: Watched,
+) -> Result<String, Fail> {
+    let words = words_of(alloc, words)?;
+    let status = serve(alloc, &words, reader, &mut writer, &mut faults);
+    let output = writer.told(alloc)?;
+    let complaint = faults.told(alloc)?;
+    Ok(format!(in alloc; "{status} | {output} | {complaint}")?)
+}
+
+// Runs the program on an input that is read and written by `step` bytes a call.
+fn run_in_pieces(alloc: Global, words: &str, input: &str, step: usize) -> Result<String, Fail> {
+    let mut reader = Pieces {
+        rest: input.as_bytes(),
+        step,
+        end: None,
     };
-    expect(rt, words, &mut input, expected)
+    let writer = Watched::new(alloc, step, None);
+    let faults = Watched::new(alloc, step, None);
+    served(alloc, words, &mut reader, writer, faults)
 }
 
-fn expect_in_pieces(
-    rt: &(impl Abort + AllocGlobal),
-    words: &[&str],
-    input: &[u8],
-    expected: Served,
-) -> Result<(), Fail> {
-    for step in [1, 3, input.len()] {
-        let mut reader = Pieces {
-            rest: input,
-            step,
-            end: None,
+#[test]
+fn reports_and_complains(rt: HostRuntime) -> Result<(), Fail> {
+    let alloc = rt.alloc();
+    for row in RUNS.trim().lines() {
+        let Some((words, rest)) = row.split_once(" | ") else {
+            return Err(Fail::from("a row without its parts"));
         };
-        expect(rt, words, &mut reader, expected)?;
-    }
-    Ok(())
-}
-
-fn expect_complaint(
-    rt: &(impl Abort + AllocGlobal),
-    words: &[&str],
-    faults: &str,
-) -> Result<(), Fail> {
-    let expected = Served {
-        status: 2,
-        output: "",
-        faults,
-    };
-    expect(rt, words, &mut &b"x = 1\n"[..], expected)
-}
-
-#[test]
-fn fails_below_a_required_version(rt: HostRuntime) -> Result<(), Fail> {
-    let input = b"=== repository .config/nextest.toml\nnextest-version = \"0.9.50\"\n";
-    let output =
-        "error: 0.9.50 required by repository .config/nextest.toml, current 0.9.49\nknown: none\n";
-    expect_report(&rt, &["0.9.49"], input, 1, output)
-}
-
-#[test]
-fn passes_below_a_required_version_if_overridden(rt: HostRuntime) -> Result<(), Fail> {
-    let input = b"=== repository .config/nextest.toml\nnextest-version = \"0.9.50\"\n";
-    let output =
-        "error (overridden): 0.9.50 required by repository .config/nextest.toml, current 0.9.49\nknown: none\n";
-    expect_report(&rt, &["0.9.49", "--override"], input, 0, output)
-}
-
-#[test]
-fn passes_with_a_version_that_is_enough(rt: HostRuntime) -> Result<(), Fail> {
-    let input = b"=== repository .config/nextest.toml\nnextest-version = \"0.9.50\"\n";
-    let output = "satisfied: 0.9.50\nknown: none\n";
-    expect_report(&rt, &["0.9.50"], input, 0, output)
-}
-
-#[test]
-fn names_the_source_of_the_greatest_version(rt: HostRuntime) -> Result<(), Fail> {
-    let input =
-        b"=== repository a.toml\nnextest-version = \"0.9.60\"\n=== explicit b.toml\nnextest-version = \"0.9.50\"\n";
-    let output = "error: 0.9.60 required by repository a.toml, current 0.9.49-b.1+c\nknown: none\n";
-    expect_report(&rt, &["0.9.49-b.1+c"], input, 1, output)
-}
-
-#[test]
-fn reads_a_tool_and_the_repository(rt: HostRuntime) -> Result<(), Fail> {
-    let input =
-        b"=== tool my-tool:/etc/t.toml\nnextest-version = \"0.9.50\"\n=== repository .config/nextest.toml\nnextest-version = { recommended = \"0.9.60\" }\nexperimental = [\"benchmarks\", \"future\"]\n";
-    let warning =
-        "warning: 0.9.60 recommended by repository .config/nextest.toml, current 0.9.55\nknown: benchmarks\nunknown in repository .config/nextest.toml: \"future\"\n";
-    let error =
-        "error: 0.9.50 required by tool my-tool (/etc/t.toml), current 0.9.49\nknown: benchmarks\nunknown in repository .config/nextest.toml: \"future\"\n";
-    let overridden =
-        "error (overridden): 0.9.50 required by tool my-tool (/etc/t.toml), current 0.9.49\nknown: benchmarks\nunknown in repository .config/nextest.toml: \"future\"\n";
-    expect_report(&rt, &["0.9.55"], input, 0, warning)?;
-    expect_report(&rt, &["0.9.49"], input, 1, error)?;
-    expect_report(&rt, &["0.9.49", "--override"], input, 0, overridden)
-}
-
-#[test]
-fn reports_features_in_order(rt: HostRuntime) -> Result<(), Fail> {
-    let input =
-        b"=== explicit a.toml\nexperimental = [\"y\", \"benchmarks\", \"x\\n\"]\n=== explicit a.toml\nexperimental = { z = 1, wrapper-scripts = true, setup-scripts = true }\n";
-    let output =
-        "satisfied: 1.0.0\nknown: setup-scripts, wrapper-scripts, benchmarks\nunknown in explicit a.toml: \"x\\n\", \"y\"\nunknown in explicit a.toml: \"z\"\n";
-    expect_report(&rt, &["1.0.0"], input, 0, output)
-}
-
-#[test]
-fn refuses_a_tool_with_features(rt: HostRuntime) -> Result<(), Fail> {
-    let input = b"=== tool my-tool:/etc/t.toml\nexperimental = [\"x\", \"benchmarks\"]\n";
-    let output =
-        "refused at 0: tool my-tool (/etc/t.toml): experimental features in a tool configuration: \"benchmarks\", \"x\"\n";
-    expect_report(&rt, &["1.0.0"], input, 2, output)
-}
-
-#[test]
-fn refuses_a_source_with_a_pre_release(rt: HostRuntime) -> Result<(), Fail> {
-    let input = b"=== explicit a.toml\nnextest-version = \"1-b+c\"\n";
-    let output =
-        "refused at 0: explicit a.toml: nextest-version: pre-release identifiers are not supported in nextest-version\n";
-    expect_report(&rt, &["0.9.50"], input, 2, output)
-}
-
-#[test]
-fn refuses_a_source_with_a_bad_version(rt: HostRuntime) -> Result<(), Fail> {
-    let input = b"=== explicit a.toml\nnextest-version = \"1\"\n";
-    let output = "refused at 0: explicit a.toml: nextest-version: invalid version \"1\"\n";
-    expect_report(&rt, &["0.9.50"], input, 2, output)
-}
-
-#[test]
-fn refuses_a_source_with_a_bad_type(rt: HostRuntime) -> Result<(), Fail> {
-    let input = b"=== explicit a.toml\nnextest-version = 1\n";
-    let output =
-        "refused at 0: explicit a.toml: nextest-version: invalid type: integer `1`, expected a table ({ required = \"0.9.20\", recommended = \"0.9.30\" }) or a string (\"0.9.50\")\n";
-    expect_report(&rt, &["1.0.0"], input, 2, output)
-}
-
-#[test]
-fn refuses_the_first_bad_source_at_its_position(rt: HostRuntime) -> Result<(), Fail> {
-    let input = b"=== explicit a.toml\n=== repository b.toml\nx = \n=== explicit c.toml\ny = \n";
-    let output = "refused at 1: repository b.toml: not a TOML document\n";
-    expect_report(&rt, &["1.0.0"], input, 2, output)
-}
-
-#[test]
-fn passes_with_no_source(rt: HostRuntime) -> Result<(), Fail> {
-    expect_report(&rt, &["1.0.0"], b"", 0, "satisfied: 1.0.0\nknown: none\n")
-}
-
-#[test]
-fn drops_the_carriage_return_of_a_source_line(rt: HostRuntime) -> Result<(), Fail> {
-    let input = b"=== explicit a.toml\r\nnextest-version = \"0.9.50\"\r\n";
-    let output = "error: 0.9.50 required by explicit a.toml, current 0.9.49\nknown: none\n";
-    expect_report(&rt, &["0.9.49"], input, 1, output)
-}
-
-#[test]
-fn refuses_a_line_that_is_no_source_line(rt: HostRuntime) -> Result<(), Fail> {
-    let cases: [(&[u8], &str); 9] = [
-        (b"x = 1\n", "refused: line 1 isn't a source line\n"),
-        (
-            b"\n=== explicit a.toml\n",
-            "refused: line 1 isn't a source line\n",
-        ),
-        (b"=== tool _a:/x\n", "refused: line 1 isn't a source line\n"),
-        (b"=== explicit \n", "refused: line 1 isn't a source line\n"),
-        (
-            b"=== repository \r\n",
-            "refused: line 1 isn't a source line\n",
-        ),
-        (
-            b"=== Explicit a.toml\n",
-            "refused: line 1 isn't a source line\n",
-        ),
-        (
-            b"===  explicit a.toml\n",
-            "refused: line 1 isn't a source line\n",
-        ),
-        (
-            b"=== repository a.toml\nx = \"\"\"\n=== foo\n",
-            "refused: line 3 isn't a source line\n",
-        ),
-        (
-            b"=== repository a.toml\r\n\r\n=== explicit b\n=== \n=== foo",
-            "refused: line 4 isn't a source line\n",
-        ),
-    ];
-    for (input, output) in cases {
-        expect_report(&rt, &["1.0.0"], input, 2, output)?;
+        let Some((input, want)) = rest.split_once(" | ") else {
+            return Err(Fail::from("a row without its parts"));
+        };
+        let input = with_line_ends(alloc, input)?;
+        let want = with_line_ends(alloc, want)?;
+        for step in [1, 3, 4096] {
+            let line = run_in_pieces(alloc, words, input.as_str(), step)?;
+            assert_eq!(rt; line, want, "{row}");
+        }
     }
     Ok(())
 }
 
 #[test]
 fn refuses_input_that_is_no_text(rt: HostRuntime) -> Result<(), Fail> {
-    let output = "refused: input isn't UTF-8\n";
-    expect_report(&rt, &["1.0.0"], b"\xff", 2, output)?;
-    expect_report(&rt, &["1.0.0"], b"x = 1\n\xc3", 2, output)
-}
-
-#[test]
-fn prints_the_usage_for_other_words(rt: HostRuntime) -> Result<(), Fail> {
-    expect_complaint(&rt, &[], USAGE)?;
-    expect_complaint(&rt, &["0.9.50", "--table-only"], USAGE)?;
-    expect_complaint(&rt, &["--override", "0.9.50"], USAGE)?;
-    expect_complaint(&rt, &["x.y", "--overrid"], USAGE)?;
-    expect_complaint(&rt, &["0.9.50", "--override", "--override"], USAGE)
-}
-
-#[test]
-fn complains_of_a_word_that_is_no_version(rt: HostRuntime) -> Result<(), Fail> {
-    expect_complaint(&rt, &["x.y"], "not a version: x.y\n")?;
-    expect_complaint(&rt, &["0.9"], "not a version: 0.9\n")?;
-    expect_complaint(&rt, &[""], "not a version: \n")?;
-    expect_complaint(&rt, &["x.y", "--override"], "not a version: x.y\n")?;
-    expect_complaint(&rt, &["--override"], "not a version: --override\n")
-}
-
-#[test]
-fn counts_the_same_lines_in_pieces(rt: HostRuntime) -> Result<(), Fail> {
-    let input = b"=== explicit caf\xc3\xa9.toml\n\n=== repository b.toml\r\nx = 1\n=== foo\n";
-    let expected = Served {
-        status: 2,
-        output: "refused: line 5 isn't a source line\n",
-        faults: "",
-    };
-    expect_in_pieces(&rt, &["1.0.0"], input, expected)
-}
-
-#[test]
-fn reports_the_same_in_pieces(rt: HostRuntime) -> Result<(), Fail> {
-    let input = b"=== explicit caf\xc3\xa9.toml\nnextest-version = \"0.9.50\"\n";
-    let expected = Served {
-        status: 1,
-        output: "error: 0.9.50 required by explicit caf\u{e9}.toml, current 0.9.49\nknown: none\n",
-        faults: "",
-    };
-    expect_in_pieces(&rt, &["0.9.49"], input, expected)
+    let alloc = rt.alloc();
+    for mut input in [&b"\xff"[..], &b"x = 1\n\xc3"[..]] {
+        let writer = Watched::new(alloc, 4096, None);
+        let faults = Watched::new(alloc, 4096, None);
+        let line = served(alloc, "1.0.0", &mut input, writer, faults)?;
+        assert_eq!(rt;
+            line.as_str(),
+            "2 | refused: input isn't UTF-8\n | (nothing)"
+        );
+    }
+    Ok(())
 }
 
 #[test]
 fn writes_nothing_if_the_reader_fails(rt: HostRuntime) -> Result<(), Fail> {
-    let cases = [
-        (ErrorKind::Other, "cannot read input\n"),
-        (ErrorKind::OutOfMemory, "out of memory\n"),
-    ];
-    for (end, faults) in cases {
+    let alloc = rt.alloc();
+    for (end, want) in [
+        (ErrorKind::Other, "3 | (nothing) | cannot read input\n"),
+        (ErrorKind::OutOfMemory, "3 | (nothing) | out of memory\n"),
+    ] {
         let mut reader = Pieces {
             rest: b"x = 1\n",
             step: 3,
             end: Some(end),
         };
-        let expected = Served {
-            status: 3,
-            output: "",
-            faults,
-        };
-        expect(&rt, &["1.0.0"], &mut reader, expected)?;
+        let writer = Watched::new(alloc, 4096, None);
+        let faults = Watched::new(alloc, 4096, None);
+        let line = served(alloc, "1.0.0", &mut reader, writer, faults)?;
+        assert_eq!(rt; line.as_str(), want);
+    }
+    Ok(())
+}
+
+#[test]
+fn complains_if_the_writer_fails(rt: HostRuntime) -> Result<(), Fail> {
+    let alloc = rt.alloc();
+    for (fails_at, want) in [
+        (0, "3 | (nothing) | cannot write output\n"),
+        (1, "3 | ref(not flushed) | cannot write output\n"),
+        (2, "3 | refuse(not flushed) | cannot write output\n"),
+        (
+            12,
+            "3 | refused: line 1 isn't a source line\n(not flushed) | cannot write output\n",
+        ),
+    ] {
+        let writer = Watched::new(alloc, 3, Some(fails_at));
+        let faults = Watched::new(alloc, 3, None);
+        let line = served(alloc, "1.0.0", &mut &b"x = 1\n"[..], writer, faults)?;
+        assert_eq!(rt; line.as_str(), want);
+    }
+    Ok(())
+}
+
+#[test]
+fn keeps_the_status_if_faults_fail(rt: HostRuntime) -> Result<(), Fail> {
+    let alloc = rt.alloc();
+    for (fails_at, want) in [
+        (0, "2 | (nothing) | (nothing)"),
+        (1, "2 | (nothing) | not a version: (not flushed)"),
+        (2, "2 | (nothing) | not a version: x.y(not flushed)"),
+        (3, "2 | (nothing) | not a version: x.y\n(not flushed)"),
+    ] {
+        let writer = Watched::new(alloc, 4096, None);
+        let faults = Watched::new(alloc, 4096, Some(fails_at));
+        let line = served(alloc, "x.y", &mut io::empty(), writer, faults)?;
+        assert_eq!(rt; line.as_str(), want);
     }
     Ok(())
 }
@@ -344,54 +282,47 @@ fn tells_which_stream_failed(rt: HostRuntime) -> Result<(), Fail> {
         step: 1,
         end: Some(ErrorKind::Other),
     };
-    let mut output = Vec::new(alloc);
-    let outcome = run(alloc, &mut reader, &mut output, &current, false);
+    let mut writer = Watched::new(alloc, 4096, Some(0));
+    let outcome = run(alloc, &mut reader, &mut writer, &current, false);
     assert_eq!(rt; outcome, Err(RunFault::Read));
-    assert!(rt; output.is_empty());
-    for takes in [false, true] {
-        let mut writer = Broken { takes };
-        let outcome = run(alloc, &mut &b"x = 1\n"[..], &mut writer, &current, false);
-        assert_eq!(rt; outcome, Err(RunFault::Write));
-    }
-    let outcome = run(alloc, &mut &b"x = 1\n"[..], &mut output, &current, false);
+    let outcome = run(alloc, &mut &b"x = 1\n"[..], &mut writer, &current, false);
+    assert_eq!(rt; outcome, Err(RunFault::Write));
+    let outcome = run(alloc, &mut &b"x = 1\n"[..], &mut writer, &current, false);
     assert_eq!(rt; outcome, Ok(Outcome::Refused));
     Ok(())
 }
 
-#[test]
-fn complains_if_the_writer_fails(rt: HostRuntime) -> Result<(), Fail> {
-    let alloc = rt.alloc();
-    let words = vec![in alloc; String::from_str(alloc, "1.0.0")?]?;
-    for takes in [false, true] {
-        let mut writer = Broken { takes };
-        let mut faults = Vec::new(alloc);
-        let status = serve(
-            alloc,
-            &words,
-            &mut &b"x = 1\n"[..],
-            &mut writer,
-            &mut faults,
-        );
-        assert_eq!(rt; faults.as_slice(), b"cannot write output\n".as_slice());
-        assert_eq!(rt; status, 3);
-    }
-    Ok(())
+// A path of `size` letters that no document stands at, and the report on it.
+fn long_path(alloc: Global, size: usize) -> Result<(String, String), AllocError> {
+    let path = "p".repeat(alloc, size)?;
+    let input = format!(in alloc; "=== explicit {path}\nx =\n")?;
+    let report = format!(in alloc;
+        "2 | refused at 0: explicit {path}: not a TOML document\n | (nothing)"
+    )?;
+    Ok((input, report))
 }
 
 #[test]
-fn keeps_the_status_if_faults_fail(rt: HostRuntime) -> Result<(), Fail> {
+fn reports_at_every_size(rt: HostRuntime) -> Result<(), Fail> {
     let alloc = rt.alloc();
-    for takes in [false, true] {
-        let mut output = Vec::new(alloc);
-        let status = serve(
-            alloc,
-            &[],
-            &mut io::empty(),
-            &mut output,
-            &mut Broken { takes },
+    for size in SIZES {
+        let word = "x".repeat(alloc, size)?;
+        let line = run_in_pieces(alloc, word.as_str(), "", 4096)?;
+        assert_eq!(rt;
+            line,
+            format!(in alloc; "2 | (nothing) | not a version: {word}\n")?
         );
-        assert_eq!(rt; status, 2);
-        assert!(rt; output.is_empty());
+
+        let (input, want) = long_path(alloc, size)?;
+        let line = run_in_pieces(alloc, "1.0.0", input.as_str(), 4096)?;
+        assert_eq!(rt; line, want);
+
+        let sources = "=== explicit a\n#\n".repeat(alloc, size)?;
+        let line = run_in_pieces(alloc, "1.0.0", sources.as_str(), 4096)?;
+        assert_eq!(rt;
+            line.as_str(),
+            "0 | satisfied: 1.0.0\nknown: none\n | (nothing)"
+        );
     }
     Ok(())
 }

@@ -1,7 +1,7 @@
 use Rattle.std.proofs.Common.{◌≡◌, Err, rules, ap}
 use Rattle.semver.specs.Parse.{memory_error}
 use Rattle.nextest_config_check.proofs.Versions.{no_complaint_of_memory}
-use Rattle.nextest_config_check.proofs.engine.parse_check.Goals as goal
+use Rattle.nextest_config_check.proofs.command_line.parse_check.Goals as goal
 
 pub returns-in-Err : goal.returns-in-Err
 returns-in-Err c =
