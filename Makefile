@@ -1,7 +1,7 @@
-# make test     the whole gate: every proof from nothing, the edits that must fail, the tests, the program's runs
+# make test     the whole gate: every proof from nothing, the edits that must fail, the tests, the runs of tests/
 # make run      proves, builds and runs the program on examples/sources.txt
 # make build    leaves the proved program at bin/nextest_config_check
-# make install  copies it to PREFIX/bin (PREFIX=/usr/local)
+# make install  copies it and scripts/check-nextest-config to PREFIX/bin (PREFIX=/usr/local)
 
 PREFIX ?= /usr/local
 PROGRAM := nextest_config_check
@@ -11,6 +11,7 @@ CRATE := crates/$(PROGRAM)
 
 test: toolchain
 	rt ci
+	tests/run $(CRATE)/out/$(PROGRAM)
 
 run: toolchain
 	@cd $(CRATE) && rt run -- 0.9.55 --override < ../../examples/sources.txt
@@ -22,7 +23,8 @@ build: toolchain
 	@echo "bin/$(PROGRAM)"
 
 install: build
-	install -D -m 755 bin/$(PROGRAM) $(DESTDIR)$(PREFIX)/bin/$(PROGRAM)
+	install -d $(DESTDIR)$(PREFIX)/bin
+	install -m 755 bin/$(PROGRAM) scripts/check-nextest-config $(DESTDIR)$(PREFIX)/bin
 
 toolchain:
 	@command -v rt > /dev/null || { echo "rt, the command of the Rattle toolchain, isn't on the PATH: put the folder that holds it there" >&2; exit 1; }
