@@ -1,5 +1,5 @@
 # make test     the whole gate: every proof from nothing, the edits that must fail, the tests, the runs of tests/
-# make run      proves, builds and runs the program on examples/sources.txt
+# make run      runs the program on examples/sources.txt, before its proof
 # make build    leaves the proved program at bin/nextest_config_check
 # make install  copies it and scripts/check-nextest-config to PREFIX/bin (PREFIX=/usr/local)
 
@@ -14,7 +14,8 @@ test: toolchain
 	tests/run $(CRATE)/out/$(PROGRAM)
 
 run: toolchain
-	@cd $(CRATE) && rt run -- 0.9.55 --override < ../../examples/sources.txt
+	@cd $(CRATE) && rt try -- 0.9.55 --override < ../../examples/sources.txt
+	@echo "This run came before the proof. It is of the same source that make test proves."
 
 # A first run, on no source, leaves the program behind.
 build: toolchain
