@@ -1,25 +1,96 @@
 //! Identifiers and tool names.
 
-use nextest_config_values::helpers::{InvalidIdentifierKind, is_valid_identifier_unicode};
+use crate::rows::{check, check_at_sizes, made, shown, told, unescaped};
+use nextest_config_values::helpers::is_valid_identifier_unicode;
 use nextest_config_values::identifier::{
     ConfigIdentifier, InvalidIdentifier, InvalidToolName, ToolName,
 };
 use nextest_config_values::read::FromToml;
 use std::alloc::{AllocError, Global};
-use std::cmp::Ordering;
-use std::hash::{DefaultHasher, Hash, Hasher};
 use std::test::Fail;
 use toml::Value;
 
-// What a text is as an identifier, or which refusal it gets, as a line.
-fn identifier(alloc: Global, text: &str) -> Result<String, AllocError> {
-    match ConfigIdentifier::new(alloc, text) {
-        Ok(identifier) => format!(in alloc; "{identifier}"),
-        Err(error) => refusal(alloc, &error),
+const ROWS: &str = r#"
+# identifiers are kept
+identifier | foo | foo
+identifier | foo-bar | foo-bar
+identifier | Δabc | Δabc
+identifier | @tool:foo:bar | @tool:foo:bar
+identifier | @tool:Δabc_def-ghi:foo-bar | @tool:Δabc_def-ghi:foo-bar
+
+# other texts break one rule of identifiers
+identifier |  | Empty
+identifier | foo bar | InvalidXid foo bar
+identifier | _ | InvalidXid _
+identifier | -foo | InvalidXid -foo
+identifier | _foo | InvalidXid _foo
+identifier | @foo | InvalidXid @foo
+identifier | @tool | InvalidXid @tool
+identifier | @tool:: | ToolComponentEmpty @tool::
+identifier | @tool:foo: | ToolComponentEmpty @tool:foo:
+identifier | @tool::foo | ToolComponentEmpty @tool::foo
+identifier | @tool::#x | ToolComponentEmpty @tool::#x
+identifier | @tool: | ToolIdentifierInvalidFormat @tool:
+identifier | @tool:foo | ToolIdentifierInvalidFormat @tool:foo
+identifier | @tool:_foo: | ToolIdentifierInvalidXid @tool:_foo:
+identifier | @tool:_foo:bar | ToolIdentifierInvalidXid @tool:_foo:bar
+identifier | @tool:foo:#bar | ToolIdentifierInvalidXid @tool:foo:#bar
+identifier | @tool:foo:bar:baz | ToolIdentifierInvalidXid @tool:foo:bar:baz
+
+# a tool identifier has two components
+components | @tool:Δabc_def-ghi:foo-bar | Δabc_def-ghi and foo-bar
+components | foo-bar | none
+
+# an identifier is kept in its normal form
+bytes | e\u{301}x | c3 a9 78
+identifier | e\u{301}\u{20} | InvalidXid é  |
+tool name | \u{212b} | Å
+
+# tool names are kept or break one rule
+tool name | foo | foo
+tool name | foo-bar | foo-bar
+tool name | Δabc | Δabc
+tool name | my-tool | my-tool
+tool name | myTool123 | myTool123
+tool name |  | Empty
+tool name | foo bar | InvalidXid foo bar
+tool name | _ | InvalidXid _
+tool name | -foo | InvalidXid -foo
+tool name | _foo | InvalidXid _foo
+tool name | @foo | InvalidXid @foo
+tool name | @tool | StartsWithToolPrefix @tool
+tool name | @tool:foo:bar | StartsWithToolPrefix @tool:foo:bar
+tool name | @tool:test:id | StartsWithToolPrefix @tool:test:id
+tool name | @toolname | StartsWithToolPrefix @toolname
+
+# texts are judged as they are
+plain | a-9_\u{301} | Ok(())
+plain |  | Err(Empty)
+plain | 9a | Err(InvalidXid)
+plain | \u{301} | Err(InvalidXid)
+"#;
+
+fn answer(alloc: Global, call: &str, input: &str) -> Result<String, Fail> {
+    let text = unescaped(alloc, input)?;
+    let text = text.as_str();
+    match call {
+        "identifier" => identifier(alloc, text),
+        "tool name" => tool_name(alloc, text),
+        "components" => components(alloc, text),
+        "bytes" => bytes(alloc, text),
+        "plain" => Ok(format!(in alloc; "{:?}", is_valid_identifier_unicode(text))?),
+        _ => Err(Fail::new("no such call")),
     }
 }
 
-fn refusal(alloc: Global, error: &InvalidIdentifier) -> Result<String, AllocError> {
+fn identifier(alloc: Global, text: &str) -> Result<String, Fail> {
+    match ConfigIdentifier::new(alloc, text) {
+        Ok(identifier) => shown(alloc, &identifier),
+        Err(error) => Ok(refused_identifier(alloc, &error)?),
+    }
+}
+
+fn refused_identifier(alloc: Global, error: &InvalidIdentifier) -> Result<String, AllocError> {
     match error {
         InvalidIdentifier::Empty => String::from_str(alloc, "Empty"),
         InvalidIdentifier::InvalidXid(text) => format!(in alloc; "InvalidXid {text}"),
@@ -36,219 +107,87 @@ fn refusal(alloc: Global, error: &InvalidIdentifier) -> Result<String, AllocErro
     }
 }
 
-// What a text is as a tool name, or which refusal it gets, as a line.
-fn tool_name(alloc: Global, text: &str) -> Result<String, AllocError> {
+fn tool_name(alloc: Global, text: &str) -> Result<String, Fail> {
     match ToolName::new(alloc, text) {
-        Ok(name) => format!(in alloc; "{name}"),
-        Err(InvalidToolName::Empty) => String::from_str(alloc, "Empty"),
-        Err(InvalidToolName::StartsWithToolPrefix(text)) => {
+        Ok(name) => shown(alloc, &name),
+        Err(error) => Ok(refused_tool_name(alloc, &error)?),
+    }
+}
+
+fn refused_tool_name(alloc: Global, error: &InvalidToolName) -> Result<String, AllocError> {
+    match error {
+        InvalidToolName::Empty => String::from_str(alloc, "Empty"),
+        InvalidToolName::StartsWithToolPrefix(text) => {
             format!(in alloc; "StartsWithToolPrefix {text}")
         }
-        Err(InvalidToolName::InvalidXid(text)) => format!(in alloc; "InvalidXid {text}"),
-        Err(InvalidToolName::Memory) => String::from_str(alloc, "Memory"),
+        InvalidToolName::InvalidXid(text) => format!(in alloc; "InvalidXid {text}"),
+        InvalidToolName::Memory => String::from_str(alloc, "Memory"),
+    }
+}
+
+fn components(alloc: Global, text: &str) -> Result<String, Fail> {
+    let identifier = ConfigIdentifier::new(alloc, text)?;
+    let line = match identifier.tool_components() {
+        Some((tool, name)) if identifier.is_tool_identifier() => {
+            format!(in alloc; "{tool} and {name}")?
+        }
+        None if !identifier.is_tool_identifier() => String::from_str(alloc, "none")?,
+        _ => String::from_str(alloc, "components and no tool")?,
+    };
+    Ok(line)
+}
+
+fn bytes(alloc: Global, text: &str) -> Result<String, Fail> {
+    let identifier = ConfigIdentifier::new(alloc, text)?;
+    let mut line = String::new(alloc);
+    for byte in identifier.as_str().as_bytes() {
+        line.push_str(format!(in alloc; "{byte:02x} ")?.as_str())?;
+    }
+    Ok(String::from_str(alloc, line.trim_end())?)
+}
+
+#[test]
+fn names_are_kept_or_break_one_rule(rt: HostRuntime) -> Result<(), Fail> {
+    check(&rt, ROWS, &answer)
+}
+
+const PRINTED: &str = r#"
+ConfigIdentifier | 'a' | ConfigIdentifier { text: "a" }
+ConfigIdentifier | '' | p: identifier is empty
+ConfigIdentifier | 'foo bar' | p: invalid identifier "foo bar"
+ConfigIdentifier | "a\u0000" | p: invalid identifier "a\0"
+ConfigIdentifier | '@tool:a' | p: tool identifier isn't @tool:name:identifier: "@tool:a"
+ConfigIdentifier | '@tool::a' | p: tool identifier has an empty component: "@tool::a"
+ConfigIdentifier | '@tool:a:_' | p: invalid tool identifier "@tool:a:_"
+ConfigIdentifier | 1 | p: invalid type: integer `1`, expected a string
+ToolName | 'a' | ToolName { text: "a" }
+ToolName | '' | p: tool name is empty
+ToolName | '@tool' | p: tool name begins with @tool: "@tool"
+ToolName | 'a:b' | p: invalid tool name "a:b"
+ToolName | true | p: invalid type: boolean `true`, expected a string
+"#;
+
+fn read(alloc: Global, call: &str, input: &str) -> Result<String, Fail> {
+    let value = Value::from_str(alloc, input)?;
+    match call {
+        "ConfigIdentifier" => made(alloc, ConfigIdentifier::read(alloc, &value, "p")),
+        "ToolName" => made(alloc, ToolName::read(alloc, &value, "p")),
+        _ => Err(Fail::new("no such call")),
     }
 }
 
 #[test]
-fn identifiers_are_kept(rt: HostRuntime) -> Result<(), Fail> {
-    for text in [
-        "foo",
-        "foo-bar",
-        "Δabc",
-        "@tool:foo:bar",
-        "@tool:Δabc_def-ghi:foo-bar",
-    ] {
-        assert_eq!(rt; identifier(rt.alloc(), text)?.as_str(), text);
-    }
-    Ok(())
+fn refused_names_are_printed(rt: HostRuntime) -> Result<(), Fail> {
+    check(&rt, PRINTED, &read)
 }
+
+const LONG: &str = r#"
+identifier | a«-» | a«-»
+identifier | a«-»! | InvalidXid a«-»!
+tool name | a«é» | a«é»
+"#;
 
 #[test]
-fn other_texts_break_one_rule_of_identifiers(rt: HostRuntime) -> Result<(), Fail> {
-    for (text, told) in [
-        ("", "Empty"),
-        ("foo bar", "InvalidXid foo bar"),
-        ("_", "InvalidXid _"),
-        ("-foo", "InvalidXid -foo"),
-        ("_foo", "InvalidXid _foo"),
-        ("@foo", "InvalidXid @foo"),
-        ("@tool", "InvalidXid @tool"),
-        ("@tool::", "ToolComponentEmpty @tool::"),
-        ("@tool:foo:", "ToolComponentEmpty @tool:foo:"),
-        ("@tool::foo", "ToolComponentEmpty @tool::foo"),
-        ("@tool::#x", "ToolComponentEmpty @tool::#x"),
-        ("@tool:", "ToolIdentifierInvalidFormat @tool:"),
-        ("@tool:foo", "ToolIdentifierInvalidFormat @tool:foo"),
-        ("@tool:_foo:", "ToolIdentifierInvalidXid @tool:_foo:"),
-        ("@tool:_foo:bar", "ToolIdentifierInvalidXid @tool:_foo:bar"),
-        ("@tool:foo:#bar", "ToolIdentifierInvalidXid @tool:foo:#bar"),
-        (
-            "@tool:foo:bar:baz",
-            "ToolIdentifierInvalidXid @tool:foo:bar:baz",
-        ),
-    ] {
-        assert_eq!(rt; identifier(rt.alloc(), text)?.as_str(), told, "of {text:?}");
-    }
-    Ok(())
-}
-
-#[test]
-fn a_tool_identifier_has_two_components(rt: HostRuntime) -> Result<(), Fail> {
-    let alloc = rt.alloc();
-    let marked = ConfigIdentifier::new(alloc, "@tool:Δabc_def-ghi:foo-bar")?;
-    assert!(rt; marked.is_tool_identifier());
-    assert_eq!(rt; marked.tool_components(), Some(("Δabc_def-ghi", "foo-bar")));
-    let plain = ConfigIdentifier::new(alloc, "foo-bar")?;
-    assert!(rt; !plain.is_tool_identifier());
-    assert_eq!(rt; plain.tool_components(), None);
-    Ok(())
-}
-
-#[test]
-fn an_identifier_is_kept_in_its_normal_form(rt: HostRuntime) -> Result<(), Fail> {
-    let alloc = rt.alloc();
-    let spelled = ConfigIdentifier::new(alloc, "e\u{301}x")?;
-    assert_eq!(rt; spelled.as_str().as_bytes(), [0xc3, 0xa9, 0x78].as_slice());
-    assert_eq!(rt; spelled, ConfigIdentifier::new(alloc, "\u{e9}x")?);
-    assert_eq!(rt;
-        identifier(alloc, "e\u{301} ")?.as_str(),
-        "InvalidXid \u{e9} "
-    );
-    assert_eq!(rt; tool_name(alloc, "\u{212b}")?.as_str(), "\u{c5}");
-    Ok(())
-}
-
-// The hash of a value.
-fn hash_of<T: Hash>(value: &T) -> u64 {
-    let mut hasher = DefaultHasher::new();
-    value.hash(&mut hasher);
-    hasher.finish()
-}
-
-#[test]
-fn names_compare_by_their_kept_texts(rt: HostRuntime) -> Result<(), Fail> {
-    let alloc = rt.alloc();
-    let spelled = ConfigIdentifier::new(alloc, "e\u{301}")?;
-    let composed = ConfigIdentifier::new(alloc, "\u{e9}")?;
-    assert_eq!(rt; hash_of(&spelled), hash_of(&composed));
-    assert_eq!(rt; spelled.cmp(&composed), Ordering::Equal);
-    assert_eq!(rt; spelled.clone(alloc)?, composed);
-    let first = ToolName::new(alloc, "a-b")?;
-    let second = ToolName::new(alloc, "aa")?;
-    assert_eq!(rt; first.cmp(&second), Ordering::Less);
-    assert_ne!(rt; first, second);
-    assert_eq!(rt; hash_of(&first.clone(alloc)?), hash_of(&first));
-    Ok(())
-}
-
-#[test]
-fn tool_names_are_kept_or_break_one_rule(rt: HostRuntime) -> Result<(), Fail> {
-    for (text, told) in [
-        ("foo", "foo"),
-        ("foo-bar", "foo-bar"),
-        ("Δabc", "Δabc"),
-        ("my-tool", "my-tool"),
-        ("myTool123", "myTool123"),
-        ("", "Empty"),
-        ("foo bar", "InvalidXid foo bar"),
-        ("_", "InvalidXid _"),
-        ("-foo", "InvalidXid -foo"),
-        ("_foo", "InvalidXid _foo"),
-        ("@foo", "InvalidXid @foo"),
-        ("@tool", "StartsWithToolPrefix @tool"),
-        ("@tool:foo:bar", "StartsWithToolPrefix @tool:foo:bar"),
-        ("@tool:test:id", "StartsWithToolPrefix @tool:test:id"),
-        ("@toolname", "StartsWithToolPrefix @toolname"),
-    ] {
-        assert_eq!(rt; tool_name(rt.alloc(), text)?.as_str(), told, "of {text:?}");
-    }
-    Ok(())
-}
-
-#[test]
-fn texts_are_judged_as_they_are(rt: HostRuntime) {
-    assert_eq!(rt; is_valid_identifier_unicode("a-9_\u{301}"), Ok(()));
-    assert_eq!(rt;
-        is_valid_identifier_unicode(""),
-        Err(InvalidIdentifierKind::Empty)
-    );
-    assert_eq!(rt;
-        is_valid_identifier_unicode("9a"),
-        Err(InvalidIdentifierKind::InvalidXid)
-    );
-    assert_eq!(rt;
-        is_valid_identifier_unicode("\u{301}"),
-        Err(InvalidIdentifierKind::InvalidXid)
-    );
-}
-
-// Why a TOML value is no T at `p`, as it prints; `read` where it is one.
-fn fault<T: FromToml + Drop>(alloc: Global, value: &Value) -> Result<String, Fail> {
-    match T::read(alloc, value, "p") {
-        Ok(_) => Ok(String::from_str(alloc, "read")?),
-        Err(fault) => Ok(fault.to_string(alloc)?),
-    }
-}
-
-#[test]
-fn refused_identifiers_are_printed(rt: HostRuntime) -> Result<(), Fail> {
-    let alloc = rt.alloc();
-    for (text, printed) in [
-        ("a", "read"),
-        ("", "p: identifier is empty"),
-        ("foo bar", "p: invalid identifier \"foo bar\""),
-        ("a\0", "p: invalid identifier \"a\\0\""),
-        (
-            "@tool:a",
-            "p: tool identifier isn't @tool:name:identifier: \"@tool:a\"",
-        ),
-        (
-            "@tool::a",
-            "p: tool identifier has an empty component: \"@tool::a\"",
-        ),
-        ("@tool:a:_", "p: invalid tool identifier \"@tool:a:_\""),
-    ] {
-        let value = Value::string(alloc, text)?;
-        let line = fault::<ConfigIdentifier>(alloc, &value)?;
-        assert_eq!(rt; line.as_str(), printed);
-    }
-    let line = fault::<ConfigIdentifier>(alloc, &Value::Integer(1))?;
-    assert_eq!(rt;
-        line.as_str(),
-        "p: invalid type: integer `1`, expected a string"
-    );
-    Ok(())
-}
-
-#[test]
-fn refused_tool_names_are_printed(rt: HostRuntime) -> Result<(), Fail> {
-    let alloc = rt.alloc();
-    for (text, printed) in [
-        ("a", "read"),
-        ("", "p: tool name is empty"),
-        ("@tool", "p: tool name begins with @tool: \"@tool\""),
-        ("a:b", "p: invalid tool name \"a:b\""),
-    ] {
-        let value = Value::string(alloc, text)?;
-        let line = fault::<ToolName>(alloc, &value)?;
-        assert_eq!(rt; line.as_str(), printed);
-    }
-    let line = fault::<ToolName>(alloc, &Value::Boolean(true))?;
-    assert_eq!(rt;
-        line.as_str(),
-        "p: invalid type: boolean `true`, expected a string"
-    );
-    Ok(())
-}
-
-#[test]
-fn a_long_text_is_judged(rt: HostRuntime) -> Result<(), Fail> {
-    let alloc = rt.alloc();
-    let mut long = "e\u{301}".repeat(alloc, 349525)?;
-    let kept = ConfigIdentifier::new(alloc, long.as_str())?;
-    assert_eq!(rt; kept.as_str().len(), 699050);
-    long.push(' ')?;
-    let refused = ConfigIdentifier::new(alloc, long.as_str());
-    assert!(rt; matches!(refused, Err(InvalidIdentifier::InvalidXid(_))));
-    Ok(())
+fn names_of_any_length_are_kept(rt: HostRuntime) -> Result<(), Fail> {
+    check_at_sizes(&rt, LONG, &answer)
 }

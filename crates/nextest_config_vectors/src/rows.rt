@@ -1,0 +1,124 @@
+//! Tables of rows, each a line `CALL | INPUT | ANSWER`.
+//!
+//! A blank line is no row, nor is one that begins with `#`. An answer that is empty or ends in a space
+//! is followed by ` |`.
+
+use std::alloc::Global;
+use std::fmt::{Debug, Display};
+use std::process::Abort;
+use std::test::Fail;
+
+// Sizes around the powers of two, and some thousands.
+const SIZES: [usize; 37] = [
+    0, 1, 2, 3, 4, 5, 7, 8, 9, 15, 16, 17, 31, 32, 33, 63, 64, 65, 127, 128, 129, 255, 256, 257, 511,
+    512, 513, 1023, 1024, 1025, 2047, 2048, 2049, 4095, 4096, 4097, 5000,
+];
+
+/// Asks for the answer of each row, and compares it.
+pub(crate) fn check<F: Fn(Global, &str, &str) -> Result<String, Fail>>(
+    rt: &(impl Abort + AllocGlobal),
+    rows: &str,
+    answer: &F,
+) -> Result<(), Fail>
+    requires { F.IsAlwaysCallable answer.now }
+{
+    for row in rows.lines() {
+        if row.is_empty() || row.starts_with('#') {
+            continue;
+        }
+        let (call, rest) = cut(row, " | ")?;
+        let (input, wanted) = cut(rest, " | ")?;
+        let line = answer(rt.alloc(), call, input)?;
+        let wanted = wanted.strip_suffix(" |").unwrap_or(wanted);
+        assert_eq!(rt; line.as_str(), wanted, "in {row}");
+    }
+    Ok(())
+}
+
+/// Does the same at each size, that is with each `«PIECE»` of the rows that many times. A `@` in a piece
+/// is its number, in four digits.
+pub(crate) fn check_at_sizes<F: Fn(Global, &str, &str) -> Result<String, Fail>>(
+    rt: &(impl Abort + AllocGlobal),
+    rows: &str,
+    answer: &F,
+) -> Result<(), Fail>
+    requires { F.IsAlwaysCallable answer.now }
+{
+    for size in SIZES {
+        let rows = grown(rt.alloc(), rows, size)?;
+        check(rt, rows.as_str(), answer)?;
+    }
+    Ok(())
+}
+
+fn grown(alloc: Global, rows: &str, size: usize) -> Result<String, Fail> {
+    let mut text = String::new(alloc);
+    let mut parts = rows.split('«');
+    text.push_str(parts.next().unwrap_or(""))?;
+    for part in parts {
+        let (piece, rest) = cut(part, "»")?;
+        for index in 0..size {
+            let number = format!(in alloc; "{index:04}")?;
+            text.push_str(piece.replace(alloc, '@', number.as_str())?.as_str())?;
+        }
+        text.push_str(rest)?;
+    }
+    Ok(text)
+}
+
+/// The two sides of the first of these marks.
+pub(crate) fn cut<'t>(text: &'t str, mark: &str) -> Result<(&'t str, &'t str), Fail> {
+    match text.split_once(mark) {
+        Some(sides) => Ok(sides),
+        None => Err(Fail::new("a row lacks a part")),
+    }
+}
+
+/// The text with `\n` and `\u{..}` for the characters that they name.
+pub(crate) fn unescaped(alloc: Global, text: &str) -> Result<String, Fail> {
+    let text = text.replace(alloc, "\\n", "\n")?;
+    let mut made = String::new(alloc);
+    let mut parts = text.split("\\u{");
+    made.push_str(parts.next().unwrap_or(""))?;
+    for part in parts {
+        let (code, rest) = cut(part, "}")?;
+        made.push(char::from_u32(u32::from_str_radix(code, 16)?).unwrap_or('?'))?;
+        made.push_str(rest)?;
+    }
+    Ok(made)
+}
+
+/// The text of a value, which is the same whatever a format asks for.
+pub(crate) fn shown<T: Display>(alloc: Global, value: &T) -> Result<String, Fail> {
+    let text = format!(in alloc; "{value}")?;
+    let wide = format!(in alloc; "{value:>40}")?;
+    let filled = format!(in alloc; "{value:*^60}")?;
+    let other = format!(in alloc; "{value:#}")?;
+    if wide == text && filled == text && other == text {
+        Ok(text)
+    } else {
+        Ok(format!(in alloc; "{text}, but also {wide}, {filled} and {other}")?)
+    }
+}
+
+/// What was answered, as it prints.
+pub(crate) fn told<T: Display + Drop, E: Display + Drop>(
+    alloc: Global,
+    answer: Result<T, E>,
+) -> Result<String, Fail> {
+    match answer {
+        Ok(value) => shown(alloc, &value),
+        Err(error) => shown(alloc, &error),
+    }
+}
+
+/// What was answered: a value as its source would write it, or a refusal as it prints.
+pub(crate) fn made<T: Debug + Drop, E: Display + Drop>(
+    alloc: Global,
+    answer: Result<T, E>,
+) -> Result<String, Fail> {
+    match answer {
+        Ok(value) => Ok(format!(in alloc; "{value:?}")?),
+        Err(error) => shown(alloc, &error),
+    }
+}
