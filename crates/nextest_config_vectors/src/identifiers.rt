@@ -1,14 +1,12 @@
 //! Identifiers and tool names.
 
-use crate::rows::{check, check_at_sizes, made, shown, told, unescaped};
+use crate::rows::{check, check_at_sizes, shown, unescaped};
 use nextest_config_values::helpers::is_valid_identifier_unicode;
 use nextest_config_values::identifier::{
     ConfigIdentifier, InvalidIdentifier, InvalidToolName, ToolName,
 };
-use nextest_config_values::read::FromToml;
 use std::alloc::{AllocError, Global};
 use std::test::Fail;
-use toml::Value;
 
 const ROWS: &str = r#"
 # identifiers are kept
@@ -149,36 +147,6 @@ fn bytes(alloc: Global, text: &str) -> Result<String, Fail> {
 #[test]
 fn names_are_kept_or_break_one_rule(rt: HostRuntime) -> Result<(), Fail> {
     check(&rt, ROWS, &answer)
-}
-
-const PRINTED: &str = r#"
-ConfigIdentifier | 'a' | ConfigIdentifier { text: "a" }
-ConfigIdentifier | '' | p: identifier is empty
-ConfigIdentifier | 'foo bar' | p: invalid identifier "foo bar"
-ConfigIdentifier | "a\u0000" | p: invalid identifier "a\0"
-ConfigIdentifier | '@tool:a' | p: tool identifier isn't @tool:name:identifier: "@tool:a"
-ConfigIdentifier | '@tool::a' | p: tool identifier has an empty component: "@tool::a"
-ConfigIdentifier | '@tool:a:_' | p: invalid tool identifier "@tool:a:_"
-ConfigIdentifier | 1 | p: invalid type: integer `1`, expected a string
-ToolName | 'a' | ToolName { text: "a" }
-ToolName | '' | p: tool name is empty
-ToolName | '@tool' | p: tool name begins with @tool: "@tool"
-ToolName | 'a:b' | p: invalid tool name "a:b"
-ToolName | true | p: invalid type: boolean `true`, expected a string
-"#;
-
-fn read(alloc: Global, call: &str, input: &str) -> Result<String, Fail> {
-    let value = Value::from_str(alloc, input)?;
-    match call {
-        "ConfigIdentifier" => made(alloc, ConfigIdentifier::read(alloc, &value, "p")),
-        "ToolName" => made(alloc, ToolName::read(alloc, &value, "p")),
-        _ => Err(Fail::new("no such call")),
-    }
-}
-
-#[test]
-fn refused_names_are_printed(rt: HostRuntime) -> Result<(), Fail> {
-    check(&rt, PRINTED, &read)
 }
 
 const LONG: &str = r#"

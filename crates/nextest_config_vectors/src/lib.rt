@@ -2,6 +2,20 @@
 #![tactic(auto)]
 
 #[cfg(test)]
+mod arguments;
+#[cfg(test)]
+mod faults;
+#[cfg(test)]
+mod fields;
+#[cfg(test)]
 mod identifiers;
 #[cfg(test)]
+mod paths;
+#[cfg(test)]
+mod readers;
+#[cfg(test)]
 mod rows;
+#[cfg(test)]
+mod texts;
+#[cfg(test)]
+mod values;

@@ -101,17 +101,6 @@ pub(crate) fn shown<T: Display>(alloc: Global, value: &T) -> Result<String, Fail
     }
 }
 
-/// What was answered, as it prints.
-pub(crate) fn told<T: Display + Drop, E: Display + Drop>(
-    alloc: Global,
-    answer: Result<T, E>,
-) -> Result<String, Fail> {
-    match answer {
-        Ok(value) => shown(alloc, &value),
-        Err(error) => shown(alloc, &error),
-    }
-}
-
 /// What was answered: a value as its source would write it, or a refusal as it prints.
 pub(crate) fn made<T: Debug + Drop, E: Display + Drop>(
     alloc: Global,

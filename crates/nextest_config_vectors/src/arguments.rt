@@ -1,0 +1,78 @@
+//! Tool arguments.
+
+use crate::rows::{check, check_at_sizes, shown, unescaped};
+use nextest_config_values::tool_config::{ToolConfigFile, ToolConfigFileParseError};
+use std::alloc::{AllocError, Global};
+use std::test::Fail;
+
+const ROWS: &str = r#"
+# arguments are cut at their first colon
+argument | tool:/foo/bar | tool /foo/bar
+argument | t:/a:b | t /a:b
+argument | e\u{301}:/a | é /a
+argument | /foo/bar | InvalidFormat /foo/bar
+argument | tool:foo/bar | ConfigFileNotAbsolute foo/bar
+argument | tool:./foo | ConfigFileNotAbsolute ./foo
+argument | tool: | EmptyConfigFile tool:
+argument | _a: | InvalidToolName _a:: invalid tool name "_a"
+argument | _invalid:/foo/bar | InvalidToolName _invalid:/foo/bar: invalid tool name "_invalid"
+argument | :/foo/bar | InvalidToolName :/foo/bar: tool name is empty
+argument | @tool:/path | InvalidToolName @tool:/path: tool name begins with @tool: "@tool"
+
+# a refused tool name is handed on
+refusal | @tool:/path | InvalidToolName { input: "@tool:/path", error: StartsWithToolPrefix("@tool") }
+
+# refused arguments are printed
+printed | a | tool configuration file isn't of the form NAME:PATH: a
+printed | a: | tool configuration file without a path: a:
+printed | a:b | tool configuration file isn't an absolute path: b
+printed | :/b | tool configuration file without a valid tool name: :/b: tool name is empty
+"#;
+
+const LONG: &str = r#"
+argument | a«-»:/«x» | a«-» /«x»
+argument | a:b«:» | ConfigFileNotAbsolute b«:»
+argument | a«-» | InvalidFormat a«-»
+argument | _«-»: | InvalidToolName _«-»:: invalid tool name "_«-»"
+argument | a«-»: | EmptyConfigFile a«-»:
+"#;
+
+fn answer(alloc: Global, call: &str, input: &str) -> Result<String, Fail> {
+    let text = unescaped(alloc, input)?;
+    match ToolConfigFile::from_str(alloc, text.as_str()) {
+        Ok(file) => Ok(format!(in alloc; "{} {}", file.tool, file.config_file)?),
+        Err(error) => match call {
+            "argument" => Ok(refusal(alloc, &error)?),
+            "refusal" => Ok(format!(in alloc; "{error:?}")?),
+            _ => shown(alloc, &error),
+        },
+    }
+}
+
+fn refusal(alloc: Global, error: &ToolConfigFileParseError) -> Result<String, AllocError> {
+    match error {
+        ToolConfigFileParseError::InvalidFormat { input } => {
+            format!(in alloc; "InvalidFormat {input}")
+        }
+        ToolConfigFileParseError::InvalidToolName { input, error } => {
+            format!(in alloc; "InvalidToolName {input}: {error}")
+        }
+        ToolConfigFileParseError::EmptyConfigFile { input } => {
+            format!(in alloc; "EmptyConfigFile {input}")
+        }
+        ToolConfigFileParseError::ConfigFileNotAbsolute { config_file } => {
+            format!(in alloc; "ConfigFileNotAbsolute {config_file}")
+        }
+        ToolConfigFileParseError::Memory => String::from_str(alloc, "Memory"),
+    }
+}
+
+#[test]
+fn arguments_are_cut_at_their_first_colon(rt: HostRuntime) -> Result<(), Fail> {
+    check(&rt, ROWS, &answer)
+}
+
+#[test]
+fn arguments_of_any_length_are_cut(rt: HostRuntime) -> Result<(), Fail> {
+    check_at_sizes(&rt, LONG, &answer)
+}

@@ -1,0 +1,103 @@
+//! The fields of tables, and a reader of this crate's own: an integer from 0 to 100.
+
+ghost use Rattle.std.specs.Prelude.{◌≡◌, ◌≤◌, codes, false};
+ghost use Rattle.toml.specs.Data.{as_integer};
+ghost use Rattle.nextest_config_values.specs.Read.FromToml.{FaultsAs, MeansAs, reading_on};
+ghost use Rattle.nextest_config_values.specs.Read.Plain.{IsOutside, MeansNumber, number_reading};
+
+use crate::rows::{check, check_at_sizes, cut, made};
+use nextest_config_values::read::{FromToml, ReadFault, field_or, optional_field, required_field};
+use nextest_config_values::track_default::TrackDefault;
+use std::alloc::Global;
+use std::test::Fail;
+use toml::{Table, Value};
+
+#[derive(Clone, Copy, Debug, PartialEq, Eq)]
+struct Percent {
+    percent: u8,
+}
+
+impl FromToml for Percent {
+    ghost means = { λ value it. MeansAs as_integer (MeansNumber (λ n. n ≤ 100)) value it.percent };
+
+    ghost faults = { FaultsAs as_integer (codes "a percentage") (IsOutside (λ n. n ≤ 100) (codes "a percentage")) };
+
+    ghost needs_memory = { false };
+
+    ghost alike = { λ a b. a.percent ≡ b.percent };
+
+    ghost laws = { reading_on (λ it. it.percent) (number_reading (λ n. n ≤ 100) (codes "a percentage")) };
+
+    fn read(alloc: Global, value: &Value, at: &str) -> Result<Self, ReadFault> {
+        let Some(number) = value.as_integer() else {
+            return Err(ReadFault::invalid_type(alloc, value, at, "a percentage"));
+        };
+        match u8::try_from(number) {
+            Ok(percent) if percent <= 100 => Ok(Percent { percent }),
+            _ => Err(ReadFault::invalid_value(alloc, value, at, "a percentage")),
+        }
+    }
+}
+
+const ROWS: &str = r#"
+# fields of an own type are read
+tracked share at p | { share = 40, rest = 101, name = 'x' } | TrackDefault { value: Percent { percent: 40 }, is_deserialized: true }
+optional share at p | { share = 40 } | Some(Percent { percent: 40 })
+optional other at p | { share = 40 } | None
+or 50 share at p | { share = 40 } | Percent { percent: 40 }
+or 50 other at p | { share = 40 } | Percent { percent: 50 }
+
+# faults of an own type have the path of the field
+tracked rest at p | { rest = 101, name = 'x' } | p.rest: invalid value: integer `101`, expected a percentage
+tracked name at  | { rest = 101, name = 'x' } | name: invalid type: string "x", expected a percentage
+tracked other at p | { rest = 101, name = 'x' } | p: missing configuration field "p.other"
+optional rest at p | { rest = 101 } | p.rest: invalid value: integer `101`, expected a percentage
+or 50 rest at p | { rest = 101 } | p.rest: invalid value: integer `101`, expected a percentage
+
+# a missing field is named with its path
+u32 k at p | {} | p: missing configuration field "p.k"
+u32 k at  | {} | missing configuration field "k"
+optional u32 k at p | {} | None
+or 7 k at p | {} | 7
+"#;
+
+const LONG: &str = r#"
+u32 k at p«p» | {} | p«p»: missing configuration field "p«p».k"
+u32 k«k» at p | {} | p: missing configuration field "p.k«k»"
+optional share at p«p» | { share = 101 } | p«p».share: invalid value: integer `101`, expected a percentage
+optional share at p | {«k@ = 1,» share = 40 } | Some(Percent { percent: 40 })
+"#;
+
+fn answer(alloc: Global, call: &str, input: &str) -> Result<String, Fail> {
+    let value = Value::from_str(alloc, input)?;
+    let Some(table) = value.as_table() else {
+        return Err(Fail::new("no table"));
+    };
+    let (call, at) = cut(call, " at ")?;
+    let Some((call, key)) = call.rsplit_once(' ') else {
+        return Err(Fail::new("no key"));
+    };
+    field(alloc, call, table, key, at)
+}
+
+fn field(alloc: Global, call: &str, table: &Table, key: &str, at: &str) -> Result<String, Fail> {
+    match call {
+        "tracked" => made(alloc, required_field::<TrackDefault<Percent>>(alloc, table, key, at)),
+        "optional" => made(alloc, optional_field::<Percent>(alloc, table, key, at)),
+        "or 50" => made(alloc, field_or(alloc, table, key, at, Percent { percent: 50 })),
+        "u32" => made(alloc, required_field::<u32>(alloc, table, key, at)),
+        "optional u32" => made(alloc, optional_field::<u32>(alloc, table, key, at)),
+        "or 7" => made(alloc, field_or::<u32>(alloc, table, key, at, 7)),
+        _ => Err(Fail::new("no such call")),
+    }
+}
+
+#[test]
+fn fields_are_read_at_their_paths(rt: HostRuntime) -> Result<(), Fail> {
+    check(&rt, ROWS, &answer)
+}
+
+#[test]
+fn fields_with_long_paths_are_read(rt: HostRuntime) -> Result<(), Fail> {
+    check_at_sizes(&rt, LONG, &answer)
+}

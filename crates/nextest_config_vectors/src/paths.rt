@@ -1,0 +1,52 @@
+//! Relative paths.
+
+use crate::rows::{check, check_at_sizes, shown};
+use nextest_config_values::helpers::deserialize_relative_path;
+use std::alloc::Global;
+use std::test::Fail;
+use toml::Value;
+
+const ROWS: &str = r#"
+# relative paths are kept as written
+at p | '' |  |
+at p | '.' | .
+at p | 'foo' | foo
+at p | 'foo/bar' | foo/bar
+at p | 'foo/./bar' | foo/./bar
+at p | './foo/bar' | ./foo/bar
+at p | 'foo/' | foo/
+at p | '..a/b..' | ..a/b..
+at p | '...' | ...
+
+# other paths are refused
+at  | 'foo/../bar' | invalid value: string "foo/../bar", expected a relative path with no parent components
+at p | '/foo/bar' | p: invalid value: string "/foo/bar", expected a relative path with no parent components
+at p | '../foo/bar' | p: invalid value: string "../foo/bar", expected a relative path with no parent components
+at p | '../foo' | p: invalid value: string "../foo", expected a relative path with no parent components
+at p | 'foo/..' | p: invalid value: string "foo/..", expected a relative path with no parent components
+at p | 1 | p: invalid type: integer `1`, expected a string
+"#;
+
+const LONG: &str = r#"
+at p | 'a«/b»' | a«/b»
+at p«p» | 'a«/b»/..' | p«p»: invalid value: string "a«/b»/..", expected a relative path with no parent components
+"#;
+
+fn answer(alloc: Global, call: &str, input: &str) -> Result<String, Fail> {
+    let at = call.strip_prefix("at ").unwrap_or("?");
+    let value = Value::from_str(alloc, input)?;
+    match deserialize_relative_path(alloc, &value, at) {
+        Ok(path) => Ok(path),
+        Err(fault) => shown(alloc, &fault),
+    }
+}
+
+#[test]
+fn relative_paths_are_kept_as_written_and_others_refused(rt: HostRuntime) -> Result<(), Fail> {
+    check(&rt, ROWS, &answer)
+}
+
+#[test]
+fn relative_paths_of_any_length_are_kept(rt: HostRuntime) -> Result<(), Fail> {
+    check_at_sizes(&rt, LONG, &answer)
+}

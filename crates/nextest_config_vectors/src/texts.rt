@@ -1,0 +1,98 @@
+//! The texts of values.
+
+use crate::rows::{check, check_at_sizes, shown, unescaped};
+use nextest_config_values::read::{QuotedText, QuotedTexts, found_text, quoted};
+use std::alloc::Global;
+use std::collections::BTreeSet;
+use std::test::Fail;
+use toml::Value;
+
+const ROWS: &str = r#"
+# quotes, backslashes and control characters are escaped
+quoted |  | ""
+quoted | a"b | "a\"b"
+quoted | a\b | "a\\b"
+quoted | \n | "\n"
+quoted | \u{d} | "\r"
+quoted | \u{9} | "\t"
+quoted | \u{0} | "\0"
+quoted | \u{1} | "\u{1}"
+quoted | \u{1f} | "\u{1f}"
+quoted | \u{7f} | "\u{7f}"
+quoted | \u{85} | "\u{85}"
+quoted | \u{9f} | "\u{9f}"
+
+# every other character stands as it is
+quoted | \u{20}'a'~ | " 'a'~"
+quoted | é | "é"
+unchanged | \u{a0} | yes
+unchanged | \u{2028} | yes
+
+# texts stand in order behind commas
+texts |  |  |
+texts | x a\u{85}b | "a\u{85}b", "x"
+
+# each kind of value is named
+found | true | boolean `true`
+found | false | boolean `false`
+found | -1 | integer `-1`
+found | "a\"b" | string "a\"b"
+found | [1, 2] | sequence
+found | { a = 1 } | map
+found | 1.5 | floating point
+found | 1979-05-27 | datetime
+"#;
+
+const LONG: &str = r#"
+quoted | a«\u{1}» | "a«\u{1}»"
+quoted | «"» | "«\"»"
+texts | «x@ »z | «"x@", »"z"
+found | '«x»' | string "«x»"
+"#;
+
+fn answer(alloc: Global, call: &str, input: &str) -> Result<String, Fail> {
+    match call {
+        "quoted" => quoted_text(alloc, input),
+        "unchanged" => unchanged(alloc, input),
+        "texts" => texts(alloc, input),
+        "found" => Ok(found_text(alloc, &Value::from_str(alloc, input)?)?),
+        _ => Err(Fail::new("no such call")),
+    }
+}
+
+fn quoted_text(alloc: Global, input: &str) -> Result<String, Fail> {
+    let text = unescaped(alloc, input)?;
+    let printed = shown(alloc, &QuotedText(text.as_str()))?;
+    let quoted = quoted(alloc, text.as_str())?;
+    if quoted == printed {
+        Ok(quoted)
+    } else {
+        Ok(format!(in alloc; "{quoted}, but also {printed}")?)
+    }
+}
+
+// Whether the text has no escape.
+fn unchanged(alloc: Global, input: &str) -> Result<String, Fail> {
+    let text = unescaped(alloc, input)?;
+    let plain = format!(in alloc; "\"{text}\"")?;
+    let answer = if quoted_text(alloc, input)? == plain { "yes" } else { "no" };
+    Ok(String::from_str(alloc, answer)?)
+}
+
+fn texts(alloc: Global, input: &str) -> Result<String, Fail> {
+    let mut texts: BTreeSet<String> = BTreeSet::new(alloc);
+    for text in input.split_whitespace() {
+        texts.insert(unescaped(alloc, text)?)?;
+    }
+    shown(alloc, &QuotedTexts(&texts))
+}
+
+#[test]
+fn texts_of_values(rt: HostRuntime) -> Result<(), Fail> {
+    check(&rt, ROWS, &answer)
+}
+
+#[test]
+fn texts_of_any_length(rt: HostRuntime) -> Result<(), Fail> {
+    check_at_sizes(&rt, LONG, &answer)
+}

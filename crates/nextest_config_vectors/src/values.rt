@@ -1,0 +1,190 @@
+//! Values that rows write: names, refusals and faults.
+
+use crate::rows::{cut, unescaped};
+use nextest_config_values::identifier::{
+    ConfigIdentifier, InvalidIdentifier, InvalidToolName, ToolName,
+};
+use nextest_config_values::read::{FaultKind, ReadFault, Rule};
+use nextest_config_values::tool_config::{ToolConfigFile, ToolConfigFileParseError};
+use semver::Version;
+use std::alloc::Global;
+use std::test::Fail;
+
+/// A type whose values rows write.
+pub(crate) trait FromRow: Sized {
+    /// The value that the text writes.
+    fn from_row(alloc: Global, text: &str) -> Result<Self, Fail>;
+}
+
+// The first word, and what stands behind it.
+pub(crate) fn word(text: &str) -> (&str, &str) {
+    text.split_once(' ').unwrap_or((text, ""))
+}
+
+fn no_such_word<T>() -> Result<T, Fail> {
+    Err(Fail::new("a row has a word of no value"))
+}
+
+impl FromRow for String {
+    fn from_row(alloc: Global, text: &str) -> Result<Self, Fail> {
+        unescaped(alloc, text)
+    }
+}
+
+impl FromRow for ConfigIdentifier {
+    fn from_row(alloc: Global, text: &str) -> Result<Self, Fail> {
+        Ok(ConfigIdentifier::new(alloc, unescaped(alloc, text)?.as_str())?)
+    }
+}
+
+impl FromRow for ToolName {
+    fn from_row(alloc: Global, text: &str) -> Result<Self, Fail> {
+        Ok(ToolName::new(alloc, unescaped(alloc, text)?.as_str())?)
+    }
+}
+
+impl FromRow for InvalidIdentifier {
+    fn from_row(alloc: Global, text: &str) -> Result<Self, Fail> {
+        let (name, text) = word(text);
+        let text = unescaped(alloc, text)?;
+        match name {
+            "Empty" => Ok(InvalidIdentifier::Empty),
+            "InvalidXid" => Ok(InvalidIdentifier::InvalidXid(text)),
+            "ToolIdentifierInvalidFormat" => {
+                Ok(InvalidIdentifier::ToolIdentifierInvalidFormat(text))
+            }
+            "ToolComponentEmpty" => Ok(InvalidIdentifier::ToolComponentEmpty(text)),
+            "ToolIdentifierInvalidXid" => Ok(InvalidIdentifier::ToolIdentifierInvalidXid(text)),
+            "Memory" => Ok(InvalidIdentifier::Memory),
+            _ => no_such_word(),
+        }
+    }
+}
+
+impl FromRow for InvalidToolName {
+    fn from_row(alloc: Global, text: &str) -> Result<Self, Fail> {
+        let (name, text) = word(text);
+        let text = unescaped(alloc, text)?;
+        match name {
+            "Empty" => Ok(InvalidToolName::Empty),
+            "StartsWithToolPrefix" => Ok(InvalidToolName::StartsWithToolPrefix(text)),
+            "InvalidXid" => Ok(InvalidToolName::InvalidXid(text)),
+            "Memory" => Ok(InvalidToolName::Memory),
+            _ => no_such_word(),
+        }
+    }
+}
+
+impl FromRow for ToolConfigFile {
+    fn from_row(alloc: Global, text: &str) -> Result<Self, Fail> {
+        Ok(ToolConfigFile::from_str(alloc, unescaped(alloc, text)?.as_str())?)
+    }
+}
+
+impl FromRow for ToolConfigFileParseError {
+    fn from_row(alloc: Global, text: &str) -> Result<Self, Fail> {
+        let (name, text) = word(text);
+        let (input, error) = text.split_once(" / ").unwrap_or((text, "Memory"));
+        let input = unescaped(alloc, input)?;
+        match name {
+            "InvalidFormat" => Ok(ToolConfigFileParseError::InvalidFormat { input }),
+            "InvalidToolName" => {
+                let error = InvalidToolName::from_row(alloc, error)?;
+                Ok(ToolConfigFileParseError::InvalidToolName { input, error })
+            }
+            "EmptyConfigFile" => Ok(ToolConfigFileParseError::EmptyConfigFile { input }),
+            "ConfigFileNotAbsolute" => Ok(ToolConfigFileParseError::ConfigFileNotAbsolute {
+                config_file: input,
+            }),
+            "Memory" => Ok(ToolConfigFileParseError::Memory),
+            _ => no_such_word(),
+        }
+    }
+}
+
+impl FromRow for Version {
+    fn from_row(alloc: Global, text: &str) -> Result<Self, Fail> {
+        Ok(Version::parse(alloc, text)?)
+    }
+}
+
+impl FromRow for Rule {
+    fn from_row(alloc: Global, text: &str) -> Result<Self, Fail> {
+        let (name, text) = word(text);
+        match name {
+            "PreRelease" => Ok(Rule::PreRelease),
+            "BuildMetadata" => Ok(Rule::BuildMetadata),
+            "NotVersion" => {
+                let text = unescaped(alloc, text)?;
+                Ok(Rule::NotVersion { text })
+            }
+            "RequiredAboveRecommended" => {
+                let (required, recommended) = word(text);
+                let required = Version::parse(alloc, required)?;
+                let recommended = Version::parse(alloc, recommended)?;
+                Ok(Rule::RequiredAboveRecommended {
+                    required,
+                    recommended,
+                })
+            }
+            "JitterWithoutDelay" => Ok(Rule::JitterWithoutDelay),
+            "CountZero" => Ok(Rule::CountZero),
+            "DelayZero" => Ok(Rule::DelayZero),
+            "MaxDelayZero" => Ok(Rule::MaxDelayZero),
+            "MaxDelayBelowDelay" => Ok(Rule::MaxDelayBelowDelay),
+            "Priority" => {
+                let priority = text.parse()?;
+                Ok(Rule::Priority { priority })
+            }
+            _ => no_such_word(),
+        }
+    }
+}
+
+impl FromRow for FaultKind {
+    fn from_row(alloc: Global, text: &str) -> Result<Self, Fail> {
+        let (name, rest) = word(text);
+        match name {
+            "Custom" => Ok(FaultKind::Custom(Rule::from_row(alloc, rest)?)),
+            "Identifier" => Ok(FaultKind::Identifier(InvalidIdentifier::from_row(alloc, rest)?)),
+            "ToolName" => Ok(FaultKind::ToolName(InvalidToolName::from_row(alloc, rest)?)),
+            "Memory" => Ok(FaultKind::Memory),
+            name => mismatch(alloc, name, rest),
+        }
+    }
+}
+
+// The fault of a value that isn't what is expected.
+fn mismatch(alloc: Global, name: &str, text: &str) -> Result<FaultKind, Fail> {
+    let (found, wanted) = text.split_once(" / ").unwrap_or((text, ""));
+    let expected = expected(wanted);
+    let found = unescaped(alloc, found)?;
+    match name {
+        "InvalidType" => Ok(FaultKind::InvalidType { found, expected }),
+        "InvalidValue" => Ok(FaultKind::InvalidValue { found, expected }),
+        "UnknownVariant" => Ok(FaultKind::UnknownVariant { found, expected }),
+        "UnknownField" => Ok(FaultKind::UnknownField { found, expected }),
+        "MissingField" => Ok(FaultKind::MissingField { key: found }),
+        _ => no_such_word(),
+    }
+}
+
+// The same text, for the program's whole life.
+pub(crate) fn expected(text: &str) -> &'static str {
+    match text {
+        "a boolean" => "a boolean",
+        "a string" => "a string",
+        "`a`" => "`a`",
+        "" => "",
+        _ => "?",
+    }
+}
+
+impl FromRow for ReadFault {
+    fn from_row(alloc: Global, text: &str) -> Result<Self, Fail> {
+        let (path, kind) = cut(text, ", ")?;
+        let path = unescaped(alloc, path)?;
+        let kind = FaultKind::from_row(alloc, kind)?;
+        Ok(ReadFault { path, kind })
+    }
+}
