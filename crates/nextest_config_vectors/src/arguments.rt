@@ -1,8 +1,9 @@
 //! Tool arguments.
 
-use crate::rows::{check, check_at_sizes, shown, unescaped};
+use crate::rows::{check, check_at_sizes, named, shown, unescaped};
+use crate::subjects::Subject;
 use nextest_config_values::tool_config::{ToolConfigFile, ToolConfigFileParseError};
-use std::alloc::{AllocError, Global};
+use std::alloc::Global;
 use std::test::Fail;
 
 const ROWS: &str = r#"
@@ -37,42 +38,42 @@ argument | _«-»: | InvalidToolName _«-»:: invalid tool name "_«-»"
 argument | a«-»: | EmptyConfigFile a«-»:
 "#;
 
-fn answer(alloc: Global, call: &str, input: &str) -> Result<String, Fail> {
+pub(crate) fn answer(alloc: Global, call: &str, input: &str) -> Result<String, Fail> {
     let text = unescaped(alloc, input)?;
     match ToolConfigFile::from_str(alloc, text.as_str()) {
         Ok(file) => Ok(format!(in alloc; "{} {}", file.tool, file.config_file)?),
         Err(error) => match call {
-            "argument" => Ok(refusal(alloc, &error)?),
+            "argument" => refusal(alloc, &error),
             "refusal" => Ok(format!(in alloc; "{error:?}")?),
             _ => shown(alloc, &error),
         },
     }
 }
 
-fn refusal(alloc: Global, error: &ToolConfigFileParseError) -> Result<String, AllocError> {
+fn refusal(alloc: Global, error: &ToolConfigFileParseError) -> Result<String, Fail> {
     match error {
         ToolConfigFileParseError::InvalidFormat { input } => {
-            format!(in alloc; "InvalidFormat {input}")
+            named(alloc, "InvalidFormat", input.as_str())
         }
         ToolConfigFileParseError::InvalidToolName { input, error } => {
-            format!(in alloc; "InvalidToolName {input}: {error}")
+            Ok(format!(in alloc; "InvalidToolName {input}: {error}")?)
         }
         ToolConfigFileParseError::EmptyConfigFile { input } => {
-            format!(in alloc; "EmptyConfigFile {input}")
+            named(alloc, "EmptyConfigFile", input.as_str())
         }
         ToolConfigFileParseError::ConfigFileNotAbsolute { config_file } => {
-            format!(in alloc; "ConfigFileNotAbsolute {config_file}")
+            named(alloc, "ConfigFileNotAbsolute", config_file.as_str())
         }
-        ToolConfigFileParseError::Memory => String::from_str(alloc, "Memory"),
+        ToolConfigFileParseError::Memory => named(alloc, "Memory", ""),
     }
 }
 
 #[test]
 fn arguments_are_cut_at_their_first_colon(rt: HostRuntime) -> Result<(), Fail> {
-    check(&rt, ROWS, &answer)
+    check(&rt, Subject::Arguments, ROWS)
 }
 
 #[test]
 fn arguments_of_any_length_are_cut(rt: HostRuntime) -> Result<(), Fail> {
-    check_at_sizes(&rt, LONG, &answer)
+    check_at_sizes(&rt, Subject::Arguments, LONG)
 }

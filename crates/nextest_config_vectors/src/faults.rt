@@ -1,6 +1,7 @@
 //! The texts of faults.
 
 use crate::rows::{check, check_at_sizes, cut, shown};
+use crate::subjects::Subject;
 use crate::values::{FromRow, expected};
 use nextest_config_values::read::{FaultKind, ReadFault};
 use std::alloc::Global;
@@ -45,7 +46,7 @@ unknown_variant `a` | p«p», x«x» | p«p»: unknown variant `x«x»`, expecte
 missing_field | p«p», k«k» | p«p»: missing configuration field "p«p».k«k»"
 "#;
 
-fn answer(alloc: Global, call: &str, input: &str) -> Result<String, Fail> {
+pub(crate) fn answer(alloc: Global, call: &str, input: &str) -> Result<String, Fail> {
     match call.strip_prefix("kept ") {
         Some(call) => kept(alloc, &fault(alloc, call, input)?),
         None => shown(alloc, &fault(alloc, call, input)?),
@@ -81,16 +82,16 @@ fn mismatch(
     match call {
         "invalid_type" => Ok(ReadFault::invalid_type(alloc, value, at, expected)),
         "invalid_value" => Ok(ReadFault::invalid_value(alloc, value, at, expected)),
-        _ => Err(Fail::new("no such call")),
+        _ => Err(Fail::new("no such fault")),
     }
 }
 
 #[test]
 fn faults_print_their_path_and_reason(rt: HostRuntime) -> Result<(), Fail> {
-    check(&rt, ROWS, &answer)
+    check(&rt, Subject::Faults, ROWS)
 }
 
 #[test]
 fn long_faults_are_printed(rt: HostRuntime) -> Result<(), Fail> {
-    check_at_sizes(&rt, LONG, &answer)
+    check_at_sizes(&rt, Subject::Faults, LONG)
 }

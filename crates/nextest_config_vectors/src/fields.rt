@@ -5,7 +5,8 @@ ghost use Rattle.toml.specs.Data.{as_integer};
 ghost use Rattle.nextest_config_values.specs.Read.FromToml.{FaultsAs, MeansAs, reading_on};
 ghost use Rattle.nextest_config_values.specs.Read.Plain.{IsOutside, MeansNumber, number_reading};
 
-use crate::rows::{check, check_at_sizes, cut, made};
+use crate::rows::{check, check_at_sizes, cut, made, no_such_call};
+use crate::subjects::Subject;
 use nextest_config_values::read::{FromToml, ReadFault, field_or, optional_field, required_field};
 use nextest_config_values::track_default::TrackDefault;
 use std::alloc::Global;
@@ -68,7 +69,7 @@ optional share at p«p» | { share = 101 } | p«p».share: invalid value: intege
 optional share at p | {«k@ = 1,» share = 40 } | Some(Percent { percent: 40 })
 "#;
 
-fn answer(alloc: Global, call: &str, input: &str) -> Result<String, Fail> {
+pub(crate) fn answer(alloc: Global, call: &str, input: &str) -> Result<String, Fail> {
     let value = Value::from_str(alloc, input)?;
     let Some(table) = value.as_table() else {
         return Err(Fail::new("no table"));
@@ -88,16 +89,16 @@ fn field(alloc: Global, call: &str, table: &Table, key: &str, at: &str) -> Resul
         "u32" => made(alloc, required_field::<u32>(alloc, table, key, at)),
         "optional u32" => made(alloc, optional_field::<u32>(alloc, table, key, at)),
         "or 7" => made(alloc, field_or::<u32>(alloc, table, key, at, 7)),
-        _ => Err(Fail::new("no such call")),
+        _ => no_such_call(),
     }
 }
 
 #[test]
 fn fields_are_read_at_their_paths(rt: HostRuntime) -> Result<(), Fail> {
-    check(&rt, ROWS, &answer)
+    check(&rt, Subject::Fields, ROWS)
 }
 
 #[test]
 fn fields_with_long_paths_are_read(rt: HostRuntime) -> Result<(), Fail> {
-    check_at_sizes(&rt, LONG, &answer)
+    check_at_sizes(&rt, Subject::Fields, LONG)
 }

@@ -1,11 +1,12 @@
 //! Identifiers and tool names.
 
-use crate::rows::{check, check_at_sizes, shown, unescaped};
+use crate::rows::{check, check_at_sizes, named, no_such_call, shown, unescaped};
+use crate::subjects::Subject;
 use nextest_config_values::helpers::is_valid_identifier_unicode;
 use nextest_config_values::identifier::{
     ConfigIdentifier, InvalidIdentifier, InvalidToolName, ToolName,
 };
-use std::alloc::{AllocError, Global};
+use std::alloc::Global;
 use std::test::Fail;
 
 const ROWS: &str = r#"
@@ -68,7 +69,7 @@ plain | 9a | Err(InvalidXid)
 plain | \u{301} | Err(InvalidXid)
 "#;
 
-fn answer(alloc: Global, call: &str, input: &str) -> Result<String, Fail> {
+pub(crate) fn answer(alloc: Global, call: &str, input: &str) -> Result<String, Fail> {
     let text = unescaped(alloc, input)?;
     let text = text.as_str();
     match call {
@@ -77,50 +78,48 @@ fn answer(alloc: Global, call: &str, input: &str) -> Result<String, Fail> {
         "components" => components(alloc, text),
         "bytes" => bytes(alloc, text),
         "plain" => Ok(format!(in alloc; "{:?}", is_valid_identifier_unicode(text))?),
-        _ => Err(Fail::new("no such call")),
+        _ => no_such_call(),
     }
 }
 
 fn identifier(alloc: Global, text: &str) -> Result<String, Fail> {
     match ConfigIdentifier::new(alloc, text) {
         Ok(identifier) => shown(alloc, &identifier),
-        Err(error) => Ok(refused_identifier(alloc, &error)?),
+        Err(error) => refused_identifier(alloc, &error),
     }
 }
 
-fn refused_identifier(alloc: Global, error: &InvalidIdentifier) -> Result<String, AllocError> {
-    match error {
-        InvalidIdentifier::Empty => String::from_str(alloc, "Empty"),
-        InvalidIdentifier::InvalidXid(text) => format!(in alloc; "InvalidXid {text}"),
+fn refused_identifier(alloc: Global, error: &InvalidIdentifier) -> Result<String, Fail> {
+    let (name, text) = match error {
+        InvalidIdentifier::Empty => ("Empty", ""),
+        InvalidIdentifier::InvalidXid(text) => ("InvalidXid", text.as_str()),
         InvalidIdentifier::ToolIdentifierInvalidFormat(text) => {
-            format!(in alloc; "ToolIdentifierInvalidFormat {text}")
+            ("ToolIdentifierInvalidFormat", text.as_str())
         }
-        InvalidIdentifier::ToolComponentEmpty(text) => {
-            format!(in alloc; "ToolComponentEmpty {text}")
-        }
+        InvalidIdentifier::ToolComponentEmpty(text) => ("ToolComponentEmpty", text.as_str()),
         InvalidIdentifier::ToolIdentifierInvalidXid(text) => {
-            format!(in alloc; "ToolIdentifierInvalidXid {text}")
+            ("ToolIdentifierInvalidXid", text.as_str())
         }
-        InvalidIdentifier::Memory => String::from_str(alloc, "Memory"),
-    }
+        InvalidIdentifier::Memory => ("Memory", ""),
+    };
+    named(alloc, name, text)
 }
 
 fn tool_name(alloc: Global, text: &str) -> Result<String, Fail> {
     match ToolName::new(alloc, text) {
         Ok(name) => shown(alloc, &name),
-        Err(error) => Ok(refused_tool_name(alloc, &error)?),
+        Err(error) => refused_tool_name(alloc, &error),
     }
 }
 
-fn refused_tool_name(alloc: Global, error: &InvalidToolName) -> Result<String, AllocError> {
-    match error {
-        InvalidToolName::Empty => String::from_str(alloc, "Empty"),
-        InvalidToolName::StartsWithToolPrefix(text) => {
-            format!(in alloc; "StartsWithToolPrefix {text}")
-        }
-        InvalidToolName::InvalidXid(text) => format!(in alloc; "InvalidXid {text}"),
-        InvalidToolName::Memory => String::from_str(alloc, "Memory"),
-    }
+fn refused_tool_name(alloc: Global, error: &InvalidToolName) -> Result<String, Fail> {
+    let (name, text) = match error {
+        InvalidToolName::Empty => ("Empty", ""),
+        InvalidToolName::StartsWithToolPrefix(text) => ("StartsWithToolPrefix", text.as_str()),
+        InvalidToolName::InvalidXid(text) => ("InvalidXid", text.as_str()),
+        InvalidToolName::Memory => ("Memory", ""),
+    };
+    named(alloc, name, text)
 }
 
 fn components(alloc: Global, text: &str) -> Result<String, Fail> {
@@ -146,7 +145,7 @@ fn bytes(alloc: Global, text: &str) -> Result<String, Fail> {
 
 #[test]
 fn names_are_kept_or_break_one_rule(rt: HostRuntime) -> Result<(), Fail> {
-    check(&rt, ROWS, &answer)
+    check(&rt, Subject::Identifiers, ROWS)
 }
 
 const LONG: &str = r#"
@@ -157,5 +156,5 @@ tool name | a«é» | a«é»
 
 #[test]
 fn names_of_any_length_are_kept(rt: HostRuntime) -> Result<(), Fail> {
-    check_at_sizes(&rt, LONG, &answer)
+    check_at_sizes(&rt, Subject::Identifiers, LONG)
 }

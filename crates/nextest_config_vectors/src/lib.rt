@@ -16,6 +16,8 @@ mod readers;
 #[cfg(test)]
 mod rows;
 #[cfg(test)]
+mod subjects;
+#[cfg(test)]
 mod texts;
 #[cfg(test)]
 mod values;

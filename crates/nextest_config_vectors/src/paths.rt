@@ -1,6 +1,7 @@
 //! Relative paths.
 
 use crate::rows::{check, check_at_sizes, shown};
+use crate::subjects::Subject;
 use nextest_config_values::helpers::deserialize_relative_path;
 use std::alloc::Global;
 use std::test::Fail;
@@ -32,7 +33,7 @@ at p | 'a«/b»' | a«/b»
 at p«p» | 'a«/b»/..' | p«p»: invalid value: string "a«/b»/..", expected a relative path with no parent components
 "#;
 
-fn answer(alloc: Global, call: &str, input: &str) -> Result<String, Fail> {
+pub(crate) fn answer(alloc: Global, call: &str, input: &str) -> Result<String, Fail> {
     let at = call.strip_prefix("at ").unwrap_or("?");
     let value = Value::from_str(alloc, input)?;
     match deserialize_relative_path(alloc, &value, at) {
@@ -43,10 +44,10 @@ fn answer(alloc: Global, call: &str, input: &str) -> Result<String, Fail> {
 
 #[test]
 fn relative_paths_are_kept_as_written_and_others_refused(rt: HostRuntime) -> Result<(), Fail> {
-    check(&rt, ROWS, &answer)
+    check(&rt, Subject::Paths, ROWS)
 }
 
 #[test]
 fn relative_paths_of_any_length_are_kept(rt: HostRuntime) -> Result<(), Fail> {
-    check_at_sizes(&rt, LONG, &answer)
+    check_at_sizes(&rt, Subject::Paths, LONG)
 }

@@ -1,6 +1,7 @@
 //! The plain readers, words and marks.
 
-use crate::rows::{check, check_at_sizes, made};
+use crate::rows::{check, check_at_sizes, made, no_such_call};
+use crate::subjects::Subject;
 use nextest_config_elements::junit::JunitFlakyFailStatus;
 use nextest_config_elements::leak_timeout::LeakTimeoutResult;
 use nextest_config_elements::max_fail::TerminateMode;
@@ -77,7 +78,7 @@ ConfigIdentifier | '@tool:a«a»' | p: tool identifier isn't @tool:name:identifi
 ToolName | 'a«é»' | ToolName { text: "a«é»" }
 "#;
 
-fn answer(alloc: Global, call: &str, input: &str) -> Result<String, Fail> {
+pub(crate) fn answer(alloc: Global, call: &str, input: &str) -> Result<String, Fail> {
     let value = Value::from_str(alloc, input)?;
     match call {
         "bool" => read::<bool>(alloc, &value),
@@ -110,10 +111,10 @@ fn read<T: FromToml + Debug + Drop>(alloc: Global, value: &Value) -> Result<Stri
 
 #[test]
 fn values_are_read_or_refused(rt: HostRuntime) -> Result<(), Fail> {
-    check(&rt, ROWS, &answer)
+    check(&rt, Subject::Readers, ROWS)
 }
 
 #[test]
 fn long_values_are_read_or_refused(rt: HostRuntime) -> Result<(), Fail> {
-    check_at_sizes(&rt, LONG, &answer)
+    check_at_sizes(&rt, Subject::Readers, LONG)
 }

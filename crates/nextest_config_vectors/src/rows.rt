@@ -3,7 +3,8 @@
 //! A blank line is no row, nor is one that begins with `#`. An answer that is empty or ends in a space
 //! is followed by ` |`.
 
-use std::alloc::Global;
+use crate::subjects::Subject;
+use std::alloc::{Global};
 use std::fmt::{Debug, Display};
 use std::process::Abort;
 use std::test::Fail;
@@ -15,38 +16,42 @@ const SIZES: [usize; 37] = [
 ];
 
 /// Asks for the answer of each row, and compares it.
-pub(crate) fn check<F: Fn(Global, &str, &str) -> Result<String, Fail>>(
+pub(crate) fn check(
     rt: &(impl Abort + AllocGlobal),
+    subject: Subject,
     rows: &str,
-    answer: &F,
-) -> Result<(), Fail>
-    requires { F.IsAlwaysCallable answer.now }
-{
+) -> Result<(), Fail> {
     for row in rows.lines() {
-        if row.is_empty() || row.starts_with('#') {
-            continue;
-        }
-        let (call, rest) = cut(row, " | ")?;
-        let (input, wanted) = cut(rest, " | ")?;
-        let line = answer(rt.alloc(), call, input)?;
-        let wanted = wanted.strip_suffix(" |").unwrap_or(wanted);
-        assert_eq!(rt; line.as_str(), wanted, "in {row}");
+        check_row(rt, subject, row)?;
     }
     Ok(())
 }
 
-/// Does the same at each size, that is with each `«PIECE»` of the rows that many times. A `@` in a piece
-/// is its number, in four digits.
-pub(crate) fn check_at_sizes<F: Fn(Global, &str, &str) -> Result<String, Fail>>(
+fn check_row(
     rt: &(impl Abort + AllocGlobal),
+    subject: Subject,
+    row: &str,
+) -> Result<(), Fail> {
+    if row.is_empty() || row.starts_with('#') {
+        return Ok(());
+    }
+    let (call, rest) = cut(row, " | ")?;
+    let (input, wanted) = cut(rest, " | ")?;
+    let line = subject.answer(rt.alloc(), call, input)?;
+    let wanted = wanted.strip_suffix(" |").unwrap_or(wanted);
+    assert_eq!(rt; line.as_str(), wanted, "in {row}");
+    Ok(())
+}
+
+/// Does the same at each size, that is with each `«PIECE»` of the rows that many times. A `@` in a piece
+/// is its number, in five digits.
+pub(crate) fn check_at_sizes(
+    rt: &(impl Abort + AllocGlobal),
+    subject: Subject,
     rows: &str,
-    answer: &F,
-) -> Result<(), Fail>
-    requires { F.IsAlwaysCallable answer.now }
-{
+) -> Result<(), Fail> {
     for size in SIZES {
-        let rows = grown(rt.alloc(), rows, size)?;
-        check(rt, rows.as_str(), answer)?;
+        check(rt, subject, grown(rt.alloc(), rows, size)?.as_str())?;
     }
     Ok(())
 }
@@ -57,11 +62,21 @@ fn grown(alloc: Global, rows: &str, size: usize) -> Result<String, Fail> {
     text.push_str(parts.next().unwrap_or(""))?;
     for part in parts {
         let (piece, rest) = cut(part, "»")?;
-        for index in 0..size {
-            let number = format!(in alloc; "{index:04}")?;
-            text.push_str(piece.replace(alloc, '@', number.as_str())?.as_str())?;
-        }
+        text.push_str(repeated(alloc, piece, size)?.as_str())?;
         text.push_str(rest)?;
+    }
+    Ok(text)
+}
+
+fn repeated(alloc: Global, piece: &str, size: usize) -> Result<String, Fail> {
+    let Some((before, after)) = piece.split_once('@') else {
+        return Ok(piece.repeat(alloc, size)?);
+    };
+    let mut text = String::new(alloc);
+    for number in 10000..size.saturating_add(10000) {
+        text.push_str(before)?;
+        text.push_str(number.to_string(alloc)?.as_str())?;
+        text.push_str(after)?;
     }
     Ok(text)
 }
@@ -110,4 +125,18 @@ pub(crate) fn made<T: Debug + Drop, E: Display + Drop>(
         Ok(value) => Ok(format!(in alloc; "{value:?}")?),
         Err(error) => shown(alloc, &error),
     }
+}
+
+/// A name and what it holds.
+pub(crate) fn named(alloc: Global, name: &str, held: &str) -> Result<String, Fail> {
+    let mut line = String::from_str(alloc, name)?;
+    if !held.is_empty() {
+        line.push(' ')?;
+        line.push_str(held)?;
+    }
+    Ok(line)
+}
+
+pub(crate) fn no_such_call() -> Result<String, Fail> {
+    Err(Fail::new("a row asks for no known call"))
 }

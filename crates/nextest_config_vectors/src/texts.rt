@@ -1,6 +1,7 @@
 //! The texts of values.
 
-use crate::rows::{check, check_at_sizes, shown, unescaped};
+use crate::rows::{check, check_at_sizes, no_such_call, shown, unescaped};
+use crate::subjects::Subject;
 use nextest_config_values::read::{QuotedText, QuotedTexts, found_text, quoted};
 use std::alloc::Global;
 use std::collections::BTreeSet;
@@ -25,8 +26,8 @@ quoted | \u{9f} | "\u{9f}"
 # every other character stands as it is
 quoted | \u{20}'a'~ | " 'a'~"
 quoted | é | "é"
-unchanged | \u{a0} | yes
-unchanged | \u{2028} | yes
+written out | \u{a0} | "\"\u{a0}\""
+written out | \u{2028} | "\"\u{2028}\""
 
 # texts stand in order behind commas
 texts |  |  |
@@ -50,13 +51,13 @@ texts | «x@ »z | «"x@", »"z"
 found | '«x»' | string "«x»"
 "#;
 
-fn answer(alloc: Global, call: &str, input: &str) -> Result<String, Fail> {
+pub(crate) fn answer(alloc: Global, call: &str, input: &str) -> Result<String, Fail> {
     match call {
         "quoted" => quoted_text(alloc, input),
-        "unchanged" => unchanged(alloc, input),
+        "written out" => Ok(format!(in alloc; "{:?}", quoted_text(alloc, input)?)?),
         "texts" => texts(alloc, input),
         "found" => Ok(found_text(alloc, &Value::from_str(alloc, input)?)?),
-        _ => Err(Fail::new("no such call")),
+        _ => no_such_call(),
     }
 }
 
@@ -71,14 +72,6 @@ fn quoted_text(alloc: Global, input: &str) -> Result<String, Fail> {
     }
 }
 
-// Whether the text has no escape.
-fn unchanged(alloc: Global, input: &str) -> Result<String, Fail> {
-    let text = unescaped(alloc, input)?;
-    let plain = format!(in alloc; "\"{text}\"")?;
-    let answer = if quoted_text(alloc, input)? == plain { "yes" } else { "no" };
-    Ok(String::from_str(alloc, answer)?)
-}
-
 fn texts(alloc: Global, input: &str) -> Result<String, Fail> {
     let mut texts: BTreeSet<String> = BTreeSet::new(alloc);
     for text in input.split_whitespace() {
@@ -89,10 +82,10 @@ fn texts(alloc: Global, input: &str) -> Result<String, Fail> {
 
 #[test]
 fn texts_of_values(rt: HostRuntime) -> Result<(), Fail> {
-    check(&rt, ROWS, &answer)
+    check(&rt, Subject::Texts, ROWS)
 }
 
 #[test]
 fn texts_of_any_length(rt: HostRuntime) -> Result<(), Fail> {
-    check_at_sizes(&rt, LONG, &answer)
+    check_at_sizes(&rt, Subject::Texts, LONG)
 }
