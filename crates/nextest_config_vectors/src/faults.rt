@@ -68,7 +68,13 @@ fn fault(alloc: Global, call: &str, input: &str) -> Result<ReadFault, Fail> {
         "new" => Ok(ReadFault::new(alloc, at, FaultKind::from_row(alloc, given)?)),
         "unknown_variant" => Ok(ReadFault::unknown_variant(alloc, given, at, expected(wanted))),
         "missing_field" => Ok(ReadFault::missing_field(alloc, given, at)),
-        call => mismatch(alloc, call, &Value::from_str(alloc, given)?, at, expected(wanted)),
+        call => mismatch(
+            alloc,
+            call,
+            &Value::from_str(alloc, given)?,
+            at,
+            expected(wanted),
+        ),
     }
 }
 

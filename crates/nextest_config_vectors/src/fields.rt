@@ -83,9 +83,15 @@ pub(crate) fn answer(alloc: Global, call: &str, input: &str) -> Result<String, F
 
 fn field(alloc: Global, call: &str, table: &Table, key: &str, at: &str) -> Result<String, Fail> {
     match call {
-        "tracked" => made(alloc, required_field::<TrackDefault<Percent>>(alloc, table, key, at)),
+        "tracked" => made(
+            alloc,
+            required_field::<TrackDefault<Percent>>(alloc, table, key, at),
+        ),
         "optional" => made(alloc, optional_field::<Percent>(alloc, table, key, at)),
-        "or 50" => made(alloc, field_or(alloc, table, key, at, Percent { percent: 50 })),
+        "or 50" => made(
+            alloc,
+            field_or(alloc, table, key, at, Percent { percent: 50 }),
+        ),
         "u32" => made(alloc, required_field::<u32>(alloc, table, key, at)),
         "optional u32" => made(alloc, optional_field::<u32>(alloc, table, key, at)),
         "or 7" => made(alloc, field_or::<u32>(alloc, table, key, at, 7)),

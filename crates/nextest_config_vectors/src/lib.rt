@@ -4,9 +4,15 @@
 #[cfg(test)]
 mod arguments;
 #[cfg(test)]
+mod asked;
+#[cfg(test)]
 mod faults;
 #[cfg(test)]
+mod features;
+#[cfg(test)]
 mod fields;
+#[cfg(test)]
+mod files;
 #[cfg(test)]
 mod identifiers;
 #[cfg(test)]
@@ -16,8 +22,14 @@ mod readers;
 #[cfg(test)]
 mod rows;
 #[cfg(test)]
+mod sources;
+#[cfg(test)]
 mod subjects;
 #[cfg(test)]
 mod texts;
 #[cfg(test)]
 mod values;
+#[cfg(test)]
+mod verdicts;
+#[cfg(test)]
+mod version_values;

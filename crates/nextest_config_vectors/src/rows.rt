@@ -4,15 +4,15 @@
 //! is followed by ` |`.
 
 use crate::subjects::Subject;
-use std::alloc::{Global};
+use std::alloc::Global;
 use std::fmt::{Debug, Display};
 use std::process::Abort;
 use std::test::Fail;
 
 // Sizes around the powers of two, and some thousands.
 const SIZES: [usize; 37] = [
-    0, 1, 2, 3, 4, 5, 7, 8, 9, 15, 16, 17, 31, 32, 33, 63, 64, 65, 127, 128, 129, 255, 256, 257, 511,
-    512, 513, 1023, 1024, 1025, 2047, 2048, 2049, 4095, 4096, 4097, 5000,
+    0, 1, 2, 3, 4, 5, 7, 8, 9, 15, 16, 17, 31, 32, 33, 63, 64, 65, 127, 128, 129, 255, 256, 257,
+    511, 512, 513, 1023, 1024, 1025, 2047, 2048, 2049, 4095, 4096, 4097, 5000,
 ];
 
 /// Asks for the answer of each row, and compares it.
@@ -27,11 +27,7 @@ pub(crate) fn check(
     Ok(())
 }
 
-fn check_row(
-    rt: &(impl Abort + AllocGlobal),
-    subject: Subject,
-    row: &str,
-) -> Result<(), Fail> {
+fn check_row(rt: &(impl Abort + AllocGlobal), subject: Subject, row: &str) -> Result<(), Fail> {
     if row.is_empty() || row.starts_with('#') {
         return Ok(());
     }
@@ -44,7 +40,7 @@ fn check_row(
 }
 
 /// Does the same at each size, that is with each `«PIECE»` of the rows that many times. A `@` in a piece
-/// is its number, in five digits.
+/// is its number, in five digits. `«#»` is the size.
 pub(crate) fn check_at_sizes(
     rt: &(impl Abort + AllocGlobal),
     subject: Subject,
@@ -62,7 +58,10 @@ fn grown(alloc: Global, rows: &str, size: usize) -> Result<String, Fail> {
     text.push_str(parts.next().unwrap_or(""))?;
     for part in parts {
         let (piece, rest) = cut(part, "»")?;
-        text.push_str(repeated(alloc, piece, size)?.as_str())?;
+        match piece {
+            "#" => text.push_str(size.to_string(alloc)?.as_str())?,
+            piece => text.push_str(repeated(alloc, piece, size)?.as_str())?,
+        }
         text.push_str(rest)?;
     }
     Ok(text)

@@ -1,18 +1,25 @@
 //! What tables of rows are about.
 
-use crate::{arguments, faults, fields, identifiers, paths, readers, texts};
+use crate::{
+    arguments, asked, faults, features, fields, identifiers, paths, readers, texts, version_values,
+};
 use std::alloc::Global;
 use std::test::Fail;
 
 #[derive(Clone, Copy)]
 pub(crate) enum Subject {
     Arguments,
+    Asks,
     Faults,
+    Features,
     Fields,
+    Files,
     Identifiers,
+    Lists,
     Paths,
     Readers,
     Texts,
+    VersionValues,
 }
 
 impl Subject {
@@ -20,12 +27,17 @@ impl Subject {
     pub(crate) fn answer(self, alloc: Global, call: &str, input: &str) -> Result<String, Fail> {
         match self {
             Subject::Arguments => arguments::answer(alloc, call, input),
+            Subject::Asks => asked::of_asks(alloc, call, input),
             Subject::Faults => faults::answer(alloc, call, input),
+            Subject::Features => features::answer(alloc, call, input),
             Subject::Fields => fields::answer(alloc, call, input),
+            Subject::Files => asked::of_files(alloc, call, input),
             Subject::Identifiers => identifiers::answer(alloc, call, input),
+            Subject::Lists => asked::of_list(alloc, call, input),
             Subject::Paths => paths::answer(alloc, call, input),
             Subject::Readers => readers::answer(alloc, call, input),
             Subject::Texts => texts::answer(alloc, call, input),
+            Subject::VersionValues => version_values::answer(alloc, call, input),
         }
     }
 }

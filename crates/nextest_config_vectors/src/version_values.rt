@@ -1,0 +1,80 @@
+//! Values of `nextest-version`, as the reader of the setting reads them.
+
+use crate::rows::{check, check_at_sizes, shown};
+use crate::subjects::Subject;
+use nextest_config::nextest_version::NextestVersionDeserialize;
+use nextest_config_values::read::FromToml;
+use semver::Version;
+use std::alloc::Global;
+use std::test::Fail;
+use toml::Value;
+
+const ROWS: &str = r#"
+# a text is read as a required version
+nextest-version | '1.0' | 1.0.0 none
+nextest-version | '18446744073709551615.0' | 18446744073709551615.0.0 none
+nextest-version | '1' | nextest-version: invalid version "1"
+nextest-version | '1.' | nextest-version: invalid version "1."
+nextest-version | '01.2' | nextest-version: invalid version "01.2"
+nextest-version | '' | nextest-version: invalid version ""
+nextest-version | '18446744073709551616.0' | nextest-version: invalid version "18446744073709551616.0"
+nextest-version | '1+b-c' | nextest-version: build metadata is not supported in nextest-version
+nextest-version | '1-b+c' | nextest-version: pre-release identifiers are not supported in nextest-version
+
+# numerals of each length are read
+nextest-version | '1.12.123' | 1.12.123 none
+nextest-version | '1234.12345.123456' | 1234.12345.123456 none
+nextest-version | '1234567.12345678.123456789' | 1234567.12345678.123456789 none
+nextest-version | '1234567890.12345678901.123456789012' | 1234567890.12345678901.123456789012 none
+nextest-version | '1234567890123.12345678901234.123456789012345' | 1234567890123.12345678901234.123456789012345 none
+nextest-version | '1234567890123456.12345678901234567.123456789012345678' | 1234567890123456.12345678901234567.123456789012345678 none
+nextest-version | '1234567890123456789.12345678901234567890.18446744073709551615' | 1234567890123456789.12345678901234567890.18446744073709551615 none
+
+# a table is read key by key
+nextest-version | {} | none none
+nextest-version | { extra = 1 } | none none
+nextest-version | { recommended = '0.9.60' } | none 0.9.60
+nextest-version | { required = '0.9', recommended = '0.9.0' } | 0.9.0 0.9.0
+nextest-version | { required = '1', recommended = 2 } | nextest-version.required: invalid version "1"
+nextest-version | { required = '1.0', recommended = 2 } | nextest-version.recommended: invalid type: integer `2`, expected a string
+nextest-version | { required = '0.9.60', recommended = '0.9.50' } | nextest-version: required version (0.9.60) must not be greater than recommended version (0.9.50)
+nextest-version | true | nextest-version: invalid type: boolean `true`, expected a table ({ required = "0.9.20", recommended = "0.9.30" }) or a string ("0.9.50")
+"#;
+
+const LONG: &str = r#"
+p«p» | '1.0-a«a»' | p«p»: pre-release identifiers are not supported in nextest-version
+p | '1.0.«x»' | p: invalid version "1.0.«x»"
+p | '20000000000000000000«0».0' | p: invalid version "20000000000000000000«0».0"
+p | '00«0».1' | p: invalid version "00«0».1"
+p | {«k@ = 1,» required = '0.9', recommended = '0.9.60' } | 0.9.0 0.9.60
+"#;
+
+/// What a value at the path of the call asks.
+pub(crate) fn answer(alloc: Global, call: &str, input: &str) -> Result<String, Fail> {
+    let value = Value::from_str(alloc, input)?;
+    match NextestVersionDeserialize::read(alloc, &value, call) {
+        Ok(asked) => {
+            let required = version(alloc, &asked.required)?;
+            let recommended = version(alloc, &asked.recommended)?;
+            Ok(format!(in alloc; "{required} {recommended}")?)
+        }
+        Err(fault) => shown(alloc, &fault),
+    }
+}
+
+fn version(alloc: Global, version: &Option<Version>) -> Result<String, Fail> {
+    match version {
+        Some(version) => Ok(version.to_string(alloc)?),
+        None => Ok(String::from_str(alloc, "none")?),
+    }
+}
+
+#[test]
+fn versions_of_a_text_or_a_table_are_read(rt: HostRuntime) -> Result<(), Fail> {
+    check(&rt, Subject::VersionValues, ROWS)
+}
+
+#[test]
+fn versions_of_long_texts_and_tables_are_read(rt: HostRuntime) -> Result<(), Fail> {
+    check_at_sizes(&rt, Subject::VersionValues, LONG)
+}
