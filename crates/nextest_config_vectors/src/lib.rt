@@ -6,6 +6,12 @@ mod arguments;
 #[cfg(test)]
 mod asked;
 #[cfg(test)]
+mod compared;
+#[cfg(test)]
+mod configurations;
+#[cfg(test)]
+mod equality;
+#[cfg(test)]
 mod faults;
 #[cfg(test)]
 mod features;
@@ -16,9 +22,15 @@ mod files;
 #[cfg(test)]
 mod identifiers;
 #[cfg(test)]
+mod orders;
+#[cfg(test)]
 mod paths;
 #[cfg(test)]
+mod printed;
+#[cfg(test)]
 mod readers;
+#[cfg(test)]
+mod readme;
 #[cfg(test)]
 mod rows;
 #[cfg(test)]

@@ -2,9 +2,9 @@
 
 use crate::rows::{check, check_at_sizes, no_such_call, shown, unescaped};
 use crate::subjects::Subject;
+use crate::values::names;
 use nextest_config_values::read::{QuotedText, QuotedTexts, found_text, quoted};
 use std::alloc::Global;
-use std::collections::BTreeSet;
 use std::test::Fail;
 use toml::Value;
 
@@ -55,7 +55,7 @@ pub(crate) fn answer(alloc: Global, call: &str, input: &str) -> Result<String, F
     match call {
         "quoted" => quoted_text(alloc, input),
         "written out" => Ok(format!(in alloc; "{:?}", quoted_text(alloc, input)?)?),
-        "texts" => texts(alloc, input),
+        "texts" => shown(alloc, &QuotedTexts(&names(alloc, input)?)),
         "found" => Ok(found_text(alloc, &Value::from_str(alloc, input)?)?),
         _ => no_such_call(),
     }
@@ -70,14 +70,6 @@ fn quoted_text(alloc: Global, input: &str) -> Result<String, Fail> {
     } else {
         Ok(format!(in alloc; "{quoted}, but also {printed}")?)
     }
-}
-
-fn texts(alloc: Global, input: &str) -> Result<String, Fail> {
-    let mut texts: BTreeSet<String> = BTreeSet::new(alloc);
-    for text in input.split_whitespace() {
-        texts.insert(unescaped(alloc, text)?)?;
-    }
-    shown(alloc, &QuotedTexts(&texts))
 }
 
 #[test]

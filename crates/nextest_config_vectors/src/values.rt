@@ -1,14 +1,18 @@
 //! Values that rows write: names, refusals and faults.
 
 use crate::rows::{cut, unescaped};
+use nextest_config_elements::max_fail::TerminateMode;
 use nextest_config_values::identifier::{
     ConfigIdentifier, InvalidIdentifier, InvalidToolName, ToolName,
 };
-use nextest_config_values::read::{FaultKind, ReadFault, Rule};
+use nextest_config_values::read::{FaultKind, FromToml, ReadFault, Rule};
 use nextest_config_values::tool_config::{ToolConfigFile, ToolConfigFileParseError};
+use nextest_config_values::track_default::TrackDefault;
 use semver::Version;
 use std::alloc::Global;
+use std::collections::BTreeSet;
 use std::test::Fail;
+use toml::Value;
 
 /// A type whose values rows write.
 pub(crate) trait FromRow: Sized {
@@ -25,9 +29,31 @@ fn no_such_word<T>() -> Result<T, Fail> {
     Err(Fail::new("a row has a word of no value"))
 }
 
-impl FromRow for String {
+/// A set of names.
+pub(crate) fn names(alloc: Global, text: &str) -> Result<BTreeSet<String>, Fail> {
+    let mut names = BTreeSet::new(alloc);
+    for name in text.split_whitespace() {
+        names.insert(unescaped(alloc, name)?)?;
+    }
+    Ok(names)
+}
+
+impl FromRow for TerminateMode {
     fn from_row(alloc: Global, text: &str) -> Result<Self, Fail> {
-        unescaped(alloc, text)
+        Ok(TerminateMode::read(alloc, &Value::string(alloc, text)?, "")?)
+    }
+}
+
+/// Writes a number, and whether it was `read`.
+impl FromRow for TrackDefault<u32> {
+    fn from_row(_alloc: Global, text: &str) -> Result<Self, Fail> {
+        let (value, mark) = word(text);
+        let value = value.parse()?;
+        if mark == "read" {
+            Ok(TrackDefault::with_deserialized_value(value))
+        } else {
+            Ok(TrackDefault::with_default_value(value))
+        }
     }
 }
 
@@ -99,12 +125,6 @@ impl FromRow for ToolConfigFileParseError {
             "Memory" => Ok(ToolConfigFileParseError::Memory),
             _ => no_such_word(),
         }
-    }
-}
-
-impl FromRow for Version {
-    fn from_row(alloc: Global, text: &str) -> Result<Self, Fail> {
-        Ok(Version::parse(alloc, text)?)
     }
 }
 

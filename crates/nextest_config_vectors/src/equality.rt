@@ -1,0 +1,325 @@
+//! Equal values, and values that differ in one part alone.
+
+use crate::rows::{check, check_at_sizes};
+use crate::subjects::Subject;
+use std::test::Fail;
+
+const EQUAL: &str = r#"
+ConfigIdentifier | e\u{301}x ~ \u{e9}x | same
+ConfigIdentifier | foo ~ fop | differ
+ConfigIdentifier | @tool:a:b ~ @tool:a:b | same
+ConfigIdentifier | @tool:a:b ~ @tool:a:c | differ
+ConfigIdentifier | @tool:a:b ~ @tool:c:b | differ
+ToolName | \u{212b} ~ \u{c5} | same
+ToolName | a-b ~ aa | differ
+ToolName | a ~ A | differ
+
+InvalidIdentifier | Empty ~ Empty | same
+InvalidIdentifier | Empty ~ Memory | differ
+InvalidIdentifier | InvalidXid a ~ InvalidXid a | same
+InvalidIdentifier | InvalidXid a ~ InvalidXid b | differ
+InvalidIdentifier | ToolIdentifierInvalidFormat a ~ ToolIdentifierInvalidFormat a | same
+InvalidIdentifier | ToolIdentifierInvalidFormat a ~ ToolIdentifierInvalidFormat b | differ
+InvalidIdentifier | ToolComponentEmpty a ~ ToolComponentEmpty a | same
+InvalidIdentifier | ToolComponentEmpty a ~ ToolComponentEmpty b | differ
+InvalidIdentifier | ToolIdentifierInvalidXid a ~ ToolIdentifierInvalidXid a | same
+InvalidIdentifier | ToolIdentifierInvalidXid a ~ ToolIdentifierInvalidXid b | differ
+InvalidIdentifier | InvalidXid a ~ ToolIdentifierInvalidFormat a | differ
+InvalidIdentifier | ToolIdentifierInvalidFormat a ~ ToolComponentEmpty a | differ
+InvalidIdentifier | ToolComponentEmpty a ~ ToolIdentifierInvalidXid a | differ
+InvalidIdentifier | Memory ~ Memory | same
+
+InvalidToolName | Empty ~ Empty | same
+InvalidToolName | Empty ~ Memory | differ
+InvalidToolName | StartsWithToolPrefix a ~ StartsWithToolPrefix a | same
+InvalidToolName | StartsWithToolPrefix a ~ StartsWithToolPrefix b | differ
+InvalidToolName | InvalidXid a ~ InvalidXid a | same
+InvalidToolName | InvalidXid a ~ InvalidXid b | differ
+InvalidToolName | InvalidXid a ~ StartsWithToolPrefix a | differ
+InvalidToolName | Memory ~ Memory | same
+
+ToolConfigFile | a:/x ~ a:/x | same
+ToolConfigFile | a:/x ~ b:/x | differ
+ToolConfigFile | a:/x ~ a:/y | differ
+
+ToolConfigFileParseError | InvalidFormat a ~ InvalidFormat a | same
+ToolConfigFileParseError | InvalidFormat a ~ InvalidFormat b | differ
+ToolConfigFileParseError | InvalidToolName a / Empty ~ InvalidToolName a / Empty | same
+ToolConfigFileParseError | InvalidToolName a / Empty ~ InvalidToolName b / Empty | differ
+ToolConfigFileParseError | InvalidToolName a / InvalidXid a ~ InvalidToolName a / InvalidXid b | differ
+ToolConfigFileParseError | EmptyConfigFile a ~ EmptyConfigFile a | same
+ToolConfigFileParseError | EmptyConfigFile a ~ EmptyConfigFile b | differ
+ToolConfigFileParseError | ConfigFileNotAbsolute a ~ ConfigFileNotAbsolute a | same
+ToolConfigFileParseError | ConfigFileNotAbsolute a ~ ConfigFileNotAbsolute b | differ
+ToolConfigFileParseError | InvalidFormat a ~ EmptyConfigFile a | differ
+ToolConfigFileParseError | EmptyConfigFile a ~ ConfigFileNotAbsolute a | differ
+ToolConfigFileParseError | InvalidFormat a ~ Memory | differ
+ToolConfigFileParseError | Memory ~ Memory | same
+
+Rule | PreRelease ~ PreRelease | same
+Rule | PreRelease ~ BuildMetadata | differ
+Rule | BuildMetadata ~ BuildMetadata | same
+Rule | NotVersion a ~ NotVersion a | same
+Rule | NotVersion a ~ NotVersion b | differ
+Rule | RequiredAboveRecommended 1.0.0 2.0.0 ~ RequiredAboveRecommended 1.0.0 2.0.0 | same
+Rule | RequiredAboveRecommended 1.0.0 2.0.0 ~ RequiredAboveRecommended 1.0.1 2.0.0 | differ
+Rule | RequiredAboveRecommended 1.0.0 2.0.0 ~ RequiredAboveRecommended 1.0.0 2.0.1 | differ
+Rule | JitterWithoutDelay ~ JitterWithoutDelay | same
+Rule | JitterWithoutDelay ~ CountZero | differ
+Rule | CountZero ~ CountZero | same
+Rule | CountZero ~ DelayZero | differ
+Rule | DelayZero ~ DelayZero | same
+Rule | DelayZero ~ MaxDelayZero | differ
+Rule | MaxDelayZero ~ MaxDelayZero | same
+Rule | MaxDelayZero ~ MaxDelayBelowDelay | differ
+Rule | MaxDelayBelowDelay ~ MaxDelayBelowDelay | same
+Rule | Priority 101 ~ Priority 101 | same
+Rule | Priority 101 ~ Priority 102 | differ
+Rule | Priority -128 ~ Priority 127 | differ
+
+FaultKind | InvalidType a / a string ~ InvalidType a / a string | same
+FaultKind | InvalidType a / a string ~ InvalidType b / a string | differ
+FaultKind | InvalidType a / a string ~ InvalidType a / a boolean | differ
+FaultKind | InvalidValue a / a string ~ InvalidValue a / a string | same
+FaultKind | InvalidValue a / a string ~ InvalidValue b / a string | differ
+FaultKind | InvalidValue a / a string ~ InvalidValue a / a boolean | differ
+FaultKind | UnknownVariant a / a string ~ UnknownVariant a / a string | same
+FaultKind | UnknownVariant a / a string ~ UnknownVariant b / a string | differ
+FaultKind | UnknownVariant a / a string ~ UnknownVariant a / a boolean | differ
+FaultKind | UnknownField a / a string ~ UnknownField a / a string | same
+FaultKind | UnknownField a / a string ~ UnknownField b / a string | differ
+FaultKind | UnknownField a / a string ~ UnknownField a / a boolean | differ
+FaultKind | InvalidType a / a string ~ InvalidValue a / a string | differ
+FaultKind | InvalidValue a / a string ~ UnknownVariant a / a string | differ
+FaultKind | UnknownVariant a / a string ~ UnknownField a / a string | differ
+FaultKind | MissingField a ~ MissingField a | same
+FaultKind | MissingField a ~ MissingField b | differ
+FaultKind | Custom PreRelease ~ Custom PreRelease | same
+FaultKind | Custom PreRelease ~ Custom BuildMetadata | differ
+FaultKind | Identifier Empty ~ Identifier Empty | same
+FaultKind | Identifier InvalidXid a ~ Identifier InvalidXid b | differ
+FaultKind | Identifier Empty ~ ToolName Empty | differ
+FaultKind | ToolName Empty ~ ToolName Empty | same
+FaultKind | ToolName InvalidXid a ~ ToolName InvalidXid b | differ
+FaultKind | Memory ~ Memory | same
+FaultKind | Memory ~ Custom PreRelease | differ
+
+ReadFault | p, Custom PreRelease ~ p, Custom PreRelease | same
+ReadFault | p, Custom PreRelease ~ q, Custom PreRelease | differ
+ReadFault | p, Custom PreRelease ~ p, Custom BuildMetadata | differ
+ReadFault | , Memory ~ , Memory | same
+
+TrackDefault | 5 read ~ 5 read | same
+TrackDefault | 5 default ~ 5 default | same
+TrackDefault | 5 read ~ 6 read | differ
+TrackDefault | 5 read ~ 5 default | differ
+"#;
+
+const EQUAL_SOURCES: &str = r#"
+ConfigSourceKind | tool a ~ tool a | same
+ConfigSourceKind | tool a ~ tool b | differ
+ConfigSourceKind | tool a ~ explicit | differ
+ConfigSourceKind | explicit ~ explicit | same
+ConfigSourceKind | explicit ~ repository | differ
+ConfigSourceKind | repository ~ repository | same
+
+ConfigSource | tool a:/x ~ tool a:/x | same
+ConfigSource | tool a:/x ~ tool b:/x | differ
+ConfigSource | tool a:/x ~ tool a:/y | differ
+ConfigSource | explicit x ~ explicit x | same
+ConfigSource | explicit x ~ repository x | differ
+ConfigSource | explicit x ~ explicit y | differ
+ConfigSource | repository x ~ repository  | differ
+
+SourceText | explicit x => a ~ explicit x => a | same
+SourceText | explicit x => a ~ explicit y => a | differ
+SourceText | explicit x => a ~ repository x => a | differ
+SourceText | explicit x => a ~ explicit x => b | differ
+SourceText | explicit x =>  ~ explicit x | differ
+SourceText | explicit x ~ explicit x | same
+
+ToolText | tool a:/x => a ~ tool a:/x => a | same
+ToolText | tool a:/x => a ~ tool b:/x => a | differ
+ToolText | tool a:/x => a ~ tool a:/y => a | differ
+ToolText | tool a:/x => a ~ tool a:/x => b | differ
+ToolText | tool a:/x =>  ~ tool a:/x | differ
+
+RepositoryText | explicit x => a ~ explicit x => a | same
+RepositoryText | explicit x => a ~ repository x => a | differ
+RepositoryText | explicit x => a ~ explicit y => a | differ
+RepositoryText | explicit x => a ~ explicit x => b | differ
+RepositoryText | repository x =>  ~ repository x | differ
+RepositoryText | repository x ~ repository x | same
+
+NextestVersionDeserialize | 1.0.0 2.0.0 ~ 1.0.0 2.0.0 | same
+NextestVersionDeserialize | 1.0.0 2.0.0 ~ 1.0.1 2.0.0 | differ
+NextestVersionDeserialize | 1.0.0 2.0.0 ~ 1.0.0 2.0.1 | differ
+NextestVersionDeserialize | 1.0.0 none ~ none none | differ
+NextestVersionDeserialize | none 1.0.0 ~ none none | differ
+NextestVersionDeserialize | none none ~ none none | same
+
+NextestVersionReq | 1.0.0 explicit x ~ 1.0.0 explicit x | same
+NextestVersionReq | 1.0.0 explicit x ~ 1.0.1 explicit x | differ
+NextestVersionReq | 1.0.0 explicit x ~ 1.0.0 explicit y | differ
+NextestVersionReq | 1.0.0 explicit x ~ 1.0.0 repository x | differ
+NextestVersionReq | 1.0.0 explicit x ~ none | differ
+NextestVersionReq | none ~ none | same
+
+NextestVersionConfig | 1.0.0 explicit x & 2.0.0 explicit y ~ 1.0.0 explicit x & 2.0.0 explicit y | same
+NextestVersionConfig | 1.0.0 explicit x & none ~ 1.0.1 explicit x & none | differ
+NextestVersionConfig | 1.0.0 explicit x & none ~ 1.0.0 explicit y & none | differ
+NextestVersionConfig | none & 1.0.0 explicit x ~ none & 1.0.1 explicit x | differ
+NextestVersionConfig | none & 1.0.0 explicit x ~ none & 1.0.0 explicit y | differ
+NextestVersionConfig | none & 1.0.0 explicit x ~ 1.0.0 explicit x & none | differ
+
+NextestVersionEval | Satisfied ~ Satisfied | same
+NextestVersionEval | Satisfied ~ Error 2.0.0 1.0.0 explicit x | differ
+NextestVersionEval | Error 2.0.0 1.0.0 explicit x ~ Error 2.0.0 1.0.0 explicit x | same
+NextestVersionEval | Error 2.0.0 1.0.0 explicit x ~ Error 2.0.1 1.0.0 explicit x | differ
+NextestVersionEval | Error 2.0.0 1.0.0 explicit x ~ Error 2.0.0 1.0.1 explicit x | differ
+NextestVersionEval | Error 2.0.0 1.0.0 explicit x ~ Error 2.0.0 1.0.0 explicit y | differ
+NextestVersionEval | Warn 2.0.0 1.0.0 explicit x ~ Warn 2.0.0 1.0.0 explicit x | same
+NextestVersionEval | Warn 2.0.0 1.0.0 explicit x ~ Warn 2.0.1 1.0.0 explicit x | differ
+NextestVersionEval | Warn 2.0.0 1.0.0 explicit x ~ Warn 2.0.0 1.0.1 explicit x | differ
+NextestVersionEval | Warn 2.0.0 1.0.0 explicit x ~ Warn 2.0.0 1.0.0 explicit y | differ
+NextestVersionEval | ErrorOverride 2.0.0 1.0.0 explicit x ~ ErrorOverride 2.0.0 1.0.0 explicit x | same
+NextestVersionEval | ErrorOverride 2.0.0 1.0.0 explicit x ~ ErrorOverride 2.0.1 1.0.0 explicit x | differ
+NextestVersionEval | ErrorOverride 2.0.0 1.0.0 explicit x ~ ErrorOverride 2.0.0 1.0.1 explicit x | differ
+NextestVersionEval | ErrorOverride 2.0.0 1.0.0 explicit x ~ ErrorOverride 2.0.0 1.0.0 explicit y | differ
+NextestVersionEval | WarnOverride 2.0.0 1.0.0 explicit x ~ WarnOverride 2.0.0 1.0.0 explicit x | same
+NextestVersionEval | WarnOverride 2.0.0 1.0.0 explicit x ~ WarnOverride 2.0.1 1.0.0 explicit x | differ
+NextestVersionEval | WarnOverride 2.0.0 1.0.0 explicit x ~ WarnOverride 2.0.0 1.0.1 explicit x | differ
+NextestVersionEval | WarnOverride 2.0.0 1.0.0 explicit x ~ WarnOverride 2.0.0 1.0.0 explicit y | differ
+NextestVersionEval | Error 2.0.0 1.0.0 explicit x ~ Warn 2.0.0 1.0.0 explicit x | differ
+NextestVersionEval | Error 2.0.0 1.0.0 explicit x ~ ErrorOverride 2.0.0 1.0.0 explicit x | differ
+NextestVersionEval | Warn 2.0.0 1.0.0 explicit x ~ WarnOverride 2.0.0 1.0.0 explicit x | differ
+NextestVersionEval | ErrorOverride 2.0.0 1.0.0 explicit x ~ WarnOverride 2.0.0 1.0.0 explicit x | differ
+
+ExperimentalDeserialize | ['benchmarks', 'x'] ~ ['x', 'benchmarks'] | same
+ExperimentalDeserialize | ['benchmarks', 'x'] ~ ['setup-scripts', 'x'] | differ
+ExperimentalDeserialize | ['benchmarks', 'x'] ~ ['benchmarks', 'y'] | differ
+ExperimentalDeserialize | ['benchmarks'] ~ [] | differ
+ExperimentalDeserialize | ['x'] ~ [] | differ
+ExperimentalDeserialize | [] ~ {} | same
+
+ExperimentalConfig | explicit a => experimental = ['benchmarks', 'x'] ~ explicit a => experimental = ['x', 'benchmarks'] | same
+ExperimentalConfig | explicit a => experimental = ['benchmarks', 'x'] ~ explicit a => experimental = ['x'] | differ
+ExperimentalConfig | explicit a => experimental = ['benchmarks', 'x'] ~ explicit a => experimental = ['benchmarks', 'y'] | differ
+ExperimentalConfig | explicit a => experimental = ['benchmarks', 'x'] ~ explicit b => experimental = ['benchmarks', 'x'] | differ
+ExperimentalConfig | explicit a => experimental = ['x'] ~ explicit a => experimental = ['x'] && explicit a => experimental = ['x'] | differ
+ExperimentalConfig | explicit a => nextest-version = '1.0' ~  | same
+
+VersionOnlyConfig | explicit a => nextest-version = '1.0' && explicit b => experimental = ['benchmarks'] ~ explicit a => nextest-version = '1.0' && explicit c => experimental = ['benchmarks'] | same
+VersionOnlyConfig | explicit a => nextest-version = '1.0' ~ explicit a => nextest-version = '1.1' | differ
+VersionOnlyConfig | explicit a => nextest-version = '1.0' ~ explicit b => nextest-version = '1.0' | differ
+VersionOnlyConfig | explicit a => nextest-version = { recommended = '1.0' } ~ explicit a => nextest-version = { recommended = '1.1' } | differ
+VersionOnlyConfig | explicit a => experimental = ['benchmarks'] ~ explicit a => experimental = ['setup-scripts'] | differ
+VersionOnlyConfig | explicit a => experimental = ['x'] ~ explicit a => experimental = ['y'] | differ
+VersionOnlyConfig | explicit a => x = 1 ~  | same
+
+ConfigParseErrorKind | TomlParseError ~ TomlParseError | same
+ConfigParseErrorKind | TomlParseError ~ Memory | differ
+ConfigParseErrorKind | VersionOnlyDeserializeError p, Memory ~ VersionOnlyDeserializeError p, Memory | same
+ConfigParseErrorKind | VersionOnlyDeserializeError p, Custom PreRelease ~ VersionOnlyDeserializeError q, Custom PreRelease | differ
+ConfigParseErrorKind | VersionOnlyDeserializeError p, Custom PreRelease ~ VersionOnlyDeserializeError p, Custom BuildMetadata | differ
+ConfigParseErrorKind | ExperimentalFeaturesInToolConfig x y ~ ExperimentalFeaturesInToolConfig y x | same
+ConfigParseErrorKind | ExperimentalFeaturesInToolConfig x y ~ ExperimentalFeaturesInToolConfig x | differ
+ConfigParseErrorKind | ExperimentalFeaturesInToolConfig x y ~ ExperimentalFeaturesInToolConfig x z | differ
+ConfigParseErrorKind | Memory ~ Memory | same
+
+ConfigParseError | explicit a => x = ~ explicit a => y = | same
+ConfigParseError | explicit a => x = ~ explicit b => x = | differ
+ConfigParseError | explicit a => x = ~ repository a => x = | differ
+ConfigParseError | explicit a => x = ~ explicit a => nextest-version = 1 | differ
+ConfigParseError | explicit a => nextest-version = 1 ~ explicit a => nextest-version = 2 | differ
+ConfigParseError | explicit a => x = ~ Memory | differ
+ConfigParseError | Memory ~ Memory | same
+
+ListRefusal | 1 explicit a => x = ~ 1 explicit a => x = | same
+ListRefusal | 1 explicit a => x = ~ 2 explicit a => x = | differ
+ListRefusal | 1 explicit a => x = ~ 1 explicit b => x = | differ
+ListRefusal | 1 explicit a => x = ~ 1 explicit a => nextest-version = 1 | differ
+ListRefusal | 1 explicit a => x = ~ 1 Memory | differ
+ListRefusal | Memory ~ 1 Memory | differ
+ListRefusal | Memory ~ Memory | same
+"#;
+
+const COPIES: &str = r#"
+# the named features
+ExperimentalDeserialize | ['x', 'benchmarks', 'setup-scripts', 'y'] | same
+ExperimentalDeserialize | [] | same
+
+# versions
+NextestVersionDeserialize | 0.9.50 0.9.60 | same
+NextestVersionDeserialize | none none | same
+NextestVersionReq | 0.9.50 repository a.toml | same
+NextestVersionReq | none | same
+NextestVersionConfig | 0.9.50 repository a.toml & 0.9.60 repository a.toml | same
+NextestVersionConfig | none & none | same
+
+# verdicts
+NextestVersionEval | Error 0.9.50 0.9.49 repository a.toml | same
+NextestVersionEval | ErrorOverride 0.9.50 0.9.49 repository a.toml | same
+NextestVersionEval | Warn 0.9.60 0.9.55-rc.1+b tool my-tool:/a.toml | same
+NextestVersionEval | WarnOverride 0.9.60 0.9.55 explicit a.toml | same
+NextestVersionEval | Satisfied | same
+
+# read configurations
+VersionOnlyConfig | repository a.toml => nextest-version = '0.9.50'\nexperimental = ['x', 'benchmarks'] && repository b.toml => experimental = { y = 1, z = 2, setup-scripts = true } | same
+ExperimentalConfig | repository a.toml => nextest-version = '0.9.50'\nexperimental = ['x', 'benchmarks'] && repository b.toml => experimental = { y = 1, z = 2, setup-scripts = true } | same
+VersionOnlyConfig |  | same
+ExperimentalConfig |  | same
+
+# names, arguments and sources
+ConfigIdentifier | e\u{301} | same
+ConfigIdentifier | @tool:a:b | same
+ToolName | a-b | same
+ToolConfigFile | my-tool:/etc/t.toml | same
+ConfigSourceKind | tool my-tool | same
+ConfigSourceKind | explicit | same
+ConfigSourceKind | repository | same
+ConfigSource | tool my-tool:/etc/t.toml | same
+ConfigSource | explicit a.toml | same
+ConfigSource | repository  | same
+
+# values and their marks
+TrackDefault | 5 read | same
+TrackDefault | 5 default | same
+TrackDefault copied | 5 read | same
+TrackDefault copied | 5 default | same
+"#;
+
+const LONG: &str = r#"
+ExperimentalDeserialize | [«'x@',» 'benchmarks'] | same
+NextestVersionReq | 1.0.0 repository a«a» | same
+NextestVersionConfig | 1.0.0 repository a«a» & 1.0.0 explicit b«b» | same
+NextestVersionEval | Error 1.0.0 0.0.0 repository a«a» | same
+NextestVersionDeserialize | 1.0.0-a«a» 1.0.0+b«b» | same
+ExperimentalConfig | «repository @.toml => experimental = ['x'] && » | same
+VersionOnlyConfig | repository a => nextest-version = '1.0'\nexperimental = [«'x@',» 'benchmarks'] | same
+ConfigIdentifier | a«-» | same
+ToolName | a«-» | same
+ToolConfigFile | a«-»:/«x» | same
+ConfigSourceKind | tool a«-» | same
+ConfigSource | tool a«-»:«x» | same
+"#;
+
+#[test]
+fn values_that_differ_in_one_part_are_unequal(rt: HostRuntime) -> Result<(), Fail> {
+    check(&rt, Subject::Equality, EQUAL)
+}
+
+#[test]
+fn sources_that_differ_in_one_part_are_unequal(rt: HostRuntime) -> Result<(), Fail> {
+    check(&rt, Subject::Equality, EQUAL_SOURCES)
+}
+
+#[test]
+fn copies_are_the_same(rt: HostRuntime) -> Result<(), Fail> {
+    check(&rt, Subject::Copies, COPIES)
+}
+
+#[test]
+fn copies_of_any_length_are_the_same(rt: HostRuntime) -> Result<(), Fail> {
+    check_at_sizes(&rt, Subject::Copies, LONG)
+}

@@ -1,0 +1,131 @@
+//! Orders, hashes and defaults.
+
+use crate::rows::{check, no_such_call};
+use crate::subjects::Subject;
+use nextest_config::nextest_version::{
+    ExperimentalConfig, ExperimentalDeserialize, NextestVersionConfig, NextestVersionReq,
+    VersionOnlyConfig,
+};
+use nextest_config_elements::junit::JunitFlakyFailStatus;
+use nextest_config_elements::leak_timeout::LeakTimeoutResult;
+use nextest_config_elements::max_fail::TerminateMode;
+use nextest_config_elements::report_skip_policy::ReportSkipPolicy;
+use nextest_config_elements::retry_policy::FlakyResult;
+use nextest_config_elements::slow_timeout::SlowTimeoutResult;
+use nextest_config_values::track_default::TrackDefault;
+use std::alloc::Global;
+use std::fmt::Debug;
+use std::test::Fail;
+
+const ORDERS: &str = r#"
+Severity | Satisfied ~ Satisfied | Equal
+Severity | Satisfied ~ Warn | Less
+Severity | Satisfied ~ Error | Less
+Severity | Warn ~ Satisfied | Greater
+Severity | Warn ~ Warn | Equal
+Severity | Warn ~ Error | Less
+Severity | Error ~ Satisfied | Greater
+Severity | Error ~ Warn | Greater
+Severity | Error ~ Error | Equal
+
+ConfigExperimental | setup-scripts ~ setup-scripts | Equal
+ConfigExperimental | setup-scripts ~ wrapper-scripts | Less
+ConfigExperimental | setup-scripts ~ benchmarks | Less
+ConfigExperimental | wrapper-scripts ~ setup-scripts | Greater
+ConfigExperimental | wrapper-scripts ~ wrapper-scripts | Equal
+ConfigExperimental | wrapper-scripts ~ benchmarks | Less
+ConfigExperimental | benchmarks ~ setup-scripts | Greater
+ConfigExperimental | benchmarks ~ wrapper-scripts | Greater
+ConfigExperimental | benchmarks ~ benchmarks | Equal
+
+# names compare by their kept texts
+ConfigIdentifier | e\u{301} ~ \u{e9} | Equal
+ConfigIdentifier | a ~ b | Less
+ConfigIdentifier | b ~ a | Greater
+ConfigIdentifier | a ~ aa | Less
+ConfigIdentifier | aa ~ a | Greater
+ConfigIdentifier | a-b ~ aa | Less
+ConfigIdentifier | Z ~ a | Less
+ConfigIdentifier | @tool:z:z ~ a | Less
+ConfigIdentifier | @tool:a:c ~ @tool:a:b | Greater
+ConfigIdentifier | z ~ \u{e9} | Less
+ToolName | a-b ~ aa | Less
+ToolName | aa ~ a-b | Greater
+ToolName | \u{212b} ~ \u{c5} | Equal
+ToolName | a ~ aa | Less
+ToolName | Z ~ a | Less
+ToolName | z ~ \u{e9} | Less
+
+hash of ConfigIdentifier | e\u{301} ~ \u{e9} | same
+hash of ConfigIdentifier | a ~ b | differ
+hash of ToolName | a-b ~ a-b | same
+hash of ToolName | \u{212b} ~ \u{c5} | same
+hash of ToolName | a-b ~ aa | differ
+
+# a set holds equal values once
+set of Severity | Warn ~ Error ~ Satisfied ~ Error ~ Warn ~ Satisfied | 3
+set of Severity | Error ~ Error | 1
+set of ConfigExperimental | benchmarks ~ setup-scripts ~ wrapper-scripts ~ benchmarks ~ setup-scripts | 3
+set of ConfigExperimental | benchmarks ~ benchmarks | 1
+set of ConfigIdentifier | e\u{301} ~ \u{e9} ~ e | 2
+set of ToolName | a-b ~ aa ~ a-b | 2
+"#;
+
+const DEFAULTS: &str = r#"
+# defaults of words
+TerminateMode |  | Wait
+FlakyResult |  | Pass
+LeakTimeoutResult |  | Pass
+SlowTimeoutResult |  | Fail
+ReportSkipPolicy |  | None
+JunitFlakyFailStatus |  | Failure
+
+# a default isn't read
+TrackDefault u32 |  | TrackDefault { value: 0, is_deserialized: false }
+TrackDefault bool |  | TrackDefault { value: false, is_deserialized: false }
+
+# nothing is asked at first
+NextestVersionReq |  | None
+NextestVersionConfig |  | NextestVersionConfig { required: None, recommended: None }
+ExperimentalDeserialize |  | ExperimentalDeserialize { known: {}, unknown: {} }
+ExperimentalConfig |  | ExperimentalConfig { known: {}, unknown: [] }
+VersionOnlyConfig |  | VersionOnlyConfig { nextest_version: NextestVersionConfig { required: None, recommended: None }, experimental: ExperimentalConfig { known: {}, unknown: [] } }
+"#;
+
+/// The value that a type has at first.
+pub(crate) fn first(alloc: Global, call: &str, _input: &str) -> Result<String, Fail> {
+    match call {
+        "TerminateMode" => default::<TerminateMode>(alloc),
+        "FlakyResult" => default::<FlakyResult>(alloc),
+        "LeakTimeoutResult" => default::<LeakTimeoutResult>(alloc),
+        "SlowTimeoutResult" => default::<SlowTimeoutResult>(alloc),
+        "ReportSkipPolicy" => default::<ReportSkipPolicy>(alloc),
+        "JunitFlakyFailStatus" => default::<JunitFlakyFailStatus>(alloc),
+        "TrackDefault u32" => default::<TrackDefault<u32>>(alloc),
+        "TrackDefault bool" => default::<TrackDefault<bool>>(alloc),
+        "NextestVersionReq" => default::<NextestVersionReq>(alloc),
+        "NextestVersionConfig" => default::<NextestVersionConfig>(alloc),
+        "ExperimentalDeserialize" => written(alloc, &ExperimentalDeserialize::new(alloc)),
+        "ExperimentalConfig" => written(alloc, &ExperimentalConfig::new(alloc)),
+        "VersionOnlyConfig" => written(alloc, &VersionOnlyConfig::new(alloc)),
+        _ => no_such_call(),
+    }
+}
+
+fn default<T: Default + Debug + Drop>(alloc: Global) -> Result<String, Fail> {
+    written(alloc, &T::default())
+}
+
+fn written<T: Debug>(alloc: Global, value: &T) -> Result<String, Fail> {
+    Ok(format!(in alloc; "{value:?}")?)
+}
+
+#[test]
+fn values_are_in_order(rt: HostRuntime) -> Result<(), Fail> {
+    check(&rt, Subject::Orders, ORDERS)
+}
+
+#[test]
+fn defaults_are_as_documented(rt: HostRuntime) -> Result<(), Fail> {
+    check(&rt, Subject::Defaults, DEFAULTS)
+}

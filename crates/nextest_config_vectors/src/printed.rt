@@ -1,0 +1,215 @@
+//! Values that print, each as its text alone.
+
+use crate::rows::{check, check_at_sizes, no_such_call, shown};
+use crate::subjects::Subject;
+use crate::values::FromRow;
+use nextest_config::nextest_version::{
+    ConfigExperimental, ConfigParseError, ConfigParseErrorKind, ConfigSource, ListRefusal,
+};
+use nextest_config_elements::max_fail::TerminateMode;
+use nextest_config_values::identifier::{
+    ConfigIdentifier, InvalidIdentifier, InvalidToolName, ToolName,
+};
+use nextest_config_values::read::{FaultKind, ReadFault, Rule};
+use nextest_config_values::tool_config::ToolConfigFileParseError;
+use std::alloc::Global;
+use std::fmt::Display;
+use std::test::Fail;
+
+const ROWS: &str = r#"
+ConfigIdentifier | a | a
+ConfigIdentifier | Δabc-e\u{301} | Δabc-é
+ConfigIdentifier | @tool:a:b | @tool:a:b
+ConfigIdentifier | a-long-name-that-is-longer-than-any-of-the-widths-that-it-is-printed-with | a-long-name-that-is-longer-than-any-of-the-widths-that-it-is-printed-with
+ToolName | a | a
+ToolName | Δabc-e\u{301} | Δabc-é
+ToolName | a-long-name-that-is-longer-than-any-of-the-widths-that-it-is-printed-with | a-long-name-that-is-longer-than-any-of-the-widths-that-it-is-printed-with
+
+InvalidIdentifier | Empty | identifier is empty
+InvalidIdentifier | InvalidXid a"b\u{1} | invalid identifier "a\"b\u{1}"
+InvalidIdentifier | InvalidXid  | invalid identifier ""
+InvalidIdentifier | ToolIdentifierInvalidFormat @tool:"\n | tool identifier isn't @tool:name:identifier: "@tool:\"\n"
+InvalidIdentifier | ToolIdentifierInvalidFormat  | tool identifier isn't @tool:name:identifier: ""
+InvalidIdentifier | ToolComponentEmpty @tool::\u{85} | tool identifier has an empty component: "@tool::\u{85}"
+InvalidIdentifier | ToolComponentEmpty  | tool identifier has an empty component: ""
+InvalidIdentifier | ToolIdentifierInvalidXid @tool:a: | invalid tool identifier "@tool:a:"
+InvalidIdentifier | ToolIdentifierInvalidXid  | invalid tool identifier ""
+InvalidIdentifier | Memory | out of memory
+
+InvalidToolName | Empty | tool name is empty
+InvalidToolName | StartsWithToolPrefix @tool\u{0}" | tool name begins with @tool: "@tool\0\""
+InvalidToolName | StartsWithToolPrefix  | tool name begins with @tool: ""
+InvalidToolName | InvalidXid é\u{7f} | invalid tool name "é\u{7f}"
+InvalidToolName | InvalidXid  | invalid tool name ""
+InvalidToolName | Memory | out of memory
+
+written ToolConfigFileParseError | InvalidFormat a"\u{1} | "tool configuration file isn't of the form NAME:PATH: a\"\u{1}"
+ToolConfigFileParseError | InvalidFormat  | tool configuration file isn't of the form NAME:PATH:  |
+ToolConfigFileParseError | InvalidToolName @tool:/path / StartsWithToolPrefix @tool | tool configuration file without a valid tool name: @tool:/path: tool name begins with @tool: "@tool"
+ToolConfigFileParseError | InvalidToolName :/b / Empty | tool configuration file without a valid tool name: :/b: tool name is empty
+ToolConfigFileParseError | InvalidToolName _: / InvalidXid _ | tool configuration file without a valid tool name: _:: invalid tool name "_"
+ToolConfigFileParseError | EmptyConfigFile a: | tool configuration file without a path: a:
+ToolConfigFileParseError | ConfigFileNotAbsolute ./b | tool configuration file isn't an absolute path: ./b
+ToolConfigFileParseError | Memory | out of memory
+
+Rule | PreRelease | pre-release identifiers are not supported in nextest-version
+Rule | BuildMetadata | build metadata is not supported in nextest-version
+Rule | NotVersion 1"\n | invalid version "1\"\n"
+Rule | NotVersion  | invalid version ""
+Rule | RequiredAboveRecommended 0.9.60 0.9.50 | required version (0.9.60) must not be greater than recommended version (0.9.50)
+Rule | RequiredAboveRecommended 18446744073709551615.0.0-a.1+b.2 0.0.0-0+0 | required version (18446744073709551615.0.0-a.1+b.2) must not be greater than recommended version (0.0.0-0+0)
+Rule | JitterWithoutDelay | `jitter` cannot be true if `delay` isn't specified or is zero
+Rule | CountZero | `count` cannot be zero with exponential backoff
+Rule | DelayZero | `delay` cannot be zero with exponential backoff
+Rule | MaxDelayZero | `max-delay` cannot be zero with exponential backoff
+Rule | MaxDelayBelowDelay | `max-delay` cannot be less than delay with exponential backoff
+Rule | Priority -128 | priority -128 must be between -100 and 100
+Rule | Priority -101 | priority -101 must be between -100 and 100
+Rule | Priority 0 | priority 0 must be between -100 and 100
+Rule | Priority 127 | priority 127 must be between -100 and 100
+
+FaultKind | InvalidType map / a boolean | invalid type: map, expected a boolean
+FaultKind | InvalidType  / a boolean | invalid type: , expected a boolean
+FaultKind | InvalidType map /  | invalid type: map, expected  |
+FaultKind | InvalidValue integer `-1` / a string | invalid value: integer `-1`, expected a string
+FaultKind | InvalidValue  / a string | invalid value: , expected a string
+written FaultKind | UnknownVariant "\u{1} / `a` | "unknown variant `\"\u{1}`, expected `a`"
+FaultKind | UnknownVariant  / `a` | unknown variant ``, expected `a`
+FaultKind | UnknownField max-delay / `a` | unknown field `max-delay`, expected `a`
+FaultKind | UnknownField  / `a` | unknown field ``, expected `a`
+FaultKind | MissingField p.k | missing configuration field "p.k"
+FaultKind | MissingField "\\ | missing configuration field ""\\"
+FaultKind | MissingField  | missing configuration field ""
+FaultKind | Custom Priority -128 | priority -128 must be between -100 and 100
+FaultKind | Custom NotVersion 1 | invalid version "1"
+FaultKind | Identifier InvalidXid _ | invalid identifier "_"
+FaultKind | Identifier Empty | identifier is empty
+FaultKind | ToolName InvalidXid _ | invalid tool name "_"
+FaultKind | ToolName Empty | tool name is empty
+FaultKind | Memory | out of memory
+
+ReadFault | p, InvalidType map / a boolean | p: invalid type: map, expected a boolean
+ReadFault | p, InvalidValue map / a boolean | p: invalid value: map, expected a boolean
+ReadFault | p, UnknownVariant x / `a` | p: unknown variant `x`, expected `a`
+ReadFault | retries, UnknownField max-delay / `a` | retries: unknown field `max-delay`, expected `a`
+ReadFault | p, MissingField p.k | p: missing configuration field "p.k"
+ReadFault | p, Custom Priority -128 | p: priority -128 must be between -100 and 100
+ReadFault | p, Identifier Empty | p: identifier is empty
+ReadFault | p, ToolName Memory | p: out of memory
+ReadFault | , Memory | out of memory
+ReadFault | , ToolName Empty | tool name is empty
+written ReadFault | "p".\u{1}, Custom PreRelease | "\"p\".\u{1}: pre-release identifiers are not supported in nextest-version"
+
+TerminateMode | wait | wait
+TerminateMode | immediate | immediate
+
+ConfigExperimental | setup-scripts | setup-scripts
+ConfigExperimental | wrapper-scripts | wrapper-scripts
+ConfigExperimental | benchmarks | benchmarks
+
+ConfigSource | tool my-tool:/etc/t.toml | tool my-tool (/etc/t.toml)
+ConfigSource | tool a: | tool a ()
+written ConfigSource | tool a:"\u{1}) | "tool a (\"\u{1}))"
+ConfigSource | explicit a.toml | explicit a.toml
+ConfigSource | explicit  | explicit  |
+written ConfigSource | explicit "a"\u{1} | "explicit \"a\"\u{1}"
+ConfigSource | repository .config/nextest.toml | repository .config/nextest.toml
+ConfigSource | repository  | repository  |
+written ConfigSource | repository é\u{7f}( | "repository é\u{7f}("
+
+ConfigParseErrorKind | TomlParseError | not a TOML document
+ConfigParseErrorKind | VersionOnlyDeserializeError p, Custom PreRelease | p: pre-release identifiers are not supported in nextest-version
+ConfigParseErrorKind | VersionOnlyDeserializeError , Memory | out of memory
+ConfigParseErrorKind | ExperimentalFeaturesInToolConfig x | experimental features in a tool configuration: "x"
+ConfigParseErrorKind | ExperimentalFeaturesInToolConfig z a"\n b | experimental features in a tool configuration: "a\"\n", "b", "z"
+ConfigParseErrorKind | ExperimentalFeaturesInToolConfig  | experimental features in a tool configuration:  |
+ConfigParseErrorKind | Memory | out of memory
+
+ConfigParseError | explicit a.toml => x = | explicit a.toml: not a TOML document
+ConfigParseError | repository  => x = | repository : not a TOML document
+ConfigParseError | tool a:/x => nextest-version = '1' | tool a (/x): nextest-version: invalid version "1"
+ConfigParseError | tool a:/x => experimental = ['x', 'benchmarks'] | tool a (/x): experimental features in a tool configuration: "benchmarks", "x"
+ConfigParseError | explicit a.toml => experimental = 1 | explicit a.toml: experimental: invalid type: integer `1`, expected a table ({ setup-scripts = true, benchmarks = true }) or an array (["setup-scripts", "benchmarks"])
+ConfigParseError | Memory | out of memory
+
+ListRefusal | 0 explicit a.toml => x = | source 0: explicit a.toml: not a TOML document
+ListRefusal | 1 tool a:/x => experimental = ['x'] | source 1: tool a (/x): experimental features in a tool configuration: "x"
+ListRefusal | 18446744073709551615 repository a => nextest-version = 1.5 | source 18446744073709551615: repository a: nextest-version: invalid type: floating point, expected a table ({ required = "0.9.20", recommended = "0.9.30" }) or a string ("0.9.50")
+ListRefusal | 7 Memory | source 7: out of memory
+ListRefusal | Memory | out of memory
+"#;
+
+const LONG: &str = r#"
+ConfigIdentifier | a«a» | a«a»
+ConfigIdentifier | @tool:a«a»:b«b» | @tool:a«a»:b«b»
+ToolName | a«a» | a«a»
+InvalidIdentifier | InvalidXid «"» | invalid identifier "«\"»"
+InvalidIdentifier | ToolIdentifierInvalidFormat «x» | tool identifier isn't @tool:name:identifier: "«x»"
+InvalidIdentifier | ToolComponentEmpty «x» | tool identifier has an empty component: "«x»"
+InvalidIdentifier | ToolIdentifierInvalidXid «x» | invalid tool identifier "«x»"
+InvalidToolName | StartsWithToolPrefix «x» | tool name begins with @tool: "«x»"
+InvalidToolName | InvalidXid «x» | invalid tool name "«x»"
+ToolConfigFileParseError | InvalidFormat a«x» | tool configuration file isn't of the form NAME:PATH: a«x»
+ToolConfigFileParseError | InvalidToolName a«x» / InvalidXid «y» | tool configuration file without a valid tool name: a«x»: invalid tool name "«y»"
+ToolConfigFileParseError | EmptyConfigFile a«x» | tool configuration file without a path: a«x»
+ToolConfigFileParseError | ConfigFileNotAbsolute a«x» | tool configuration file isn't an absolute path: a«x»
+Rule | NotVersion «x» | invalid version "«x»"
+Rule | RequiredAboveRecommended 1.0.0-a«a» 0.0.0+b«b» | required version (1.0.0-a«a») must not be greater than recommended version (0.0.0+b«b»)
+FaultKind | InvalidType «x» / a boolean | invalid type: «x», expected a boolean
+FaultKind | InvalidValue «x» / a boolean | invalid value: «x», expected a boolean
+FaultKind | UnknownVariant «x» / a boolean | unknown variant `«x»`, expected a boolean
+FaultKind | UnknownField «x» / a boolean | unknown field `«x»`, expected a boolean
+FaultKind | MissingField «x» | missing configuration field "«x»"
+ReadFault | p«p», Custom PreRelease | p«p»: pre-release identifiers are not supported in nextest-version
+ReadFault | p«p», MissingField «x» | p«p»: missing configuration field "«x»"
+ConfigSource | tool a«a»:«x» | tool a«a» («x»)
+ConfigSource | explicit a«x» | explicit a«x»
+ConfigSource | repository a«x» | repository a«x»
+ConfigParseErrorKind | VersionOnlyDeserializeError p«p», Custom NotVersion «x» | p«p»: invalid version "«x»"
+ConfigParseErrorKind | ExperimentalFeaturesInToolConfig «x@ »z | experimental features in a tool configuration: «"x@", »"z"
+ConfigParseError | explicit a«x» => x = | explicit a«x»: not a TOML document
+ConfigParseError | repository a«x» => nextest-version = '«x»' | repository a«x»: nextest-version: invalid version "«x»"
+ListRefusal | «#» explicit a«x» => x = | source «#»: explicit a«x»: not a TOML document
+"#;
+
+/// The text of a value, or how a source would write the text.
+pub(crate) fn answer(alloc: Global, call: &str, input: &str) -> Result<String, Fail> {
+    match call.strip_prefix("written ") {
+        Some(call) => Ok(format!(in alloc; "{:?}", text_of(alloc, call, input)?)?),
+        None => text_of(alloc, call, input),
+    }
+}
+
+fn text_of(alloc: Global, call: &str, input: &str) -> Result<String, Fail> {
+    match call {
+        "ConfigExperimental" => text::<ConfigExperimental>(alloc, input),
+        "ConfigIdentifier" => text::<ConfigIdentifier>(alloc, input),
+        "ConfigParseError" => text::<ConfigParseError>(alloc, input),
+        "ConfigParseErrorKind" => text::<ConfigParseErrorKind>(alloc, input),
+        "ConfigSource" => text::<ConfigSource>(alloc, input),
+        "FaultKind" => text::<FaultKind>(alloc, input),
+        "InvalidIdentifier" => text::<InvalidIdentifier>(alloc, input),
+        "InvalidToolName" => text::<InvalidToolName>(alloc, input),
+        "ListRefusal" => text::<ListRefusal>(alloc, input),
+        "ReadFault" => text::<ReadFault>(alloc, input),
+        "Rule" => text::<Rule>(alloc, input),
+        "TerminateMode" => text::<TerminateMode>(alloc, input),
+        "ToolConfigFileParseError" => text::<ToolConfigFileParseError>(alloc, input),
+        "ToolName" => text::<ToolName>(alloc, input),
+        _ => no_such_call(),
+    }
+}
+
+fn text<T: FromRow + Display + Drop>(alloc: Global, input: &str) -> Result<String, Fail> {
+    shown(alloc, &T::from_row(alloc, input)?)
+}
+
+#[test]
+fn each_value_prints_its_text_alone(rt: HostRuntime) -> Result<(), Fail> {
+    check(&rt, Subject::Printed, ROWS)
+}
+
+#[test]
+fn long_values_print_their_texts_alone(rt: HostRuntime) -> Result<(), Fail> {
+    check_at_sizes(&rt, Subject::Printed, LONG)
+}
