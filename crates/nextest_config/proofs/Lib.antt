@@ -12,5 +12,4 @@ pub mod AddedSource
 pub mod Members
 pub mod Orders
 pub mod Features
-pub mod Entries
 pub mod Naming

@@ -1,14 +1,11 @@
 -- One configuration stands for a list of sources.
-use Rattle.std.proofs.Common.{◌≡◌, List, Option, Some, None, IfSome, refl, sym, ap, ◌∙◌, subst}
+use Rattle.std.proofs.Common.{◌≡◌, List, Option, Some, None, IfSome, refl, sym, ap, ◌∙◌, subst, ap₂}
+use mathlib.Core.Logic.Iff as iff
 use Rattle.std.specs.List.{AllByRecursion}
 use Rattle.semver.specs.Parse.{Parts}
-use Rattle.nextest_config.specs.NextestVersion.ExperimentalConfig.{Unknown}
-use Rattle.nextest_config.specs.NextestVersion.ExperimentalLaws.{features_in_one_order}
-use Rattle.nextest_config.specs.NextestVersion.Precedence.{IsBelow}
-use Rattle.nextest_config.specs.NextestVersion.Requirement.{Kept}
-use Rattle.nextest_config.specs.NextestVersion.Source.{Place, Source}
-use Rattle.nextest_config.specs.NextestVersion.VersionOnly.{AreEnabled, Asked, AsksNone, AsksNoGreater, AsksOther, Configuration, IsGreatest, StandsFor, StandsForAsks, StandsIn}
-use Rattle.nextest_config.specs.NextestVersion.VersionOnlyDeserialize.{Ask}
+use Rattle.nextest_config.specs.NextestVersion.ExperimentalConfig.{Experimental}
+use Rattle.nextest_config.specs.NextestVersion.Source.{Source}
+use Rattle.nextest_config.specs.NextestVersion.{Ask, Asked, AsksNoGreater, AsksNone, AsksOther, Configuration, features_in_one_order, IsBelow, IsGreatest, Kept, Place, Roles, StandsFor, StandsForAsks, StandsIn, Unknown}
 use Rattle.nextest_config.specs.declared.nextest_version.experimental.ConfigExperimental.{ConfigExperimental}
 use Rattle.nextest_config_values.proofs.Lists.{all_middle, all_weaker, one_last}
 use Rattle.nextest_config.proofs.OneVerdict.{IsPlainAsked, IsPlainVersion, all_plain, all_read_once, same_version}
@@ -30,8 +27,7 @@ module _ (role : Ask → Option Parts) where
       let of_other : IsPlainVersion (Some other.version) = subst IsPlainVersion k.version (of_last (λ a. IsPlainVersion (role a.ask)) asked other k plain) in
       let version : kept.version ≡ other.version = same_version kept.version other.version of_kept of_other (not_greater asked other kept k h) (not_greater asked kept other h k) in
       let last : h.last ≡ k.last = one_last (AsksOther role kept.version) (AsksOther role other.version) h.last k.last h.before k.before h.after k.after (λ apart. apart (k.version ∙ ap Some (sym version))) (λ apart. apart (h.version ∙ ap Some version)) (sym h.whole ∙ k.whole) h.others_later k.others_later in
-      ap (λ (v : Parts). record { version = v; place = kept.place }) version
-      ∙ ap (λ (p : Place). record { version = other.version; place = p }) (sym h.place ∙ ap (λ (a : Asked). a.place) last ∙ k.place)
+      ap₂ (λ (version : Parts) (place : Place). record { version = version; place = place }) version (sym h.place ∙ ap (λ (a : Asked). a.place) last ∙ k.place)
 
   one_kept : (asked : List Asked) (kept other : Option Kept) → AllByRecursion (λ a. IsPlainVersion (role a.ask)) asked → StandsIn role asked kept → StandsIn role asked other → kept ≡ other
   one_kept asked None None plain h k = refl
@@ -39,24 +35,13 @@ module _ (role : Ask → Option Parts) where
   one_kept asked (Some kept) None plain h k = absurd (none_kept asked kept h k)
   one_kept asked (Some kept) (Some other) plain h k = ap Some (one_greatest asked kept other plain h k)
 
-one_union : (asked : List Asked) (xs ys : List ConfigExperimental) → AreEnabled asked xs → AreEnabled asked ys → xs ≡ ys
-one_union asked xs ys h k = features_in_one_order xs ys h.in_order k.in_order
-    (λ feature. (λ x. (k.of_some feature).1 ((h.of_some feature).0 x), λ y. (h.of_some feature).1 ((k.of_some feature).0 y)))
-
-same_configuration : (c d : Configuration) → c.roles.required ≡ d.roles.required → c.roles.recommended ≡ d.roles.recommended → c.experimental.known ≡ d.experimental.known
-    → c.experimental.unknown ≡ d.experimental.unknown → c ≡ d
-same_configuration c d required recommended known unknown =
-    ap (λ (k : Option Kept). record { roles = record { required = k; recommended = c.roles.recommended }; experimental = c.experimental }) required
-    ∙ ap (λ (k : Option Kept). record { roles = record { required = d.roles.required; recommended = k }; experimental = c.experimental }) recommended
-    ∙ ap (λ (fs : List ConfigExperimental). record { roles = d.roles; experimental = record { known = fs; unknown = c.experimental.unknown } }) known
-    ∙ ap (λ (us : List Unknown). record { roles = d.roles; experimental = record { known = d.experimental.known; unknown = us } }) unknown
-
 pub configuration_once : (sources : List Source) (c d : Configuration) → StandsFor sources c → StandsFor sources d → c ≡ d
 configuration_once sources c d (asked, read, h) (more, more_read, k) =
     let plain = all_plain sources asked read in
     let other : StandsForAsks asked d = subst (λ xs. StandsForAsks xs d) (all_read_once sources more asked more_read read) k in
-    same_configuration c d
-    (one_kept (λ ask. ask.versions.required) asked c.roles.required d.roles.required (all_weaker IsPlainAsked (λ a. IsPlainVersion a.ask.versions.required) (λ a p. p.of_required) asked plain) h.required other.required)
-    (one_kept (λ ask. ask.versions.recommended) asked c.roles.recommended d.roles.recommended (all_weaker IsPlainAsked (λ a. IsPlainVersion a.ask.versions.recommended) (λ a p. p.of_recommended) asked plain) h.recommended other.recommended)
-    (one_union asked c.experimental.known d.experimental.known h.known other.known)
-    (h.unknown ∙ sym other.unknown)
+    let required = one_kept (λ ask. ask.versions.required) asked _ _ (all_weaker IsPlainAsked _ (λ a p. p.of_required) asked plain) h.required other.required in
+    let recommended = one_kept (λ ask. ask.versions.recommended) asked _ _ (all_weaker IsPlainAsked _ (λ a p. p.of_recommended) asked plain) h.recommended other.recommended in
+    let known = features_in_one_order c.experimental.known d.experimental.known h.known.in_order other.known.in_order (λ f. iff.trans (h.known.of_some f) (iff.symm (other.known.of_some f))) in
+    let roles : c.roles ≡ d.roles = ap₂ (λ (r m : Option Kept). record { required = r; recommended = m }) required recommended in
+    let experimental : c.experimental ≡ d.experimental = ap₂ (λ (fs : List ConfigExperimental) (us : List Unknown). record { known = fs; unknown = us }) known (h.unknown ∙ sym other.unknown) in
+    ap₂ (λ (r : Roles) (e : Experimental). record { roles = r; experimental = e }) roles experimental

@@ -1,19 +1,12 @@
--- A list of sources has one first refused position, with one error, which is never want of memory.
-use Rattle.std.proofs.Common.{◌≡◌, ℕ, IsTrue, List, [], ◌∷◌, ◌++◌, length, Option, Some, None, refl, sym, ap, ◌∙◌, subst, inl, inr}
-use Rattle.std.proofs.lemmas.Bool.{false≢true}
+-- A list of sources has one first refused position, with one error.
+use Rattle.std.proofs.Common.{◌≡◌, ℕ, List, [], ◌∷◌, ◌++◌, length, Option, Some, None, refl, sym, ap, ◌∙◌, subst, ap₂}
+use mathlib.Core.Logic.Iff as iff
 use Rattle.toml.specs.Data.{Data, Members, get_member}
 use Rattle.toml.specs.Parse.{parse_document}
-use Rattle.nextest_config_values.specs.Read.Fault.{Fault, holds_memory}
-use Rattle.nextest_config_values.specs.Read.Field.{OptionalFaults, Then}
-use Rattle.nextest_config_values.specs.Read.FieldLaws.{one_then}
-use Rattle.nextest_config_values.specs.Read.FromToml.{IsReading}
-use Rattle.nextest_config.specs.NextestVersion.Error.{Refusal}
-use Rattle.nextest_config.specs.NextestVersion.ErrorKind.{HoldsMemory, Wrong, setting, tool_features}
-use Rattle.nextest_config.specs.NextestVersion.ExperimentalDeserialize.{Features}
-use Rattle.nextest_config.specs.NextestVersion.ExperimentalLaws.{texts_in_one_order}
-use Rattle.nextest_config.specs.NextestVersion.Source.{Place, Source}
-use Rattle.nextest_config.specs.NextestVersion.VersionOnly.{AreRead, Asked, IsFirstRefused, IsReadAs, IsRefused, Reads}
-use Rattle.nextest_config.specs.NextestVersion.VersionOnlyDeserialize.{BreaksToolRule, IsWrong, IsWrongBehind, IsWrongDocument, IsWrongSetting, IsWrongTable, experimental_key, version_key}
+use Rattle.nextest_config_values.specs.Read.Fault.{Fault}
+use Rattle.nextest_config_values.specs.Read.{IsReading, one_then, OptionalFaults, Then}
+use Rattle.nextest_config.specs.NextestVersion.Source.{Source}
+use Rattle.nextest_config.specs.NextestVersion.{AreRead, Asked, BreaksToolRule, experimental_key, Features, IsFirstRefused, IsReadAs, IsRefused, IsWrong, IsWrongDocument, IsWrongSetting, IsWrongTable, Place, Reads, Refusal, setting, texts_in_one_order, tool_features, version_key, Wrong}
 use Rattle.nextest_config.specs.declared.nextest_version.source.ConfigSourceKind.{ConfigSourceKind}
 use Rattle.nextest_config.specs.declared.nextest_version.source.ConfigSourceKind.TheVariants.{Tool, ExplicitRepository, DiscoveredRepository}
 use Rattle.nextest_config_values.proofs.Lists.{zip_middle}
@@ -35,34 +28,28 @@ module _ {X : Type 0} {means : Option Data → X → Type 0} {faults : Data → 
 
 one_tool_error : (kind : ConfigSourceKind) (features : Features) (a b : Wrong) → BreaksToolRule kind features a → BreaksToolRule kind features b → a ≡ b
 one_tool_error (Tool name) features a b (some, (names, are, is)) (also, (others, are_too, other)) =
-    let same : names ≡ others = texts_in_one_order names others are.in_order are_too.in_order
-    (λ text. (λ h. (are_too.of_both text).1 ((are.of_both text).0 h), λ h. (are.of_both text).1 ((are_too.of_both text).0 h))) in
+    let same : names ≡ others = texts_in_one_order names others are.in_order are_too.in_order (λ text. iff.trans (are.of_both text) (iff.symm (are_too.of_both text))) in
     is ∙ ap tool_features same ∙ sym other
 one_tool_error ExplicitRepository features a b h k = absurd h
 one_tool_error DiscoveredRepository features a b h k = absurd h
 
-one_behind : (kind : ConfigSourceKind) (members : Members) (a b : Wrong) → IsWrongBehind kind members a → IsWrongBehind kind members b → a ≡ b
-one_behind kind members = one_in_turn features_asked experimental_key members (one_tool_error kind)
-
 one_table_error : (kind : ConfigSourceKind) (members : Members) (a b : Wrong) → IsWrongTable kind members a → IsWrongTable kind members b → a ≡ b
-one_table_error kind members = one_in_turn versions_asked version_key members (λ versions. one_behind kind members)
-
-one_document_error : (kind : ConfigSourceKind) (document : Option Members) (a b : Wrong) → IsWrongDocument kind document a → IsWrongDocument kind document b → a ≡ b
-one_document_error kind None a b h k = h ∙ sym k
-one_document_error kind (Some members) a b h k = one_table_error kind members a b h k
+one_table_error kind members = one_in_turn versions_asked version_key members (λ versions. one_in_turn features_asked experimental_key members (one_tool_error kind))
 
 one_wrong : (kind : ConfigSourceKind) (contents : Option (List ℕ)) (a b : Wrong) → IsWrong kind contents a → IsWrong kind contents b → a ≡ b
 one_wrong kind None a b h k = absurd h
-one_wrong kind (Some text) a b h k = one_document_error kind (parse_document text) a b h k
+one_wrong kind (Some text) a b h k = by_document (parse_document text) h k
+  where
+    by_document : (document : Option Members) → IsWrongDocument kind document a → IsWrongDocument kind document b → a ≡ b
+    by_document None h k = h ∙ sym k
+    by_document (Some members) h k = one_table_error kind members a b h k
 
 one_error : (source : Source) (a b : Refusal) → IsRefused source a → IsRefused source b → a ≡ b
-one_error source a b h k =
-    ap (λ (place : Option Place). record { place = place; wrong = a.wrong }) (h.named ∙ sym k.named)
-    ∙ ap (λ (wrong : Wrong). record { place = b.place; wrong = wrong }) (one_wrong source.place.kind source.contents a.wrong b.wrong h.wrong k.wrong)
+one_error source a b h k = ap₂ (λ (place : Place) (wrong : Wrong). record { place = place; wrong = wrong })
+    (h.named ∙ sym k.named) (one_wrong source.place.kind source.contents a.wrong b.wrong h.wrong k.wrong)
 
 -- ---- a list of sources
 
--- a source among sources that read isn't refused
 none_refused : (before : List Source) (source : Source) (after : List Source) (asked : List Asked) (refusal : Refusal) → AreRead (before ++ (source ∷ after)) asked → IsRefused source refusal → ⊥
 none_refused before source after asked refusal read refused =
     let found = zip_middle IsReadAs before source after asked read in
@@ -93,35 +80,3 @@ refusal_once sources i k refusal other first also =
       sym first.place ∙ ap length found.0 ∙ also.place,
       one_error also.source refusal other (subst (λ (s : Source). IsRefused s refusal) found.1 first.refused) also.refused,
     )
-
--- ---- an error isn't want of memory
-
-not_memory_setting : {X : Type 0} {means : Option Data → X → Type 0} {faults : Data → List ℕ → Fault → Type 0} → IsReading means (OptionalFaults faults) (λ a b. a ≡ b)
-    → (key : List ℕ) (members : Members) (wrong : Wrong) → IsWrongSetting faults key members wrong → ¬ (HoldsMemory wrong)
-not_memory_setting reading key members wrong (fault, faulty, is) = λ held.
-    let kept : IsTrue (holds_memory fault.reason) = subst HoldsMemory is held in
-    false≢true (sym (reading.never_memory (get_member key members) key fault faulty) ∙ kept)
-
-not_memory_tool : (kind : ConfigSourceKind) (features : Features) (wrong : Wrong) → BreaksToolRule kind features wrong → ¬ (HoldsMemory wrong)
-not_memory_tool (Tool name) features wrong (some, (names, are, is)) = λ held. subst HoldsMemory is held
-not_memory_tool ExplicitRepository features wrong h = absurd h
-not_memory_tool DiscoveredRepository features wrong h = absurd h
-
-not_memory_behind : (kind : ConfigSourceKind) (members : Members) (wrong : Wrong) → IsWrongBehind kind members wrong → ¬ (HoldsMemory wrong)
-not_memory_behind kind members wrong (inl here) = not_memory_setting features_asked experimental_key members wrong here
-not_memory_behind kind members wrong (inr behind) = not_memory_tool kind behind.0 wrong behind.2
-
-not_memory_table : (kind : ConfigSourceKind) (members : Members) (wrong : Wrong) → IsWrongTable kind members wrong → ¬ (HoldsMemory wrong)
-not_memory_table kind members wrong (inl here) = not_memory_setting versions_asked version_key members wrong here
-not_memory_table kind members wrong (inr behind) = not_memory_behind kind members wrong behind.2
-
-not_memory_document : (kind : ConfigSourceKind) (document : Option Members) (wrong : Wrong) → IsWrongDocument kind document wrong → ¬ (HoldsMemory wrong)
-not_memory_document kind None wrong is = λ held. subst HoldsMemory is held
-not_memory_document kind (Some members) wrong h = not_memory_table kind members wrong h
-
-not_memory_wrong : (kind : ConfigSourceKind) (contents : Option (List ℕ)) (wrong : Wrong) → IsWrong kind contents wrong → ¬ (HoldsMemory wrong)
-not_memory_wrong kind None wrong h = absurd h
-not_memory_wrong kind (Some text) wrong h = not_memory_document kind (parse_document text) wrong h
-
-pub refusal_not_memory : (sources : List Source) (position : ℕ) (refusal : Refusal) → IsFirstRefused sources position refusal → ¬ (HoldsMemory refusal.wrong)
-refusal_not_memory sources position refusal h = not_memory_wrong h.source.place.kind h.source.contents refusal.wrong h.refused.wrong

@@ -1,18 +1,12 @@
 -- A list of sources has one selected verdict.
-use Rattle.std.proofs.Common.{◌≡◌, ℕ, ◌<◌, ◌≤◌, Bool, List, [], ◌∷◌, map, Option, Some, None, IfSome, ◌⊎◌, refl, sym, ap, ◌∙◌, inl, inr, subst, arith}
+use Rattle.std.proofs.Common.{◌≡◌, ℕ, ◌<◌, ◌≤◌, Bool, List, [], ◌∷◌, map, Option, Some, None, IfSome, ◌⊎◌, refl, sym, ap, ◌∙◌, inl, inr, subst, ap₂, arith}
 use Rattle.std.specs.List.{AllByRecursion}
 use Rattle.semver.specs.Parse.{Parts}
 use Rattle.toml.specs.Data.{Data, Members, as_str, as_table, get_member}
-use Rattle.nextest_config_values.specs.Read.Field.{MeansOptional}
-use Rattle.nextest_config.specs.NextestVersion.Ask.{Versions, MeansForm, MeansVersion, no_versions}
-use Rattle.nextest_config.specs.NextestVersion.ExperimentalDeserialize.{Features}
-use Rattle.nextest_config.specs.NextestVersion.Precedence.{IsBelow, IsEnoughByNumbers}
-use Rattle.nextest_config.specs.NextestVersion.Requirement.{Kept, asked_from}
-use Rattle.nextest_config.specs.NextestVersion.Source.{Place, Source}
-use Rattle.nextest_config.specs.NextestVersion.Verdict.{IsGravest, IsNoGraver, IsNoGreaterOfItsKind, IsOtherOfItsKind, IsSatisfied, IsSelected, NamesNoGreater, Verdict, error, gravity, judged, named_version, satisfied, unmet, warn}
-use Rattle.nextest_config.specs.NextestVersion.VersionOnly.{AreRead, Asked, IsReadAs, IsSelectedFor, alone}
-use Rattle.nextest_config.specs.NextestVersion.VersionOnlyDeserialize.{Ask, Asks, AsksVersions, TextAsks, experimental_key, version_key}
-use Rattle.nextest_config.specs.NextestVersion.VersionText.{Numbers, plain}
+use Rattle.nextest_config_values.specs.Read.{MeansKind, MeansNothing, MeansOptional}
+use Rattle.nextest_config.specs.NextestVersion.Source.{Source}
+use Rattle.nextest_config.specs.NextestVersion.Verdict.{Verdict}
+use Rattle.nextest_config.specs.NextestVersion.{alone, AreRead, Ask, Asked, asked_from, Asks, AsksVersions, error, experimental_key, Features, gravity, IsBelow, IsEnoughByNumbers, IsGravest, IsNoGraver, IsNoGreaterOfItsKind, IsOtherOfItsKind, IsReadAs, IsSatisfied, IsSelected, IsSelectedFor, judged, Kept, MeansVersion, MeansVersionTable, MeansVersionText, named_version, NamesNoGreater, Numbers, Place, plain, satisfied, TextAsks, unmet, version_key, Versions, warn}
 use Rattle.nextest_config_values.proofs.Lists.{all_middle, one_last}
 use Rattle.nextest_config.specs.declared.nextest_version.source.ConfigSourceKind.{ConfigSourceKind}
 use Rattle.nextest_config.proofs.Enough.{not_below_by_numbers}
@@ -22,9 +16,9 @@ use Rattle.nextest_config.proofs.Verdicts.{image_at, unmet_alone}
 -- ---- sources ask one thing
 
 asks_once : (kind : ConfigSourceKind) (table : Members) (a b : Ask) → Asks kind table a → Asks kind table b → a ≡ b
-asks_once kind table a b h k =
-    ap (λ (versions : Versions). record { versions = versions; features = a.features }) (versions_asked.one_meaning (get_member version_key table) a.versions b.versions h.of_versions k.of_versions)
-    ∙ ap (λ (features : Features). record { versions = b.versions; features = features }) (features_asked.one_meaning (get_member experimental_key table) a.features b.features h.of_features k.of_features)
+asks_once kind table a b h k = ap₂ (λ (versions : Versions) (features : Features). record { versions = versions; features = features })
+    (versions_asked.one_meaning (get_member version_key table) a.versions b.versions h.of_versions k.of_versions)
+    (features_asked.one_meaning (get_member experimental_key table) a.features b.features h.of_features k.of_features)
 
 text_asks_once : (kind : ConfigSourceKind) (contents : Option (List ℕ)) (a b : Ask) → TextAsks kind contents a → TextAsks kind contents b → a ≡ b
 text_asks_once kind None a b h k = h ∙ sym k
@@ -33,9 +27,8 @@ text_asks_once kind (Some text) a b h k =
     asks_once kind h.0 a b h.2 (subst (λ (table : Members). Asks kind table b) same k.2)
 
 read_once : (source : Source) (a b : Asked) → IsReadAs source a → IsReadAs source b → a ≡ b
-read_once source a b h k =
-    ap (λ (place : Place). record { place = place; ask = a.ask }) (h.place ∙ sym k.place)
-    ∙ ap (λ (ask : Ask). record { place = b.place; ask = ask }) (text_asks_once source.place.kind source.contents a.ask b.ask h.read k.read)
+read_once source a b h k = ap₂ (λ (place : Place) (ask : Ask). record { place = place; ask = ask })
+    (h.place ∙ sym k.place) (text_asks_once source.place.kind source.contents a.ask b.ask h.read k.read)
 
 pub all_read_once : (sources : List Source) (a b : List Asked) → AreRead sources a → AreRead sources b → a ≡ b
 all_read_once [] [] [] h k = refl
@@ -54,24 +47,24 @@ pub record AsksPlain (versions : Versions) : Type 0 where
   pub of_required : IsPlainVersion versions.required
   pub of_recommended : IsPlainVersion versions.recommended
 
-nothing_plain : (versions : Versions) → versions ≡ no_versions → AsksPlain versions
-nothing_plain versions is = rw is (record { of_required = tt; of_recommended = tt })
-
 role_plain : (found : Option Data) (asked : Option Parts) → MeansOptional MeansVersion found asked → IsPlainVersion asked
 role_plain None asked h = rw h tt
 role_plain (Some value) asked h = rw h.1 (h.2.2.0, h.2.2.2)
 
-form_plain : (text : Option (List ℕ)) (table : Option Members) (versions : Versions) → MeansForm text table versions → AsksPlain versions
-form_plain (Some text) table versions h = rw h.2 (record { of_required = (h.1.0, h.1.2); of_recommended = tt })
-form_plain None (Some table) versions h = record { of_required = role_plain _ _ h.of_required; of_recommended = role_plain _ _ h.of_recommended }
-form_plain None None versions h = absurd h
+table_plain : (table : Option Members) (value : Data) (versions : Versions) → MeansKind MeansVersionTable MeansNothing table value versions → AsksPlain versions
+table_plain (Some found) value versions h = record { of_required = role_plain _ _ h.of_required; of_recommended = role_plain _ _ h.of_recommended }
+table_plain None value versions h = absurd h
+
+form_plain : (text : Option (List ℕ)) (value : Data) (versions : Versions) → MeansKind MeansVersionText (λ other. MeansKind MeansVersionTable MeansNothing (as_table other) other) text value versions → AsksPlain versions
+form_plain (Some text) value versions h = rw h.2 (record { of_required = (h.1.0, h.1.2); of_recommended = tt })
+form_plain None value versions h = table_plain (as_table value) value versions h
 
 value_plain : (found : Option Data) (versions : Versions) → AsksVersions found versions → AsksPlain versions
-value_plain None versions h = nothing_plain versions h
-value_plain (Some value) versions h = form_plain (as_str value) (as_table value) versions h
+value_plain None versions h = rw h (record { of_required = tt; of_recommended = tt })
+value_plain (Some value) versions h = form_plain (as_str value) value versions h
 
 text_plain : (kind : ConfigSourceKind) (contents : Option (List ℕ)) (ask : Ask) → TextAsks kind contents ask → AsksPlain ask.versions
-text_plain kind None ask h = nothing_plain ask.versions (ap (λ (a : Ask). a.versions) h)
+text_plain kind None ask h = rw h (record { of_required = tt; of_recommended = tt })
 text_plain kind (Some text) ask h = value_plain (get_member version_key h.0) ask.versions h.2.of_versions
 
 abbrev pub IsPlainAsked : Asked → Type 0
@@ -135,7 +128,6 @@ same_named (error s) (warn t) e p q h k = absurd (omega (arith, e))
 
 -- ---- one verdict is selected
 
--- a gravest verdict stands in the list
 pub stands_in : (P : Verdict → Type 0) (verdicts : List Verdict) (v : Verdict) → IsGravest verdicts v → AllByRecursion P verdicts → P v
 stands_in P verdicts v gravest all = all_middle P gravest.before v gravest.after (subst (AllByRecursion P) gravest.whole all)
 

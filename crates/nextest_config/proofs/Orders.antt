@@ -5,13 +5,11 @@ use Rattle.std.proofs.lemmas.Map.Lookups.{CmpEqualImpliesEq}
 use Rattle.std.specs.List.Sorted.{IsStrictlySortedBy}
 use Rattle.std.specs.Ordering.{eq_by_cmp}
 use Rattle.std.specs.Set.{IsUnion}
-use Rattle.nextest_config.specs.NextestVersion.Experimental.{FeaturesInOrder, feature_cmp}
-use Rattle.nextest_config.specs.NextestVersion.ExperimentalLaws.{one_at_a_place}
+use Rattle.nextest_config.specs.NextestVersion.{feature_cmp, FeaturesInOrder, one_at_a_place, rank}
 use Rattle.nextest_config.specs.contracts.nextest_version.experimental.ConfigExperimentalOrd.TheImpl as feature_ord
-use Rattle.nextest_config.specs.contracts.nextest_version.requirement.SeverityOrd.TheImpl as severity_ord
-use Rattle.nextest_config.specs.NextestVersion.Verdict.{rank}
-use Rattle.nextest_config.specs.declared.nextest_version.requirement.Severity.{Severity}
-use Rattle.nextest_config.specs.declared.nextest_version.requirement.Severity.TheVariants.{Satisfied, Warn, Error}
+use Rattle.nextest_config.specs.contracts.nextest_version.verdict.SeverityOrd.TheImpl as severity_ord
+use Rattle.nextest_config.specs.declared.nextest_version.verdict.Severity.{Severity}
+use Rattle.nextest_config.specs.declared.nextest_version.verdict.Severity.TheVariants.{Satisfied, Warn, Error}
 use Rattle.nextest_config.specs.declared.nextest_version.experimental.ConfigExperimental.{ConfigExperimental}
 use Rattle.nextest_config.specs.declared.nextest_version.experimental.ConfigExperimental.TheVariants.{SetupScripts, WrapperScripts, Benchmarks}
 use Rattle.nextest_config.proofs.Members.{HasBoth, has_union, in_order_by}
@@ -19,7 +17,6 @@ use Rattle.nextest_config.proofs.Members.{HasBoth, has_union, in_order_by}
 abbrev pub derived_cmp : ConfigExperimental → ConfigExperimental → Ordering
 derived_cmp = (feature_ord.ghosts).cmp
 
--- the derived order is that of the features' places
 by_place : (x y : ConfigExperimental) → derived_cmp x y ≡ feature_cmp x y
 by_place = elim [
   | SetupScripts ↦ elim [ SetupScripts ↦ refl | WrapperScripts ↦ refl | Benchmarks ↦ refl ]
@@ -33,11 +30,9 @@ derived_exact x y equal = one_at_a_place x y (sym (by_place x y) ∙ equal)
 equal_to_itself : (x : ConfigExperimental) → eq_by_cmp derived_cmp x x ≡ true
 equal_to_itself = elim [ SetupScripts ↦ refl | WrapperScripts ↦ refl | Benchmarks ↦ refl ]
 
--- the keys of a set of features stand in their order
 pub features_in_order : (keys : List ConfigExperimental) → IsStrictlySortedBy derived_cmp keys → FeaturesInOrder keys
 features_in_order = in_order_by derived_cmp feature_cmp by_place
 
--- a union of two sets of features
 pub features_joined : (xs ys zs : List ConfigExperimental) → IsUnion (eq_by_cmp derived_cmp) xs ys zs → HasBoth xs ys zs
 features_joined = has_union (eq_by_cmp derived_cmp) equal_to_itself (tells_apart derived_exact)
 

@@ -7,7 +7,7 @@ use Rattle.std.specs.declared.cmp.Ordering.{Ordering}
 use Rattle.std.specs.declared.cmp.Ordering.TheVariants.{Less, Equal, Greater}
 use Rattle.semver.specs.OrderLaws.{pre_total}
 use Rattle.semver.specs.Parse.{Parts}
-use Rattle.nextest_config.specs.NextestVersion.Precedence.{precedence, IsBelow}
+use Rattle.nextest_config.specs.NextestVersion.{IsBelow, precedence}
 
 pub precedence_total : IsTotalOrder precedence
 precedence_total = then_total (on_total (λ (v : Parts). v.0) nat_cmp_total)
@@ -19,27 +19,20 @@ below_less Less h = refl
 below_less Equal h = absurd (false≢true h)
 below_less Greater h = absurd (false≢true h)
 
-less_below : (o : Ordering) → o ≡ Less → is_lt o ≡ true
-less_below o h = ap is_lt h
-
-not_its_reverse : (o : Ordering) → o ≡ Less → o ≡ ordering_reverse o → ⊥
-not_its_reverse Less h e = cc e
-not_its_reverse Equal h e = cc h
-not_its_reverse Greater h e = cc h
-
 pub not_below_itself : (v : Parts) → ¬ IsBelow v v
-not_below_itself v h = not_its_reverse (precedence v v) (below_less _ h) (precedence_total.antisymm v v)
+not_below_itself v h =
+    let less : precedence v v ≡ Less = below_less _ h in
+    cc (rw less at (precedence_total.antisymm v v))
 
 pub not_below_both : (v w : Parts) → IsBelow v w → ¬ IsBelow w v
 not_below_both v w h k =
-    not_below_itself v (less_below _ (precedence_total.trans v w v (below_less _ h) (below_less _ k)))
+    not_below_itself v (ap is_lt (precedence_total.trans v w v (below_less _ h) (below_less _ k)))
 
 not_below_by : (o : Ordering) (u v w : Parts) → precedence u v ≡ o → ¬ IsBelow u v → ¬ IsBelow v w → ¬ IsBelow u w
-not_below_by Less u v w e above more h = above (less_below _ e)
-not_below_by Equal u v w e above more h = more (less_below _ (sym (precedence_total.congr u v w e) ∙ below_less _ h))
+not_below_by Less u v w e above more h = above (ap is_lt e)
+not_below_by Equal u v w e above more h = more (ap is_lt (sym (precedence_total.congr u v w e) ∙ below_less _ h))
 not_below_by Greater u v w e above more h =
-    more (less_below _ (precedence_total.trans v u w (precedence_total.antisymm v u ∙ ap ordering_reverse e) (below_less _ h)))
+    more (ap is_lt (precedence_total.trans v u w (precedence_total.antisymm v u ∙ ap ordering_reverse e) (below_less _ h)))
 
--- what isn't below the second, which isn't below the third, isn't below the third
 pub not_below_trans : (u v w : Parts) → ¬ IsBelow u v → ¬ IsBelow v w → ¬ IsBelow u w
 not_below_trans u v w above more = not_below_by (precedence u v) u v w refl above more

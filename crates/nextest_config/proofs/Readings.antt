@@ -1,21 +1,17 @@
 -- A source is in its grammar or has an error, and not both; and the refusal of a list, from that of a source.
-use Rattle.std.proofs.Common.{◌≡◌, ◌≢◌, ◌⊎◌, ℕ, ◌+◌, ◌<◌, List, [], ◌∷◌, ◌++◌, length, get_or, take, drop, map, Option, Some, None, refl, subst, ap, ◌∙◌, inl, inr, append_assoc, arith}
+use Rattle.std.proofs.Common.{◌≡◌, ℕ, ◌+◌, ◌<◌, List, [], ◌∷◌, ◌++◌, length, get_or, take, drop, map, Option, Some, None, refl, subst, ap, ◌∙◌, inl, inr, append_assoc, arith}
 use Rattle.std.proofs.lemmas.List.{length-map, length-take-le}
 use Rattle.toml.specs.Data.{Members, get_member}
-use Rattle.nextest_config_values.specs.Read.Field.{OptionalFaults}
-use Rattle.nextest_config_values.specs.Read.FieldLaws.{or_reading}
-use Rattle.nextest_config_values.specs.Read.FromToml.{IsReading}
-use Rattle.nextest_config.specs.NextestVersion.Ask.{VersionsFaults, no_versions}
-use Rattle.nextest_config.specs.NextestVersion.AskLaws.{asking}
-use Rattle.nextest_config.specs.NextestVersion.Error.{Refusal, IsErrorOf, IsRefusalAt, out_of_memory, refusal_of}
-use Rattle.nextest_config.specs.NextestVersion.ErrorKind.{Wrong, UnlessNoMemory, no_memory, not_toml, setting, tool_features}
-use Rattle.nextest_config.specs.NextestVersion.ExperimentalDeserialize.{Features, FeaturesFaults, no_features}
-use Rattle.nextest_config.specs.NextestVersion.ExperimentalLaws.{naming}
-use Rattle.nextest_config.specs.NextestVersion.Source.{Place, Source, place_of, source_of}
-use Rattle.nextest_config.specs.NextestVersion.VersionOnly.{AreRead, IsErrorOfList, IsFirstRefused, IsRead, IsReadAs, IsRefusalOf, IsRefused, Reads}
-use Rattle.nextest_config.specs.NextestVersion.VersionOnlyDeserialize.{Ask, Asks, AsksFeatures, AsksVersions, BreaksToolRule, IsWrong, IsWrongDocument, IsWrongTable, KeepsToolRule, TextAsks, experimental_key, version_key}
+use Rattle.nextest_config_values.specs.Read.{FaultOrMemory, IsReading, OptionalFaults, or_reading}
+use Rattle.nextest_config.specs.NextestVersion.Source.{Source}
+use Rattle.nextest_config.specs.NextestVersion.{AreRead, Ask, Asks, AsksFeatures, AsksVersions, BreaksToolRule, experimental_key, Features, features_meant, FeaturesFaults, IsErrorOf, IsErrorOfList, IsFirstRefused, IsKindAt, IsRead, IsReadAs, IsRefusalAt, IsRefusalOf, IsRefused, IsWrong, IsWrongDocument, IsWrongTable, KeepsToolRule, kind_of, no_features, no_versions, Place, place_of, Reads, Refusal, refusal_at, refusal_of, RefusesBy, RefusesSource, source_of, source_place, TextAsks, told_refusal, version_key, versions_meant, VersionsFaults, Wrong, wrong_of}
 use Rattle.nextest_config.specs.declared.nextest_version.source.ConfigSourceKind.{ConfigSourceKind}
 use Rattle.nextest_config.specs.declared.nextest_version.source.ConfigSourceKind.TheVariants.{Tool, ExplicitRepository, DiscoveredRepository}
+use Rattle.nextest_config.specs.declared.nextest_version.error.ConfigParseError.{ConfigParseError}
+use Rattle.nextest_config.specs.declared.nextest_version.error_kind.ConfigParseErrorKind.{ConfigParseErrorKind}
+use Rattle.nextest_config.specs.declared.nextest_version.error_kind.ConfigParseErrorKind.TheVariants as kinds
+use Rattle.nextest_config_values.proofs.Faults.{fault_mapped}
+use Rattle.nextest_config.proofs.Refusals.{told_twice}
 use Rattle.nextest_config.specs.declared.nextest_version.error.ListRefusal.{ListRefusal}
 use Rattle.nextest_config.specs.declared.nextest_version.error.ListRefusal.TheVariants as refusals
 use Rattle.nextest_config.specs.declared.nextest_version.source.SourceText.{SourceText}
@@ -23,10 +19,10 @@ use Rattle.nextest_config_values.proofs.Lists.{map-around, zip_middle}
 
 -- what stands at the key of each setting, or that it is missing
 pub versions_asked : IsReading AsksVersions (OptionalFaults VersionsFaults) (λ a b. a ≡ b)
-versions_asked = or_reading no_versions asking
+versions_asked = or_reading versions_meant no_versions
 
 pub features_asked : IsReading AsksFeatures (OptionalFaults FeaturesFaults) (λ a b. a ≡ b)
-features_asked = or_reading no_features naming
+features_asked = or_reading features_meant no_features
 
 kept_not_broken : (kind : ConfigSourceKind) (features : Features) (wrong : Wrong) → KeepsToolRule kind features → BreaksToolRule kind features wrong → ⊥
 kept_not_broken (Tool name) features wrong kept broken = broken.0 kept
@@ -47,98 +43,66 @@ text_not_wrong kind None ask wrong read refused = refused
 text_not_wrong kind (Some text) ask wrong read refused =
     asks_not_wrong kind read.0 ask wrong read.2 (subst (λ (d : Option Members). IsWrongDocument kind d wrong) read.1 refused)
 
--- a source in its grammar isn't refused
 pub read_not_refused : (source : Source) (ask : Ask) (refusal : Refusal) → IsRead source ask → IsRefused source refusal → ⊥
 read_not_refused source ask refusal read refused = text_not_wrong source.place.kind source.contents ask refusal.wrong read refused.wrong
 
--- a list that reads has no refused position
 pub reads_not_refused : (sources : List Source) (position : ℕ) (refusal : Refusal) → Reads sources → IsFirstRefused sources position refusal → ⊥
 reads_not_refused sources position refusal reads first =
     let found = zip_middle IsReadAs first.before first.source first.after reads.0 (subst (λ (s : List Source). AreRead s reads.0) first.whole reads.1) in
     read_not_refused first.source found.0.ask refusal found.1.read first.refused
 
-told_wrong : {P : Type 0} (wrong : Wrong) → wrong ≢ no_memory → UnlessNoMemory wrong P → P
-told_wrong not_toml judged h = h
-told_wrong (setting fault) judged h = h
-told_wrong (tool_features names) judged h = h
-told_wrong no_memory judged h = absurd (judged refl)
-
 -- a source that is refused, behind sources that read, is the first refused position
 first_refused_at : {X : Type 0} (f : X → Source) (xs : List X) (i : ℕ) (x : X) (refusal : Refusal) → i < length xs → x ≡ get_or xs i x → Reads (map f (take i xs)) → IsRefused (f x) refusal
     → IsFirstRefused (map f xs) i refusal
-first_refused_at f xs i x refusal within here reads refused = record {
-  before = map f (take i xs);
-  source = f x;
-  after = map f (drop (i + 1) xs);
-  whole = map-around f xs i x within here;
-  place = length-map (take i xs) f ∙ length-take-le i xs (omega arith);
-  read = reads;
-  refused = refused;
-}
+first_refused_at f xs i x refusal within here reads refused =
+    let whole = map-around f xs i x within here in
+    let place = length-map (take i xs) f ∙ length-take-le i xs (omega arith) in
+    record { before = map f (take i xs); source = f x; after = map f (drop (i + 1) xs); whole = whole; place = place; read = reads; refused = refused }
 
 -- what is wrong with the source at a position, behind sources that read, is the refusal of the list
-pub refusal_of_list : (sources : List SourceText) (i : ℕ) (x : SourceText) (wrong : Wrong) (r : ListRefusal) → i < length sources → x ≡ get_or sources i x
-    → Reads (map source_of (take i sources)) → UnlessNoMemory wrong (IsWrong (source_of x).place.kind (source_of x).contents wrong) → IsRefusalAt i (place_of x.source) wrong r
-    → IsRefusalOf (map source_of sources) r
-refusal_of_list sources i x wrong (refusals.Refused position error) within here reads is_wrong at_i =
-    let refused : IsRefused (source_of x) (refusal_of error) = rw at_i.2 (record { named = refl; wrong = told_wrong wrong at_i.1 is_wrong }) in
-    rw at_i.0 (first_refused_at source_of sources i x (refusal_of error) within here reads refused)
-refusal_of_list sources i x wrong refusals.Memory within here reads is_wrong at_i = tt
+pub refusal_of_list : (sources : List SourceText) (i : ℕ) (x : SourceText) (kind : ConfigParseErrorKind) (r : ListRefusal) → i < length sources → x ≡ get_or sources i x
+    → Reads (map source_of (take i sources)) → RefusesSource (IsWrong (source_of x).place.kind (source_of x).contents) kind → IsKindAt i (place_of x.source) kind r → IsRefusalOf (map source_of sources) r
+refusal_of_list sources i x kind r within here reads is_wrong at_i =
+    told_twice (wrong_of kind) is_wrong at_i (λ memory at. rw (at memory) tt) (λ wrong wrong_so at. by_refusal wrong wrong_so r at)
+  where
+    by_refusal : (wrong : Wrong) → IsWrong (source_of x).place.kind (source_of x).contents wrong → (refusal : ListRefusal) → IsRefusalAt i (refusal_at (place_of x.source) wrong) refusal → IsRefusalOf (map source_of sources) refusal
+    by_refusal wrong wrong_so (refusals.Refused position error) at = (refusal_at (place_of x.source) wrong, at.1, rw at.0 (first_refused_at source_of sources i x _ within here reads (record { named = refl; wrong = wrong_so })))
+    by_refusal wrong wrong_so refusals.Memory at = tt
 
--- a list that reads is refused for want of memory alone
 pub only_memory : (sources : List Source) (r : ListRefusal) → Reads sources → IsRefusalOf sources r → r ≡ refusals.Memory
-only_memory sources (refusals.Refused position error) reads first = absurd (reads_not_refused sources position (refusal_of error) reads first)
+only_memory sources (refusals.Refused position error) reads first = absurd (reads_not_refused sources position first.0 reads first.2)
 only_memory sources refusals.Memory reads first = refl
 
 -- ---- errors without a position
 
-error_of_source : (source : Source) (wrong : Wrong) (refusal : Refusal) → UnlessNoMemory wrong (IsWrong source.place.kind source.contents wrong) → IsErrorOf source.place wrong refusal → (refusal ≡ out_of_memory) ⊎ IsRefused source refusal
-error_of_source source not_toml refusal is_wrong is_error = inr (rw is_error (record { named = refl; wrong = is_wrong }))
-error_of_source source (setting fault) refusal is_wrong is_error = inr (rw is_error (record { named = refl; wrong = is_wrong }))
-error_of_source source (tool_features names) refusal is_wrong is_error = inr (rw is_error (record { named = refl; wrong = is_wrong }))
-error_of_source source no_memory refusal is_wrong is_error = inl is_error
+no_refusal : (P : Refusal → Type 0) (place : Option Place) → FaultOrMemory (told_refusal place None) (kinds.Memory ≡ kinds.Memory) P
+no_refusal P None = refl
+no_refusal P (Some place) = refl
 
 -- what is wrong with the contents of a place is the error of its source
-error_of : (source : Source) (place : Place) (wrong : Wrong) (refusal : Refusal) → place ≡ source.place → UnlessNoMemory wrong (IsWrong place.kind source.contents wrong) → IsErrorOf place wrong refusal
-    → (refusal ≡ out_of_memory) ⊎ IsRefused source refusal
-error_of source place wrong refusal same is_wrong is_error =
-    error_of_source source wrong refusal (subst (λ (p : Place). UnlessNoMemory wrong (IsWrong p.kind source.contents wrong)) same is_wrong) (subst (λ (p : Place). IsErrorOf p wrong refusal) same is_error)
+error_of : {P : Refusal → Type 0} (source : Source) (place : Place) (kind : ConfigParseErrorKind) (error : ConfigParseError) → place ≡ source.place → ((refusal : Refusal) → IsRefused source refusal → P refusal)
+    → RefusesSource (IsWrong place.kind source.contents) kind → IsErrorOf place kind error → RefusesBy P error
+error_of {P} source place kind error same then is_wrong is_error = told_twice (wrong_of kind) is_wrong is_error
+    (λ memory told. rw (told memory) (no_refusal P (source_place error)))
+    (λ wrong wrong_so told. rw told (then (refusal_at place wrong) (record { named = same; wrong = subst (λ (p : Place). IsWrong p.kind source.contents wrong) same wrong_so })))
 
 -- what is wrong with the source at a position, behind sources that read, is the error of the list
-pub error_at : {X : Type 0} (f : X → Source) (xs : List X) (i : ℕ) (x : X) (place : Place) (wrong : Wrong) (refusal : Refusal) → i < length xs → x ≡ get_or xs i x → Reads (map f (take i xs))
-    → place ≡ (f x).place → UnlessNoMemory wrong (IsWrong place.kind (f x).contents wrong) → IsErrorOf place wrong refusal → IsErrorOfList (map f xs) refusal
-error_at f xs i x place wrong refusal within here reads same is_wrong is_error = elim (error_of (f x) place wrong refusal same is_wrong is_error) [
-  | inl memory ↦ inl memory
-  | inr refused ↦ inr (i, first_refused_at f xs i x refusal within here reads refused)
-]
+pub error_at : {X : Type 0} (f : X → Source) (xs : List X) (i : ℕ) (x : X) (place : Place) (kind : ConfigParseErrorKind) (error : ConfigParseError) → i < length xs → x ≡ get_or xs i x → Reads (map f (take i xs))
+    → place ≡ (f x).place → RefusesSource (IsWrong place.kind (f x).contents) kind → IsErrorOf place kind error → IsErrorOfList (map f xs) error
+error_at f xs i x place kind error within here reads same is_wrong is_error =
+    error_of (f x) place kind error same (λ refusal refused. (i, first_refused_at f xs i x refusal within here reads refused)) is_wrong is_error
 
 -- and behind a list that reads
-pub error_last : (sources : List Source) (source : Source) (place : Place) (wrong : Wrong) (refusal : Refusal) → Reads sources
-    → place ≡ source.place → UnlessNoMemory wrong (IsWrong place.kind source.contents wrong) → IsErrorOf place wrong refusal → IsErrorOfList (sources ++ (source ∷ [])) refusal
-error_last sources source place wrong refusal reads same is_wrong is_error = elim (error_of source place wrong refusal same is_wrong is_error) [
-  | inl memory ↦ inl memory
-  | inr refused ↦ inr (length sources, record { before = sources; source = source; after = []; whole = refl; place = refl; read = reads; refused = refused })
-]
+pub error_last : (sources : List Source) (source : Source) (place : Place) (kind : ConfigParseErrorKind) (error : ConfigParseError) → Reads sources
+    → place ≡ source.place → RefusesSource (IsWrong place.kind source.contents) kind → IsErrorOf place kind error → IsErrorOfList (sources ++ (source ∷ [])) error
+error_last sources source place kind error reads same is_wrong is_error =
+    error_of source place kind error same (λ refusal refused. (length sources, record { before = sources; source = source; after = []; whole = refl; place = refl; read = reads; refused = refused })) is_wrong is_error
 
--- the error of the front is that of the whole
-pub error_in_front : (front rest : List Source) (refusal : Refusal) → IsErrorOfList front refusal → IsErrorOfList (front ++ rest) refusal
-error_in_front front rest refusal (inl memory) = inl memory
-error_in_front front rest refusal (inr found) =
-    let first = found.1 in
-    inr (
-      found.0,
-      record {
-        before = first.before;
-        source = first.source;
-        after = first.after ++ rest;
-        whole = ap (λ xs. xs ++ rest) first.whole ∙ append_assoc first.before (first.source ∷ first.after) rest;
-        place = first.place;
-        read = first.read;
-        refused = first.refused;
-      },
-    )
+pub error_in_front : (front rest : List Source) (error : ConfigParseError) → IsErrorOfList front error → IsErrorOfList (front ++ rest) error
+error_in_front front rest error refused = fault_mapped (refusal_of error) refused (λ memory. memory) (λ refusal (position, first).
+    let whole = ap (λ xs. xs ++ rest) first.whole ∙ append_assoc first.before (first.source ∷ first.after) rest in
+    (position, record { before = first.before; source = first.source; after = first.after ++ rest; whole = whole; place = first.place; read = first.read; refused = first.refused }))
 
--- a list that reads has no error but want of memory
-pub only_no_memory : (sources : List Source) (refusal : Refusal) → Reads sources → IsErrorOfList sources refusal → refusal ≡ out_of_memory
-only_no_memory sources refusal reads (inl memory) = memory
-only_no_memory sources refusal reads (inr found) = absurd (reads_not_refused sources found.0 refusal reads found.1)
+pub no_error_but_memory : (sources : List Source) (error : ConfigParseError) → Reads sources → IsErrorOfList sources error → kind_of error ≡ kinds.Memory
+no_error_but_memory sources error reads refused =
+    told_twice (refusal_of error) refused refused (λ memory _. memory) (λ refusal found _. absurd (reads_not_refused sources found.0 refusal reads found.1))

@@ -1,15 +1,11 @@
 -- The verdict of what stands for a list is selected from the verdicts of its asks.
-use Rattle.std.proofs.Common.{◌≡◌, ◌≢◌, ℕ, ◌<◌, ◌≤◌, Bool, true, false, List, ◌∷◌, ◌++◌, map, Option, Some, None, IfSome, refl, sym, ap, ◌∙◌, inl, inr, subst, arith}
+use Rattle.std.proofs.Common.{◌≡◌, ◌≢◌, ℕ, ◌<◌, ◌≤◌, Bool, true, List, ◌∷◌, ◌++◌, map, Option, Some, None, IfSome, refl, sym, ap, ◌∙◌, inl, inr, subst, arith}
 use Rattle.std.proofs.lemmas.Bool.{cases_Bool}
 use Rattle.std.proofs.lemmas.List.{map-append}
 use Rattle.std.specs.List.{AllByRecursion}
 use Rattle.semver.specs.Parse.{Parts}
-use Rattle.nextest_config.specs.NextestVersion.Precedence.{IsBelow, is_below}
-use Rattle.nextest_config.specs.NextestVersion.Requirement.{Kept, Roles, asked_from}
-use Rattle.nextest_config.specs.NextestVersion.Source.{Place}
-use Rattle.nextest_config.specs.NextestVersion.Verdict.{Verdict, satisfied, warn, error, Shortfall, unmet, short_of, judged, gravity, named_version, IsSatisfied, IsNoGraver, IsNoGreaterOfItsKind, IsOtherOfItsKind, IsGravest, IsSelected}
-use Rattle.nextest_config.specs.NextestVersion.VersionOnly.{Asked, AsksNone, AsksOther, AsksNoGreater, IsGreatest, StandsIn, StandsForAsks, Configuration, SelectsAmong, alone}
-use Rattle.nextest_config.specs.NextestVersion.VersionOnlyDeserialize.{Ask}
+use Rattle.nextest_config.specs.NextestVersion.Verdict.{Verdict}
+use Rattle.nextest_config.specs.NextestVersion.{alone, Ask, Asked, asked_from, AsksNoGreater, AsksNone, AsksOther, Configuration, error, gravity, is_below, IsBelow, IsGravest, IsGreatest, IsNoGraver, IsNoGreaterOfItsKind, IsOtherOfItsKind, IsSatisfied, IsSelected, judged, Kept, named_version, Place, Roles, satisfied, SelectsAmong, short_of, Shortfall, StandsForAsks, StandsIn, unmet, warn}
 use Rattle.nextest_config_values.proofs.Lists.{all_always, all_both, all_mapped, all_weaker, map_agrees}
 use Rattle.nextest_config.proofs.Precedences.{not_below_trans}
 
@@ -87,18 +83,19 @@ module _ (tell : Shortfall → Verdict) (severity : ℕ) (is_tier : IsTier tell 
 
 -- ---- a role that is met is met for each source alone
 
-enough_for : (b : Bool) (current v : Parts) (place : Place) → ¬ (b ≡ true) → is_below current v ≡ b → unmet (asked_from place (Some v)) current ≡ None
-enough_for true current v place above e = absurd (above refl)
-enough_for false current v place above e = rw e refl
-
 pub not_short : (kept : Kept) (current : Parts) → unmet (Some kept) current ≡ None → ¬ IsBelow current kept.version
 not_short kept current met short = cc (rw short at met)
+
+pub enough_met : (kept : Kept) (current : Parts) → ¬ IsBelow current kept.version → unmet (Some kept) current ≡ None
+enough_met kept current enough = elim (cases_Bool (is_below current kept.version)) [
+  | inl short ↦ absurd (enough short)
+  | inr above ↦ rw above refl
+]
 
 no_greater_met : (kept : Kept) (current : Parts) (place : Place) (more : Option Parts) → ¬ IsBelow current kept.version → IfSome more (λ greater. ¬ IsBelow kept.version greater)
     → unmet (asked_from place more) current ≡ None
 no_greater_met kept current place None enough none = refl
-no_greater_met kept current place (Some v) enough none =
-    enough_for (is_below current v) current v place (not_below_trans current kept.version v enough none) refl
+no_greater_met kept current place (Some v) enough none = enough_met (record { version = v; place = place }) current (not_below_trans current kept.version v enough none)
 
 abbrev IsMetAlone : (Ask → Option Parts) → Parts → Asked → Type 0
 IsMetAlone role current a = unmet (asked_from a.place (role a.ask)) current ≡ None
@@ -118,13 +115,9 @@ required ask = ask.versions.required
 abbrev recommended : Ask → Option Parts
 recommended ask = ask.versions.recommended
 
--- the verdict of a source alone, where its required version is met
 alone-met : (current : Parts) (overridden : Bool) (a : Asked) → IsMetAlone required current a
     → alone current overridden a ≡ told warn 1 warn_tier current overridden a.place a.ask.versions.recommended satisfied
 alone-met current overridden a met = rw (judged-tiers, met) refl
-
-alone-satisfied : (current : Parts) (overridden : Bool) (a : Asked) → IsMetAlone required current a → IsMetAlone recommended current a → alone current overridden a ≡ satisfied
-alone-satisfied current overridden a met also = rw (met, also) refl
 
 pub unmet_is : (o : Option Kept) (current : Parts) (kept : Kept) → unmet o current ≡ Some kept → (o ≡ Some kept) × (is_below current kept.version ≡ true)
 unmet_is None current kept e = cc e
@@ -158,12 +151,11 @@ selects_warning asked kept current overridden greatest short met =
     map_agrees (alone current overridden) tells asked (all_weaker (IsMetAlone required current) _ (alone-met current overridden) asked met) in
     rw same (gravest_in_tier warn 1 warn_tier current overridden recommended (λ a. satisfied) asked kept (λ a. omega arith) greatest short)
 
--- both met
 selects_satisfied : (asked : List Asked) (current : Parts) (overridden : Bool) → AllByRecursion (IsMetAlone required current) asked → AllByRecursion (IsMetAlone recommended current) asked
     → AllByRecursion IsSatisfied (map (alone current overridden) asked)
 selects_satisfied asked current overridden met also =
     all_mapped (λ a. IsMetAlone required current a × IsMetAlone recommended current a) IsSatisfied (alone current overridden)
-    (λ a both. alone-satisfied current overridden a both.0 both.1) asked (all_both (IsMetAlone required current) (IsMetAlone recommended current) asked met also)
+    (λ a both. rw (both.0, both.1) refl) asked (all_both (IsMetAlone required current) (IsMetAlone recommended current) asked met also)
 
 selects_by : (asked : List Asked) (roles : Roles) (current : Parts) (overridden : Bool) (r m : Option Kept)
     → StandsIn required asked roles.required → StandsIn recommended asked roles.recommended → unmet roles.required current ≡ r → unmet roles.recommended current ≡ m
@@ -178,7 +170,6 @@ selects_by asked roles current overridden None None h k r_is m_is =
     let met = met_alone required asked roles.required current h r_is in
     inl (selects_satisfied asked current overridden met (met_alone recommended asked roles.recommended current k m_is), refl)
 
--- the verdict of what stands for the asks is selected from their verdicts
 pub selects : (asked : List Asked) (c : Configuration) → StandsForAsks asked c → SelectsAmong asked c.roles
 selects asked c stands current overridden =
     selects_by asked c.roles current overridden (unmet c.roles.required current) (unmet c.roles.recommended current) stands.required stands.recommended refl refl

@@ -4,18 +4,14 @@ use Rattle.std.proofs.lemmas.Bool.{cases_Bool, false≢true}
 use Rattle.std.proofs.lemmas.List.{map-append}
 use Rattle.std.specs.List.{AllByRecursion}
 use Rattle.semver.specs.Parse.{Parts}
-use Rattle.nextest_config.specs.NextestVersion.Precedence.{IsBelow, is_below}
-use Rattle.nextest_config.specs.NextestVersion.Requirement.{Kept, Roles, asked_from, roles_from}
-use Rattle.nextest_config.specs.NextestVersion.Source.{Place}
-use Rattle.nextest_config.specs.NextestVersion.Verdict.{IsNoGraver, IsSatisfied, IsSelected, Shortfall, Verdict, error, gravity, judged, named_place, satisfied, unmet, verdict, warn}
-use Rattle.nextest_config.specs.NextestVersion.VersionOnly.{Asked, IsFromSource, alone}
+use Rattle.nextest_config.specs.NextestVersion.Verdict.{Verdict}
+use Rattle.nextest_config.specs.NextestVersion.{alone, Asked, asked_from, error, gravity, is_below, IsBelow, IsFromSource, IsNoGraver, IsSatisfied, IsSelected, judged, Kept, named_place, Place, Roles, roles_from, satisfied, Shortfall, unmet, verdict, warn}
 use Rattle.nextest_config_values.proofs.Lists.{all_middle, all_weaker}
 use Rattle.nextest_config.proofs.Precedences.{not_below_trans}
-use Rattle.nextest_config.proofs.Selection.{not_short, unmet_is}
+use Rattle.nextest_config.proofs.Selection.{enough_met, not_short, unmet_is}
 
 -- ---- whence a verdict comes
 
--- an element with this image
 pub record HasImage {X Y : Type 0} (f : X → Y) (xs : List X) (y : Y) : Type 0 where
   pub before : List X
   pub x : X
@@ -51,22 +47,16 @@ pub from_source : (asked : List Asked) (current : Parts) (overridden : Bool) (v 
     → IsFromSource current overridden asked v
 from_source asked current overridden v (inl all) told = absurd (told all.1)
 from_source asked current overridden v (inr gravest) told =
-    let found = image_at (alone current overridden) asked gravest.before v gravest.after gravest.whole in record {
-      before = found.before;
-      source = found.x;
-      after = found.after;
-      whole = found.whole;
-      given = found.image;
-      named = subst (λ (w : Verdict). named_place w ≡ Some found.x.place) found.image
-          (names_its_place current overridden found.x _ _ refl refl (λ e. told (sym found.image ∙ e)));
-    }
+    let found = image_at (alone current overridden) asked gravest.before v gravest.after gravest.whole in
+    let own = names_its_place current overridden found.x _ _ refl refl (λ e. told (sym found.image ∙ e)) in
+    let named : named_place v ≡ Some found.x.place = subst (λ (w : Verdict). named_place w ≡ Some found.x.place) found.image own in
+    record { before = found.before; source = found.x; after = found.after; whole = found.whole; given = found.image; named = named }
 
 no_gravity : (v : Verdict) → gravity v ≤ 0 → v ≡ satisfied
 no_gravity satisfied h = refl
 no_gravity (warn s) h = absurd (omega (arith, h))
 no_gravity (error s) h = absurd (omega (arith, h))
 
--- a selected verdict is satisfied exactly where all are
 pub satisfied_where_all : (verdicts : List Verdict) (v : Verdict) → IsSelected verdicts v → (v ≡ satisfied) ↔ AllByRecursion IsSatisfied verdicts
 satisfied_where_all verdicts v (inl all) = (λ e. all.0, λ h. all.1)
 satisfied_where_all verdicts v (inr gravest) = (
@@ -90,12 +80,6 @@ no_warning required recommended current overridden s lower e = elim (cases_Bool 
 
 -- ---- a greater current version
 
-enough_met : (kept : Kept) (current : Parts) → ¬ IsBelow current kept.version → unmet (Some kept) current ≡ None
-enough_met kept current enough = elim (cases_Bool (is_below current kept.version)) [
-  | inl short ↦ absurd (enough short)
-  | inr above ↦ rw above refl
-]
-
 still_met : (kept : Option Kept) (lesser greater : Parts) → ¬ IsBelow greater lesser → unmet kept lesser ≡ None → unmet kept greater ≡ None
 still_met None lesser greater above met = refl
 still_met (Some kept) lesser greater above met = enough_met kept greater (not_below_trans greater lesser kept.version above (not_short kept lesser met))
@@ -117,7 +101,6 @@ no_graver_by roles lesser greater overridden None (Some kept) above r_is m_is =
 no_graver_by roles lesser greater overridden None None above r_is m_is =
     rw (still_met roles.required lesser greater above r_is, still_met roles.recommended lesser greater above m_is) (omega arith)
 
--- a greater current version isn't told a graver verdict by the same roles
 pub no_graver_greater : (roles : Roles) (lesser greater : Parts) (overridden : Bool) → ¬ IsBelow greater lesser → IsNoGraver (verdict roles lesser overridden) (verdict roles greater overridden)
 no_graver_greater roles lesser greater overridden above = no_graver_by roles lesser greater overridden _ _ above refl refl
 
@@ -125,7 +108,6 @@ pub none_graver : (verdicts : List Verdict) (v : Verdict) → IsSelected verdict
 none_graver verdicts v (inl all) = all_weaker IsSatisfied (IsNoGraver v) (λ w is. rw is (omega arith)) verdicts all.0
 none_graver verdicts v (inr gravest) = gravest.gravest
 
--- nor by the same list of asks
 pub no_graver_selected : (asked : List Asked) (lesser greater : Parts) (overridden : Bool) (v w : Verdict) → ¬ IsBelow greater lesser
     → IsSelected (map (alone lesser overridden) asked) v → IsSelected (map (alone greater overridden) asked) w → IsNoGraver v w
 no_graver_selected asked lesser greater overridden v w above h (inl all) = rw all.1 (omega arith)

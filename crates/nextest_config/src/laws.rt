@@ -4,15 +4,10 @@ ghost use Rattle.std.specs.Prelude.{◌≡◌, ◌≢◌, ◌↔◌, ◌++◌, �
 ghost use Rattle.std.specs.List.{AllByRecursion};
 ghost use Rattle.std.specs.Ordering.{nat_cmp};
 ghost use Rattle.semver.specs.Parse.{Parts};
-ghost use Rattle.nextest_config.specs.NextestVersion.VersionText.{Numbers, IsVersionText, plain};
-ghost use Rattle.nextest_config.specs.NextestVersion.Error.{Refusal};
-ghost use Rattle.nextest_config.specs.NextestVersion.ErrorKind.{HoldsMemory};
-ghost use Rattle.nextest_config.specs.NextestVersion.Precedence.{IsBelow, IsEnough, IsEnoughByNumbers};
-ghost use Rattle.nextest_config.specs.NextestVersion.Requirement.{Kept, Roles};
-ghost use Rattle.nextest_config.specs.NextestVersion.Verdict.{IsNoGraver, IsOverriding, IsSatisfied, IsSelected, Shortfall, Verdict, rank, satisfied, verdict, warn};
-ghost use Rattle.nextest_config.specs.NextestVersion.VersionOnly.{Asked, Configuration, IsFirstRefused, IsFromSource, IsSelectedFor, StandsFor, alone};
+ghost use Rattle.nextest_config.specs.NextestVersion.Verdict.{Verdict};
+ghost use Rattle.nextest_config.specs.NextestVersion.{alone, Asked, Configuration, IsBelow, IsEnough, IsEnoughByNumbers, IsFirstRefused, IsFromSource, IsNoGraver, IsOverriding, IsSatisfied, IsSelected, IsSelectedFor, IsVersionText, Kept, Numbers, plain, rank, Refusal, Roles, satisfied, Shortfall, StandsFor, verdict, warn};
 ghost use Rattle.nextest_config.specs.NextestVersion.Source.{Source};
-ghost use Rattle.nextest_config.specs.declared.nextest_version.requirement.Severity.{Severity};
+ghost use Rattle.nextest_config.specs.declared.nextest_version.verdict.Severity.{Severity};
 
 use crate::nextest_version::Severity;
 
@@ -46,12 +41,6 @@ pub fn law_refusal_once()
     ensures { (sources : List Source) (i k : ℕ) (refusal other : Refusal)
         → IsFirstRefused sources i refusal → IsFirstRefused sources k other
         → (i ≡ k) × (refusal ≡ other) }
-{}
-
-/// The error of a first refused source is never want of memory, and never holds it.
-pub fn law_refusal_not_memory()
-    ensures { (sources : List Source) (position : ℕ) (refusal : Refusal)
-        → IsFirstRefused sources position refusal → ¬ HoldsMemory refusal.wrong }
 {}
 
 /// No list of sources has two configurations that stand for it.

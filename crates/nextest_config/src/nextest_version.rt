@@ -1,24 +1,26 @@
 //! The part of the configuration that is read before any other: which nextest version it needs, and
 //! which experimental features it names.
 
-mod ask;
 mod error;
 mod error_kind;
 mod experimental;
 mod experimental_config;
 mod experimental_deserialize;
+mod nextest_version_deserialize;
 mod requirement;
 mod source;
+mod verdict;
 mod version_only;
 mod version_only_deserialize;
 mod version_text;
 
-pub use ask::NextestVersionDeserialize;
 pub use error::{ConfigParseError, ListRefusal};
 pub use error_kind::ConfigParseErrorKind;
 pub use experimental::{ConfigExperimental, KnownFeatures};
 pub use experimental_config::{ExperimentalConfig, SourceErrors};
 pub use experimental_deserialize::ExperimentalDeserialize;
-pub use requirement::{NextestVersionConfig, NextestVersionEval, NextestVersionReq, Severity};
+pub use nextest_version_deserialize::NextestVersionDeserialize;
+pub use requirement::{NextestVersionConfig, NextestVersionReq};
 pub use source::{ConfigSource, ConfigSourceKind, RepositoryText, SourceText, ToolText};
+pub use verdict::{NextestVersionEval, Severity};
 pub use version_only::VersionOnlyConfig;

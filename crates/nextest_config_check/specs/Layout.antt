@@ -1,21 +1,15 @@
 -- How the input is laid out: blocks, one after the other, each a source line and the contents of that source.
 use Rattle.std.specs.Prelude.{◌≡◌, ◌≢◌, ℕ, ◌+◌, ◌<◌, ◌==◌, List, [], ◌∷◌, ◌++◌, length, codes, count_by, Option, Some, MatchOption, ◌⊎◌, if◌then◌else◌}
 use Rattle.std.specs.List.{AllByRecursion}
+pub use Rattle.nextest_config_values.specs.Characters.{carriage_return, line_feed}
 use Rattle.nextest_config_values.specs.ToolConfig.{IsToolArgument}
-use Rattle.nextest_config.specs.NextestVersion.Source.{Place, Source, place_of}
+use Rattle.nextest_config.specs.NextestVersion.Source.{Source}
+use Rattle.nextest_config.specs.NextestVersion.{Place, place_of}
 use Rattle.nextest_config.specs.declared.nextest_version.source.ConfigSource.{ConfigSource}
 use Rattle.nextest_config.specs.declared.nextest_version.source.ConfigSourceKind.{ConfigSourceKind}
 use Rattle.nextest_config.specs.declared.nextest_version.source.ConfigSourceKind.TheVariants.{Tool, ExplicitRepository, DiscoveredRepository}
 use Rattle.nextest_config_check.specs.declared.layout.LayoutFault.{LayoutFault}
 use Rattle.nextest_config_check.specs.declared.layout.LayoutFault.TheVariants as faults
-
--- the byte that ends a line
-abbrev pub line_feed : ℕ
-line_feed = 10
-
--- the byte that may stand before it
-abbrev pub carriage_return : ℕ
-carriage_return = 13
 
 -- what a source line begins with
 abbrev pub mark : List ℕ
@@ -30,12 +24,12 @@ abbrev pub EndsLine : List ℕ → Type 0
 EndsLine text = (text ≡ []) ⊎ ((front : List ℕ) × (text ≡ front ++ (line_feed ∷ [])))
 
 -- below its first line, no line of the text begins with the mark
-abbrev pub IsUnmarkedBelow : List ℕ → Type 0
-IsUnmarkedBelow text = (front rest : List ℕ) → text ≢ front ++ (line_feed ∷ (mark ++ rest))
+abbrev pub HasNoMarkedLineBelow : List ℕ → Type 0
+HasNoMarkedLineBelow text = (front rest : List ℕ) → text ≢ front ++ (line_feed ∷ (mark ++ rest))
 
 -- no line of the text begins with the mark
-abbrev pub IsUnmarked : List ℕ → Type 0
-IsUnmarked text = (front rest : List ℕ) → text ≡ front ++ (mark ++ rest) → ¬ EndsLine front
+abbrev pub HasNoMarkedLine : List ℕ → Type 0
+HasNoMarkedLine text = (front rest : List ℕ) → text ≡ front ++ (mark ++ rest) → ¬ EndsLine front
 
 -- the text without one carriage return at its end
 abbrev pub trimmed : List ℕ → List ℕ
@@ -97,7 +91,7 @@ pub record IsBlock (text : List ℕ) (source : Source) : Type 0 where
   pub contents : List ℕ
   pub first : IsFirstLine text line contents
   pub names : IsSourceLine line source.place
-  pub unmarked : IsUnmarked contents
+  pub unmarked : HasNoMarkedLine contents
   pub holds : source.contents ≡ Some contents
 
 -- the text is a block for each of these sources, each from the beginning of a line
@@ -140,7 +134,7 @@ pub record IsCut (text block rest : List ℕ) : Type 0 where
   pub whole : text ≡ block ++ rest
   pub some : 0 < length text → 0 < length block
   pub ended : (rest ≡ []) ⊎ (EndsLine block × ((more : List ℕ) × (rest ≡ mark ++ more)))
-  pub unmarked : IsUnmarkedBelow block
+  pub unmarked : HasNoMarkedLineBelow block
 
 -- the first line of the text is no source line
 abbrev pub IsFaultyBlock : List ℕ → Type 0

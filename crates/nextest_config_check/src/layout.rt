@@ -2,8 +2,8 @@
 //! line is `=== tool NAME:PATH`, `=== explicit PATH` or `=== repository PATH`.
 
 ghost use Rattle.std.specs.Prelude.{◌≡◌, ◌+◌, ◌-◌, ◌<◌, ◌≤◌, ◌++◌, ℕ, List, codes, length, map, take, IfOk, IfErr, MatchOption};
-ghost use Rattle.nextest_config.specs.NextestVersion.Source.{source_of};
-ghost use Rattle.nextest_config_check.specs.Layout.{AreBlocks, IsBlock, IsCut, IsFaultyBlock, IsFaultyInput, IsFirstLine, IsSourceIfAny, IsSourceLine, IsUnmarkedBelow, IsWordAndPath, NamesPlace, line_number, trimmed};
+ghost use Rattle.nextest_config.specs.NextestVersion.{source_of};
+ghost use Rattle.nextest_config_check.specs.Layout.{AreBlocks, IsBlock, IsCut, IsFaultyBlock, IsFaultyInput, IsFirstLine, IsSourceIfAny, IsSourceLine, HasNoMarkedLineBelow, IsWordAndPath, NamesPlace, line_number, trimmed};
 
 use nextest_config::nextest_version::{ConfigSource, ConfigSourceKind, SourceText};
 use nextest_config_values::tool_config::{ToolConfigFile, ToolConfigFileParseError};
@@ -72,7 +72,7 @@ fn line_number(input: &str, left: usize) -> usize
 
 // The source of a block, if the block begins with a source line.
 fn source(alloc: Global, block: &str) -> Result<Option<SourceText>, AllocError>
-    requires { IsUnmarkedBelow block.now }
+    requires { HasNoMarkedLineBelow block.now }
     ensures { IfOk result (λ source. MatchOption source (IsFaultyBlock block.now)
         (λ source. IsBlock block.now (source_of source))) }
 {

@@ -8,6 +8,7 @@ pub mod engine;
 pub mod laws;
 mod layout;
 mod report;
+mod report_lines;
 
 use command_line::WordsFault;
 use engine::{refuse, serve};

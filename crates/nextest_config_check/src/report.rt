@@ -1,23 +1,17 @@
 //! The report on an input.
 
-ghost use Rattle.std.specs.Prelude.{◌≡◌, ◌++◌, IfOk, OnOk, codes, flat_map, map, string_bytes};
+ghost use Rattle.std.specs.Prelude.{◌≡◌, IfOk, map};
 ghost use Rattle.semver.specs.Identifiers.{parts_of};
-ghost use Rattle.nextest_config.specs.NextestVersion.ExperimentalConfig.{errors_left, experimental_of};
-ghost use Rattle.nextest_config.specs.NextestVersion.Source.{place_of, source_of};
-ghost use Rattle.nextest_config.specs.NextestVersion.Verdict.{verdict, verdict_of};
-ghost use Rattle.nextest_config.specs.NextestVersion.VersionOnly.{configuration_of};
-ghost use Rattle.nextest_config_check.specs.Report.{IsReportFor, IsReportForSources, IsReportOf, known_text, outcome_of, shortfall_text, status_of, unknown_text, verdict_text};
+ghost use Rattle.nextest_config.specs.NextestVersion.{configuration_of, experimental_of, source_of, verdict, verdict_of};
+ghost use Rattle.nextest_config_check.specs.Report.{IsReportFor, IsReportForSources, IsReportOf, outcome_of, status_of};
 
 use crate::layout::{self, LayoutFault};
+use crate::report_lines::{push_known, push_unknown, verdict_line};
 use nextest_config::nextest_version::{
-    ConfigExperimental, ConfigSource, ExperimentalConfig, ListRefusal, NextestVersionEval,
-    SourceErrors, SourceText, VersionOnlyConfig,
+    ExperimentalConfig, ListRefusal, NextestVersionEval, SourceText, VersionOnlyConfig,
 };
-use nextest_config_values::read::QuotedTexts;
 use semver::Version;
 use std::alloc::{AllocError, Global};
-use std::collections::BTreeSet;
-use std::fmt::Write;
 use std::str;
 
 /// How a check came out.
@@ -135,112 +129,6 @@ fn report_on_eval(
     push_unknown(&mut text, experimental.source_errors())?;
     let outcome = verdict_outcome(eval);
     Ok(Report { text, outcome })
-}
-
-// The line of a verdict on the current version, without its end.
-fn verdict_line(
-    alloc: Global,
-    eval: &NextestVersionEval,
-    current: &Version,
-) -> Result<String, AllocError>
-    ensures { IfOk result (λ text. string_bytes text
-        ≡ verdict_text (parts_of current.now) (verdict_of eval.now)) }
-{
-    match eval {
-        NextestVersionEval::Satisfied => format!(in alloc; "satisfied: {current}"),
-        NextestVersionEval::Error {
-            required,
-            current,
-            source,
-        } => error_line(alloc, "error", required, source, current),
-        NextestVersionEval::Warn {
-            recommended,
-            current,
-            source,
-        } => warning_line(alloc, "warning", recommended, source, current),
-        NextestVersionEval::ErrorOverride {
-            required,
-            current,
-            source,
-        } => error_line(alloc, "error (overridden)", required, source, current),
-        NextestVersionEval::WarnOverride {
-            recommended,
-            current,
-            source,
-        } => warning_line(alloc, "warning (overridden)", recommended, source, current),
-    }
-}
-
-// The line of a verdict that the current version isn't enough for a required one.
-fn error_line(
-    alloc: Global,
-    says: &str,
-    required: &Version,
-    source: &ConfigSource,
-    current: &Version,
-) -> Result<String, AllocError>
-    ensures { IfOk result (λ text. string_bytes text ≡ shortfall_text says.now
-        (parts_of required.now) (codes "required") (place_of source.now) (parts_of current.now)) }
-{
-    shortfall_line(alloc, says, required, "required", source, current)
-}
-
-// The line of a verdict that the current version isn't enough for a recommended one.
-fn warning_line(
-    alloc: Global,
-    says: &str,
-    recommended: &Version,
-    source: &ConfigSource,
-    current: &Version,
-) -> Result<String, AllocError>
-    ensures { IfOk result (λ text. string_bytes text ≡ shortfall_text says.now
-        (parts_of recommended.now) (codes "recommended") (place_of source.now)
-        (parts_of current.now)) }
-{
-    shortfall_line(alloc, says, recommended, "recommended", source, current)
-}
-
-// The line of a verdict that the current version isn't enough for the one that is asked in a role.
-fn shortfall_line(
-    alloc: Global,
-    says: &str,
-    asked: &Version,
-    asks: &str,
-    source: &ConfigSource,
-    current: &Version,
-) -> Result<String, AllocError>
-    ensures { IfOk result (λ text. string_bytes text ≡ shortfall_text says.now
-        (parts_of asked.now) asks.now (place_of source.now) (parts_of current.now)) }
-{
-    format!(in alloc; "{says}: {asked} {asks} by {source}, current {current}")
-}
-
-// Pushes the words of the features, or that there is none.
-fn push_known(text: &mut String, known: &BTreeSet<ConfigExperimental>) -> Result<(), AllocError>
-    ensures { OnOk result (string_bytes text.new
-        ≡ string_bytes text.old ++ known_text known.now.keys) }
-{
-    if known.is_empty() {
-        return text.push_str("none");
-    }
-    let mut separator = "";
-    for feature in known {
-        text.push_str(separator)?;
-        text.push_str(feature.as_word())?;
-        separator = ", ";
-    }
-    Ok(())
-}
-
-// Pushes a line for each source that has names of no feature.
-fn push_unknown(text: &mut String, errors: SourceErrors<'_>) -> Result<(), AllocError>
-    ensures { OnOk result (string_bytes text.new
-        ≡ string_bytes text.old ++ flat_map unknown_text (errors_left errors.entry)) }
-{
-    for (source, names) in errors {
-        writeln!(text, "unknown in {source}: {}", QuotedTexts(names))?;
-    }
-    Ok(())
 }
 
 // How a check with this verdict comes out.

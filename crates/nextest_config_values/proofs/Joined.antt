@@ -1,6 +1,6 @@
 -- Texts that are written one behind the other, with separators.
 use Rattle.std.proofs.Common.{◌≡◌, ℕ, List, [], ◌∷◌, ◌++◌, codes, map, refl, sym, ap, ◌∙◌, append_assoc}
-use Rattle.nextest_config_values.specs.Read.Text.{joined}
+use Rattle.nextest_config_values.specs.Read.{joined}
 
 -- what stands before a text that comes behind these
 abbrev pub separator_behind : {X : Type 0} → List X → List ℕ

@@ -32,42 +32,34 @@ pub all_both : {X : Type 0} (P Q : X → Type 0) (xs : List X) → AllByRecursio
 all_both P Q [] h k = tt
 all_both P Q (x ∷ xs) h k = ((h.0, k.0), all_both P Q xs h.1 k.1)
 
--- what each element makes of another, of each image
 pub all_mapped : {X Y : Type 0} (P : X → Type 0) (Q : Y → Type 0) (f : X → Y) → ((x : X) → P x → Q (f x)) → (xs : List X) → AllByRecursion P xs → AllByRecursion Q (map f xs)
 all_mapped P Q f step [] h = tt
 all_mapped P Q f step (x ∷ xs) h = (step x h.0, all_mapped P Q f step xs h.1)
 
--- two functions that agree on each element make the same list
 pub map_agrees : {X Y : Type 0} (f g : X → Y) (xs : List X) → AllByRecursion (λ x. f x ≡ g x) xs → map f xs ≡ map g xs
 map_agrees f g [] h = refl
 map_agrees f g (x ∷ xs) h = rw (h.0, map_agrees f g xs h.1)
 
--- where partners have the same image, the lists have the same images
 pub zip_same_images : {X Y : Type 0} (f : X → Y) (xs ys : List X) → AllZip (λ x y. f y ≡ f x) xs ys → map f ys ≡ map f xs
 zip_same_images f [] [] h = refl
 zip_same_images f [] (y ∷ ys) h = absurd h
 zip_same_images f (x ∷ xs) [] h = absurd h
 zip_same_images f (x ∷ xs) (y ∷ ys) h = rw (h.0, zip_same_images f xs ys h.1) refl
 
--- the partner of an element between others
 pub zip_middle : {X Y : Type 0} (R : X → Y → Type 0) (xs : List X) (x : X) (rest : List X) (ys : List Y) → AllZip R (xs ++ (x ∷ rest)) ys → (y : Y) × R x y
 zip_middle R [] x rest [] h = absurd h
 zip_middle R [] x rest (y ∷ ys) h = (y, h.0)
 zip_middle R (z ∷ xs) x rest [] h = absurd h
 zip_middle R (z ∷ xs) x rest (y ∷ ys) h = zip_middle R xs x rest ys h.1
 
--- the images of one more element
 pub map-take_more : {X Y : Type 0} (f : X → Y) (xs : List X) (i : ℕ) (x : X) → i < length xs → x ≡ get_or xs i x → map f (take (i + 1) xs) ≡ map f (take i xs) ++ (f x ∷ [])
-map-take_more f xs i x within here = ap (map f) (take_more xs i x within) ∙ map-append f (take i xs) (get_or xs i x ∷ []) ∙ ap (λ y. map f (take i xs) ++ (f y ∷ [])) (sym here)
+map-take_more f xs i x within here = rw (take_more xs i x within, ← here) (map-append f (take i xs) (x ∷ []))
 
 -- the images before an element, its own, and those after it
 pub map-around : {X Y : Type 0} (f : X → Y) (xs : List X) (i : ℕ) (x : X) → i < length xs → x ≡ get_or xs i x → map f xs ≡ map f (take i xs) ++ (f x ∷ map f (drop (i + 1) xs))
 map-around f xs i x within here =
-    ap (map f) (sym (take-append-drop i xs) ∙ ap (λ rest. take i xs ++ rest) (drop_more xs i x within))
-    ∙ map-append f (take i xs) (get_or xs i x ∷ drop (i + 1) xs)
-    ∙ ap (λ y. map f (take i xs) ++ (f y ∷ map f (drop (i + 1) xs))) (sym here)
+    ap (map f) (sym (take-append-drop i xs)) ∙ map-append f (take i xs) (drop i xs) ∙ rw (drop_more xs i x within, ← here) refl
 
--- one more pair
 pub zip_push : {X Y : Type 0} (R : X → Y → Type 0) (xs : List X) (ys : List Y) (x : X) (y : Y) → AllZip R xs ys → R x y → AllZip R (xs ++ (x ∷ [])) (ys ++ (y ∷ []))
 zip_push R [] [] x y h r = (r, tt)
 zip_push R [] (z ∷ ys) x y h r = absurd h
@@ -82,23 +74,17 @@ all_more P xs i x within here h p = rw (take_more xs i x within, ← here) (all_
 pub decided_all : {X : Type 0} (P Q : X → Type 0) (xs : List X) (r : Bool) → ((x : X) → P x → Q x → ⊥)
     → MatchBool r (AllWithin P xs 0 (length xs)) ((k : ℕ) × (k < length xs) × HoldsAt Q xs k) → IsTrue r ↔ AllByRecursion P xs
 decided_all P Q xs true apart h = (λ e. recursion_from_All P xs (All-from_all_within P xs h), λ a. refl)
-decided_all P Q xs false apart h =
-    (λ e. cc e, λ a. absurd (apart_somewhere P Q apart xs a h.0 h.1 h.2))
+decided_all {X} P Q xs false apart h =
+    (λ e. cc e, λ a. absurd (apart_somewhere xs a h.0 h.1 h.2))
   where
-    apart_somewhere : {X : Type 0} (P Q : X → Type 0) → ((x : X) → P x → Q x → ⊥) → (xs : List X) → AllByRecursion P xs → (k : ℕ) → k < length xs → HoldsAt Q xs k → ⊥
-    apart_somewhere P Q apart [] a k within h = absurd (omega arith)
-    apart_somewhere P Q apart (x ∷ xs) a zero within h = apart x a.0 (h x)
-    apart_somewhere P Q apart (x ∷ xs) a (suc k) within h = apart_somewhere P Q apart xs a.1 k (omega arith) h
+    apart_somewhere : (xs : List X) → AllByRecursion P xs → (k : ℕ) → k < length xs → HoldsAt Q xs k → ⊥
+    apart_somewhere [] a k within h = absurd (omega arith)
+    apart_somewhere (x ∷ xs) a zero within h = apart x a.0 (h x)
+    apart_somewhere (x ∷ xs) a (suc k) within h = apart_somewhere xs a.1 k (omega arith) h
 
 -- of two elements, each with none like it behind it in the same list, both are the last
 pub one_last : {X : Type 0} (P Q : X → Type 0) (x y : X) (b c a d : List X) → (P y → ⊥) → (Q x → ⊥) → b ++ (x ∷ a) ≡ c ++ (y ∷ d) → AllByRecursion P a → AllByRecursion Q d → x ≡ y
 one_last P Q x y [] [] a d p q same h k = cc same
-one_last P Q x y [] (z ∷ c) a d p q same h k =
-    let rest : a ≡ c ++ (y ∷ d) = cc same in
-    absurd (p (all_middle P c y d (subst (AllByRecursion P) rest h)))
-one_last P Q x y (z ∷ b) [] a d p q same h k =
-    let rest : d ≡ b ++ (x ∷ a) = cc same in
-    absurd (q (all_middle Q b x a (subst (AllByRecursion Q) rest k)))
-one_last P Q x y (z ∷ b) (w ∷ c) a d p q same h k =
-    let rest : b ++ (x ∷ a) ≡ c ++ (y ∷ d) = cc same in
-    one_last P Q x y b c a d p q rest h k
+one_last P Q x y [] (z ∷ c) a d p q same h k = absurd (p (all_middle P c y d (subst (AllByRecursion P) (ap (drop 1) same) h)))
+one_last P Q x y (z ∷ b) [] a d p q same h k = absurd (q (all_middle Q b x a (subst (AllByRecursion Q) (ap (drop 1) (sym same)) k)))
+one_last P Q x y (z ∷ b) (w ∷ c) a d p q same h k = one_last P Q x y b c a d p q (ap (drop 1) same) h k

@@ -1,5 +1,5 @@
 -- Texts by their bytes and by their characters: what they begin with, and their cut at the first colon.
-use Rattle.std.proofs.Common.{◌≡◌, ◌≢◌, ℕ, suc, ◌+◌, ◌<◌, Bool, true, false, List, [], ◌∷◌, ◌++◌, length, drop, get_or, codes, Option, Some, None, refl, sym, ap, ◌∙◌, subst, arith, lit<}
+use Rattle.std.proofs.Common.{◌≡◌, ◌≢◌, ℕ, ◌+◌, ◌<◌, Bool, true, false, List, [], ◌∷◌, ◌++◌, length, drop, get_or, codes, Option, Some, None, refl, sym, ap, ◌∙◌, subst, arith, lit<}
 use Rattle.std.specs.Prelude.{MatchOption, MatchBool, IsUtf8, chars, encode_utf8, encode_utf8_all}
 use Rattle.std.specs.Borrow.{Bor}
 use Rattle.std.specs.List.{AllByRecursion}
@@ -10,10 +10,11 @@ use Rattle.std.proofs.Math.Seq.{drop-append_seam, get_or-append_seam, take-appen
 use Rattle.std.proofs.Math.Dec.{eqb}
 use Rattle.std.proofs.lemmas.Bool.{ne_eqb}
 use Rattle.std.proofs.lemmas.List.{length-append}
-use Rattle.std.proofs.lemmas.Str.{IsCharBoundary-after_ascii, IsCharBoundary-before_ascii, IsUtf8-drop, IsUtf8-take, chars-append, chars-encodes, chars_past_char, encode_ascii, encodes-append, encodes-chars}
+use Rattle.std.proofs.lemmas.List.Elements.{All-from_get_or, recursion_from_All}
+use Rattle.std.proofs.lemmas.Str.{IsCharBoundary-before_ascii, IsUtf8-drop, IsUtf8-past_char, IsUtf8-take, chars-append, chars-encodes, chars_past_char, encode_ascii, encodes-append, encodes-chars}
 use Rattle.std.proofs.lemmas.Str.Pattern.{IsSplitOnceResult, NoCharPasses-char, split_parts}
 use Rattle.nextest_config_values.proofs.Lists.{all_left, all_right}
-use Rattle.nextest_config_values.specs.Identifier.ConfigIdentifier.{HasNoColon, IsCutAtColon, tool_mark}
+use Rattle.nextest_config_values.specs.Identifier.{HasNoColon, IsCutAtColon, tool_mark}
 
 -- ---- what a text begins with
 
@@ -37,12 +38,12 @@ pub record IsPlainText (p : List ℕ) : Type 0 where
   pub encoded : encode_utf8_all p ≡ p
 
 -- the characters behind such a text
-pub chars_behind : (p rest : List ℕ) → IsPlainText p → chars (p ++ rest) ≡ p ++ chars rest
-chars_behind p rest h = chars-append p rest h.utf8 ∙ ap (λ q. q ++ chars rest) h.decoded
+pub chars_behind : (p text rest : List ℕ) → IsPlainText p → text ≡ p ++ rest → chars text ≡ p ++ chars rest
+chars_behind p text rest h e = ap chars e ∙ chars-append p rest h.utf8 ∙ ap (λ q. q ++ chars rest) h.decoded
 
--- a text whose characters begin with such a text begins with it
-pub bytes_behind : (p s cs : List ℕ) → IsPlainText p → IsUtf8 s → chars s ≡ p ++ cs → s ≡ p ++ encode_utf8_all cs
-bytes_behind p s cs h u e = sym (encodes-chars s u) ∙ ap encode_utf8_all e ∙ encodes-append p cs ∙ ap (λ q. q ++ encode_utf8_all cs) h.encoded
+-- where a text doesn't begin with such a text, nor do its characters
+pub not_behind : (p s : List ℕ) → IsPlainText p → IsUtf8 s → ((rest : List ℕ) → s ≢ p ++ rest) → (cs : List ℕ) → chars s ≢ p ++ cs
+not_behind p s h u none cs e = none _ (sym (encodes-chars s u) ∙ ap encode_utf8_all e ∙ encodes-append p cs ∙ ap (λ q. q ++ encode_utf8_all cs) h.encoded)
 
 ascii_encoded : (p : List ℕ) → AllByRecursion (λ b. b < 128) p → encode_utf8_all p ≡ p
 ascii_encoded [] h = refl
@@ -52,13 +53,6 @@ ascii_plain : (p : List ℕ) → AllByRecursion (λ b. b < 128) p → scalars p 
 ascii_plain p h s =
     let encoded = ascii_encoded p h in
     record { utf8 = (p, (s, encoded)); decoded = ap chars (sym encoded) ∙ chars-encodes p s; encoded = encoded }
-
--- the clause of `strip_prefix` where such a text is stripped, and where it isn't, by characters
-pub stripped_chars : (p s : List ℕ) (x : Bor (List ℕ)) → IsPlainText p → s ≡ p ++ x.now → chars s ≡ p ++ chars x.now
-stripped_chars p s x h e = ap chars e ∙ chars_behind p x.now h
-
-pub not_behind : (p s : List ℕ) → IsPlainText p → IsUtf8 s → ((rest : List ℕ) → s ≢ p ++ rest) → (cs : List ℕ) → chars s ≢ p ++ cs
-not_behind p s h u none cs e = none (encode_utf8_all cs) (bytes_behind p s cs h u e)
 
 pub mark_plain : IsPlainText tool_mark
 mark_plain = ascii_plain tool_mark (lit< tt, (lit< tt, (lit< tt, (lit< tt, (lit< tt, (lit< tt, tt)))))) refl
@@ -70,10 +64,8 @@ tool_plain = ascii_plain (codes "@tool") (lit< tt, (lit< tt, (lit< tt, (lit< tt,
 
 -- no byte is a colon, said of each place and by recursion
 pub no_colon_by_recursion : (bs : List ℕ) → ((i : ℕ) → i < length bs → get_or bs i 0 ≢ 58) → HasNoColon bs
-no_colon_by_recursion [] h = tt
-no_colon_by_recursion (b ∷ bs) h = (h 0 (omega arith), no_colon_by_recursion bs (λ i within. h (suc i) (omega arith)))
+no_colon_by_recursion bs h = recursion_from_All (λ b. b ≢ 58) bs (All-from_get_or (λ b. b ≢ 58) bs 0 h)
 
--- characters of which no byte is a colon
 no_colon_decoded : (cs : List ℕ) → HasNoColon (encode_utf8_all cs) → HasNoColon cs
 no_colon_decoded [] h = tt
 no_colon_decoded (c ∷ cs) h = (
@@ -88,7 +80,6 @@ none_pass : (cs : List ℕ) → HasNoColon cs → NonePass (λ c. eqb c 58) cs
 none_pass [] h = tt
 none_pass (c ∷ cs) h = (ne_eqb c 58 h.0, none_pass cs h.1)
 
--- bytes of characters that are no colon
 pub no_colon_bytes : (bs : List ℕ) → IsUtf8 bs → HasNoColon (chars bs) → HasNoColon bs
 no_colon_bytes bs u h =
     no_colon_by_recursion bs (λ i within. NoCharPasses-char 58 bs i (chars bs, encodes-chars bs u, none_pass (chars bs) h) (lit< tt) within)
@@ -102,33 +93,26 @@ pub record IsTextCut (text before after : List ℕ) : Type 0 where
   pub before_utf8 : IsUtf8 before
   pub after_utf8 : IsUtf8 after
 
-chars_from_colon : (after : List ℕ) → IsUtf8 (58 ∷ after) → chars (58 ∷ after) ≡ 58 ∷ chars after
-chars_from_colon after u = chars_past_char (58 ∷ after) after 58 u (ap (λ front. front ++ after) (sym (encode_ascii 58 (lit< tt))))
-
 text_cut : (before after : List ℕ) → IsUtf8 (before ++ (58 ∷ after)) → HasNoColon before → IsTextCut (before ++ (58 ∷ after)) before after
 text_cut before after u none =
     let text = before ++ (58 ∷ after) in
-    let here : get_or text (length before) 0 ≡ 58 = get_or-append_seam before 58 after 0 in
     let within : length before < length text = omega (arith, length-append before (58 ∷ after)) in
-    let small : get_or text (length before) 0 < 128 = rw here (lit< tt) in
-    let start = IsCharBoundary-before_ascii text (length before) within small in
+    let start = IsCharBoundary-before_ascii text (length before) within (rw (get_or-append_seam before 58 after 0) (lit< tt)) in
     let front : IsUtf8 before = subst IsUtf8 (take-append_seam before (58 ∷ after)) (IsUtf8-take text (length before) u start) in
     let back : IsUtf8 (58 ∷ after) = subst IsUtf8 (drop-append_seam before (58 ∷ after)) (IsUtf8-drop text (length before) u start) in
-    let rest : IsUtf8 after = IsUtf8-drop (58 ∷ after) 1 back (IsCharBoundary-after_ascii (58 ∷ after) 0 back (omega arith) (lit< tt)) in
+    let colon : 58 ∷ after ≡ encode_utf8 58 ++ after = ap (λ mark. mark ++ after) (sym (encode_ascii 58 (lit< tt))) in
+    let behind : chars (58 ∷ after) ≡ 58 ∷ chars after = chars_past_char (58 ∷ after) after 58 back colon in
     record {
       bytes = record { cut = refl; first = none };
-      characters = record { cut = chars-append before (58 ∷ after) front ∙ ap (λ cs. chars before ++ cs) (chars_from_colon after back); first = no_colon_chars before front none };
+      characters = record { cut = chars-append before (58 ∷ after) front ∙ ap (λ cs. chars before ++ cs) behind; first = no_colon_chars before front none };
       before_utf8 = front;
-      after_utf8 = rest;
+      after_utf8 = IsUtf8-past_char (58 ∷ after) after 58 back colon;
     }
 
 -- the clause of `split_once` at a colon
 pub split_colon : (text : List ℕ) (r : Option (Bor (List ℕ) × Bor (List ℕ))) → IsUtf8 text → IsSplitOnceResult 58 text r
     → MatchOption r (HasNoColon text) (λ x. IsTextCut text x.0.now x.1.now)
-split_colon text r u h = by_parts text r u (split_parts 58 text r h (lit< tt))
-  where
-    by_parts : (text : List ℕ) (r : Option (Bor (List ℕ) × Bor (List ℕ))) → IsUtf8 text
-        → MatchOption r ((i : ℕ) → i < length text → get_or text i 0 ≢ 58) (λ x. (text ≡ x.0.now ++ (58 ∷ x.1.now)) × ((i : ℕ) → i < length x.0.now → get_or x.0.now i 0 ≢ 58))
-        → MatchOption r (HasNoColon text) (λ x. IsTextCut text x.0.now x.1.now)
-    by_parts text None u h = no_colon_by_recursion text h
-    by_parts text (Some x) u h = rw h.0 (text_cut x.0.now x.1.now (subst IsUtf8 h.0 u) (no_colon_by_recursion x.0.now h.1))
+split_colon text None u h = no_colon_by_recursion text (split_parts 58 text None h (lit< tt))
+split_colon text (Some x) u h =
+    let parts = split_parts 58 text (Some x) h (lit< tt) in
+    rw parts.0 (text_cut x.0.now x.1.now (subst IsUtf8 parts.0 u) (no_colon_by_recursion x.0.now parts.1))

@@ -3,7 +3,7 @@ use Rattle.std.proofs.Common.{◌≡◌, ◌≢◌, ℕ, List, [], ◌∷◌, na
 use Rattle.std.proofs.lemmas.Bool.{cases_Bool}
 use Rattle.std.specs.Cmp.Lexicographic.{pointwise, same_text}
 use Rattle.std.specs.List.{AllByRecursion}
-use Rattle.nextest_config_values.specs.Read.Word.{value_of}
+use Rattle.nextest_config_values.specs.Read.{value_of}
 
 none_found : {X : Type 0} (word : X → List ℕ) (text : List ℕ) (xs : List X) → AllByRecursion (λ x. word x ≢ text) xs → value_of word xs text ≡ None
 none_found word text [] h = refl

@@ -4,6 +4,7 @@ use Rattle.std.specs.List.{AllByRecursion}
 use Rattle.std.specs.declared.alloc.Global.{Global}
 use Rattle.toml.specs.Data.{Data, as_str}
 use Rattle.unicode_ident.specs.Ident.{is_xid_start, is_xid_continue}
+use Rattle.nextest_config_values.specs.Characters.{hyphen, slash}
 use Rattle.nextest_config_values.specs.Read.Fault.{Fault, wrong_value}
 use Rattle.nextest_config_values.specs.Read.FromToml.{FaultsAs, MeansAs, text_expected}
 use Rattle.nextest_config_values.specs.declared.helpers.InvalidIdentifierKind.{InvalidIdentifierKind}
@@ -13,7 +14,7 @@ use Rattle.nextest_config_values.specs.declared.helpers.InvalidIdentifierKind.Th
 
 -- a character behind the first one: XID_Continue (UAX 31), or '-'
 abbrev pub GoesOn : ℕ → Type 0
-GoesOn c = IsTrue ((c == 45) || is_xid_continue c)
+GoesOn c = IsTrue ((c == hyphen) || is_xid_continue c)
 
 -- one character of XID_Start (UAX 31), and then such as go on
 abbrev pub IsPlainIdentifier : List ℕ → Type 0
@@ -29,11 +30,11 @@ IsPlainFlaw cs flaws.InvalidXid = (cs ≢ []) × ¬ (IsPlainIdentifier cs)
 
 -- the text begins with a slash
 abbrev pub BeginsWithSlash : List ℕ → Type 0
-BeginsWithSlash text = (rest : List ℕ) × (text ≡ 47 ∷ rest)
+BeginsWithSlash text = (rest : List ℕ) × (text ≡ slash ∷ rest)
 
 -- the text ends with a slash
 abbrev pub EndsWithSlash : List ℕ → Type 0
-EndsWithSlash text = (front : List ℕ) × (text ≡ front ++ (47 ∷ []))
+EndsWithSlash text = (front : List ℕ) × (text ≡ front ++ (slash ∷ []))
 
 -- one of the pieces between slashes is `..`
 pub record HasParentPiece (text : List ℕ) : Type 0 where

@@ -1,3 +1,4 @@
+pub mod Characters
 pub mod Helpers
 pub mod Identifier
 pub mod Read

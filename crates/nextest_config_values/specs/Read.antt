@@ -5,4 +5,12 @@ pub mod FromToml
 pub mod Plain
 pub mod Word
 pub mod Field
-pub mod FieldLaws
+pub mod Readings
+pub use Fault.{broken_rule, BrokenRule, build_metadata, custom, fault_at, fault_of, fault_text, identifier, IsMemory, IsNameKind, kind_text, missing, not_version, path_of, path_text, pre_release, Reason, reason_of, reason_text, Refuses, RefusesAs, RefusesKind, required_above_recommended, rule_text, tool_name, unknown_word, wrong_type, wrong_value}
+pub use Text.{escaped, FaultOrMemory, found_text, joined, quoted_texts, told_text, unnamed}
+unfoldable pub use Text.{quoted_text}
+pub use FromToml.{equality, FaultsAs, FaultsKind, IsReading, MeansAs, MeansKind, MeansNothing, reading_as, reading_on, text_expected, WantsMemory, WrongKind}
+pub use Plain.{bool_reading, HasNoFault, IsCount, IsOutside, IsU32, MeansNumber, MeansText, MeansTruth, number_reading, SameText, string_reading}
+pub use Word.{IsNoWord, MeansWord, value_of, word_reading, words_text}
+pub use Field.{FaultsThen, MeansOptional, MeansOr, MeansRequired, MeansThen, OptionalFaults, RequiredFaults, Then, WantsIfPresent, WantsIfRequired}
+pub use Readings.{at_key, held, kind_reading, made_of, nothing_wrong, one_then, optional_reading, or_reading, required_reading, rule_reading, said_as, then_reading, wrong_kind}

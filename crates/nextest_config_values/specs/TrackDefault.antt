@@ -25,5 +25,4 @@ module _ {X : Type 0} (means : Data → X → Type 0) (faults : Data → List �
     one_meaning = λ value x y a b. (laws.one_meaning value x.value y.value a.0 b.0, a.1 ∙ sym b.1);
     one_fault = laws.one_fault;
     never_both = λ value at x f a b. laws.never_both value at x.value f a.0 b;
-    never_memory = laws.never_memory;
   }

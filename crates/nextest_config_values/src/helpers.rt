@@ -4,8 +4,7 @@ ghost use Rattle.std.specs.Prelude.{◌↔◌, true, IfErr, IfOk, IsTrue, OnOk, 
 ghost use Rattle.std.specs.List.{AllByRecursion};
 ghost use Rattle.toml.specs.View.{view};
 ghost use Rattle.nextest_config_values.specs.Helpers.{IsPlainFlaw, IsPlainIdentifier, IsRelativePath, MeansPath, PathFaults, GoesOn};
-ghost use Rattle.nextest_config_values.specs.Read.Fault.{Refuses, fault_of};
-ghost use Rattle.nextest_config_values.specs.Read.FromToml.{WantsMemory};
+ghost use Rattle.nextest_config_values.specs.Read.{Refuses, WantsMemory};
 
 use crate::read::{FromToml, ReadFault};
 use std::alloc::Global;
@@ -54,8 +53,8 @@ pub fn deserialize_relative_path(
     at: &str,
 ) -> Result<String, ReadFault>
     ensures meant { IfOk result (MeansPath (view value.now)) }
-    ensures refused { IfErr result (λ fault. Refuses (PathFaults (view value.now) at.now)
-        (WantsMemory (MeansPath (view value.now)) true) (fault_of fault)) }
+    ensures refused { IfErr result (Refuses (PathFaults (view value.now) at.now)
+        (WantsMemory (MeansPath (view value.now)) true)) }
 {
     let path = String::read(alloc, value, at)?;
     if is_relative_path(path.as_str()) {

@@ -1,27 +1,24 @@
 //! Laws of the definitions, for every value. They call nothing.
 
 ghost use Rattle.std.specs.Prelude.{◌≡◌, ℕ, List};
-ghost use Rattle.nextest_config_values.specs.Identifier.ConfigIdentifier.{IsIdentifier, IsIdentifierFault};
-ghost use Rattle.nextest_config_values.specs.Identifier.Error.{IdentifierFlaw, NameRefusal, ToolNameFlaw, no_memory};
-ghost use Rattle.nextest_config_values.specs.Identifier.Normal.{AnswersAlike, normal_chars};
-ghost use Rattle.nextest_config_values.specs.Identifier.ToolName.{IsToolName, IsToolNameFault};
-ghost use Rattle.nextest_config_values.specs.ToolConfig.{Argument, ArgumentRefusal, HoldsMemory, IsArgumentFault, IsToolArgument};
+ghost use Rattle.nextest_config_values.specs.Identifier.{AnswersAlike, IdentifierFlaw, IsIdentifier, IsIdentifierFault, IsToolName, IsToolNameFault, NameFault, normal_chars, ToolNameFlaw};
+ghost use Rattle.nextest_config_values.specs.ToolConfig.{Argument, ArgumentFault, IsArgumentFault, IsToolArgument};
 
 /// No text has two identifiers, two faults as one, or both.
 pub fn law_identifier_once()
     ensures one_identifier { (text m n : List ℕ) → IsIdentifier text m → IsIdentifier text n → m ≡ n }
-    ensures one_fault { (text : List ℕ) (e f : NameRefusal IdentifierFlaw)
+    ensures one_fault { (text : List ℕ) (e f : NameFault IdentifierFlaw)
         → IsIdentifierFault text e → IsIdentifierFault text f → e ≡ f }
-    ensures never_both { (text n : List ℕ) (f : NameRefusal IdentifierFlaw)
+    ensures never_both { (text n : List ℕ) (f : NameFault IdentifierFlaw)
         → IsIdentifier text n → IsIdentifierFault text f → ⊥ }
 {}
 
 /// No text has two tool names, two faults as one, or both.
 pub fn law_tool_name_once()
     ensures one_name { (text m n : List ℕ) → IsToolName text m → IsToolName text n → m ≡ n }
-    ensures one_fault { (text : List ℕ) (e f : NameRefusal ToolNameFlaw)
+    ensures one_fault { (text : List ℕ) (e f : NameFault ToolNameFlaw)
         → IsToolNameFault text e → IsToolNameFault text f → e ≡ f }
-    ensures never_both { (text n : List ℕ) (f : NameRefusal ToolNameFlaw)
+    ensures never_both { (text n : List ℕ) (f : NameFault ToolNameFlaw)
         → IsToolName text n → IsToolNameFault text f → ⊥ }
 {}
 
@@ -29,18 +26,10 @@ pub fn law_tool_name_once()
 pub fn law_argument_once()
     ensures one_argument { (text : List ℕ) (a b : Argument)
         → IsToolArgument text a → IsToolArgument text b → a ≡ b }
-    ensures one_fault { (text : List ℕ) (e f : ArgumentRefusal)
+    ensures one_fault { (text : List ℕ) (e f : ArgumentFault)
         → IsArgumentFault text e → IsArgumentFault text f → e ≡ f }
-    ensures never_both { (text : List ℕ) (a : Argument) (f : ArgumentRefusal)
+    ensures never_both { (text : List ℕ) (a : Argument) (f : ArgumentFault)
         → IsToolArgument text a → IsArgumentFault text f → ⊥ }
-{}
-
-/// No fault of a text is want of memory, and none of a tool argument holds it within.
-pub fn law_fault_not_memory()
-    ensures identifiers { (text : List ℕ) → ¬ IsIdentifierFault text no_memory }
-    ensures tool_names { (text : List ℕ) → ¬ IsToolNameFault text no_memory }
-    ensures arguments { (text : List ℕ) (f : ArgumentRefusal)
-        → IsArgumentFault text f → ¬ HoldsMemory f }
 {}
 
 /// Texts with the same Normalization Form C are the same identifier, or have the same fault as one,

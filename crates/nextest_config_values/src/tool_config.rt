@@ -2,8 +2,8 @@
 
 ghost use Rattle.std.specs.Prelude.{◌≡◌, IfErr, IfOk, string_bytes};
 ghost use Rattle.nextest_config_values.specs.Helpers.{BeginsWithSlash};
-ghost use Rattle.nextest_config_values.specs.Identifier.Error.{tool_name_refusal};
-ghost use Rattle.nextest_config_values.specs.ToolConfig.{IsArgumentFault, IsBadName, IsPathFault, IsToolArgument, RefusesArgument, argument_of, argument_refusal};
+ghost use Rattle.nextest_config_values.specs.Identifier.{tool_name_fault};
+ghost use Rattle.nextest_config_values.specs.ToolConfig.{IsArgumentFault, IsPathFault, IsToolArgument, RefusesArgument, RefusesTool, argument_of};
 
 use crate::identifier::{InvalidToolName, ToolName};
 use std::alloc::{AllocError, Global};
@@ -51,7 +51,7 @@ impl ToolConfigFile {
     /// The tool and the path of the text `NAME:PATH`, which is cut at its first colon.
     pub fn from_str(alloc: Global, input: &str) -> Result<Self, ToolConfigFileParseError>
         ensures accepted { IfOk result (λ file. IsToolArgument input.now (argument_of file)) }
-        ensures refused { IfErr result (λ error. RefusesArgument (IsArgumentFault input.now) (argument_refusal error)) }
+        ensures refused { IfErr result (RefusesArgument (IsArgumentFault input.now)) }
     {
         let Some((name, path)) = input.split_once(':') else {
             let input = String::from_str(alloc, input)?;
@@ -87,7 +87,7 @@ impl From<AllocError> for ToolConfigFileParseError {
 
 // The refusal of an argument whose tool name is refused.
 fn invalid_tool_name(alloc: Global, input: &str, error: InvalidToolName) -> ToolConfigFileParseError
-    ensures { RefusesArgument (IsBadName input.now (tool_name_refusal error)) (argument_refusal result) }
+    ensures { RefusesTool input.now (tool_name_fault error) result }
 {
     match error {
         InvalidToolName::Memory => ToolConfigFileParseError::Memory,
@@ -101,7 +101,7 @@ fn invalid_tool_name(alloc: Global, input: &str, error: InvalidToolName) -> Tool
 // The path of an argument, which has to begin with a slash.
 fn absolute_path(alloc: Global, input: &str, path: &str) -> Result<String, ToolConfigFileParseError>
     ensures accepted { IfOk result (λ kept. (string_bytes kept ≡ path.now) × BeginsWithSlash path.now) }
-    ensures refused { IfErr result (λ error. RefusesArgument (IsPathFault input.now path.now) (argument_refusal error)) }
+    ensures refused { IfErr result (RefusesArgument (IsPathFault input.now path.now)) }
 {
     if path.is_empty() {
         let input = String::from_str(alloc, input)?;

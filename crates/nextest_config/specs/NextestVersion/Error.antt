@@ -1,40 +1,67 @@
 -- Why a source or a list of sources was refused, without where it lies in memory.
-use Rattle.std.specs.Prelude.{◌≡◌, ◌≢◌, ℕ, List, [], ◌++◌, codes, Option, Some, None, option_map}
-use Rattle.nextest_config.specs.NextestVersion.ErrorKind.{Wrong, no_memory, wrong_of, wrong_text}
+use Rattle.std.specs.Prelude.{◌≡◌, ℕ, List, [], ◌++◌, codes, Option, Some, None, option_map}
+use Rattle.nextest_config_values.specs.Read.{FaultOrMemory}
+use Rattle.nextest_config.specs.NextestVersion.ErrorKind.{Wrong, error_kind_text, wrong_of, wrong_text}
 use Rattle.nextest_config.specs.NextestVersion.Source.{Place, place_of, place_text}
 use Rattle.nextest_config.specs.declared.nextest_version.error.ConfigParseError.{ConfigParseError}
 use Rattle.nextest_config.specs.declared.nextest_version.error.ListRefusal.{ListRefusal}
 use Rattle.nextest_config.specs.declared.nextest_version.error.ListRefusal.TheVariants as refusals
+use Rattle.nextest_config.specs.declared.nextest_version.error_kind.ConfigParseErrorKind.{ConfigParseErrorKind}
+use Rattle.nextest_config.specs.declared.nextest_version.error_kind.ConfigParseErrorKind.TheVariants as kinds
 
 -- what is wrong, and with which source
 pub record Refusal : Type 0 where
-  pub place : Option Place
+  pub place : Place
   pub wrong : Wrong
 
--- what `kind()` and `source()` of an error tell
-abbrev pub refusal_of : ConfigParseError → Refusal
-refusal_of error = record { place = option_map place_of error.source; wrong = wrong_of error.kind }
+-- this is wrong with the source of that place
+abbrev pub refusal_at : Place → Wrong → Refusal
+refusal_at place wrong = record { place = place; wrong = wrong }
 
--- the error that says nothing of any source
-abbrev pub out_of_memory : Refusal
-out_of_memory = record { place = None; wrong = no_memory }
+-- what `kind()` tells
+abbrev pub kind_of : ConfigParseError → ConfigParseErrorKind
+kind_of error = error.kind
 
--- this is wrong with the source of that place; or there was no memory
-abbrev pub IsErrorOf : Place → Wrong → Refusal → Type 0
-IsErrorOf place no_memory refusal = refusal ≡ out_of_memory
-IsErrorOf place wrong refusal = refusal ≡ record { place = Some place; wrong = wrong }
+-- where the source is that `source()` tells
+abbrev pub source_place : ConfigParseError → Option Place
+source_place error = option_map place_of error.source
+
+-- both, unless memory was refused
+abbrev pub told_refusal : Option Place → Option Wrong → Option Refusal
+told_refusal (Some place) wrong = option_map (refusal_at place) wrong
+told_refusal None wrong = None
+
+abbrev pub refusal_of : ConfigParseError → Option Refusal
+refusal_of error = told_refusal (source_place error) (wrong_of error.kind)
+
+-- the error tells a refusal of which this holds; or memory was refused
+abbrev pub RefusesBy : (Refusal → Type 0) → ConfigParseError → Type 0
+RefusesBy IsSuch error = FaultOrMemory (refusal_of error) (kind_of error ≡ kinds.Memory) IsSuch
+
+-- the error of this kind, of the source of that place
+abbrev pub IsErrorOf : Place → ConfigParseErrorKind → ConfigParseError → Type 0
+IsErrorOf place kind error = FaultOrMemory (wrong_of kind) (kind ≡ kinds.Memory → kind_of error ≡ kinds.Memory) (λ wrong. refusal_of error ≡ Some (refusal_at place wrong))
+
+-- the refusal of a list at this position; or there was no memory
+abbrev pub IsRefusalAt : ℕ → Refusal → ListRefusal → Type 0
+IsRefusalAt position refusal (refusals.Refused at error) = (at ≡ position) × (refusal_of error ≡ Some refusal)
+IsRefusalAt position refusal refusals.Memory = Unit {0}
+
+-- the same for this kind of error of the source of that place
+abbrev pub IsKindAt : ℕ → Place → ConfigParseErrorKind → ListRefusal → Type 0
+IsKindAt position place kind refusal = FaultOrMemory (wrong_of kind) (kind ≡ kinds.Memory → refusal ≡ refusals.Memory) (λ wrong. IsRefusalAt position (refusal_at place wrong) refusal)
+
+-- ---- how they print
 
 -- the source before what is wrong with it
 abbrev pub source_text : Option Place → List ℕ
 source_text None = []
 source_text (Some place) = place_text place ++ codes ": "
 
--- how an error prints
+-- how a refusal prints
 abbrev pub refusal_text : Refusal → List ℕ
-refusal_text refusal = source_text refusal.place ++ wrong_text refusal.wrong
+refusal_text refusal = source_text (Some refusal.place) ++ wrong_text refusal.wrong
 
--- this is wrong with the source of that place, which stands at this position; or there was no memory
-abbrev pub IsRefusalAt : ℕ → Place → Wrong → ListRefusal → Type 0
-IsRefusalAt position place wrong (refusals.Refused at error) =
-    (at ≡ position) × (wrong ≢ no_memory) × (refusal_of error ≡ record { place = Some place; wrong = wrong })
-IsRefusalAt position place wrong refusals.Memory = Unit {0}
+-- how an error prints
+abbrev pub error_text : ConfigParseError → List ℕ
+error_text error = source_text (source_place error) ++ error_kind_text error.kind

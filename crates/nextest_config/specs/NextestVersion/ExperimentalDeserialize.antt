@@ -1,15 +1,11 @@
 -- What one source says of the experimental features.
 use Rattle.std.specs.Prelude.{◌≡◌, ◌↔◌, ◌⊎◌, ◌++◌, ◌<◌, ℕ, Bool, true, false, List, [], ◌∷◌, map, Contains, codes, decimal, string_bytes, Option, Some, None, IsSome}
 use Rattle.toml.specs.Data.{Data, Items, Members, as_array, as_bool, as_str, as_table, get_item, get_member}
-use Rattle.nextest_config_values.specs.Read.Fault.{Fault, path_of, wrong_type}
-use Rattle.nextest_config_values.specs.Read.Field.{MeansOr, OptionalFaults, Then}
-use Rattle.nextest_config_values.specs.Read.FromToml.{FaultsAs, MeansAs, text_expected}
-use Rattle.nextest_config_values.specs.Read.Plain.{HasNoFault, MeansTruth}
+use Rattle.nextest_config_values.specs.Read.Fault.{Fault}
+use Rattle.nextest_config_values.specs.Read.{FaultsAs, FaultsKind, FaultsThen, HasNoFault, MeansAs, MeansKind, MeansNothing, MeansOr, MeansTruth, OptionalFaults, path_of, text_expected, wrong_type, WrongKind}
 use Rattle.nextest_config.specs.NextestVersion.Experimental.{FeaturesInOrder, IsUnknown, TextsInOrder, all_features, word_of}
 use Rattle.nextest_config.specs.declared.nextest_version.experimental.ConfigExperimental.{ConfigExperimental}
-use Rattle.nextest_config.specs.declared.nextest_version.experimental.ConfigExperimental.TheVariants as features
 use Rattle.nextest_config.specs.declared.nextest_version.experimental_deserialize.ExperimentalDeserialize.{ExperimentalDeserialize}
-use Rattle.nextest_config.specs.declared.nextest_version.experimental_deserialize.Switches.{Switches}
 
 -- the features that a source enables, and the names in it that are those of no feature
 pub record Features : Type 0 where
@@ -29,7 +25,7 @@ abbrev pub FeaturesAlike : ExperimentalDeserialize → ExperimentalDeserialize �
 FeaturesAlike a b = features_of a ≡ features_of b
 
 -- both sets are written in order: the features in theirs, the names in byte order
-pub record AreInOrder (named : Features) : Type 0 where
+pub record AreSetsInOrder (named : Features) : Type 0 where
   pub known_in_order : FeaturesInOrder named.known
   pub unknown_in_order : TextsInOrder named.unknown
 
@@ -37,7 +33,7 @@ pub record AreInOrder (named : Features) : Type 0 where
 pub record AreNamed (IsEnabled : ConfigExperimental → Type 0) (StandsThere : List ℕ → Type 0) (named : Features) : Type 0 where
   pub of_known : (feature : ConfigExperimental) → Contains named.known feature ↔ IsEnabled feature
   pub of_unknown : (text : List ℕ) → Contains named.unknown text ↔ (StandsThere text × IsUnknown text)
-  pub in_order : AreInOrder named
+  pub in_order : AreSetsInOrder named
 
 -- ---- the array form
 
@@ -55,7 +51,7 @@ abbrev pub IsAmong : Items → List ℕ → Type 0
 IsAmong items text = (index : ℕ) × (text_in (get_item index items) ≡ Some text)
 
 -- each element is a text; a feature is enabled where its word is an element
-pub record MeansArray (items : Items) (named : Features) : Type 0 where
+pub record MeansFeatureArray (items : Items) (named : Features) : Type 0 where
   pub of_texts : (index : ℕ) → IsSome (get_item index items) → IsTextAt items index
   pub of_names : AreNamed (λ feature. IsAmong items (word_of feature)) (IsAmong items) named
 
@@ -68,8 +64,8 @@ abbrev pub ItemFaults : Data → ℕ → List ℕ → Fault → Type 0
 ItemFaults value index at fault = (as_str value ≡ None) × (fault ≡ wrong_type value (item_path at index) text_expected)
 
 -- the first element that is no text
-abbrev pub ArrayFaults : Items → List ℕ → Fault → Type 0
-ArrayFaults items at fault = (index : ℕ) × (value : Data) × (get_item index items ≡ Some value) × ((earlier : ℕ) → earlier < index → IsTextAt items earlier) × ItemFaults value index at fault
+abbrev pub FeatureArrayFaults : Items → List ℕ → Fault → Type 0
+FeatureArrayFaults items at fault = (index : ℕ) × (value : Data) × (get_item index items ≡ Some value) × ((earlier : ℕ) → earlier < index → IsTextAt items earlier) × ItemFaults value index at fault
 
 -- ---- the table form
 
@@ -85,25 +81,19 @@ SwitchFaults feature members at = OptionalFaults (FaultsAs as_bool (codes "a boo
 abbrev pub IsUnknownKey : Members → List ℕ → Type 0
 IsUnknownKey members text = IsSome (get_member text members) × IsUnknown text
 
--- what the switches say of each feature
-abbrev pub is_on : Switches → ConfigExperimental → Bool
-is_on switches features.SetupScripts = switches.setup_scripts
-is_on switches features.WrapperScripts = switches.wrapper_scripts
-is_on switches features.Benchmarks = switches.benchmarks
-
 -- the value at the key of each feature is a boolean, if there is one; a feature is enabled where it is true; other keys are names whatever their values are
-pub record MeansTable (members : Members) (named : Features) : Type 0 where
+pub record MeansFeatureTable (members : Members) (named : Features) : Type 0 where
   pub of_switches : (feature : ConfigExperimental) → (on : Bool) × MeansSwitch feature members on
   pub of_names : AreNamed (λ feature. MeansSwitch feature members true) (λ text. IsSome (get_member text members)) named
 
 -- the first of these features whose key has a value that is no boolean
 abbrev pub FirstSwitchFaults : List ConfigExperimental → Members → List ℕ → Fault → Type 0
-FirstSwitchFaults [] _ at fault = ⊥
-FirstSwitchFaults (feature ∷ rest) members at fault = Then (SwitchFaults feature members at) (MeansSwitch feature members) (λ on. FirstSwitchFaults rest members at) fault
+FirstSwitchFaults [] = λ members at fault. ⊥
+FirstSwitchFaults (feature ∷ rest) = FaultsThen (MeansSwitch feature) (SwitchFaults feature) (λ on. FirstSwitchFaults rest)
 
 -- the first of the features in their order
-abbrev pub TableFaults : Members → List ℕ → Fault → Type 0
-TableFaults = FirstSwitchFaults all_features
+abbrev pub FeatureTableFaults : Members → List ℕ → Fault → Type 0
+FeatureTableFaults = FirstSwitchFaults all_features
 
 -- ---- the setting
 
@@ -111,37 +101,13 @@ TableFaults = FirstSwitchFaults all_features
 abbrev pub features_expected : List ℕ
 features_expected = codes "a table ({ setup-scripts = true, benchmarks = true }) or an array ([\"setup-scripts\", \"benchmarks\"])"
 
--- an array, a table, or neither, names these
-abbrev pub MeansForm : Option Items → Option Members → Features → Type 0
-MeansForm (Some items) _ named = MeansArray items named
-MeansForm None (Some members) named = MeansTable members named
-MeansForm None None named = ⊥
-
--- what is wrong with an array, a table, or neither
-abbrev pub FormFaults : Option Items → Option Members → Data → List ℕ → Fault → Type 0
-FormFaults (Some items) _ value at fault = ArrayFaults items at fault
-FormFaults None (Some members) value at fault = TableFaults members at fault
-FormFaults None None value at fault = fault ≡ wrong_type value at features_expected
-
--- the value of `experimental` names these
+-- the value names these: as an array, or as a table
 abbrev pub MeansFeatures : Data → Features → Type 0
-MeansFeatures value named = MeansForm (as_array value) (as_table value) named
+MeansFeatures value = MeansKind MeansFeatureArray (λ other. MeansKind MeansFeatureTable MeansNothing (as_table other) other) (as_array value) value
 
--- what is wrong with the value of `experimental` at a path
+-- what is wrong with the value at a path
 abbrev pub FeaturesFaults : Data → List ℕ → Fault → Type 0
-FeaturesFaults value at fault = FormFaults (as_array value) (as_table value) value at fault
-
--- ---- one more name
-
--- the second has what the first has, and this name: as the feature whose word it is, or else as another name
-pub record AddsText (before : Features) (text : List ℕ) (after : Features) : Type 0 where
-  pub more_known : (feature : ConfigExperimental) → Contains after.known feature ↔ (Contains before.known feature ⊎ (word_of feature ≡ text))
-  pub more_unknown : (other : List ℕ) → Contains after.unknown other ↔ (Contains before.unknown other ⊎ ((text ≡ other) × IsUnknown other))
-  pub still_in_order : AreInOrder before → AreInOrder after
-
--- the value is a text, which is added
-abbrev pub AddsItem : Features → Data → Features → Type 0
-AddsItem before value after = (text : List ℕ) × (as_str value ≡ Some text) × AddsText before text after
+FeaturesFaults value = FaultsKind FeatureArrayFaults (λ other. FaultsKind FeatureTableFaults (WrongKind features_expected) (as_table other) other) (as_array value) value
 
 -- ---- the names of both sets
 

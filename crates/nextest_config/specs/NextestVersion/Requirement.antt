@@ -3,7 +3,7 @@ use Rattle.std.specs.Prelude.{◌≡◌, Option, Some, None, option_map, if◌th
 use Rattle.semver.specs.Identifiers.{parts_of}
 use Rattle.semver.specs.Parse.{Parts}
 use Rattle.semver.specs.declared.Version.{Version}
-use Rattle.nextest_config.specs.NextestVersion.Ask.{Versions}
+use Rattle.nextest_config.specs.NextestVersion.NextestVersionDeserialize.{Versions}
 use Rattle.nextest_config.specs.NextestVersion.Precedence.{is_below}
 use Rattle.nextest_config.specs.NextestVersion.Source.{Place, place_of}
 use Rattle.nextest_config.specs.declared.nextest_version.source.ConfigSource.{ConfigSource}

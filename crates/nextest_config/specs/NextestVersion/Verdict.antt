@@ -8,10 +8,10 @@ use Rattle.nextest_config.specs.NextestVersion.Requirement.{Kept, Roles}
 use Rattle.nextest_config.specs.NextestVersion.Source.{Place, place_of}
 use Rattle.semver.specs.declared.Version.{Version}
 use Rattle.nextest_config.specs.declared.nextest_version.source.ConfigSource.{ConfigSource}
-use Rattle.nextest_config.specs.declared.nextest_version.requirement.NextestVersionEval.{NextestVersionEval}
-use Rattle.nextest_config.specs.declared.nextest_version.requirement.NextestVersionEval.TheVariants as evals
-use Rattle.nextest_config.specs.declared.nextest_version.requirement.Severity.{Severity}
-use Rattle.nextest_config.specs.declared.nextest_version.requirement.Severity.TheVariants as severities
+use Rattle.nextest_config.specs.declared.nextest_version.verdict.NextestVersionEval.{NextestVersionEval}
+use Rattle.nextest_config.specs.declared.nextest_version.verdict.NextestVersionEval.TheVariants as evals
+use Rattle.nextest_config.specs.declared.nextest_version.verdict.Severity.{Severity}
+use Rattle.nextest_config.specs.declared.nextest_version.verdict.Severity.TheVariants as severities
 
 -- what a version falls short of: the version asked for, the current one, the place that asked, and whether the check is overridden
 pub record Shortfall : Type 0 where

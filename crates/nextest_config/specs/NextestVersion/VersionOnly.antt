@@ -1,8 +1,8 @@
 -- Lists of sources: what each asks, the first that is refused, and what stands for them all.
-use Rattle.std.specs.Prelude.{◌≡◌, ◌≢◌, ◌↔◌, ◌⊎◌, ℕ, List, ◌∷◌, ◌++◌, length, map, flat_map, Contains, Bool, Option, Some, None, IfSome}
+use Rattle.std.specs.Prelude.{◌≡◌, ◌≢◌, ◌↔◌, ℕ, List, ◌∷◌, ◌++◌, length, map, flat_map, Contains, Bool, Option, Some, None, IfSome}
 use Rattle.std.specs.List.{AllByRecursion, AllZip}
 use Rattle.semver.specs.Parse.{Parts}
-use Rattle.nextest_config.specs.NextestVersion.Error.{Refusal, out_of_memory, refusal_of}
+use Rattle.nextest_config.specs.NextestVersion.Error.{Refusal, RefusesBy, refusal_of}
 use Rattle.nextest_config.specs.NextestVersion.Experimental.{FeaturesInOrder}
 use Rattle.nextest_config.specs.NextestVersion.ExperimentalConfig.{AddsFeatures, Experimental, Unknown, entry_at, experimental_of, no_experimental}
 use Rattle.nextest_config.specs.NextestVersion.Precedence.{IsBelow}
@@ -10,6 +10,7 @@ use Rattle.nextest_config.specs.NextestVersion.Requirement.{Kept, Roles, no_role
 use Rattle.nextest_config.specs.NextestVersion.Source.{Place, Source}
 use Rattle.nextest_config.specs.NextestVersion.Verdict.{Verdict, verdict, named_place, IsSelected}
 use Rattle.nextest_config.specs.NextestVersion.VersionOnlyDeserialize.{Ask, IsWrong, TextAsks}
+use Rattle.nextest_config.specs.declared.nextest_version.error.ConfigParseError.{ConfigParseError}
 use Rattle.nextest_config.specs.declared.nextest_version.error.ListRefusal.{ListRefusal}
 use Rattle.nextest_config.specs.declared.nextest_version.error.ListRefusal.TheVariants as refusals
 use Rattle.nextest_config.specs.declared.nextest_version.experimental.ConfigExperimental.{ConfigExperimental}
@@ -23,7 +24,7 @@ IsRead source ask = TextAsks source.place.kind source.contents ask
 
 -- the source is outside its grammar, with this one error, which carries the source
 pub record IsRefused (source : Source) (refusal : Refusal) : Type 0 where
-  pub named : refusal.place ≡ Some source.place
+  pub named : refusal.place ≡ source.place
   pub wrong : IsWrong source.place.kind source.contents refusal.wrong
 
 -- ---- a list of sources, lowest priority first
@@ -152,12 +153,12 @@ pub record IsFromSource (current : Parts) (overridden : Bool) (asked : List Aske
 
 -- the list is refused at the first refused position with its one error, or there was no memory
 abbrev pub IsRefusalOf : List Source → ListRefusal → Type 0
-IsRefusalOf sources (refusals.Refused position error) = IsFirstRefused sources position (refusal_of error)
+IsRefusalOf sources (refusals.Refused position error) = (refusal : Refusal) × (refusal_of error ≡ Some refusal) × IsFirstRefused sources position refusal
 IsRefusalOf sources refusals.Memory = Unit {0}
 
 -- the error is that of the first refused position of the list, or there was no memory
-abbrev pub IsErrorOfList : List Source → Refusal → Type 0
-IsErrorOfList sources refusal = (refusal ≡ out_of_memory) ⊎ ((position : ℕ) × IsFirstRefused sources position refusal)
+abbrev pub IsErrorOfList : List Source → ConfigParseError → Type 0
+IsErrorOfList sources = RefusesBy (λ refusal. (position : ℕ) × IsFirstRefused sources position refusal)
 
 -- the new configuration is the old one joined with what the contents of the place ask
 pub record Adds (place : Place) (contents : Option (List ℕ)) (old new : Configuration) : Type 0 where

@@ -3,9 +3,9 @@ use Rattle.std.specs.Prelude.{◌≡◌, ◌≢◌, ℕ, List, codes, Option, So
 use Rattle.toml.specs.Data.{Data, Members, get_member}
 use Rattle.toml.specs.Parse.{parse_document}
 use Rattle.nextest_config_values.specs.Read.Fault.{Fault}
-use Rattle.nextest_config_values.specs.Read.Field.{MeansOr, OptionalFaults, Then}
-use Rattle.nextest_config.specs.NextestVersion.Ask.{Versions, MeansVersions, VersionsFaults, no_versions, versions_of}
-use Rattle.nextest_config.specs.NextestVersion.ErrorKind.{Wrong, UnlessNoMemory, not_toml, setting, tool_features}
+use Rattle.nextest_config_values.specs.Read.{MeansOr, OptionalFaults, Then}
+use Rattle.nextest_config.specs.NextestVersion.NextestVersionDeserialize.{Versions, MeansVersions, VersionsFaults, no_versions, versions_of}
+use Rattle.nextest_config.specs.NextestVersion.ErrorKind.{Wrong, not_toml, setting, tool_features}
 use Rattle.nextest_config.specs.NextestVersion.ExperimentalDeserialize.{AreNames, Features, FeaturesFaults, MeansFeatures, features_of, no_features}
 use Rattle.nextest_config.specs.declared.nextest_version.source.ConfigSourceKind.{ConfigSourceKind}
 use Rattle.nextest_config.specs.declared.nextest_version.source.ConfigSourceKind.TheVariants.{Tool, ExplicitRepository, DiscoveredRepository}
@@ -90,7 +90,3 @@ IsWrongDocument kind (Some members) wrong = IsWrongTable kind members wrong
 abbrev pub IsWrong : ConfigSourceKind → Option (List ℕ) → Wrong → Type 0
 IsWrong kind None wrong = ⊥
 IsWrong kind (Some text) wrong = IsWrongDocument kind (parse_document text) wrong
-
--- this is wrong with the contents, or there was no memory
-abbrev pub IsWrongOrMemory : ConfigSourceKind → Option (List ℕ) → Wrong → Type 0
-IsWrongOrMemory kind contents wrong = UnlessNoMemory wrong (IsWrong kind contents wrong)

@@ -3,7 +3,12 @@ use Rattle.std.specs.Prelude.{◌≡◌, ◌≢◌, ℕ, ◌<◌, ◌^◌, List,
 use Rattle.std.specs.List.{AllByRecursion}
 use Rattle.std.specs.Str.Parse.{AllDigits, digits_value}
 use Rattle.semver.specs.Parse.{Parts}
-use Rattle.nextest_config_values.specs.Read.Fault.{BrokenRule, pre_release, build_metadata, not_version, Reason, custom, memory}
+use Rattle.toml.specs.Data.{Data, as_str}
+pub use Rattle.nextest_config_values.specs.Characters.{digit_zero, dot, hyphen, plus_sign}
+use Rattle.nextest_config_values.specs.Read.Fault.{Fault}
+use Rattle.nextest_config_values.specs.Read.{broken_rule, BrokenRule, build_metadata, custom, fault_at, FaultsAs, MeansAs, not_version, pre_release, text_expected}
+use Rattle.nextest_config_values.specs.declared.read.fault.FaultKind.{FaultKind}
+use Rattle.nextest_config_values.specs.declared.read.fault.FaultKind.TheVariants as kinds
 
 -- major, minor and patch
 abbrev pub Numbers : Type 0
@@ -13,23 +18,11 @@ Numbers = ℕ × ℕ × ℕ
 abbrev pub plain : Numbers → Parts
 plain numbers = (numbers.0, numbers.1, numbers.2, [], [])
 
--- the marks of a version text
-abbrev pub dot : ℕ
-dot = 46
-
--- `-`, which begins a pre-release
-abbrev pub hyphen : ℕ
-hyphen = 45
-
--- `+`, which begins build metadata
-abbrev pub plus_sign : ℕ
-plus_sign = 43
-
 -- a number of at most 64 bits in decimal digits, with no leading zero
 pub record IsNumeral (text : List ℕ) (number : ℕ) : Type 0 where
   pub some : 0 < length text
   pub digits : AllDigits 10 text
-  pub no_leading_zero : slice_index text 0 ≡ 48 → length text ≡ 1
+  pub no_leading_zero : slice_index text 0 ≡ digit_zero → length text ≡ 1
   pub value : digits_value 10 text ≡ number
   pub fits : number < 2 ^ 64
 
@@ -78,8 +71,22 @@ IsVersionFault text _ = ⊥
 abbrev pub HasVersion : List ℕ → Parts → Type 0
 HasVersion text parts = (numbers : Numbers) × IsVersionText text numbers × (parts ≡ plain numbers)
 
--- the text has no version, for this reason, or there was no memory
-abbrev pub BreaksVersion : List ℕ → Reason → Type 0
-BreaksVersion text (custom rule) = IsVersionFault text rule
-BreaksVersion text memory = Unit {0}
+-- the refusal of a text without a version: the rule that it breaks; or memory was refused
+abbrev pub BreaksVersion : List ℕ → FaultKind → Type 0
+BreaksVersion text (kinds.Custom rule) = IsVersionFault text (broken_rule rule)
+BreaksVersion text kinds.Memory = Unit {0}
 BreaksVersion text _ = ⊥
+
+-- ---- as values
+
+-- the text has no version, since it breaks a rule
+abbrev pub VersionTextFaults : List ℕ → List ℕ → Fault → Type 0
+VersionTextFaults text at fault = (rule : BrokenRule) × IsVersionFault text rule × (fault ≡ fault_at at (custom rule))
+
+-- the value is a text with this version
+abbrev pub MeansVersion : Data → Parts → Type 0
+MeansVersion = MeansAs as_str HasVersion
+
+-- the value is no text, or a text that breaks a rule
+abbrev pub VersionFaults : Data → List ℕ → Fault → Type 0
+VersionFaults = FaultsAs as_str text_expected (λ text value. VersionTextFaults text)

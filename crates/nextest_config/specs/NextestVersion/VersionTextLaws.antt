@@ -1,5 +1,5 @@
 -- The laws of version texts, and version texts beside what `semver` reads.
-use Rattle.std.proofs.Common.{◌≡◌, ◌≢◌, ℕ, zero, suc, ◌+◌, ◌<◌, ◌^◌, List, [], ◌∷◌, ◌++◌, length, get_or, take, drop, Ok, IsErr, refl, sym, ap, ◌∙◌, subst, inl, inr, arith, append_assoc}
+use Rattle.std.proofs.Common.{◌≡◌, ◌≢◌, ℕ, zero, suc, ◌+◌, ◌<◌, ◌^◌, List, [], ◌∷◌, ◌++◌, length, get_or, take, drop, Ok, IsErr, refl, sym, ap, ap₂, ◌∙◌, subst, inl, inr, arith, append_assoc}
 use Rattle.std.proofs.lemmas.Bool.{false≢true}
 use Rattle.std.proofs.lemmas.Fmt.{decimal-digits_value, decimal_is_IsNumeral, decimal_digit, decimal_nonempty, first_decimal}
 use Rattle.std.proofs.lemmas.List.{append-nil, drop_more, take-append-drop}
@@ -10,14 +10,14 @@ use Rattle.std.specs.Str.Parse.{AllDigits, digits_value}
 use Rattle.semver.proofs.Grammar.{version_parts-sound, version_parts-complete}
 use Rattle.semver.specs.Identifiers.{marked, parts_text}
 use Rattle.semver.specs.Parse.{Parts, version_parts}
-use Rattle.nextest_config_values.specs.Read.Fault.{BrokenRule, pre_release, build_metadata, not_version}
-use Rattle.nextest_config.specs.NextestVersion.VersionText.{Numbers, plain, dot, hyphen, plus_sign, IsNumeral, IsThree, IsTwo, IsVersionText, IsPlain, HasFirstMark, IsVersionFault}
+use Rattle.toml.specs.Data.{as_str}
+use Rattle.nextest_config_values.specs.Read.{BrokenRule, build_metadata, custom, equality, fault_at, held, IsReading, not_version, pre_release, reading_as, text_expected}
+use Rattle.nextest_config.specs.NextestVersion.VersionText.{Numbers, plain, dot, hyphen, plus_sign, IsNumeral, IsThree, IsTwo, IsVersionText, IsPlain, HasFirstMark, HasVersion, IsVersionFault, MeansVersion, VersionFaults, VersionTextFaults}
 use Rattle.nextest_config_values.proofs.Lists.{all_right, all_joined, all_middle}
 
 own : IsNumeralModel (AllDigits 10) (digits_value 10)
 own = numerals_by_value (AllDigits 10) tells_digits
 
--- a numeral is what the number prints as
 pub numeral_text : (text : List ℕ) (n : ℕ) → IsNumeral text n → text ≡ decimal n
 numeral_text text n h =
     let fits : digits_value 10 text < 2 ^ 64 = rw h.value h.fits in
@@ -27,7 +27,6 @@ no_leading_zero : (n : ℕ) → n < 2 ^ 64 → get_or (decimal n) 0 0 ≡ 48 →
 no_leading_zero zero small first = rw (decimal_digit 0 (omega arith)) refl
 no_leading_zero (suc n) small first = absurd (omega (arith, first_decimal (suc n) (omega arith) small))
 
--- what a number prints as is a numeral
 pub decimal_numeral : (n : ℕ) → n < 2 ^ 64 → IsNumeral (decimal n) n
 decimal_numeral n small =
     let model = decimal_is_IsNumeral n small in
@@ -66,7 +65,6 @@ cut_last (c ∷ x) (d ∷ y) u v e a b =
 
 -- ---- three numbers
 
--- the text of three numbers
 abbrev joined : Numbers → List ℕ
 joined n = decimal n.0 ++ (dot ∷ (decimal n.1 ++ (dot ∷ decimal n.2)))
 
@@ -77,7 +75,6 @@ three_text : (text : List ℕ) (n : Numbers) → IsThree text n → text ≡ joi
 three_text text n h =
     rw (← numeral_text h.major n.0 h.major_is, ← numeral_text h.minor n.1 h.minor_is, ← numeral_text h.patch n.2 h.patch_is) h.whole
 
--- a text of three numbers is what `semver` reads as them
 pub three_read : (text : List ℕ) (n : Numbers) → IsThree text n → version_parts text ≡ Ok (plain n)
 three_read text n h =
     subst (λ (t : List ℕ). version_parts t ≡ Ok (plain n)) (plain_text n ∙ sym (three_text text n h))
@@ -89,35 +86,26 @@ no_marks [] (b ∷ build) h = absurd (h.0.1 refl)
 no_marks (b ∷ pre) build h = absurd (h.0.0 refl)
 
 plain_parts : (p : Parts) → p.3 ≡ [] → p.4 ≡ [] → p ≡ plain (p.0, p.1, p.2)
-plain_parts p no_pre no_build =
-    ap (λ (pre : List ℕ). (p.0, p.1, p.2, pre, p.4)) no_pre ∙ ap (λ (build : List ℕ). (p.0, p.1, p.2, [], build)) no_build
+plain_parts p no_pre no_build = ap₂ (λ (pre build : List ℕ). (p.0, p.1, p.2, pre, build)) no_pre no_build
 
-pub record ReadsThree (text : List ℕ) (p : Parts) : Type 0 where
-  pub numbers : Numbers
-  pub three : IsThree text numbers
-  pub parts : p ≡ plain numbers
-
--- what `semver` reads of a text with neither mark is three numbers
-pub read_three : (text : List ℕ) (p : Parts) → AllByRecursion IsPlain text → version_parts text ≡ Ok p → ReadsThree text p
+pub read_three : (text : List ℕ) (p : Parts) → AllByRecursion IsPlain text → version_parts text ≡ Ok p → (numbers : Numbers) × IsThree text numbers × (p ≡ plain numbers)
 read_three text p unmarked read =
     let sound = version_parts-sound text p read in
     let all = subst (AllByRecursion IsPlain) (sym sound.0) unmarked in
     let from_minor = (all_right IsPlain (decimal p.0) _ all).1 in
     let from_patch = (all_right IsPlain (decimal p.1) _ from_minor).1 in
     let none = no_marks p.3 p.4 (all_right IsPlain (decimal p.2) _ from_patch) in
-    let same = plain_parts p none.0 none.1 in record {
-      numbers = (p.0, p.1, p.2);
-      three = record {
-        major = decimal p.0;
-        minor = decimal p.1;
-        patch = decimal p.2;
-        whole = sym sound.0 ∙ ap parts_text same ∙ plain_text (p.0, p.1, p.2);
-        major_is = decimal_numeral p.0 sound.1.0;
-        minor_is = decimal_numeral p.1 sound.1.1;
-        patch_is = decimal_numeral p.2 sound.1.2;
-      };
-      parts = same;
-    }
+    let same = plain_parts p none.0 none.1 in
+    let three : IsThree text (p.0, p.1, p.2) = record {
+      major = decimal p.0;
+      minor = decimal p.1;
+      patch = decimal p.2;
+      whole = sym sound.0 ∙ ap parts_text same ∙ plain_text (p.0, p.1, p.2);
+      major_is = decimal_numeral p.0 sound.1.0;
+      minor_is = decimal_numeral p.1 sound.1.1;
+      patch_is = decimal_numeral p.2 sound.1.2;
+    } in
+    ((p.0, p.1, p.2), three, same)
 
 -- ---- two numbers
 
@@ -129,19 +117,10 @@ zero_numeral : IsNumeral (48 ∷ []) 0
 zero_numeral = subst (λ (t : List ℕ). IsNumeral t 0) (decimal_digit 0 (omega arith)) (decimal_numeral 0 (omega arith))
 
 two_is_three : (text : List ℕ) (n : Numbers) → IsTwo text n → IsThree (text ++ third) n
-two_is_three text n h = record {
-  major = h.major;
-  minor = h.minor;
-  patch = 48 ∷ [];
-  whole = rw h.whole (append_assoc h.major (dot ∷ h.minor) third);
-  major_is = h.major_is;
-  minor_is = h.minor_is;
-  patch_is = rw h.patch_is zero_numeral;
-}
-
--- a text of two numbers, with a zero added, is what `semver` reads as them
-pub two_read : (text : List ℕ) (n : Numbers) → IsTwo text n → version_parts (text ++ third) ≡ Ok (plain n)
-two_read text n h = three_read (text ++ third) n (two_is_three text n h)
+two_is_three text n h =
+    let whole : text ++ third ≡ h.major ++ (dot ∷ (h.minor ++ third)) = rw h.whole (append_assoc h.major (dot ∷ h.minor) third) in
+    let patch_is : IsNumeral (48 ∷ []) n.2 = rw h.patch_is zero_numeral in
+    record { major = h.major; minor = h.minor; patch = 48 ∷ []; whole = whole; major_is = h.major_is; minor_is = h.minor_is; patch_is = patch_is }
 
 third_plain : AllByRecursion IsPlain third
 third_plain = (dot_plain, ((λ e. cc e, λ e. cc e), tt))
@@ -149,39 +128,19 @@ third_plain = (dot_plain, ((λ e. cc e, λ e. cc e), tt))
 zero_no_dot : AllByRecursion NotDot (48 ∷ [])
 zero_no_dot = (λ e. cc e, tt)
 
-zero_patch : (patch : List ℕ) (n : ℕ) → IsNumeral patch n → 48 ∷ [] ≡ patch → n ≡ 0
-zero_patch patch n h e = sym h.value ∙ ap (digits_value 10) (sym e)
-
-pub record ReadsTwo (text : List ℕ) (p : Parts) : Type 0 where
-  pub numbers : Numbers
-  pub two : IsTwo text numbers
-  pub parts : p ≡ plain numbers
-
--- what `semver` reads of a text with neither mark, with a zero added, is two numbers and zero
-pub read_two : (text : List ℕ) (p : Parts) → AllByRecursion IsPlain text → version_parts (text ++ third) ≡ Ok p → ReadsTwo text p
+pub read_two : (text : List ℕ) (p : Parts) → AllByRecursion IsPlain text → version_parts (text ++ third) ≡ Ok p → (numbers : Numbers) × IsTwo text numbers × (p ≡ plain numbers)
 read_two text p unmarked read =
-    let all = read_three (text ++ third) p (all_joined IsPlain text third unmarked third_plain) read in
-    let h = all.three in
-    let parts_cut : text ++ third ≡ (h.major ++ (dot ∷ h.minor)) ++ (dot ∷ h.patch) =
-    h.whole ∙ sym (append_assoc h.major (dot ∷ h.minor) (dot ∷ h.patch)) in
-    let cut = cut_last text (h.major ++ (dot ∷ h.minor)) (48 ∷ []) h.patch parts_cut zero_no_dot (digits_no_dot h.patch h.patch_is.digits) in record {
-      numbers = all.numbers;
-      two = record {
-        major = h.major;
-        minor = h.minor;
-        whole = cut.0;
-        major_is = h.major_is;
-        minor_is = h.minor_is;
-        patch_is = zero_patch h.patch all.numbers.2 h.patch_is cut.1;
-      };
-      parts = all.parts;
-    }
+    let (numbers, h, parts) = read_three (text ++ third) p (all_joined IsPlain text third unmarked third_plain) read in
+    let ends : text ++ third ≡ (h.major ++ (dot ∷ h.minor)) ++ (dot ∷ h.patch) = h.whole ∙ sym (append_assoc h.major (dot ∷ h.minor) (dot ∷ h.patch)) in
+    let cut = cut_last text (h.major ++ (dot ∷ h.minor)) (48 ∷ []) h.patch ends zero_no_dot (digits_no_dot h.patch h.patch_is.digits) in
+    let patch_is : numbers.2 ≡ 0 = sym h.patch_is.value ∙ ap (digits_value 10) (sym cut.1) in
+    (numbers, record { major = h.major; minor = h.minor; whole = cut.0; major_is = h.major_is; minor_is = h.minor_is; patch_is = patch_is }, parts)
 
 -- ---- one version, and no fault beside it
 
-ok_plain : (m n : Numbers) (r : _) → version_parts r ≡ Ok (plain m) → version_parts r ≡ Ok (plain n) → m ≡ n
-ok_plain m n r a b =
-    let same : plain m ≡ plain n = cc in
+three_once : (text : List ℕ) (m n : Numbers) → IsThree text m → IsThree text n → m ≡ n
+three_once text m n h k =
+    let same : plain m ≡ plain n = cc (three_read text m h, three_read text n k) in
     ap (λ (p : Parts). (p.0, p.1, p.2)) same
 
 -- a text isn't both `x.y.z` and `x.y`
@@ -193,12 +152,11 @@ three_or_two text m n h k =
     let one = subst (AllByRecursion NotDot) (sym cut.0) (digits_no_dot k.major k.major_is.digits) in
     all_middle NotDot h.major dot h.minor one refl
 
--- no text has two versions
 pub version_once : (text : List ℕ) (m n : Numbers) → IsVersionText text m → IsVersionText text n → m ≡ n
-version_once text m n (inl h) (inl k) = ok_plain m n text (three_read text m h) (three_read text n k)
+version_once text m n (inl h) (inl k) = three_once text m n h k
 version_once text m n (inl h) (inr k) = absurd (three_or_two text m n h k)
 version_once text m n (inr h) (inl k) = absurd (three_or_two text n m k h)
-version_once text m n (inr h) (inr k) = ok_plain m n (text ++ third) (two_read text m h) (two_read text n k)
+version_once text m n (inr h) (inr k) = three_once (text ++ third) m n (two_is_three text m h) (two_is_three text n k)
 
 version_plain : (text : List ℕ) (n : Numbers) → IsVersionText text n → AllByRecursion IsPlain text
 version_plain text n (inl h) =
@@ -209,21 +167,27 @@ version_plain text n (inr h) =
     let minor = digits_plain h.minor h.minor_is.digits in
     rw h.whole (all_joined IsPlain h.major (dot ∷ h.minor) (digits_plain h.major h.major_is.digits) (dot_plain, minor))
 
--- a text with a version breaks no rule
+hyphen_is_mark : ¬ IsPlain hyphen
+hyphen_is_mark p = p.0 refl
+
+plus_is_mark : ¬ IsPlain plus_sign
+plus_is_mark p = p.1 refl
+
+not_unmarked : (mark : ℕ) (text : List ℕ) → ¬ IsPlain mark → HasFirstMark mark text → AllByRecursion IsPlain text → ⊥
+not_unmarked mark text is_mark h plain = is_mark (all_middle IsPlain h.before mark h.after (subst (AllByRecursion IsPlain) h.whole plain))
+
 pub version_not_fault : (text : List ℕ) (n : Numbers) (rule : BrokenRule) → IsVersionText text n → IsVersionFault text rule → ⊥
-version_not_fault text n pre_release h k = (all_middle IsPlain k.before hyphen k.after (subst (AllByRecursion IsPlain) k.whole (version_plain text n h))).0 refl
-version_not_fault text n build_metadata h k = (all_middle IsPlain k.before plus_sign k.after (subst (AllByRecursion IsPlain) k.whole (version_plain text n h))).1 refl
+version_not_fault text n pre_release h k = not_unmarked hyphen text hyphen_is_mark k (version_plain text n h)
+version_not_fault text n build_metadata h k = not_unmarked plus_sign text plus_is_mark k (version_plain text n h)
 version_not_fault text n (not_version written) h k = k.2 n h
 version_not_fault text n _ h k = absurd k
 
--- a text with neither mark that `semver` refuses, with a zero added too, has no version
 pub no_version : (text : List ℕ) → IsErr (version_parts text) → IsErr (version_parts (text ++ third)) → (n : Numbers) → ¬ IsVersionText text n
 no_version text three two n (inl h) = absurd (false≢true (rw (three_read text n h) at three))
-no_version text three two n (inr h) = absurd (false≢true (rw (two_read text n h) at two))
+no_version text three two n (inr h) = absurd (false≢true (rw (three_read (text ++ third) n (two_is_three text n h)) at two))
 
 -- ---- one rule
 
--- the first mark of a text is one
 one_mark : (b d a c : List ℕ) (m n : ℕ) → b ++ (m ∷ a) ≡ d ++ (n ∷ c) → AllByRecursion IsPlain b → AllByRecursion IsPlain d → ¬ IsPlain m → ¬ IsPlain n → m ≡ n
 one_mark [] [] a c m n e p q mark other = cc e
 one_mark [] (x ∷ d) a c m n e p q mark other =
@@ -236,21 +200,11 @@ one_mark (x ∷ b) (y ∷ d) a c m n e p q mark other =
     let rest : b ++ (m ∷ a) ≡ d ++ (n ∷ c) = cc e in
     one_mark b d a c m n rest p.1 q.1 mark other
 
-hyphen_is_mark : ¬ IsPlain hyphen
-hyphen_is_mark p = p.0 refl
-
-plus_is_mark : ¬ IsPlain plus_sign
-plus_is_mark p = p.1 refl
-
 not_both_marks : (text : List ℕ) → HasFirstMark hyphen text → HasFirstMark plus_sign text → ⊥
 not_both_marks text h k =
     let same = one_mark h.before k.before h.after k.after hyphen plus_sign (sym h.whole ∙ k.whole) h.first k.first hyphen_is_mark plus_is_mark in
     cc same
 
-not_unmarked : (mark : ℕ) (text : List ℕ) → ¬ IsPlain mark → HasFirstMark mark text → AllByRecursion IsPlain text → ⊥
-not_unmarked mark text is_mark h plain = is_mark (all_middle IsPlain h.before mark h.after (subst (AllByRecursion IsPlain) h.whole plain))
-
--- a text breaks one rule
 pub one_rule : (text : List ℕ) (r s : BrokenRule) → IsVersionFault text r → IsVersionFault text s → r ≡ s
 one_rule text pre_release pre_release h k = refl
 one_rule text pre_release build_metadata h k = absurd (not_both_marks text h k)
@@ -266,12 +220,22 @@ one_rule text build_metadata _ h k = absurd k
 one_rule text (not_version w) _ h k = absurd k
 one_rule text _ s h k = absurd h
 
+-- ---- versions as values
+
+pub text_reading : IsReading HasVersion VersionTextFaults (λ a b. a ≡ b)
+text_reading = record {
+  equivalence = equality;
+  one_meaning = λ text x y a b. a.2 ∙ ap plain (version_once text a.0 b.0 a.1 b.1) ∙ sym b.2;
+  one_fault = λ text at f g a b. a.2 ∙ ap (λ rule. fault_at at (custom rule)) (one_rule text a.0 b.0 a.1 b.1) ∙ sym b.2;
+  never_both = λ text at x f a b. version_not_fault text a.0 b.0 a.1 b.1;
+}
+
+pub version_reading : IsReading MeansVersion VersionFaults (λ a b. a ≡ b)
+version_reading = reading_as as_str text_expected HasVersion (λ text value. VersionTextFaults text) (λ a b. a ≡ b) (held text_reading)
+
 -- ---- the scan for a mark
 
 pub mark_at : (mark : ℕ) (text bytes : List ℕ) (i : ℕ) → bytes ≡ text → i < length bytes → get_or bytes i 0 ≡ mark → AllByRecursion IsPlain (take i text) → HasFirstMark mark text
-mark_at mark text bytes i same within here before = record {
-  before = take i text;
-  after = drop (i + 1) bytes;
-  whole = sym (take-append-drop i text) ∙ ap (λ (rest : List ℕ). take i text ++ rest) (rw (← same, ← here) (drop_more bytes i 0 within));
-  first = before;
-}
+mark_at mark text bytes i same within here before =
+    let rest : drop i text ≡ mark ∷ drop (i + 1) bytes = rw (← same, ← here) (drop_more bytes i 0 within) in
+    record { before = take i text; after = drop (i + 1) bytes; whole = sym (take-append-drop i text) ∙ ap (λ (r : List ℕ). take i text ++ r) rest; first = before }

@@ -1,7 +1,8 @@
 //! Why a source, or a list of sources, was refused.
 
 ghost use Rattle.std.specs.Prelude.{◌≡◌, ◌↔◌, IsNone, Some, None, option_map, is_none, false};
-ghost use Rattle.nextest_config.specs.NextestVersion.ErrorKind.{is_memory, no_memory, wrong_of};
+ghost use Rattle.nextest_config.specs.NextestVersion.ErrorKind.{is_memory, wrong_of};
+ghost use Rattle.nextest_config.specs.declared.nextest_version.error_kind.ConfigParseErrorKind.TheVariants.{Memory};
 
 use super::error_kind::ConfigParseErrorKind;
 use super::source::ConfigSource;
@@ -18,12 +19,12 @@ pub struct ConfigParseError {
 }
 
 impl ConfigParseError {
-    ghost use Rattle.nextest_config.specs.NextestVersion.Error.{IsErrorOf, out_of_memory, refusal_of};
+    ghost use Rattle.nextest_config.specs.NextestVersion.Error.{IsErrorOf, kind_of, refusal_at, refusal_of, source_place};
     ghost use Rattle.nextest_config.specs.NextestVersion.Source.{place_of};
 
     // The error of a source; of none where a request for memory was refused.
     pub(crate) fn of(source: ConfigSource, kind: ConfigParseErrorKind) -> Self
-        ensures { IsErrorOf (place_of source) (wrong_of kind) (refusal_of result) }
+        ensures { IsErrorOf (place_of source) kind result }
     {
         if kind.is_memory() {
             return ConfigParseError::memory();
@@ -33,7 +34,7 @@ impl ConfigParseError {
 
     // The error that says nothing of any source.
     fn memory() -> Self
-        ensures { refusal_of result ≡ out_of_memory }
+        ensures { kind_of result ≡ Memory }
     {
         ConfigParseError {
             kind: ConfigParseErrorKind::Memory,
@@ -44,7 +45,7 @@ impl ConfigParseError {
     // The error of a source that was judged.
     fn new(source: ConfigSource, kind: ConfigParseErrorKind) -> Self
         requires { is_memory kind ≡ false }
-        ensures { refusal_of result ≡ record { place = Some (place_of source); wrong = wrong_of kind } }
+        ensures { refusal_of result ≡ option_map (refusal_at (place_of source)) (wrong_of kind) }
     {
         ConfigParseError {
             kind,
@@ -54,24 +55,24 @@ impl ConfigParseError {
 
     /// What is wrong.
     pub fn kind(&self) -> &ConfigParseErrorKind
-        ensures { wrong_of result.now ≡ (refusal_of self.now).wrong }
+        ensures { result.now ≡ kind_of self.now }
     {
         &self.kind
     }
 
     /// The source that is refused; none where a request for memory was refused.
     pub fn source(&self) -> Option<&ConfigSource>
-        ensures place { option_map (λ source. place_of source.now) result ≡ (refusal_of self.now).place }
-        ensures none { IsNone result ↔ ((refusal_of self.now).wrong ≡ no_memory) }
+        ensures place { option_map (λ source. place_of source.now) result ≡ source_place self.now }
+        ensures none { IsNone result ↔ (kind_of self.now ≡ Memory) }
     {
         self.source.as_ref()
     }
 }
 
 impl From<AllocError> for ConfigParseError {
-    ghost use Rattle.nextest_config.specs.NextestVersion.Error.{out_of_memory, refusal_of};
+    ghost use Rattle.nextest_config.specs.NextestVersion.Error.{kind_of};
 
-    ghost from_gives = { λ _ error. refusal_of error ≡ out_of_memory };
+    ghost from_gives = { λ _ error. kind_of error ≡ Memory };
 
     fn from(_error: AllocError) -> ConfigParseError {
         ConfigParseError::memory()
@@ -79,9 +80,9 @@ impl From<AllocError> for ConfigParseError {
 }
 
 impl fmt::Display for ConfigParseError {
-    ghost use Rattle.nextest_config.specs.NextestVersion.Error.{refusal_of, refusal_text};
+    ghost use Rattle.nextest_config.specs.NextestVersion.Error.{error_text};
 
-    ghost output = { λ error. Some (refusal_text (refusal_of error)) };
+    ghost output = { λ error. Some (error_text error) };
 
     fn fmt<W: fmt::Write>(&self, f: &mut fmt::Formatter<W>) -> fmt::Result {
         if let Some(source) = &self.source {
@@ -106,7 +107,7 @@ pub enum ListRefusal {
 }
 
 impl ListRefusal {
-    ghost use Rattle.nextest_config.specs.NextestVersion.Error.{IsRefusalAt};
+    ghost use Rattle.nextest_config.specs.NextestVersion.Error.{IsKindAt};
     ghost use Rattle.nextest_config.specs.NextestVersion.Source.{place_of};
 
     // The refusal of the source at this position.
@@ -116,7 +117,7 @@ impl ListRefusal {
         source: &ConfigSource,
         kind: ConfigParseErrorKind,
     ) -> Self
-        ensures { IsRefusalAt position (place_of source.now) (wrong_of kind) result }
+        ensures { IsKindAt position (place_of source.now) kind result }
     {
         if kind.is_memory() {
             return ListRefusal::Memory;

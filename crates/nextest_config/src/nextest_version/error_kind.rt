@@ -1,7 +1,6 @@
 //! What is wrong with a source.
 
 ghost use Rattle.std.specs.Prelude.{◌≡◌, Some};
-ghost use Rattle.nextest_config_values.specs.Read.Fault.{fault_of};
 
 use nextest_config_values::read::{QuotedTexts, ReadFault};
 use std::alloc::AllocError;
@@ -48,9 +47,9 @@ impl From<AllocError> for ConfigParseErrorKind {
 }
 
 impl From<ReadFault> for ConfigParseErrorKind {
-    ghost use Rattle.nextest_config.specs.NextestVersion.ErrorKind.{wrong_from, wrong_of};
+    ghost use Rattle.nextest_config.specs.NextestVersion.ErrorKind.{IsSettingKind};
 
-    ghost from_gives = { λ fault kind. wrong_of kind ≡ wrong_from (fault_of fault) };
+    ghost from_gives = { IsSettingKind };
 
     fn from(fault: ReadFault) -> Self {
         if fault.is_memory() {
@@ -62,9 +61,9 @@ impl From<ReadFault> for ConfigParseErrorKind {
 }
 
 impl fmt::Display for ConfigParseErrorKind {
-    ghost use Rattle.nextest_config.specs.NextestVersion.ErrorKind.{wrong_of, wrong_text};
+    ghost use Rattle.nextest_config.specs.NextestVersion.ErrorKind.{error_kind_text};
 
-    ghost output = { λ kind. Some (wrong_text (wrong_of kind)) };
+    ghost output = { λ kind. Some (error_kind_text kind) };
 
     fn fmt<W: fmt::Write>(&self, f: &mut fmt::Formatter<W>) -> fmt::Result {
         match self {

@@ -2,7 +2,7 @@
 
 ghost use Rattle.std.specs.Prelude.{◌≡◌, ◌↔◌, Contains, Some, IfOk, IsTrue, OnErr, OnOk, option_map};
 ghost use Rattle.std.specs.Iterator.{YieldsFirst, item_count};
-ghost use Rattle.nextest_config.specs.NextestVersion.Experimental.{FeaturesInOrder, HasOneMore, IsEnabled, IsUnknown, all_features, features_left, variable_of, word_of};
+ghost use Rattle.nextest_config.specs.NextestVersion.{all_features, features_left, FeaturesInOrder, HasOneMore, IsEnabled, IsUnknown, variable_of, word_of};
 
 use std::alloc::{AllocError, Global};
 use std::collections::{BTreeMap, BTreeSet};

@@ -2,9 +2,7 @@
 
 ghost use Rattle.std.specs.Prelude.{◌≡◌, IfOk, OnOk};
 ghost use Rattle.std.specs.Iterator.{YieldsFirstBy, item_count};
-ghost use Rattle.nextest_config.specs.NextestVersion.ExperimentalConfig.{AddsFeatures, errors_left, experimental_of, no_experimental, told_by, unknown_of};
-ghost use Rattle.nextest_config.specs.NextestVersion.ExperimentalDeserialize.{features_of};
-ghost use Rattle.nextest_config.specs.NextestVersion.Source.{place_of};
+ghost use Rattle.nextest_config.specs.NextestVersion.{AddsFeatures, errors_left, experimental_of, features_of, no_experimental, place_of, told_by, unknown_of};
 
 use super::experimental::ConfigExperimental;
 use super::experimental_deserialize::ExperimentalDeserialize;

@@ -1,12 +1,9 @@
 //! The experimental features that one source names.
 
-ghost use Rattle.std.specs.Prelude.{◌≡◌, ◌↔◌, ℕ, List, Contains, true, IfOk, IfErr, IsTrue, OnOk, map, string_bytes};
+ghost use Rattle.std.specs.Prelude.{◌≡◌, ◌↔◌, ℕ, Bool, List, Contains, true, IfOk, IfErr, IsTrue, OnOk, map, string_bytes};
 ghost use Rattle.toml.specs.View.{array_view, table_view, view};
-ghost use Rattle.nextest_config_values.specs.Read.Fault.{Refuses, RefusesAs, fault_of, wrong_type};
-ghost use Rattle.nextest_config_values.specs.Read.FromToml.{text_expected};
-ghost use Rattle.nextest_config.specs.NextestVersion.Experimental.{FeaturesInOrder, HasOneMore, TextsInOrder};
-ghost use Rattle.nextest_config.specs.NextestVersion.ExperimentalDeserialize.{AddsItem, AddsText, AreInOrder, AreNames, ArrayFaults, FeaturesAlike, FeaturesFaults, IsUnknownKey, IsWordAmong, ItemFaults, MeansArray, MeansFeatures, MeansSwitch, MeansTable, SwitchFaults, TableFaults, features_of, is_on, item_path, no_features};
-ghost use Rattle.nextest_config.specs.NextestVersion.ExperimentalLaws.{features_reading};
+ghost use Rattle.nextest_config_values.specs.Read.{Refuses, RefusesAs, text_expected, wrong_type};
+ghost use Rattle.nextest_config.specs.NextestVersion.{AddsItem, AddsText, AreNames, FeatureArrayFaults, features_of, features_reading, FeaturesAlike, FeaturesFaults, FeaturesInOrder, FeatureTableFaults, HasOneMore, IsUnknownKey, IsWordAmong, item_path, ItemFaults, MeansFeatureArray, MeansFeatures, MeansFeatureTable, MeansSwitch, no_features, SwitchFaults, TextsInOrder};
 
 use super::experimental::{ConfigExperimental, add_feature};
 use nextest_config_values::read::{FromToml, ReadFault, field_or};
@@ -25,59 +22,6 @@ pub struct ExperimentalDeserialize {
     pub known: BTreeSet<ConfigExperimental>,
     /// The names that are those of no feature.
     pub unknown: BTreeSet<String>,
-}
-
-// Whether a table enables each of the features.
-#[derive(Clone, Copy)]
-struct Switches {
-    setup_scripts: bool,
-    wrapper_scripts: bool,
-    benchmarks: bool,
-}
-
-impl Switches {
-    // Whether the table enables the feature.
-    fn is_on(self, feature: ConfigExperimental) -> bool
-        ensures { result ≡ is_on self feature }
-    {
-        match feature {
-            ConfigExperimental::SetupScripts => self.setup_scripts,
-            ConfigExperimental::WrapperScripts => self.wrapper_scripts,
-            ConfigExperimental::Benchmarks => self.benchmarks,
-        }
-    }
-
-    // What a table says of each of the features.
-    fn read(alloc: Global, table: &Table, at: &str) -> Result<Self, ReadFault>
-        ensures meant { IfOk result (λ switches. (feature : ConfigExperimental)
-            → MeansSwitch feature (table_view table.now) (is_on switches feature)) }
-        ensures refused { IfErr result (λ fault. Refuses
-            (TableFaults (table_view table.now) at.now) (Unit {0}) (fault_of fault)) }
-    {
-        let setup_scripts = read_switch(alloc, table, ConfigExperimental::SetupScripts, at)?;
-        let wrapper_scripts = read_switch(alloc, table, ConfigExperimental::WrapperScripts, at)?;
-        let benchmarks = read_switch(alloc, table, ConfigExperimental::Benchmarks, at)?;
-        Ok(Switches {
-            setup_scripts,
-            wrapper_scripts,
-            benchmarks,
-        })
-    }
-
-    // The features that the table enables.
-    fn features(self, alloc: Global) -> Result<BTreeSet<ConfigExperimental>, AllocError>
-        ensures on { IfOk result (λ features. (feature : ConfigExperimental)
-            → Contains features.keys feature ↔ IsTrue (is_on self feature)) }
-        ensures in_order { IfOk result (λ features. FeaturesInOrder features.keys) }
-    {
-        let mut features = BTreeSet::new(alloc);
-        for feature in ConfigExperimental::known_features() {
-            if self.is_on(feature) {
-                add_feature(&mut features, feature)?;
-            }
-        }
-        Ok(features)
-    }
 }
 
 impl ExperimentalDeserialize {
@@ -120,9 +64,9 @@ impl ExperimentalDeserialize {
 
     // The features that an array names.
     fn read_array(alloc: Global, array: &Array, at: &str) -> Result<Self, ReadFault>
-        ensures meant { IfOk result (λ d. MeansArray (array_view array.now) (features_of d)) }
-        ensures refused { IfErr result (λ fault. Refuses
-            (ArrayFaults (array_view array.now) at.now) (Unit {0}) (fault_of fault)) }
+        ensures meant { IfOk result (λ d. MeansFeatureArray (array_view array.now) (features_of d)) }
+        ensures refused { IfErr result (Refuses
+            (FeatureArrayFaults (array_view array.now) at.now) (Unit {0})) }
     {
         let mut features = ExperimentalDeserialize::new(alloc);
         for (index, value) in array.iter().enumerate() {
@@ -141,8 +85,8 @@ impl ExperimentalDeserialize {
     ) -> Result<(), ReadFault>
         ensures added { OnOk result
             (AddsItem (features_of self.old) (view value.now) (features_of self.new)) }
-        ensures refused { IfErr result (λ fault. Refuses
-            (ItemFaults (view value.now) index at.now) (Unit {0}) (fault_of fault)) }
+        ensures refused { IfErr result (Refuses
+            (ItemFaults (view value.now) index at.now) (Unit {0})) }
     {
         let Some(text) = value.as_str() else {
             return Err(item_fault(alloc, value, index, at));
@@ -155,28 +99,15 @@ impl ExperimentalDeserialize {
 
     // The features that a table names.
     fn read_table(alloc: Global, table: &Table, at: &str) -> Result<Self, ReadFault>
-        ensures meant { IfOk result (λ d. MeansTable (table_view table.now) (features_of d)) }
-        ensures refused { IfErr result (λ fault. Refuses
-            (TableFaults (table_view table.now) at.now) (Unit {0}) (fault_of fault)) }
+        ensures meant { IfOk result (λ d. MeansFeatureTable (table_view table.now) (features_of d)) }
+        ensures refused { IfErr result (Refuses
+            (FeatureTableFaults (table_view table.now) at.now) (Unit {0})) }
     {
-        let switches = Switches::read(alloc, table, at)?;
-        match ExperimentalDeserialize::of_table(alloc, table, switches) {
-            Ok(features) => Ok(features),
+        let known = read_switches(alloc, table, at)?;
+        match unknown_keys(alloc, table) {
+            Ok(unknown) => Ok(ExperimentalDeserialize { known, unknown }),
             Err(AllocError) => Err(ReadFault::memory(alloc)),
         }
-    }
-
-    // The features that are switched on, and the table's other keys.
-    fn of_table(alloc: Global, table: &Table, switches: Switches) -> Result<Self, AllocError>
-        ensures known { IfOk result (λ d. (feature : ConfigExperimental)
-            → Contains (features_of d).known feature ↔ IsTrue (is_on switches feature)) }
-        ensures unknown { IfOk result (λ d. (text : List ℕ)
-            → Contains (features_of d).unknown text ↔ IsUnknownKey (table_view table.now) text) }
-        ensures in_order { IfOk result (λ d. AreInOrder (features_of d)) }
-    {
-        let known = switches.features(alloc)?;
-        let unknown = unknown_keys(alloc, table)?;
-        Ok(ExperimentalDeserialize { known, unknown })
     }
 
     // Adds a name.
@@ -234,6 +165,32 @@ fn known_words(
     Ok(words)
 }
 
+// The features whose keys are true, where none has a value that is no boolean.
+fn read_switches(
+    alloc: Global,
+    table: &Table,
+    at: &str,
+) -> Result<BTreeSet<ConfigExperimental>, ReadFault>
+    ensures switches { OnOk result ((feature : ConfigExperimental)
+        → (on : Bool) × MeansSwitch feature (table_view table.now) on) }
+    ensures on { IfOk result (λ known. (feature : ConfigExperimental)
+        → Contains known.keys feature ↔ MeansSwitch feature (table_view table.now) true) }
+    ensures in_order { IfOk result (λ known. FeaturesInOrder known.keys) }
+    ensures refused { IfErr result (Refuses
+        (FeatureTableFaults (table_view table.now) at.now) (Unit {0})) }
+{
+    let mut known = BTreeSet::new(alloc);
+    for feature in ConfigExperimental::known_features() {
+        if !read_switch(alloc, table, feature, at)? {
+            continue;
+        }
+        let Ok(()) = add_feature(&mut known, feature) else {
+            return Err(ReadFault::memory(alloc));
+        };
+    }
+    Ok(known)
+}
+
 // Whether the key of a feature is true; a missing key is false.
 fn read_switch(
     alloc: Global,
@@ -242,8 +199,8 @@ fn read_switch(
     at: &str,
 ) -> Result<bool, ReadFault>
     ensures meant { IfOk result (MeansSwitch feature (table_view table.now)) }
-    ensures refused { IfErr result (λ fault. Refuses
-        (SwitchFaults feature (table_view table.now) at.now) (Unit {0}) (fault_of fault)) }
+    ensures refused { IfErr result (Refuses
+        (SwitchFaults feature (table_view table.now) at.now) (Unit {0})) }
 {
     field_or(alloc, table, feature.as_word(), at, false)
 }
@@ -277,8 +234,7 @@ fn add_text(alloc: Global, texts: &mut BTreeSet<String>, text: &str) -> Result<(
 
 // The fault of an element that is no text.
 fn item_fault(alloc: Global, value: &Value, index: usize, at: &str) -> ReadFault
-    ensures { RefusesAs (wrong_type (view value.now) (item_path at.now index) text_expected)
-        (fault_of result) }
+    ensures { RefusesAs (wrong_type (view value.now) (item_path at.now index) text_expected) result }
 {
     match format!(in alloc; "{at}[{index}]") {
         Ok(path) => ReadFault::invalid_type(alloc, value, path.as_str(), "a string"),

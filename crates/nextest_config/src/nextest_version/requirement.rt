@@ -1,10 +1,11 @@
-//! The versions that are kept, and the verdict on the current one.
+//! The versions that are kept of all sources read so far.
 
 ghost use Rattle.std.specs.Prelude.{◌≡◌, true, IfOk, IsOk, OnOk, OnErr, option_map, Some, None};
 ghost use Rattle.semver.specs.Identifiers.{parts_of};
 
-use super::ask::NextestVersionDeserialize;
+use super::nextest_version_deserialize::NextestVersionDeserialize;
 use super::source::ConfigSource;
+use super::verdict::NextestVersionEval;
 use semver::Version;
 use std::alloc::{AllocError, Global};
 use std::cmp::Ordering;
@@ -29,45 +30,6 @@ pub struct NextestVersionConfig {
     /// The version below which there is a warning. It may be lower than the required one, and is
     /// without effect then.
     pub recommended: NextestVersionReq,
-}
-
-/// What the current version is told.
-#[derive(Debug, PartialEq, Eq, Drop)]
-pub enum NextestVersionEval {
-    /// It is enough for both roles.
-    Satisfied,
-    /// It isn't enough for the required version.
-    Error {
-        required: Version,
-        current: Version,
-        source: ConfigSource,
-    },
-    /// It isn't enough for the recommended version.
-    Warn {
-        recommended: Version,
-        current: Version,
-        source: ConfigSource,
-    },
-    /// It isn't enough for the required version, and the check is overridden.
-    ErrorOverride {
-        required: Version,
-        current: Version,
-        source: ConfigSource,
-    },
-    /// It isn't enough for the recommended version, and the check is overridden.
-    WarnOverride {
-        recommended: Version,
-        current: Version,
-        source: ConfigSource,
-    },
-}
-
-/// How grave a verdict is, overridden or not.
-#[derive(Clone, Copy, Debug, PartialEq, Eq, PartialOrd, Ord, Hash)]
-pub enum Severity {
-    Satisfied,
-    Warn,
-    Error,
 }
 
 impl Default for NextestVersionReq {
@@ -164,7 +126,7 @@ impl NextestVersionReq {
 }
 
 impl NextestVersionConfig {
-    ghost use Rattle.nextest_config.specs.NextestVersion.Ask.{versions_of};
+    ghost use Rattle.nextest_config.specs.NextestVersion.NextestVersionDeserialize.{versions_of};
     ghost use Rattle.nextest_config.specs.NextestVersion.Requirement.{join_roles, roles_from, roles_of};
     ghost use Rattle.nextest_config.specs.NextestVersion.Source.{place_of};
     ghost use Rattle.nextest_config.specs.NextestVersion.Verdict.{satisfied, verdict, verdict_of};
@@ -239,109 +201,5 @@ impl NextestVersionConfig {
             );
         }
         Ok(NextestVersionEval::Satisfied)
-    }
-}
-
-impl NextestVersionEval {
-    ghost use Rattle.nextest_config.specs.NextestVersion.Verdict.{error, severity_of, shortfall, verdict_of, warn};
-
-    // The error of an unmet required version.
-    fn error(
-        alloc: Global,
-        required: &Version,
-        current: &Version,
-        source: &ConfigSource,
-        overridden: bool,
-    ) -> Result<Self, AllocError>
-        ensures { IfOk result (λ eval. verdict_of eval
-            ≡ error (shortfall required.now current.now source.now overridden)) }
-    {
-        let (required, current) = (required.clone()?, current.clone()?);
-        let source = source.clone(alloc)?;
-        if overridden {
-            Ok(NextestVersionEval::ErrorOverride {
-                required,
-                current,
-                source,
-            })
-        } else {
-            Ok(NextestVersionEval::Error {
-                required,
-                current,
-                source,
-            })
-        }
-    }
-
-    // The warning of an unmet recommended version.
-    fn warning(
-        alloc: Global,
-        recommended: &Version,
-        current: &Version,
-        source: &ConfigSource,
-        overridden: bool,
-    ) -> Result<Self, AllocError>
-        ensures { IfOk result (λ eval. verdict_of eval
-            ≡ warn (shortfall recommended.now current.now source.now overridden)) }
-    {
-        let (recommended, current) = (recommended.clone()?, current.clone()?);
-        let source = source.clone(alloc)?;
-        if overridden {
-            Ok(NextestVersionEval::WarnOverride {
-                recommended,
-                current,
-                source,
-            })
-        } else {
-            Ok(NextestVersionEval::Warn {
-                recommended,
-                current,
-                source,
-            })
-        }
-    }
-
-    /// A copy of the verdict.
-    pub fn clone(&self, alloc: Global) -> Result<Self, AllocError>
-        ensures { IfOk result (λ eval. verdict_of eval ≡ verdict_of self.now) }
-    {
-        match self {
-            NextestVersionEval::Satisfied => Ok(NextestVersionEval::Satisfied),
-            NextestVersionEval::Error {
-                required,
-                current,
-                source,
-            } => NextestVersionEval::error(alloc, required, current, source, false),
-            NextestVersionEval::Warn {
-                recommended,
-                current,
-                source,
-            } => NextestVersionEval::warning(alloc, recommended, current, source, false),
-            NextestVersionEval::ErrorOverride {
-                required,
-                current,
-                source,
-            } => NextestVersionEval::error(alloc, required, current, source, true),
-            NextestVersionEval::WarnOverride {
-                recommended,
-                current,
-                source,
-            } => NextestVersionEval::warning(alloc, recommended, current, source, true),
-        }
-    }
-
-    /// How grave the verdict is; an overridden one is as grave as the plain one.
-    pub fn severity(&self) -> Severity
-        ensures { result ≡ severity_of (verdict_of self.now) }
-    {
-        match self {
-            NextestVersionEval::Satisfied => Severity::Satisfied,
-            NextestVersionEval::Warn { .. } | NextestVersionEval::WarnOverride { .. } => {
-                Severity::Warn
-            }
-            NextestVersionEval::Error { .. } | NextestVersionEval::ErrorOverride { .. } => {
-                Severity::Error
-            }
-        }
     }
 }

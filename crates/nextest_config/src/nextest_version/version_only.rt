@@ -1,14 +1,9 @@
 //! The configuration of a list of sources.
 
 ghost use Rattle.std.specs.Prelude.{◌≡◌, IfOk, IfErr, OnOk, map, option_map, reverse, string_bytes};
-ghost use Rattle.nextest_config.specs.NextestVersion.Error.{out_of_memory, refusal_of};
-ghost use Rattle.nextest_config.specs.NextestVersion.ErrorKind.{wrong_of};
-ghost use Rattle.nextest_config.specs.NextestVersion.ExperimentalConfig.{experimental_of};
-ghost use Rattle.nextest_config.specs.NextestVersion.Requirement.{roles_of};
-ghost use Rattle.nextest_config.specs.NextestVersion.Source.{place_of, source_of, sources_of, tool_source};
-ghost use Rattle.nextest_config.specs.NextestVersion.VersionOnly.{Adds, IsErrorOfList, IsRefusalOf, Reads, SelectsFor, StandsFor, configuration_of, neutral};
-ghost use Rattle.nextest_config.specs.NextestVersion.VersionOnlyDeserialize.{IsWrongOrMemory};
+ghost use Rattle.nextest_config.specs.NextestVersion.{Adds, configuration_of, experimental_of, IsErrorOfList, IsRefusalOf, IsWrong, kind_of, neutral, place_of, Reads, RefusesSource, roles_of, SelectsFor, source_of, sources_of, StandsFor, tool_source};
 ghost use Rattle.nextest_config.specs.declared.nextest_version.error.ListRefusal.TheVariants.{Memory};
+ghost use Rattle.nextest_config.specs.declared.nextest_version.error_kind.ConfigParseErrorKind.TheVariants as kinds;
 
 use super::error::{ConfigParseError, ListRefusal};
 use super::error_kind::ConfigParseErrorKind;
@@ -82,9 +77,8 @@ impl VersionOnlyConfig {
         ensures selected { IfOk result (λ config.
             SelectsFor (sources_of repository.now tools.now) (configuration_of config).roles) }
         ensures only { Reads (sources_of repository.now tools.now)
-            → IfErr result (λ error. refusal_of error ≡ out_of_memory) }
-        ensures refused { IfErr result (λ error.
-            IsErrorOfList (sources_of repository.now tools.now) (refusal_of error)) }
+            → IfErr result (λ error. kind_of error ≡ kinds.Memory) }
+        ensures refused { IfErr result (IsErrorOfList (sources_of repository.now tools.now)) }
     {
         let mut config = VersionOnlyConfig::of_tools(alloc, tools)?;
         let source = repository.source(alloc)?;
@@ -98,8 +92,7 @@ impl VersionOnlyConfig {
     fn of_tools(alloc: Global, tools: &[ToolText]) -> Result<Self, ConfigParseError>
         ensures stands { IfOk result (λ config.
             StandsFor (map tool_source (reverse tools.now)) (configuration_of config)) }
-        ensures refused { IfErr result (λ error.
-            IsErrorOfList (map tool_source (reverse tools.now)) (refusal_of error)) }
+        ensures refused { IfErr result (IsErrorOfList (map tool_source (reverse tools.now))) }
     {
         let mut config = VersionOnlyConfig::new(alloc);
         for tool in tools.iter().rev() {
@@ -134,8 +127,8 @@ impl VersionOnlyConfig {
     ) -> Result<(), ConfigParseErrorKind>
         ensures added { OnOk result (Adds (place_of source.now) (option_map string_bytes contents.now)
             (configuration_of self.old) (configuration_of self.new)) }
-        ensures refused { IfErr result (λ kind.
-            IsWrongOrMemory source.now.kind (option_map string_bytes contents.now) (wrong_of kind)) }
+        ensures refused { IfErr result (RefusesSource
+            (IsWrong source.now.kind (option_map string_bytes contents.now))) }
     {
         let asked = VersionOnlyDeserialize::read(alloc, &source.kind, contents)?;
         let VersionOnlyDeserialize {

@@ -3,13 +3,11 @@
 ghost use Rattle.std.specs.Prelude.{◌≡◌, IfOk, IfErr, OnOk, option_map, string_bytes};
 ghost use Rattle.toml.specs.Data.{get_member};
 ghost use Rattle.toml.specs.View.{table_view};
-ghost use Rattle.nextest_config.specs.NextestVersion.ErrorKind.{UnlessNoMemory, wrong_of};
-ghost use Rattle.nextest_config.specs.NextestVersion.ExperimentalDeserialize.{features_of};
-ghost use Rattle.nextest_config.specs.NextestVersion.VersionOnlyDeserialize.{Asks, AsksFeatures, BreaksToolRule, IsWrongBehind, IsWrongOrMemory, IsWrongTable, KeepsToolRule, TextAsks, ask_of, experimental_key, nothing};
+ghost use Rattle.nextest_config.specs.NextestVersion.{ask_of, Asks, AsksFeatures, BreaksToolRule, experimental_key, features_of, IsWrong, IsWrongBehind, IsWrongTable, KeepsToolRule, nothing, RefusesSource, TextAsks};
 
-use super::ask::NextestVersionDeserialize;
 use super::error_kind::ConfigParseErrorKind;
 use super::experimental_deserialize::ExperimentalDeserialize;
+use super::nextest_version_deserialize::NextestVersionDeserialize;
 use super::source::ConfigSourceKind;
 use nextest_config_values::read::field_or;
 use std::alloc::Global;
@@ -45,8 +43,8 @@ impl VersionOnlyDeserialize {
     ) -> Result<Self, ConfigParseErrorKind>
         ensures read { IfOk result (λ d.
             TextAsks kind.now (option_map string_bytes contents.now) (ask_of d)) }
-        ensures refused { IfErr result (λ wrong.
-            IsWrongOrMemory kind.now (option_map string_bytes contents.now) (wrong_of wrong)) }
+        ensures refused { IfErr result (RefusesSource
+            (IsWrong kind.now (option_map string_bytes contents.now))) }
     {
         let Some(text) = contents else {
             return Ok(VersionOnlyDeserialize::nothing(alloc));
@@ -70,8 +68,8 @@ impl VersionOnlyDeserialize {
         table: &Table,
     ) -> Result<Self, ConfigParseErrorKind>
         ensures read { IfOk result (λ d. Asks kind.now (table_view table.now) (ask_of d)) }
-        ensures refused { IfErr result (λ wrong. UnlessNoMemory (wrong_of wrong)
-            (IsWrongTable kind.now (table_view table.now) (wrong_of wrong))) }
+        ensures refused { IfErr result (RefusesSource
+            (IsWrongTable kind.now (table_view table.now))) }
     {
         let default = NextestVersionDeserialize::nothing();
         let nextest_version = field_or(alloc, table, VERSION_KEY, "", default)?;
@@ -92,8 +90,8 @@ fn read_experimental(
     ensures asked { IfOk result (λ d.
         AsksFeatures (get_member experimental_key (table_view table.now)) (features_of d)) }
     ensures kept { IfOk result (λ d. KeepsToolRule kind.now (features_of d)) }
-    ensures refused { IfErr result (λ wrong. UnlessNoMemory (wrong_of wrong)
-        (IsWrongBehind kind.now (table_view table.now) (wrong_of wrong))) }
+    ensures refused { IfErr result (RefusesSource
+        (IsWrongBehind kind.now (table_view table.now))) }
 {
     let default = ExperimentalDeserialize::new(alloc);
     let experimental = field_or(alloc, table, EXPERIMENTAL_KEY, "", default)?;
@@ -108,8 +106,8 @@ fn check_tool(
     experimental: &ExperimentalDeserialize,
 ) -> Result<(), ConfigParseErrorKind>
     ensures kept { OnOk result (KeepsToolRule kind.now (features_of experimental.now)) }
-    ensures refused { IfErr result (λ wrong. UnlessNoMemory (wrong_of wrong)
-        (BreaksToolRule kind.now (features_of experimental.now) (wrong_of wrong))) }
+    ensures refused { IfErr result (RefusesSource
+        (BreaksToolRule kind.now (features_of experimental.now))) }
 {
     match kind {
         ConfigSourceKind::Tool(_) => {

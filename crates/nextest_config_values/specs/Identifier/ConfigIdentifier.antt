@@ -2,11 +2,12 @@
 use Rattle.std.specs.Prelude.{◌≡◌, ◌≢◌, ℕ, List, ◌∷◌, ◌++◌, codes, chars, ◌⊎◌}
 use Rattle.std.specs.List.{AllByRecursion}
 use Rattle.toml.specs.Data.{Data}
+use Rattle.nextest_config_values.specs.Characters.{colon}
 use Rattle.nextest_config_values.specs.Read.Fault.{Fault, identifier}
 use Rattle.nextest_config_values.specs.Helpers.{IsPlainFlaw, IsPlainIdentifier}
 use Rattle.nextest_config_values.specs.declared.helpers.InvalidIdentifierKind.{InvalidIdentifierKind}
-use Rattle.nextest_config_values.specs.Identifier.Error.{Component, IdentifierFlaw, NameRefusal, OneComponent, Whole}
-use Rattle.nextest_config_values.specs.Identifier.Normal.{IsNormalFault, IsNormalRefusal, IsNormalText, NameFaults}
+use Rattle.nextest_config_values.specs.Identifier.Error.{Component, IdentifierFlaw, NameFault, OneComponent, Whole}
+use Rattle.nextest_config_values.specs.Identifier.Normal.{IsNormalFault, IsNormalText, NameFaults}
 
 -- what a tool identifier begins with
 abbrev pub tool_mark : List ℕ
@@ -14,11 +15,11 @@ tool_mark = codes "@tool:"
 
 -- no character is a colon
 abbrev pub HasNoColon : List ℕ → Type 0
-HasNoColon = AllByRecursion (λ c. c ≢ 58)
+HasNoColon = AllByRecursion (λ c. c ≢ colon)
 
 -- cut at its first colon
 pub record IsCutAtColon (text before after : List ℕ) : Type 0 where
-  pub cut : text ≡ before ++ (58 ∷ after)
+  pub cut : text ≡ before ++ (colon ∷ after)
   pub first : HasNoColon before
 
 -- an identifier without a tool
@@ -27,7 +28,7 @@ IsUnmarked cs = (rest : List ℕ) → cs ≢ tool_mark ++ rest
 
 -- `@tool:`, an identifier, a colon and an identifier
 pub record IsMarkedPair (cs tool name : List ℕ) : Type 0 where
-  pub marked : cs ≡ tool_mark ++ (tool ++ (58 ∷ name))
+  pub marked : cs ≡ tool_mark ++ (tool ++ (colon ∷ name))
   pub tool_is_plain : IsPlainIdentifier tool
   pub name_is_plain : IsPlainIdentifier name
 
@@ -50,16 +51,12 @@ abbrev pub IsIdentifier : List ℕ → List ℕ → Type 0
 IsIdentifier = IsNormalText IsIdentifierForm
 
 -- the fault of a text without one
-abbrev pub IsIdentifierFault : List ℕ → NameRefusal IdentifierFlaw → Type 0
+abbrev pub IsIdentifierFault : List ℕ → NameFault IdentifierFlaw → Type 0
 IsIdentifierFault = IsNormalFault IsIdentifierFlaw
-
--- the refusal of a text that is no identifier
-abbrev pub IsIdentifierRefusal : List ℕ → NameRefusal IdentifierFlaw → Type 0
-IsIdentifierRefusal = IsNormalRefusal IsIdentifierFlaw
 
 -- the two components of a kept tool identifier
 pub record AreComponents (text tool name : List ℕ) : Type 0 where
-  pub whole : text ≡ tool_mark ++ (tool ++ (58 ∷ name))
+  pub whole : text ≡ tool_mark ++ (tool ++ (colon ∷ name))
   pub tool_is_plain : IsPlainIdentifier (chars tool)
   pub name_is_plain : IsPlainIdentifier (chars name)
   pub tool_uncut : HasNoColon tool

@@ -1,19 +1,18 @@
 -- The laws of identifiers and tool names.
-use Rattle.std.proofs.Common.{◌≡◌, ◌≢◌, ℕ, true, false, List, [], ◌∷◌, ◌++◌, drop, refl, sym, ap, ◌∙◌, subst, inl, inr, lit<}
-use Rattle.std.specs.Prelude.{Bool, ◌==◌, ◌||◌}
+use Rattle.std.proofs.Common.{◌≡◌, ◌≢◌, ℕ, true, false, List, [], ◌∷◌, ◌++◌, drop, refl, sym, ap, ◌∙◌, subst, inl, inr, lit<, rules}
+use Rattle.std.specs.Prelude.{Bool}
 use Rattle.std.specs.List.{AllByRecursion}
 use Rattle.toml.specs.Data.{as_str}
 use Rattle.unicode_ident.proofs.IdentLemmas.{is_xid_continue-ascii, is_xid_start-ascii}
-use Rattle.unicode_ident.specs.Ident.{is_xid_continue, is_xid_start}
+use Rattle.unicode_ident.specs.Ident.{is_xid_start}
 use Rattle.nextest_config_values.specs.Helpers.{GoesOn, IsPlainFlaw, IsPlainIdentifier}
 use Rattle.nextest_config_values.specs.Identifier.ConfigIdentifier.{AreFlawed, HasNoColon, IdentifierFaults, IsCutAtColon, IsIdentifier, IsIdentifierFlaw, IsIdentifierForm, IsMarkedPair, tool_mark}
-use Rattle.nextest_config_values.specs.Identifier.Error.{Component, IdentifierFlaw, NameRefusal, OneComponent, ToolNameFlaw, Whole, flawed, no_memory}
+use Rattle.nextest_config_values.specs.Identifier.Error.{Component, IdentifierFlaw, NameFault, OneComponent, ToolNameFlaw, Whole, flawed}
 use Rattle.nextest_config_values.specs.Identifier.Normal.{IsNormalFault, IsNormalText, NameFaults, normal_chars}
 use Rattle.nextest_config_values.specs.Identifier.ToolName.{IsToolName, IsToolNameFlaw, ToolNameFaults}
-use Rattle.nextest_config_values.specs.Read.Fault.{Fault, Reason, fault_at, holds_memory, identifier, tool_name}
-use Rattle.nextest_config_values.specs.Read.FromToml.{FaultsAs, IsHeldReading, IsReading, MeansAs, equality, reading_as, text_expected}
+use Rattle.nextest_config_values.specs.Read.Fault.{Reason, fault_at, identifier, tool_name}
+use Rattle.nextest_config_values.specs.Read.FromToml.{FaultsAs, IsReading, MeansAs, equality, reading_as, text_expected}
 use Rattle.nextest_config_values.specs.declared.helpers.InvalidIdentifierKind.{InvalidIdentifierKind}
-use Rattle.nextest_config_values.specs.declared.helpers.InvalidIdentifierKind.TheVariants as flaws
 use Rattle.nextest_config_values.specs.declared.identifier.error.ToolNameFlaw.TheVariants as of_names
 
 -- ---- characters
@@ -21,44 +20,27 @@ use Rattle.nextest_config_values.specs.declared.identifier.error.ToolNameFlaw.Th
 true_not_false : (b : Bool) → b ≡ true → b ≡ false → ⊥
 true_not_false b holds fails = cc (holds, fails)
 
-colon_starts_none : is_xid_start 58 ≡ false
-colon_starts_none = is_xid_start-ascii 58 (lit< tt)
-
-colon_ends : ((58 == 45) || is_xid_continue 58) ≡ false
-colon_ends = is_xid_continue-ascii 58 (lit< tt)
-
-at_sign_starts_none : is_xid_start 64 ≡ false
-at_sign_starts_none = is_xid_start-ascii 64 (lit< tt)
-
 no_colon_behind : (cs : List ℕ) → AllByRecursion GoesOn cs → HasNoColon cs
 no_colon_behind [] h = tt
-no_colon_behind (c ∷ cs) h = (λ e. true_not_false _ (subst GoesOn e h.0) colon_ends, no_colon_behind cs h.1)
+no_colon_behind (c ∷ cs) h = (λ e. true_not_false _ (subst GoesOn e h.0) (is_xid_continue-ascii 58 (lit< tt)), no_colon_behind cs h.1)
 
--- an identifier without a tool has no colon
 pub plain_no_colon : (cs : List ℕ) → IsPlainIdentifier cs → HasNoColon cs
 plain_no_colon [] h = absurd h
-plain_no_colon (c ∷ cs) h = (λ e. true_not_false (is_xid_start c) h.0 (ap is_xid_start e ∙ colon_starts_none), no_colon_behind cs h.1)
+plain_no_colon (c ∷ cs) h = (λ e. true_not_false (is_xid_start c) h.0 (ap is_xid_start e ∙ is_xid_start-ascii 58 (lit< tt)), no_colon_behind cs h.1)
 
--- and doesn't begin with '@'
 pub plain_no_at_sign : (cs rest : List ℕ) → IsPlainIdentifier cs → cs ≢ 64 ∷ rest
-plain_no_at_sign cs rest h e =
-    let t : IsPlainIdentifier (64 ∷ rest) = subst IsPlainIdentifier e h in
-    true_not_false (is_xid_start 64) t.0 at_sign_starts_none
+plain_no_at_sign cs rest h e = true_not_false (is_xid_start 64) (subst IsPlainIdentifier e h).0 (is_xid_start-ascii 64 (lit< tt))
 
 -- ---- cuts
 
--- a text is cut at its first colon in one way
 pub one_cut : (xs ys a b : List ℕ) → HasNoColon xs → HasNoColon ys → xs ++ (58 ∷ a) ≡ ys ++ (58 ∷ b) → (xs ≡ ys) × (a ≡ b)
 one_cut [] [] a b h k e = (refl, cc e)
 one_cut [] (y ∷ ys) a b h k e = absurd (k.0 (cc e))
 one_cut (x ∷ xs) [] a b h k e = absurd (h.0 (cc e))
 one_cut (x ∷ xs) (y ∷ ys) a b h k e =
-    let head : x ≡ y = cc e in
-    let rest : xs ++ (58 ∷ a) ≡ ys ++ (58 ∷ b) = cc e in
-    let t = one_cut xs ys a b h.1 k.1 rest in
-    (rw (head, t.0) refl, t.1)
+    let rest = one_cut xs ys a b h.1 k.1 (cc e) in
+    (cc (e, rest.0), rest.1)
 
--- what has no colon isn't cut at one
 pub no_colon_uncut : (xs a : List ℕ) → HasNoColon (xs ++ (58 ∷ a)) → ⊥
 no_colon_uncut [] a h = h.0 refl
 no_colon_uncut (x ∷ xs) a h = no_colon_uncut xs a h.1
@@ -69,43 +51,24 @@ behind_mark a b cs e f = ap (drop 6) (sym e ∙ f)
 -- ---- flaws
 
 one_plain_flaw : (cs : List ℕ) (k l : InvalidIdentifierKind) → IsPlainFlaw cs k → IsPlainFlaw cs l → k ≡ l
-one_plain_flaw cs flaws.Empty flaws.Empty a b = refl
-one_plain_flaw cs flaws.Empty flaws.InvalidXid a b = absurd (b.0 a)
-one_plain_flaw cs flaws.InvalidXid flaws.Empty a b = absurd (a.0 b)
-one_plain_flaw cs flaws.InvalidXid flaws.InvalidXid a b = refl
+one_plain_flaw cs k l a b = search rules
 
 plain_not_flawed : (cs : List ℕ) (k : InvalidIdentifierKind) → IsPlainIdentifier cs → IsPlainFlaw cs k → ⊥
-plain_not_flawed cs flaws.Empty h a = subst IsPlainIdentifier a h
-plain_not_flawed cs flaws.InvalidXid h a = a.1 h
+plain_not_flawed cs k h a = search rules
 
 one_flawed_component : (tool name : List ℕ) (k l : InvalidIdentifierKind) → AreFlawed tool name k → AreFlawed tool name l → k ≡ l
-one_flawed_component tool name k l (inl a) (inl b) = one_plain_flaw tool k l a b
-one_flawed_component tool name k l (inl a) (inr b) = absurd (plain_not_flawed tool k b.0 a)
-one_flawed_component tool name k l (inr a) (inl b) = absurd (plain_not_flawed tool l a.0 b)
-one_flawed_component tool name k l (inr a) (inr b) = one_plain_flaw name k l a.1 b.1
+one_flawed_component tool name k l a b = search (rules, one_plain_flaw, plain_not_flawed)
 
-components_not_flawed : (tool name : List ℕ) (k : InvalidIdentifierKind) → IsPlainIdentifier tool → IsPlainIdentifier name → AreFlawed tool name k → ⊥
-components_not_flawed tool name k t n (inl a) = plain_not_flawed tool k t a
-components_not_flawed tool name k t n (inr a) = plain_not_flawed name k n a.1
-
--- the flaw of components is that of the same ones
-flawed_again : (x y u v : List ℕ) (k : InvalidIdentifierKind) → (x ≡ u) × (y ≡ v) → AreFlawed x y k → AreFlawed u v k
-flawed_again x y u v k same h = rw (← same.0, ← same.1) h
-
--- two cuts behind the mark are one
 same_components : (cs : List ℕ) (r : List ℕ) (x y : List ℕ) (s : List ℕ) (u v : List ℕ)
     → cs ≡ tool_mark ++ r → IsCutAtColon r x y → cs ≡ tool_mark ++ s → IsCutAtColon s u v → (x ≡ u) × (y ≡ v)
 same_components cs r x y s u v e cut f other =
     one_cut x u y v cut.first other.first (sym cut.cut ∙ behind_mark r s cs e f ∙ other.cut)
 
 one_component_no_cut : (cs rest s x y : List ℕ) → cs ≡ tool_mark ++ rest → HasNoColon rest → cs ≡ tool_mark ++ s → IsCutAtColon s x y → ⊥
-one_component_no_cut cs rest s x y e none f cut =
-    no_colon_uncut x y (subst HasNoColon (behind_mark rest s cs e f ∙ cut.cut) none)
+one_component_no_cut cs rest s x y e none f cut = no_colon_uncut x y (subst HasNoColon (behind_mark rest s cs e f ∙ cut.cut) none)
 
 pub one_identifier_flaw : (cs : List ℕ) (f g : IdentifierFlaw) → IsIdentifierFlaw cs f → IsIdentifierFlaw cs g → f ≡ g
-one_identifier_flaw cs (Whole k) (Whole l) a b = ap Whole (one_plain_flaw cs k l a.1 b.1)
-one_identifier_flaw cs (Whole k) OneComponent a b = absurd (a.0 b.0 b.1)
-one_identifier_flaw cs (Whole k) (Component l) a b = absurd (a.0 b.0 b.3)
+one_identifier_flaw cs (Whole k) g a b = search (rules, one_plain_flaw)
 one_identifier_flaw cs OneComponent (Whole l) a b = absurd (b.0 a.0 a.1)
 one_identifier_flaw cs OneComponent OneComponent a b = refl
 one_identifier_flaw cs OneComponent (Component l) a b = absurd (one_component_no_cut cs a.0 b.0 b.1 b.2 a.1 a.2 b.3 b.4)
@@ -113,32 +76,23 @@ one_identifier_flaw cs (Component k) (Whole l) a b = absurd (b.0 a.0 a.3)
 one_identifier_flaw cs (Component k) OneComponent a b = absurd (one_component_no_cut cs b.0 a.0 a.1 a.2 b.1 b.2 a.3 a.4)
 one_identifier_flaw cs (Component k) (Component l) a b =
     let same = same_components cs a.0 a.1 a.2 b.0 b.1 b.2 a.3 a.4 b.3 b.4 in
-    ap Component (one_flawed_component b.1 b.2 k l (flawed_again a.1 a.2 _ _ k same a.5) b.5)
+    ap Component (one_flawed_component b.1 b.2 k l (rw (← same.0, ← same.1) a.5) b.5)
 
--- the components of a tool identifier are its parts at the first colon
 pair_cut : (cs tool name : List ℕ) → IsMarkedPair cs tool name → IsCutAtColon (tool ++ (58 ∷ name)) tool name
 pair_cut cs tool name h = record { cut = refl; first = plain_no_colon tool h.tool_is_plain }
 
 pub identifier_not_flawed : (cs : List ℕ) (f : IdentifierFlaw) → IsIdentifierForm cs → IsIdentifierFlaw cs f → ⊥
-identifier_not_flawed cs (Whole k) (inl h) a = plain_not_flawed cs k h a.1
+identifier_not_flawed cs (Whole k) h a = search (rules, plain_not_flawed)
 identifier_not_flawed cs OneComponent (inl h) a = plain_no_at_sign cs _ h a.1
 identifier_not_flawed cs (Component k) (inl h) a = plain_no_at_sign cs _ h a.3
-identifier_not_flawed cs (Whole k) (inr h) a = a.0 _ h.2.marked
 identifier_not_flawed cs OneComponent (inr h) a = one_component_no_cut cs a.0 _ h.0 h.1 a.1 a.2 h.2.marked (pair_cut cs h.0 h.1 h.2)
 identifier_not_flawed cs (Component k) (inr h) a =
     let same = same_components cs a.0 a.1 a.2 _ h.0 h.1 a.3 a.4 h.2.marked (pair_cut cs h.0 h.1 h.2) in
-    components_not_flawed h.0 h.1 k h.2.tool_is_plain h.2.name_is_plain (flawed_again a.1 a.2 _ _ k same a.5)
+    let flawed : AreFlawed h.0 h.1 k = rw (← same.0, ← same.1) a.5 in
+    search (rules, plain_not_flawed)
 
 pub one_tool_name_flaw : (cs : List ℕ) (f g : ToolNameFlaw) → IsToolNameFlaw cs f → IsToolNameFlaw cs g → f ≡ g
-one_tool_name_flaw cs of_names.Empty of_names.Empty a b = refl
-one_tool_name_flaw cs of_names.Empty of_names.StartsWithToolPrefix a b = cc (a, b.1)
-one_tool_name_flaw cs of_names.Empty of_names.InvalidXid a b = absurd (b.0 a)
-one_tool_name_flaw cs of_names.StartsWithToolPrefix of_names.Empty a b = cc (a.1, b)
-one_tool_name_flaw cs of_names.StartsWithToolPrefix of_names.StartsWithToolPrefix a b = refl
-one_tool_name_flaw cs of_names.StartsWithToolPrefix of_names.InvalidXid a b = absurd (b.1 a)
-one_tool_name_flaw cs of_names.InvalidXid of_names.Empty a b = absurd (a.0 b)
-one_tool_name_flaw cs of_names.InvalidXid of_names.StartsWithToolPrefix a b = absurd (a.1 b)
-one_tool_name_flaw cs of_names.InvalidXid of_names.InvalidXid a b = refl
+one_tool_name_flaw cs f g a b = search rules
 
 pub tool_name_not_flawed : (cs : List ℕ) (f : ToolNameFlaw) → IsPlainIdentifier cs → IsToolNameFlaw cs f → ⊥
 tool_name_not_flawed cs of_names.Empty h a = subst IsPlainIdentifier a h
@@ -150,34 +104,22 @@ tool_name_not_flawed cs of_names.InvalidXid h a = a.2 h
 module _ {Flaw : Type 0} (IsInGrammar : List ℕ → Type 0) (IsFlaw : List ℕ → Flaw → Type 0)
     (one_flaw : (cs : List ℕ) (f g : Flaw) → IsFlaw cs f → IsFlaw cs g → f ≡ g)
     (not_flawed : (cs : List ℕ) (f : Flaw) → IsInGrammar cs → IsFlaw cs f → ⊥) where
-  pub one_normal_fault : (text : List ℕ) (r s : NameRefusal Flaw) → IsNormalFault IsFlaw text r → IsNormalFault IsFlaw text s → r ≡ s
+  pub one_normal_fault : (text : List ℕ) (r s : NameFault Flaw) → IsNormalFault IsFlaw text r → IsNormalFault IsFlaw text s → r ≡ s
   one_normal_fault text (flawed f x) (flawed g y) a b = rw (one_flaw (normal_chars text) f g a.0 b.0, a.1, b.1) refl
-  one_normal_fault text (flawed f x) no_memory a b = absurd b
-  one_normal_fault text no_memory s a b = absurd a
 
-  pub no_normal_fault : (text kept : List ℕ) (r : NameRefusal Flaw) → IsNormalText IsInGrammar text kept → IsNormalFault IsFlaw text r → ⊥
+  pub no_normal_fault : (text kept : List ℕ) (r : NameFault Flaw) → IsNormalText IsInGrammar text kept → IsNormalFault IsFlaw text r → ⊥
   no_normal_fault text kept (flawed f x) h a = not_flawed (normal_chars text) f h.0 a.0
-  no_normal_fault text kept no_memory h a = a
 
-  module _ (reason : NameRefusal Flaw → Reason) (no_memory_told : (f : Flaw) (x : List ℕ) → holds_memory (reason (flawed f x)) ≡ false) where
-    never_memory_told : (text at : List ℕ) (fault : Fault) (r : NameRefusal Flaw) → IsNormalFault IsFlaw text r → fault ≡ fault_at at (reason r) → holds_memory fault.reason ≡ false
-    never_memory_told text at fault (flawed f x) a e = ap (λ (g : Fault). holds_memory g.reason) e ∙ no_memory_told f x
-    never_memory_told text at fault no_memory a e = absurd a
-
-    held_name : IsHeldReading (IsNormalText IsInGrammar) (NameFaults reason IsFlaw) (λ x y. x ≡ y)
-    held_name = record {
-      equivalence = equality;
-      one_meaning = λ value x y a b. a.1 ∙ sym b.1;
-      one_fault = λ value at f g a b. a.2 ∙ ap (λ r. fault_at at (reason r)) (one_normal_fault value.0 a.0 b.0 a.1 b.1) ∙ sym b.2;
-      never_both = λ value at x f a b. no_normal_fault value.0 x b.0 a b.1;
-      never_memory = λ value at f a. never_memory_told value.0 at f a.0 a.1 a.2;
-    }
-
-    pub name_reading : IsReading (MeansAs as_str (IsNormalText IsInGrammar)) (FaultsAs as_str text_expected (NameFaults reason IsFlaw)) (λ x y. x ≡ y)
-    name_reading = reading_as as_str text_expected (IsNormalText IsInGrammar) (NameFaults reason IsFlaw) (λ x y. x ≡ y) held_name
+  pub name_reading : (reason : NameFault Flaw → Reason) → IsReading (MeansAs as_str (IsNormalText IsInGrammar)) (FaultsAs as_str text_expected (NameFaults reason IsFlaw)) (λ x y. x ≡ y)
+  name_reading reason = reading_as as_str text_expected (IsNormalText IsInGrammar) (NameFaults reason IsFlaw) (λ x y. x ≡ y) (record {
+    equivalence = equality;
+    one_meaning = λ value x y a b. a.1 ∙ sym b.1;
+    one_fault = λ value at f g a b. a.2 ∙ ap (λ r. fault_at at (reason r)) (one_normal_fault value.0 a.0 b.0 a.1 b.1) ∙ sym b.2;
+    never_both = λ value at x f a b. no_normal_fault value.0 x b.0 a b.1;
+  })
 
 pub identifier_reading : IsReading (MeansAs as_str IsIdentifier) (FaultsAs as_str text_expected IdentifierFaults) (λ x y. x ≡ y)
-identifier_reading = name_reading IsIdentifierForm IsIdentifierFlaw one_identifier_flaw identifier_not_flawed identifier (λ f x. refl)
+identifier_reading = name_reading IsIdentifierForm IsIdentifierFlaw one_identifier_flaw identifier_not_flawed identifier
 
 pub tool_name_reading : IsReading (MeansAs as_str IsToolName) (FaultsAs as_str text_expected ToolNameFaults) (λ x y. x ≡ y)
-tool_name_reading = name_reading IsPlainIdentifier IsToolNameFlaw one_tool_name_flaw tool_name_not_flawed tool_name (λ f x. refl)
+tool_name_reading = name_reading IsPlainIdentifier IsToolNameFlaw one_tool_name_flaw tool_name_not_flawed tool_name

@@ -3,7 +3,7 @@ use Rattle.std.specs.Prelude.{◌≡◌, ◌↔◌, ℕ, List, chars, encode_utf
 use Rattle.unicode_normalization.specs.Forms.{nfc}
 use Rattle.toml.specs.Data.{Data}
 use Rattle.nextest_config_values.specs.Read.Fault.{Fault, Reason, fault_at}
-use Rattle.nextest_config_values.specs.Identifier.Error.{NameRefusal, flawed, no_memory}
+use Rattle.nextest_config_values.specs.Identifier.Error.{NameFault, flawed}
 
 -- the characters of the text's Normalization Form C
 abbrev pub normal_chars : List ℕ → List ℕ
@@ -22,19 +22,13 @@ pub record IsKeptText (IsInGrammar : List ℕ → Type 0) (kept : List ℕ) : Ty
 abbrev pub IsNormalText : (List ℕ → Type 0) → List ℕ → List ℕ → Type 0
 IsNormalText IsInGrammar text kept = IsInGrammar (normal_chars text) × (kept ≡ normal_form text)
 
--- the text's normal form has this flaw, and is named; want of memory is no fault
-abbrev pub IsNormalFault : {Flaw : Type 0} → (List ℕ → Flaw → Type 0) → List ℕ → NameRefusal Flaw → Type 0
+-- the text's normal form has this flaw, and is named
+abbrev pub IsNormalFault : {Flaw : Type 0} → (List ℕ → Flaw → Type 0) → List ℕ → NameFault Flaw → Type 0
 IsNormalFault IsFlaw text (flawed flaw named) = IsFlaw (normal_chars text) flaw × (named ≡ normal_form text)
-IsNormalFault IsFlaw text no_memory = ⊥
-
--- the text's fault, or want of memory
-abbrev pub IsNormalRefusal : {Flaw : Type 0} → (List ℕ → Flaw → Type 0) → List ℕ → NameRefusal Flaw → Type 0
-IsNormalRefusal IsFlaw text (flawed flaw named) = IsNormalFault IsFlaw text (flawed flaw named)
-IsNormalRefusal IsFlaw text no_memory = Unit {0}
 
 -- the fault of a TOML text, as the reason of a refusal
-abbrev pub NameFaults : {Flaw : Type 0} → (NameRefusal Flaw → Reason) → (List ℕ → Flaw → Type 0) → List ℕ → Data → List ℕ → Fault → Type 0
-NameFaults {Flaw} reason IsFlaw text value at fault = (refusal : NameRefusal Flaw) × IsNormalFault IsFlaw text refusal × (fault ≡ fault_at at (reason refusal))
+abbrev pub NameFaults : {Flaw : Type 0} → (NameFault Flaw → Reason) → (List ℕ → Flaw → Type 0) → List ℕ → Data → List ℕ → Fault → Type 0
+NameFaults {Flaw} reason IsFlaw text value at fault = (told : NameFault Flaw) × IsNormalFault IsFlaw text told × (fault ≡ fault_at at (reason told))
 
 -- the same answers
 abbrev pub AnswersAlike : {X : Type 0} → (X → Type 0) → (X → Type 0) → Type 0

@@ -3,9 +3,9 @@ use Rattle.std.specs.Prelude.{◌≡◌, ◌≢◌, ℕ, List, [], ◌++◌, cod
 use Rattle.toml.specs.Data.{Data}
 use Rattle.nextest_config_values.specs.Read.Fault.{Fault, tool_name}
 use Rattle.nextest_config_values.specs.Helpers.{IsPlainIdentifier}
-use Rattle.nextest_config_values.specs.Identifier.Error.{NameRefusal, ToolNameFlaw}
+use Rattle.nextest_config_values.specs.Identifier.Error.{NameFault, ToolNameFlaw}
 use Rattle.nextest_config_values.specs.declared.identifier.error.ToolNameFlaw.TheVariants.{Empty, StartsWithToolPrefix, InvalidXid}
-use Rattle.nextest_config_values.specs.Identifier.Normal.{IsNormalFault, IsNormalRefusal, IsNormalText, NameFaults}
+use Rattle.nextest_config_values.specs.Identifier.Normal.{IsNormalFault, IsNormalText, NameFaults}
 
 -- what no tool name begins with
 abbrev pub BeginsWithTool : List ℕ → Type 0
@@ -22,12 +22,8 @@ abbrev pub IsToolName : List ℕ → List ℕ → Type 0
 IsToolName = IsNormalText IsPlainIdentifier
 
 -- the fault of a text that is none
-abbrev pub IsToolNameFault : List ℕ → NameRefusal ToolNameFlaw → Type 0
+abbrev pub IsToolNameFault : List ℕ → NameFault ToolNameFlaw → Type 0
 IsToolNameFault = IsNormalFault IsToolNameFlaw
-
--- the refusal of a text that is no tool name
-abbrev pub IsToolNameRefusal : List ℕ → NameRefusal ToolNameFlaw → Type 0
-IsToolNameRefusal = IsNormalRefusal IsToolNameFlaw
 
 -- what is wrong with a TOML text that is no tool name
 abbrev pub ToolNameFaults : List ℕ → Data → List ℕ → Fault → Type 0

@@ -1,12 +1,11 @@
 -- A refused TOML value without where it lies in memory, and how it prints.
-use Rattle.std.specs.Prelude.{ℕ, ◌≡◌, ℤ, Bool, true, false, List, [], ◌∷◌, ◌++◌, codes, string_bytes}
+use Rattle.std.specs.Prelude.{ℕ, ◌≡◌, ℤ, List, [], ◌∷◌, ◌++◌, codes, string_bytes, Option, Some, None, option_map}
 use Rattle.std.specs.Fmt.{signed_decimal}
 use Rattle.semver.specs.Identifiers.{parts_of, parts_text}
 use Rattle.semver.specs.Parse.{Parts}
 use Rattle.toml.specs.Data.{Data}
-use Rattle.nextest_config_values.specs.Identifier.Error.{IdentifierFlaw, NameRefusal, ToolNameFlaw, flawed, identifier_refusal, identifier_refusal_text, tool_name_refusal, tool_name_refusal_text}
-use Rattle.nextest_config_values.specs.Identifier.Error.{no_memory as no_memory_for_name}
-use Rattle.nextest_config_values.specs.Read.Text.{found_text, quoted_text}
+use Rattle.nextest_config_values.specs.Identifier.Error.{IdentifierFlaw, NameFault, ToolNameFlaw, identifier_fault, identifier_fault_text, tool_name_fault, tool_name_fault_text}
+use Rattle.nextest_config_values.specs.Read.Text.{FaultOrMemory, found_text, quoted_text, told_text}
 use Rattle.nextest_config_values.specs.declared.read.fault.ReadFault.{ReadFault}
 use Rattle.nextest_config_values.specs.declared.read.fault.FaultKind.{FaultKind}
 use Rattle.nextest_config_values.specs.declared.read.fault.FaultKind.TheVariants as kinds
@@ -26,7 +25,7 @@ pub data BrokenRule : Type 0 where
   max_delay_below_delay : BrokenRule
   priority_outside : ℤ → BrokenRule
 
--- a reason: what was found and what was expected, the path of a missing key, a broken rule, a refused name, or no memory
+-- a reason: what was found and what was expected, the path of a missing key, a broken rule, or a refused name
 pub data Reason : Type 0 where
   invalid_type : List ℕ → List ℕ → Reason
   invalid_value : List ℕ → List ℕ → Reason
@@ -34,9 +33,8 @@ pub data Reason : Type 0 where
   unknown_field : List ℕ → List ℕ → Reason
   missing_field : List ℕ → Reason
   custom : BrokenRule → Reason
-  identifier : NameRefusal IdentifierFlaw → Reason
-  tool_name : NameRefusal ToolNameFlaw → Reason
-  memory : Reason
+  identifier : NameFault IdentifierFlaw → Reason
+  tool_name : NameFault ToolNameFlaw → Reason
 
 -- a refused value
 pub record Fault : Type 0 where
@@ -56,21 +54,29 @@ broken_rule rules_of.MaxDelayZero = max_delay_zero
 broken_rule rules_of.MaxDelayBelowDelay = max_delay_below_delay
 broken_rule (rules_of.Priority priority) = priority_outside priority
 
--- what a kind of fault says
-abbrev pub reason_of : FaultKind → Reason
-reason_of (kinds.InvalidType found expected) = invalid_type (string_bytes found) expected.now
-reason_of (kinds.InvalidValue found expected) = invalid_value (string_bytes found) expected.now
-reason_of (kinds.UnknownVariant found expected) = unknown_variant (string_bytes found) expected.now
-reason_of (kinds.UnknownField found expected) = unknown_field (string_bytes found) expected.now
-reason_of (kinds.MissingField key) = missing_field (string_bytes key)
-reason_of (kinds.Custom rule) = custom (broken_rule rule)
-reason_of (kinds.Identifier error) = identifier (identifier_refusal error)
-reason_of (kinds.ToolName error) = tool_name (tool_name_refusal error)
-reason_of kinds.Memory = memory
+-- what a kind of fault says, unless memory was refused
+abbrev pub reason_of : FaultKind → Option Reason
+reason_of (kinds.InvalidType found expected) = Some (invalid_type (string_bytes found) expected.now)
+reason_of (kinds.InvalidValue found expected) = Some (invalid_value (string_bytes found) expected.now)
+reason_of (kinds.UnknownVariant found expected) = Some (unknown_variant (string_bytes found) expected.now)
+reason_of (kinds.UnknownField found expected) = Some (unknown_field (string_bytes found) expected.now)
+reason_of (kinds.MissingField key) = Some (missing_field (string_bytes key))
+reason_of (kinds.Custom rule) = Some (custom (broken_rule rule))
+reason_of (kinds.Identifier error) = option_map identifier (identifier_fault error)
+reason_of (kinds.ToolName error) = option_map tool_name (tool_name_fault error)
+reason_of kinds.Memory = None
 
--- what a fault says
-abbrev pub fault_of : ReadFault → Fault
-fault_of fault = record { path = string_bytes fault.path; reason = reason_of fault.kind }
+-- this reason, at this path
+abbrev pub fault_at : List ℕ → Reason → Fault
+fault_at path reason = record { path = path; reason = reason }
+
+-- what a fault says, unless memory was refused
+abbrev pub fault_of : ReadFault → Option Fault
+fault_of fault = option_map (fault_at (string_bytes fault.path)) (reason_of fault.kind)
+
+-- memory was refused, and nothing else is told
+abbrev pub IsMemory : ReadFault → Type 0
+IsMemory fault = (string_bytes fault.path ≡ []) × (fault.kind ≡ kinds.Memory)
 
 -- ---- how they print
 
@@ -104,9 +110,8 @@ reason_text (unknown_variant found expected) = codes "unknown variant `" ++ unkn
 reason_text (unknown_field found expected) = codes "unknown field `" ++ unknown_text found expected
 reason_text (missing_field key) = codes "missing configuration field \"" ++ (key ++ codes "\"")
 reason_text (custom rule) = rule_text rule
-reason_text (identifier refusal) = identifier_refusal_text refusal
-reason_text (tool_name refusal) = tool_name_refusal_text refusal
-reason_text memory = codes "out of memory"
+reason_text (identifier fault) = identifier_fault_text fault
+reason_text (tool_name fault) = tool_name_fault_text fault
 
 -- the path before a reason, unless it is empty
 abbrev pub path_text : List ℕ → List ℕ
@@ -117,11 +122,11 @@ path_text (b ∷ rest) = (b ∷ rest) ++ codes ": "
 abbrev pub fault_text : Fault → List ℕ
 fault_text fault = path_text fault.path ++ reason_text fault.reason
 
--- ---- the faults of a value at a path
+-- how a kind of fault prints
+abbrev pub kind_text : FaultKind → List ℕ
+kind_text kind = told_text reason_text (reason_of kind)
 
--- this reason, at this path
-abbrev pub fault_at : List ℕ → Reason → Fault
-fault_at path reason = record { path = path; reason = reason }
+-- ---- the faults of a value at a path
 
 -- a value whose kind isn't the expected one
 abbrev pub wrong_type : Data → List ℕ → List ℕ → Fault
@@ -144,38 +149,20 @@ path_of (b ∷ at) key = (b ∷ at) ++ (codes "." ++ key)
 abbrev pub missing : List ℕ → List ℕ → Fault
 missing key at = fault_at at (missing_field (path_of at key))
 
--- the fault that says nothing of the value
-abbrev pub no_memory : Fault
-no_memory = fault_at [] memory
-
 -- ---- refusals
 
--- whether the reason is want of memory
-abbrev pub is_memory : Reason → Bool
-is_memory memory = true
-is_memory _ = false
+-- the refusal is a fault of which this holds; or memory was refused, and that only where it was wanted
+abbrev pub Refuses : (Fault → Type 0) → Type 0 → ReadFault → Type 0
+Refuses IsFault wanted fault = FaultOrMemory (fault_of fault) (IsMemory fault × wanted) IsFault
 
--- want of memory, also within the refusal of a name
-abbrev pub holds_memory : Reason → Bool
-holds_memory memory = true
-holds_memory (identifier no_memory_for_name) = true
-holds_memory (tool_name no_memory_for_name) = true
-holds_memory _ = false
+-- the refusal is this fault, or memory was refused
+abbrev pub RefusesAs : Fault → ReadFault → Type 0
+RefusesAs expected = Refuses (λ fault. fault ≡ expected) (Unit {0})
 
--- the reason of a refused name: want of memory is that of the whole
-abbrev pub name_reason : {Flaw : Type 0} → (NameRefusal Flaw → Reason) → NameRefusal Flaw → Reason
-name_reason reason (flawed flaw text) = reason (flawed flaw text)
-name_reason reason no_memory_for_name = memory
+-- the refusal of this kind at a path
+abbrev pub RefusesKind : List ℕ → FaultKind → ReadFault → Type 0
+RefusesKind at kind fault = FaultOrMemory (reason_of kind) (kind ≡ kinds.Memory → IsMemory fault) (λ reason. RefusesAs (fault_at at reason) fault)
 
--- at want of memory the first fact, at every other reason the second
-abbrev pub UnlessMemory : Reason → Type 0 → Type 0 → Type 0
-UnlessMemory memory wanting otherwise = wanting
-UnlessMemory _ wanting otherwise = otherwise
-
--- the refusal is a fault of which this holds; or want of memory, at the empty path, and only where it was wanted
-abbrev pub Refuses : (Fault → Type 0) → Type 0 → Fault → Type 0
-Refuses IsFault wanted fault = UnlessMemory fault.reason ((fault.path ≡ []) × wanted) (IsFault fault)
-
--- the refusal is this fault, or want of memory
-abbrev pub RefusesAs : Fault → Fault → Type 0
-RefusesAs expected fault = Refuses (λ other. other ≡ expected) (Unit {0}) fault
+-- the kind of the refusal of a name: want of memory is that of the whole
+abbrev pub IsNameKind : {Flaw : Type 0} → (NameFault Flaw → Reason) → Option (NameFault Flaw) → FaultKind → Type 0
+IsNameKind reason told kind = FaultOrMemory told (kind ≡ kinds.Memory) (λ fault. reason_of kind ≡ Some (reason fault))

@@ -39,6 +39,16 @@ abbrev pub WantsIfRequired : {X : Type 0} → (Data → X → Type 0) → Bool �
 WantsIfRequired means needs_memory None = Unit {0}
 WantsIfRequired means needs_memory (Some value) = WantsMemory (means value) needs_memory
 
+-- ---- in turn
+
+-- a first part means something, and what comes behind it means this
+abbrev pub MeansThen : {D X Y : Type 0} → (D → X → Type 0) → (X → D → Y → Type 0) → D → Y → Type 0
+MeansThen {D} {X} first later value y = (x : X) × first value x × later x value y
+
 -- what is wrong first, or behind a first part that means something
 abbrev pub Then : {X F : Type 0} → (F → Type 0) → (X → Type 0) → (X → F → Type 0) → F → Type 0
 Then {X} {F} first means later fault = first fault ⊎ ((x : X) × means x × later x fault)
+
+-- the faults of a first part, or of what comes behind it
+abbrev pub FaultsThen : {D X : Type 0} → (D → X → Type 0) → (D → List ℕ → Fault → Type 0) → (X → D → List ℕ → Fault → Type 0) → D → List ℕ → Fault → Type 0
+FaultsThen means faults later value at fault = Then (faults value at) (means value) (λ x. later x value at) fault

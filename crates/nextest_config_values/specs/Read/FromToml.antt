@@ -1,8 +1,8 @@
 -- What a reader of TOML values is: a relation of values and results, a relation of values and faults, and their laws.
-use Rattle.std.specs.Prelude.{◌≡◌, ℕ, Bool, false, List, codes, Option, Some, None, IsTrue, ◌⊎◌}
-use Rattle.std.proofs.Common.{ap, inl, inr, refl, sym, ◌∙◌, subst}
+use Rattle.std.specs.Prelude.{◌≡◌, ℕ, Bool, List, codes, Option, Some, None, IsTrue, ◌⊎◌}
+use Rattle.std.proofs.Common.{inl, inr, refl, sym, ◌∙◌, subst}
 use Rattle.toml.specs.Data.{Data}
-use Rattle.nextest_config_values.specs.Read.Fault.{Fault, holds_memory, wrong_type}
+use Rattle.nextest_config_values.specs.Read.Fault.{Fault, wrong_type}
 
 -- each is like itself, and what is like another is so both ways and through a third
 pub record IsEquivalence {X : Type 0} (alike : X → X → Type 0) : Type 0 where
@@ -16,7 +16,6 @@ pub record IsReading {D X : Type 0} (means : D → X → Type 0) (faults : D →
   pub one_meaning : (value : D) (x y : X) → means value x → means value y → alike x y
   pub one_fault : (value : D) (at : List ℕ) (f g : Fault) → faults value at f → faults value at g → f ≡ g
   pub never_both : (value : D) (at : List ℕ) (x : X) (f : Fault) → means value x → faults value at f → ⊥
-  pub never_memory : (value : D) (at : List ℕ) (f : Fault) → faults value at f → holds_memory f.reason ≡ false
 
 -- where the value means something, memory was wanted for the result
 abbrev pub WantsMemory : {X : Type 0} → (X → Type 0) → Bool → Type 0
@@ -33,6 +32,26 @@ abbrev pub FaultsAs : {K : Type 0} → (Data → Option K) → List ℕ → (K �
 FaultsAs {K} accessor expected faults value at fault =
     ((accessor value ≡ None) × (fault ≡ wrong_type value at expected))
     ⊎ ((held : K) × (accessor value ≡ Some held) × faults held value at fault)
+
+-- ---- a value of one kind, or else
+
+-- a value of this kind means what its contents mean; any other, what the rest says
+abbrev pub MeansKind : {D K X : Type 0} → (K → X → Type 0) → (D → X → Type 0) → Option K → D → X → Type 0
+MeansKind means rest (Some held) value x = means held x
+MeansKind means rest None value x = rest value x
+
+-- a value of this kind has the faults of its contents; any other, those of the rest
+abbrev pub FaultsKind : {D K : Type 0} → (K → List ℕ → Fault → Type 0) → (D → List ℕ → Fault → Type 0) → Option K → D → List ℕ → Fault → Type 0
+FaultsKind faults rest (Some held) value at fault = faults held at fault
+FaultsKind faults rest None value at fault = rest value at fault
+
+-- a value of no kind that is taken means nothing
+abbrev pub MeansNothing : {D X : Type 0} → D → X → Type 0
+MeansNothing value x = ⊥
+
+-- and is of the wrong kind
+abbrev pub WrongKind : List ℕ → Data → List ℕ → Fault → Type 0
+WrongKind expected value at fault = fault ≡ wrong_type value at expected
 
 -- what a reader of texts expects
 abbrev pub text_expected : List ℕ
@@ -57,7 +76,6 @@ reading_on part reading = record {
   one_meaning = λ value x y. reading.one_meaning value (part x) (part y);
   one_fault = reading.one_fault;
   never_both = λ value at x. reading.never_both value at (part x);
-  never_memory = reading.never_memory;
 }
 
 module _ {K X : Type 0} (accessor : Data → Option K) (expected : List ℕ) (means : K → X → Type 0) (faults : K → Data → List ℕ → Fault → Type 0) (alike : X → X → Type 0) (inner : IsHeldReading means faults alike) where
@@ -80,10 +98,6 @@ module _ {K X : Type 0} (accessor : Data → Option K) (expected : List ℕ) (me
       let same : b.0 ≡ a.0 = cc (a.1, b.1) in
       inner.never_both (a.0, value) at x f a.2 (subst (λ (k : K). faults k value at f) same b.2)
 
-  never_memory_as : (value : Data) (at : List ℕ) (f : Fault) → FaultsAs accessor expected faults value at f → holds_memory f.reason ≡ false
-  never_memory_as value at f (inl a) = ap (λ (g : Fault). holds_memory g.reason) a.1
-  never_memory_as value at f (inr a) = inner.never_memory (a.0, value) at f a.2
-
   -- a value of one kind, whose contents mean something or have a fault
   pub reading_as : IsReading (MeansAs accessor means) (FaultsAs accessor expected faults) alike
-  reading_as = record { equivalence = inner.equivalence; one_meaning = one_meaning_as; one_fault = one_fault_as; never_both = never_both_as; never_memory = never_memory_as }
+  reading_as = record { equivalence = inner.equivalence; one_meaning = one_meaning_as; one_fault = one_fault_as; never_both = never_both_as }

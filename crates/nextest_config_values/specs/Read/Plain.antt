@@ -1,9 +1,9 @@
 -- What the plain readers mean by what a value holds.
 use Rattle.std.specs.Prelude.{◌≡◌, ◌≢◌, ℕ, ◌<◌, ◌^◌, ℤ, pos, Bool, List, codes, String, string_bytes}
-use Rattle.std.proofs.Common.{refl, sym, ap, ◌∙◌}
+use Rattle.std.proofs.Common.{refl, sym, ◌∙◌}
 use Rattle.std.specs.declared.alloc.Global.{Global}
 use Rattle.toml.specs.Data.{Data, as_bool, as_integer, as_str}
-use Rattle.nextest_config_values.specs.Read.Fault.{Fault, holds_memory, wrong_value}
+use Rattle.nextest_config_values.specs.Read.Fault.{Fault, wrong_value}
 use Rattle.nextest_config_values.specs.Read.FromToml.{FaultsAs, IsHeldReading, IsReading, MeansAs, equality, reading_as, text_expected}
 
 -- what a value holds is all right
@@ -48,7 +48,6 @@ held_truth = record {
   one_meaning = λ value x y a b. a ∙ sym b;
   one_fault = λ value at f g a b. absurd a;
   never_both = λ value at x f a b. b;
-  never_memory = λ value at f a. absurd a;
 }
 
 held_text : IsHeldReading MeansText HasNoFault SameText
@@ -57,7 +56,6 @@ held_text = record {
   one_meaning = λ value x y a b. a ∙ sym b;
   one_fault = λ value at f g a b. absurd a;
   never_both = λ value at x f a b. b;
-  never_memory = λ value at f a. absurd a;
 }
 
 held_number : (IsIn : ℕ → Type 0) (expected : List ℕ) → IsHeldReading (MeansNumber IsIn) (IsOutside IsIn expected) (λ x y. x ≡ y)
@@ -66,7 +64,6 @@ held_number IsIn expected = record {
   one_meaning = λ value x y a b. cc (a.0, b.0);
   one_fault = λ value at f g a b. a.1 ∙ sym b.1;
   never_both = λ value at x f a b. b.0 x a.1 a.0;
-  never_memory = λ value at f a. ap (λ (g : Fault). holds_memory g.reason) a.1;
 }
 
 pub bool_reading : IsReading (MeansAs as_bool MeansTruth) (FaultsAs as_bool (codes "a boolean") HasNoFault) (λ x y. x ≡ y)

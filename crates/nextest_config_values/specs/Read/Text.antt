@@ -1,9 +1,10 @@
 -- The texts of values in refusals.
-use Rattle.std.specs.Prelude.{ℕ, ◌==◌, false, List, [], ◌∷◌, ◌++◌, map, flat_map, codes, encode_utf8, if◌then◌else◌}
+use Rattle.std.specs.Prelude.{ℕ, ◌==◌, false, Option, Some, None, List, [], ◌∷◌, ◌++◌, map, flat_map, codes, encode_utf8, if◌then◌else◌}
 use Rattle.std.specs.Char.{is_control}
 use Rattle.std.specs.Fmt.{digits, signed_decimal}
 use Rattle.std.specs.Str.{chars}
 use Rattle.toml.specs.Data.{Data, string, integer, float, boolean, datetime, array, table}
+use Rattle.nextest_config_values.specs.Characters.{backslash, carriage_return, double_quote, line_feed, nul, tab}
 
 -- a character with no escape of its own: its code in lower case hexadecimal, where it is a control character (U+0000 to U+001F, U+007F to U+009F)
 abbrev pub unnamed : ℕ → List ℕ
@@ -12,12 +13,12 @@ unnamed c = if is_control c then codes "\\u{" ++ (digits 16 false c ++ codes "}"
 -- a character between the quotes
 abbrev pub escaped : ℕ → List ℕ
 escaped c =
-    if c == 34 then codes "\\\""
-    else if c == 92 then codes "\\\\"
-    else if c == 10 then codes "\\n"
-    else if c == 13 then codes "\\r"
-    else if c == 9 then codes "\\t"
-    else if c == 0 then codes "\\0"
+    if c == double_quote then codes "\\\""
+    else if c == backslash then codes "\\\\"
+    else if c == line_feed then codes "\\n"
+    else if c == carriage_return then codes "\\r"
+    else if c == tab then codes "\\t"
+    else if c == nul then codes "\\0"
     else unnamed c
 
 -- a text between double quotes
@@ -43,3 +44,13 @@ found_text (array elements) = codes "sequence"
 found_text (table entries) = codes "map"
 found_text (float number) = codes "floating point"
 found_text (datetime moment) = codes "datetime"
+
+-- how a refusal prints: the fault that it tells, or that memory was refused
+abbrev pub told_text : {F : Type 0} → (F → List ℕ) → Option F → List ℕ
+told_text text (Some fault) = text fault
+told_text text None = codes "out of memory"
+
+-- the refusal tells a fault of which this holds; or it tells none, and says that memory was refused
+abbrev pub FaultOrMemory : {F : Type 0} → Option F → Type 0 → (F → Type 0) → Type 0
+FaultOrMemory (Some fault) of_memory IsFault = IsFault fault
+FaultOrMemory None of_memory IsFault = of_memory

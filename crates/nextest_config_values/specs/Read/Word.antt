@@ -3,7 +3,7 @@ use Rattle.std.specs.Prelude.{◌≡◌, ◌≢◌, ℕ, List, [], ◌∷◌, �
 use Rattle.std.proofs.Common.{sym, ap, ◌∙◌}
 use Rattle.std.specs.Cmp.Lexicographic.{pointwise}
 use Rattle.toml.specs.Data.{Data, as_str}
-use Rattle.nextest_config_values.specs.Read.Fault.{Fault, holds_memory, unknown_word}
+use Rattle.nextest_config_values.specs.Read.Fault.{Fault, unknown_word}
 use Rattle.nextest_config_values.specs.Read.FromToml.{FaultsAs, IsHeldReading, IsReading, MeansAs, equality, reading_as, text_expected}
 use Rattle.nextest_config_values.specs.Read.Text.{joined}
 
@@ -48,7 +48,6 @@ module _ {X : Type 0} (all : List X) (word : X → List ℕ) (reads_back : (x : 
     one_meaning = λ value x y a b. one_value x y (a ∙ sym b);
     one_fault = λ value at f g a b. a.1 ∙ sym b.1;
     never_both = λ value at x f a b. b.0 x a;
-    never_memory = λ value at f a. ap (λ (g : Fault). holds_memory g.reason) a.1;
   }
 
   pub word_reading : {expected : List ℕ} → IsReading (MeansAs as_str (MeansWord word)) (FaultsAs as_str text_expected (IsNoWord word expected)) (λ x y. x ≡ y)

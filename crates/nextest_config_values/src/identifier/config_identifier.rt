@@ -9,11 +9,9 @@ ghost use Rattle.std.specs.Hash as fed;
 ghost use Rattle.std.specs.Ordering.{nat_cmp};
 ghost use Rattle.toml.specs.Data.{as_str};
 ghost use Rattle.nextest_config_values.specs.Helpers.{IsPlainIdentifier};
-ghost use Rattle.nextest_config_values.specs.Identifier.ConfigIdentifier.{AreComponents, AreFlawed, IsIdentifier, IsIdentifierFlaw, IsIdentifierForm, IsIdentifierRefusal, IsMarked, tool_mark};
-ghost use Rattle.nextest_config_values.specs.Identifier.Error.{identifier_refusal};
-ghost use Rattle.nextest_config_values.specs.Identifier.Laws.{identifier_reading};
-ghost use Rattle.nextest_config_values.specs.Identifier.Normal.{IsKeptText};
-ghost use Rattle.nextest_config_values.specs.Read.FromToml.{FaultsAs, MeansAs, text_expected};
+ghost use Rattle.nextest_config_values.specs.Identifier.{AreComponents, AreFlawed, identifier_fault, identifier_reading, IsIdentifier, IsIdentifierFault, IsIdentifierFlaw, IsIdentifierForm, IsKeptText, IsMarked, tool_mark};
+ghost use Rattle.nextest_config_values.specs.Read.{FaultOrMemory, FaultsAs, MeansAs, text_expected};
+ghost use Rattle.nextest_config_values.specs.declared.identifier.error.InvalidIdentifier.TheVariants.{Memory};
 
 use super::error::{IdentifierFlaw, InvalidIdentifier};
 use crate::helpers::{InvalidIdentifierKind, is_valid_identifier_unicode};
@@ -52,7 +50,8 @@ impl ConfigIdentifier {
     /// The identifier that the text is, once it is brought to Normalization Form C (UAX 15).
     pub fn new(alloc: Global, identifier: &str) -> Result<Self, InvalidIdentifier>
         ensures accepted { IfOk result (IsIdentifier identifier.now) }
-        ensures refused { IfErr result (λ error. IsIdentifierRefusal identifier.now (identifier_refusal error)) }
+        ensures refused { IfErr result (λ error. FaultOrMemory (identifier_fault error) (error ≡ Memory)
+            (IsIdentifierFault identifier.now)) }
     {
         let text = to_nfc(alloc, identifier)?;
         match judge(text.as_str()) {

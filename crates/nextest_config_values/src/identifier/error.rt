@@ -1,7 +1,8 @@
 //! Why a text was refused as an identifier or as a tool name.
 
 ghost use Rattle.std.specs.Prelude.{◌≡◌, [], Some, string_bytes};
-ghost use Rattle.nextest_config_values.specs.Identifier.Error.{flawed, identifier_refusal, identifier_refusal_text, tool_name_refusal, tool_name_refusal_text};
+ghost use Rattle.nextest_config_values.specs.Identifier.{flawed, identifier_fault, identifier_fault_text, tool_name_fault, tool_name_fault_text};
+ghost use Rattle.nextest_config_values.specs.Read.{told_text};
 ghost use Rattle.nextest_config_values.specs.declared.helpers.InvalidIdentifierKind.TheVariants as kinds;
 ghost use Rattle.nextest_config_values.specs.declared.identifier.error.IdentifierFlaw.TheVariants as identifiers;
 ghost use Rattle.nextest_config_values.specs.declared.identifier.error.ToolNameFlaw.TheVariants as names;
@@ -64,7 +65,7 @@ impl IdentifierFlaw {
     /// The refusal of a text with this flaw.
     pub(crate) fn of(self, text: String) -> InvalidIdentifier
         requires { self ≡ identifiers.Whole kinds.Empty → string_bytes text ≡ [] }
-        ensures { identifier_refusal result ≡ flawed self (string_bytes text) }
+        ensures { identifier_fault result ≡ Some (flawed self (string_bytes text)) }
     {
         match self {
             IdentifierFlaw::Whole(InvalidIdentifierKind::Empty) => InvalidIdentifier::Empty,
@@ -86,7 +87,7 @@ impl ToolNameFlaw {
     /// The refusal of a text with this flaw.
     pub(crate) fn of(self, text: String) -> InvalidToolName
         requires { self ≡ names.Empty → string_bytes text ≡ [] }
-        ensures { tool_name_refusal result ≡ flawed self (string_bytes text) }
+        ensures { tool_name_fault result ≡ Some (flawed self (string_bytes text)) }
     {
         match self {
             ToolNameFlaw::Empty => InvalidToolName::Empty,
@@ -97,7 +98,7 @@ impl ToolNameFlaw {
 }
 
 impl fmt::Display for InvalidIdentifier {
-    ghost output = { λ error. Some (identifier_refusal_text (identifier_refusal error)) };
+    ghost output = { λ error. Some (told_text identifier_fault_text (identifier_fault error)) };
 
     fn fmt<W: fmt::Write>(&self, f: &mut fmt::Formatter<W>) -> fmt::Result {
         match self {
@@ -124,7 +125,7 @@ impl fmt::Display for InvalidIdentifier {
 }
 
 impl fmt::Display for InvalidToolName {
-    ghost output = { λ error. Some (tool_name_refusal_text (tool_name_refusal error)) };
+    ghost output = { λ error. Some (told_text tool_name_fault_text (tool_name_fault error)) };
 
     fn fmt<W: fmt::Write>(&self, f: &mut fmt::Formatter<W>) -> fmt::Result {
         match self {

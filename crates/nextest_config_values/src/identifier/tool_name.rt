@@ -9,11 +9,9 @@ ghost use Rattle.std.specs.Hash as fed;
 ghost use Rattle.std.specs.Ordering.{nat_cmp};
 ghost use Rattle.toml.specs.Data.{as_str};
 ghost use Rattle.nextest_config_values.specs.Helpers.{IsPlainIdentifier};
-ghost use Rattle.nextest_config_values.specs.Identifier.Error.{tool_name_refusal};
-ghost use Rattle.nextest_config_values.specs.Identifier.Laws.{tool_name_reading};
-ghost use Rattle.nextest_config_values.specs.Identifier.Normal.{IsKeptText};
-ghost use Rattle.nextest_config_values.specs.Identifier.ToolName.{IsToolName, IsToolNameFlaw, IsToolNameRefusal, ToolNameFaults};
-ghost use Rattle.nextest_config_values.specs.Read.FromToml.{FaultsAs, MeansAs, text_expected};
+ghost use Rattle.nextest_config_values.specs.Identifier.{IsKeptText, IsToolName, IsToolNameFault, IsToolNameFlaw, tool_name_fault, tool_name_reading, ToolNameFaults};
+ghost use Rattle.nextest_config_values.specs.Read.{FaultOrMemory, FaultsAs, MeansAs, text_expected};
+ghost use Rattle.nextest_config_values.specs.declared.identifier.error.InvalidToolName.TheVariants.{Memory};
 
 use super::error::{InvalidToolName, ToolNameFlaw};
 use crate::helpers::{InvalidIdentifierKind, is_valid_identifier_unicode};
@@ -52,7 +50,8 @@ impl ToolName {
     /// The tool name that the text is, once it is brought to Normalization Form C (UAX 15).
     pub fn new(alloc: Global, name: &str) -> Result<Self, InvalidToolName>
         ensures accepted { IfOk result (IsToolName name.now) }
-        ensures refused { IfErr result (λ error. IsToolNameRefusal name.now (tool_name_refusal error)) }
+        ensures refused { IfErr result (λ error. FaultOrMemory (tool_name_fault error) (error ≡ Memory)
+            (IsToolNameFault name.now)) }
     {
         let text = to_nfc(alloc, name)?;
         match judge(text.as_str()) {

@@ -1,8 +1,8 @@
 //! Why a TOML value was refused, and where.
 
-ghost use Rattle.std.specs.Prelude.{◌≡◌, IfOk, Some, string_bytes};
+ghost use Rattle.std.specs.Prelude.{◌≡◌, ◌↔◌, ◌++◌, IfOk, IsTrue, Some, string_bytes};
 ghost use Rattle.toml.specs.View.{view};
-ghost use Rattle.nextest_config_values.specs.Read.Fault.{RefusesAs, broken_rule, fault_at, fault_of, fault_text, is_memory, missing, no_memory, path_of, reason_of, reason_text, rule_text, unknown_word, wrong_type, wrong_value};
+ghost use Rattle.nextest_config_values.specs.Read.{broken_rule, IsMemory, kind_text, missing, path_of, path_text, RefusesAs, RefusesKind, rule_text, unknown_word, wrong_type, wrong_value};
 ghost use Rattle.nextest_config_values.specs.declared.read.fault.FaultKind.TheVariants.{Memory};
 
 use super::text::{QuotedText, found_text};
@@ -91,7 +91,7 @@ pub enum Rule {
 impl ReadFault {
     /// The fault of this kind at this path, or `Memory` where the path finds no room.
     pub fn new(alloc: Global, at: &str, kind: FaultKind) -> ReadFault
-        ensures { RefusesAs (fault_at at.now (reason_of kind)) (fault_of result) }
+        ensures { RefusesKind at.now kind result }
     {
         match kind {
             FaultKind::Memory => ReadFault::memory(alloc),
@@ -104,7 +104,7 @@ impl ReadFault {
 
     /// The fault of a value whose kind the setting doesn't take.
     pub fn invalid_type(alloc: Global, value: &Value, at: &str, expected: &'static str) -> ReadFault
-        ensures { RefusesAs (wrong_type (view value.now) at.now expected.now) (fault_of result) }
+        ensures { RefusesAs (wrong_type (view value.now) at.now expected.now) result }
     {
         match found_text(alloc, value) {
             Ok(found) => ReadFault::new(alloc, at, FaultKind::InvalidType { found, expected }),
@@ -119,7 +119,7 @@ impl ReadFault {
         at: &str,
         expected: &'static str,
     ) -> ReadFault
-        ensures { RefusesAs (wrong_value (view value.now) at.now expected.now) (fault_of result) }
+        ensures { RefusesAs (wrong_value (view value.now) at.now expected.now) result }
     {
         match found_text(alloc, value) {
             Ok(found) => ReadFault::new(alloc, at, FaultKind::InvalidValue { found, expected }),
@@ -129,7 +129,7 @@ impl ReadFault {
 
     /// The fault of a text that is none of the setting's words.
     pub fn unknown_variant(alloc: Global, text: &str, at: &str, expected: &'static str) -> ReadFault
-        ensures { RefusesAs (unknown_word text.now at.now expected.now) (fault_of result) }
+        ensures { RefusesAs (unknown_word text.now at.now expected.now) result }
     {
         match String::from_str(alloc, text) {
             Ok(found) => ReadFault::new(alloc, at, FaultKind::UnknownVariant { found, expected }),
@@ -139,7 +139,7 @@ impl ReadFault {
 
     /// The fault of a table at this path that lacks this key.
     pub fn missing_field(alloc: Global, key: &str, at: &str) -> ReadFault
-        ensures { RefusesAs (missing key.now at.now) (fault_of result) }
+        ensures { RefusesAs (missing key.now at.now) result }
     {
         match field_path(alloc, at, key) {
             Ok(key) => ReadFault::new(alloc, at, FaultKind::MissingField { key }),
@@ -149,7 +149,7 @@ impl ReadFault {
 
     /// Whether a request for memory was refused.
     pub fn is_memory(&self) -> bool
-        ensures { result ≡ is_memory (fault_of self.now).reason }
+        ensures { IsTrue result ↔ (self.now.kind ≡ Memory) }
     {
         match self.kind {
             FaultKind::Memory => true,
@@ -167,7 +167,7 @@ impl ReadFault {
     /// The fault of a value whose reading was refused memory, at the empty path: it says nothing of
     /// the value.
     pub fn memory(alloc: Global) -> ReadFault
-        ensures { fault_of result ≡ no_memory }
+        ensures { IsMemory result }
     {
         ReadFault {
             path: String::new(alloc),
@@ -196,10 +196,10 @@ impl From<AllocError> for FaultKind {
 }
 
 impl From<InvalidIdentifier> for FaultKind {
-    ghost use Rattle.nextest_config_values.specs.Identifier.Error.{identifier_refusal};
-    ghost use Rattle.nextest_config_values.specs.Read.Fault.{identifier, name_reason, reason_of};
+    ghost use Rattle.nextest_config_values.specs.Identifier.Error.{identifier_fault};
+    ghost use Rattle.nextest_config_values.specs.Read.Fault.{IsNameKind, identifier};
 
-    ghost from_gives = { λ error kind. reason_of kind ≡ name_reason identifier (identifier_refusal error) };
+    ghost from_gives = { λ error kind. IsNameKind identifier (identifier_fault error) kind };
 
     fn from(error: InvalidIdentifier) -> FaultKind {
         match error {
@@ -210,10 +210,10 @@ impl From<InvalidIdentifier> for FaultKind {
 }
 
 impl From<InvalidToolName> for FaultKind {
-    ghost use Rattle.nextest_config_values.specs.Identifier.Error.{tool_name_refusal};
-    ghost use Rattle.nextest_config_values.specs.Read.Fault.{name_reason, reason_of, tool_name};
+    ghost use Rattle.nextest_config_values.specs.Identifier.Error.{tool_name_fault};
+    ghost use Rattle.nextest_config_values.specs.Read.Fault.{IsNameKind, tool_name};
 
-    ghost from_gives = { λ error kind. reason_of kind ≡ name_reason tool_name (tool_name_refusal error) };
+    ghost from_gives = { λ error kind. IsNameKind tool_name (tool_name_fault error) kind };
 
     fn from(error: InvalidToolName) -> FaultKind {
         match error {
@@ -224,7 +224,7 @@ impl From<InvalidToolName> for FaultKind {
 }
 
 impl fmt::Display for ReadFault {
-    ghost output = { λ fault. Some (fault_text (fault_of fault)) };
+    ghost output = { λ fault. Some (path_text (string_bytes fault.path) ++ kind_text fault.kind) };
 
     fn fmt<W: fmt::Write>(&self, f: &mut fmt::Formatter<W>) -> fmt::Result {
         if !self.path.is_empty() {
@@ -235,7 +235,7 @@ impl fmt::Display for ReadFault {
 }
 
 impl fmt::Display for FaultKind {
-    ghost output = { λ kind. Some (reason_text (reason_of kind)) };
+    ghost output = { λ kind. Some (kind_text kind) };
 
     fn fmt<W: fmt::Write>(&self, f: &mut fmt::Formatter<W>) -> fmt::Result {
         match self {

@@ -3,9 +3,7 @@
 ghost use Rattle.std.specs.Prelude.{◌≡◌, IfOk, IfErr, Some, None, option_map};
 ghost use Rattle.toml.specs.Data.{get_member};
 ghost use Rattle.toml.specs.View.{table_view, view};
-ghost use Rattle.nextest_config_values.specs.Read.Fault.{Refuses, fault_of, path_of};
-ghost use Rattle.nextest_config_values.specs.Read.Field.{MeansOptional, MeansOr, MeansRequired, OptionalFaults, RequiredFaults, WantsIfPresent, WantsIfRequired};
-ghost use Rattle.nextest_config_values.specs.Read.FromToml.{WantsMemory};
+ghost use Rattle.nextest_config_values.specs.Read.{MeansOptional, MeansOr, MeansRequired, OptionalFaults, path_of, Refuses, RequiredFaults, WantsIfPresent, WantsIfRequired, WantsMemory};
 
 use super::fault::{ReadFault, field_path};
 use super::from_toml::FromToml;
@@ -20,10 +18,9 @@ pub fn optional_field<T: FromToml>(
     at: &str,
 ) -> Result<Option<T>, ReadFault>
     ensures meant { IfOk result (MeansOptional T.means (get_member key.now (table_view table.now))) }
-    ensures refused { IfErr result (λ fault. Refuses
+    ensures refused { IfErr result (Refuses
         (OptionalFaults T.faults (get_member key.now (table_view table.now)) (path_of at.now key.now))
-        (WantsIfPresent T.means T.needs_memory (get_member key.now (table_view table.now)))
-        (fault_of fault)) }
+        (WantsIfPresent T.means T.needs_memory (get_member key.now (table_view table.now)))) }
 {
     match find(table, key) {
         Some(value) => {
@@ -42,10 +39,9 @@ pub fn required_field<T: FromToml>(
     at: &str,
 ) -> Result<T, ReadFault>
     ensures meant { IfOk result (MeansRequired T.means (get_member key.now (table_view table.now))) }
-    ensures refused { IfErr result (λ fault. Refuses
+    ensures refused { IfErr result (Refuses
         (RequiredFaults T.faults key.now (get_member key.now (table_view table.now)) at.now)
-        (WantsIfRequired T.means T.needs_memory (get_member key.now (table_view table.now)))
-        (fault_of fault)) }
+        (WantsIfRequired T.means T.needs_memory (get_member key.now (table_view table.now)))) }
 {
     match find(table, key) {
         Some(value) => read_field(alloc, value, key, at),
@@ -62,10 +58,9 @@ pub fn field_or<T: FromToml + Drop>(
     default: T,
 ) -> Result<T, ReadFault>
     ensures meant { IfOk result (MeansOr default T.means (get_member key.now (table_view table.now))) }
-    ensures refused { IfErr result (λ fault. Refuses
+    ensures refused { IfErr result (Refuses
         (OptionalFaults T.faults (get_member key.now (table_view table.now)) (path_of at.now key.now))
-        (WantsIfPresent T.means T.needs_memory (get_member key.now (table_view table.now)))
-        (fault_of fault)) }
+        (WantsIfPresent T.means T.needs_memory (get_member key.now (table_view table.now)))) }
 {
     match find(table, key) {
         Some(value) => read_field(alloc, value, key, at),
@@ -89,8 +84,8 @@ fn read_field<T: FromToml>(
     at: &str,
 ) -> Result<T, ReadFault>
     ensures meant { IfOk result (T.means (view value.now)) }
-    ensures refused { IfErr result (λ fault. Refuses (T.faults (view value.now) (path_of at.now key.now))
-        (WantsMemory (T.means (view value.now)) T.needs_memory) (fault_of fault)) }
+    ensures refused { IfErr result (Refuses (T.faults (view value.now) (path_of at.now key.now))
+        (WantsMemory (T.means (view value.now)) T.needs_memory)) }
 {
     match T::read(alloc, value, key) {
         Ok(x) => Ok(x),

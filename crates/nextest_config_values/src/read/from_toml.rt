@@ -3,8 +3,8 @@
 ghost use Rattle.std.specs.Prelude.{ℕ, Bool, List, IfOk, IfErr};
 ghost use Rattle.toml.specs.Data.{Data};
 ghost use Rattle.toml.specs.View.{view};
-ghost use Rattle.nextest_config_values.specs.Read.Fault.{Fault, Refuses, fault_of};
-ghost use Rattle.nextest_config_values.specs.Read.FromToml.{IsReading, WantsMemory};
+ghost use Rattle.nextest_config_values.specs.Read.Fault.{Fault};
+ghost use Rattle.nextest_config_values.specs.Read.{IsReading, Refuses, WantsMemory};
 
 use super::fault::ReadFault;
 use std::alloc::Global;
@@ -18,7 +18,7 @@ pub trait FromToml: Sized {
     // What a value means.
     ghost means: { Data → Self → Type 0 };
 
-    // What is wrong with a value at a path. Want of memory is none of these.
+    // What is wrong with a value at a path.
     ghost faults: { Data → List ℕ → Fault → Type 0 };
 
     // Whether the result of an accepted value takes memory.
@@ -30,8 +30,8 @@ pub trait FromToml: Sized {
     /// Reads the value; a fault names its path, which begins with `at`. A `Memory` has the empty path.
     fn read(alloc: Global, value: &Value, at: &str) -> Result<Self, ReadFault>
         ensures meant { IfOk result (means (view value.now)) }
-        ensures refused { IfErr result (λ fault. Refuses (faults (view value.now) at.now)
-            (WantsMemory (means (view value.now)) needs_memory) (fault_of fault)) };
+        ensures refused { IfErr result (Refuses (faults (view value.now) at.now)
+            (WantsMemory (means (view value.now)) needs_memory)) };
 
     ghost laws: { IsReading means faults alike };
 }

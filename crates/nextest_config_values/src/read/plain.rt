@@ -2,8 +2,7 @@
 
 ghost use Rattle.std.specs.Prelude.{◌≡◌, ◌≢◌, ◌<◌, ◌↔◌, ℕ, pos, true, false, codes, IsSome, IfSome, MatchOption};
 ghost use Rattle.toml.specs.Data.{as_bool, as_integer, as_str};
-ghost use Rattle.nextest_config_values.specs.Read.FromToml.{FaultsAs, MeansAs, text_expected};
-ghost use Rattle.nextest_config_values.specs.Read.Plain.{HasNoFault, IsCount, IsOutside, IsU32, MeansNumber, MeansText, MeansTruth, SameText, bool_reading, number_reading, string_reading};
+ghost use Rattle.nextest_config_values.specs.Read.{bool_reading, FaultsAs, HasNoFault, IsCount, IsOutside, IsU32, MeansAs, MeansNumber, MeansText, MeansTruth, number_reading, SameText, string_reading, text_expected};
 
 use super::fault::ReadFault;
 use super::from_toml::FromToml;

@@ -3,7 +3,7 @@
 ghost use Rattle.std.specs.Prelude.{◌≡◌, IfOk, Some, map, string_bytes};
 ghost use Rattle.std.specs.Fmt.{WritesOnOk};
 ghost use Rattle.toml.specs.View.{view};
-ghost use Rattle.nextest_config_values.specs.Read.Text.{escaped, found_text, quoted_text, quoted_texts, unnamed};
+ghost use Rattle.nextest_config_values.specs.Read.{escaped, found_text, quoted_text, quoted_texts, unnamed};
 
 use std::alloc::{AllocError, Global};
 use std::collections::BTreeSet;

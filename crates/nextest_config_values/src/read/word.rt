@@ -2,8 +2,7 @@
 
 ghost use Rattle.std.specs.Prelude.{◌≡◌, ◌≢◌, ℕ, List, Some, false, map, MatchOption};
 ghost use Rattle.toml.specs.Data.{as_str};
-ghost use Rattle.nextest_config_values.specs.Read.FromToml.{FaultsAs, MeansAs, text_expected};
-ghost use Rattle.nextest_config_values.specs.Read.Word.{IsNoWord, MeansWord, value_of, word_reading, words_text};
+ghost use Rattle.nextest_config_values.specs.Read.{FaultsAs, IsNoWord, MeansAs, MeansWord, text_expected, value_of, word_reading, words_text};
 
 use super::fault::ReadFault;
 use super::from_toml::FromToml;

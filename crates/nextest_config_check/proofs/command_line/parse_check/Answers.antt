@@ -1,9 +1,9 @@
-use Rattle.std.proofs.Common.{◌≡◌, Err, rules, ap}
-use Rattle.semver.specs.Parse.{memory_error}
-use Rattle.nextest_config_check.proofs.Versions.{no_complaint_of_memory}
+use Rattle.std.proofs.Common.{Err, rules, ap}
+use Rattle.semver.specs.Parse.{version_parts}
+use Rattle.nextest_config_check.proofs.Versions.{no_complaint, of_text-version_parts}
 use Rattle.nextest_config_check.proofs.command_line.parse_check.Goals as goal
 
 pub returns-in-Err : goal.returns-in-Err
 returns-in-Err c =
-    let of_memory : c.in-Err.error ≡ memory_error = search rules in
-    no_complaint_of_memory c.args.word.now c.args.override_version_check (Err c.in-Err.error) c.in-Err.ensures.refused (ap Err of_memory)
+    let word = c.args.word.now in
+    no_complaint word c.args.override_version_check (version_parts word) (Err c.in-Err.error) (of_text-version_parts word) c.in-Err.ensures.refused (ap Err (search rules))

@@ -1,4 +1,4 @@
-use Rattle.nextest_config_check.proofs.Fronts.{front_kept, front_of_both, then_front}
+use Rattle.nextest_config_check.proofs.Fronts.{front_of_both, still_added, then_front}
 use Rattle.std.proofs.Common.{codes}
 use Rattle.std.proofs.KnownBytes.{Appends-trans}
 use Rattle.nextest_config_check.proofs.engine.complain.Goals as goal
@@ -17,5 +17,5 @@ returns-in_err-write_text-3 g c =
 
 pub returns : goal.returns
 returns g c =
-    front_kept _ _ _ _ (then_front _ _ _ _ (codes "\n") (Appends-trans _ _ _ c.args.complaint.now c.args.word.now c.in_ok-write_text.ensures.whole c.in_ok-write_text-2.ensures.whole) c.write_text-3.ensures.front)
-    c.flush.ensures.bytes
+    let told = then_front _ _ _ _ (codes "\n") (Appends-trans _ _ _ c.args.complaint.now c.args.word.now c.in_ok-write_text.ensures.whole c.in_ok-write_text-2.ensures.whole) c.write_text-3.ensures.front in
+    (told.0, still_added _ _ _ _ told.0 told.1 c.flush.ensures.bytes)

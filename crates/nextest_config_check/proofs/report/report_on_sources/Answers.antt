@@ -1,19 +1,25 @@
-use Rattle.std.proofs.Common.{map}
+use Rattle.std.proofs.Common.{map, subst₂, sym}
+use Rattle.std.proofs.lemmas.Result.{IfOk-weaker}
 use Rattle.semver.specs.Identifiers.{parts_of}
-use Rattle.nextest_config.specs.NextestVersion.Error.{refusal_of}
-use Rattle.nextest_config.specs.NextestVersion.Source.{source_of}
-use Rattle.nextest_config.specs.NextestVersion.VersionOnly.{configuration_of}
-use Rattle.nextest_config_check.specs.Report.{refused_list}
-use Rattle.nextest_config_check.proofs.Reports.{report_on_list}
+use Rattle.nextest_config.specs.NextestVersion.{configuration_of, source_of, verdict}
+use Rattle.nextest_config_check.specs.Report.{IsReport, read_list, refused_list}
+use Rattle.nextest_config.proofs.Refusals.{text_of_told}
 use Rattle.nextest_config_check.proofs.report.report_on_sources.Goals as goal
 
 pub returns-in-Ok : goal.returns-in-Ok
 returns-in-Ok c =
-    report_on_list (map source_of c.args.sources.now) (configuration_of c.in-Ok.config) (parts_of c.args.current.now) c.args.override_version_check c.report_on_read.result
-    c.in-Ok.ensures.stands c.in-Ok.ensures.selected c.report_on_read.ensures
+    let sources = map source_of c.args.sources.now in
+    let configuration = configuration_of c.in-Ok.config in
+    let current = parts_of c.args.current.now in
+    let overridden = c.args.override_version_check in
+    let selected = c.in-Ok.ensures.selected in
+    IfOk-weaker c.report_on_read.result _ _ (λ report is_report input text blocks. subst₂ (IsReport input current overridden) (sym is_report.text) (sym is_report.outcome)
+    (read_list sources (verdict configuration.roles current overridden) configuration text blocks (selected.0, selected.1, selected.2 current overridden) c.in-Ok.ensures.stands))
+    c.report_on_read.ensures
 
 pub returns-in_ok-format-in-Err-Refused : goal.returns-in_ok-format-in-Err-Refused
 returns-in_ok-format-in-Err-Refused c = λ input text blocks.
     let refused = rw c.in-Err-Refused.field-0-is at c.in-Err-Refused.ensures.refused in
-    rw (c.refused.ensures, c.in_ok-format-in-Err-Refused.ensures.ok)
-    (refused_list (map source_of c.args.sources.now) c.in-Err-Refused.position (refusal_of c.in-Err-Refused.error) text blocks refused)
+    let prints = text_of_told c.in-Err-Refused.error refused.0 refused.1 in
+    rw (c.refused.ensures, c.in_ok-format-in-Err-Refused.ensures.ok, prints)
+    (refused_list (map source_of c.args.sources.now) c.in-Err-Refused.position refused.0 text blocks refused.2)

@@ -1,5 +1,4 @@
-use Rattle.nextest_config_values.specs.Identifier.ConfigIdentifier.{IsIdentifierFlaw, IsIdentifierForm}
-use Rattle.nextest_config_values.specs.Identifier.Laws.{identifier_not_flawed, no_normal_fault, one_identifier_flaw, one_normal_fault}
+use Rattle.nextest_config_values.specs.Identifier.{identifier_not_flawed, IsIdentifierFlaw, IsIdentifierForm, no_normal_fault, one_identifier_flaw, one_normal_fault}
 use Rattle.nextest_config_values.proofs.laws.law_identifier_once.Goals as goal
 
 pub returns-clause-one_fault : goal.returns-clause-one_fault

@@ -1,6 +1,6 @@
 use Rattle.std.proofs.Common.{map, refl, string_bytes, string_cmp, subst}
 use Rattle.std.proofs.lemmas.Map.Lookups.{exact_bytes}
-use Rattle.nextest_config.specs.NextestVersion.Experimental.{HasOneMore}
+use Rattle.nextest_config.specs.NextestVersion.{HasOneMore}
 use Rattle.nextest_config.proofs.Members.{one_more_seen, seen_in_order}
 use Rattle.nextest_config.proofs.nextest_version.experimental_deserialize.add_text.Goals as goal
 

@@ -1,11 +1,10 @@
-use Rattle.std.proofs.Common.{[], map, string_bytes, subst, sym}
-use Rattle.std.proofs.lemmas.List.{map_push}
+use Rattle.std.proofs.Common.{[], map, string_bytes, subst}
 use Rattle.std.proofs.lemmas.Map.Iter.{iter_end}
 use Rattle.std.specs.Cmp.Lexicographic.{slice_cmp}
 use Rattle.std.specs.Map.Iter.{deref}
 use Rattle.std.specs.Ordering.{nat_cmp}
-use Rattle.nextest_config.specs.NextestVersion.Experimental.{HasOneMore}
-use Rattle.nextest_config.proofs.Members.{HasBoth, both_with_more, both_with_none, none_in_order}
+use Rattle.nextest_config.specs.NextestVersion.{HasOneMore}
+use Rattle.nextest_config.proofs.Members.{both_with_more, both_with_none, none_in_order}
 use Rattle.nextest_config.proofs.Naming.{all_words, seen_word}
 use Rattle.nextest_config.proofs.nextest_version.experimental_deserialize.known_words.Goals as goal
 
@@ -16,8 +15,8 @@ pub loop-feature-preserved : goal.loop-feature-preserved
 loop-feature-preserved c =
     let more = subst (λ text. HasOneMore (map string_bytes c.loop-feature.words.keys) text (map string_bytes c.add_text.new.texts.keys)) c.as_word.ensures c.in_ok-add_text.ensures.added in (
       c.in_ok-add_text.ensures.in_order,
-      subst (λ words. HasBoth [] words (map string_bytes c.add_text.new.texts.keys)) (sym (map_push seen_word c.loop-feature.yielded c.in-Some.feature))
-          (both_with_more [] (map seen_word c.loop-feature.yielded) (map string_bytes c.loop-feature.words.keys) (map string_bytes c.add_text.new.texts.keys) (seen_word c.in-Some.feature) c.loop-feature.invariant.1 more),
+      both_with_more seen_word [] c.loop-feature.yielded
+          (map string_bytes c.loop-feature.words.keys) (map string_bytes c.add_text.new.texts.keys) c.in-Some.feature c.loop-feature.invariant.1 more,
     )
 
 pub returns-clause-words : goal.returns-clause-words

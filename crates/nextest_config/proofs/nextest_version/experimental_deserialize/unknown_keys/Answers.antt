@@ -4,7 +4,7 @@ use Rattle.std.specs.BTreeMap.{keys}
 use Rattle.std.specs.Cmp.Lexicographic.{slice_cmp}
 use Rattle.std.specs.Map.Iter.{deref}
 use Rattle.std.specs.Ordering.{nat_cmp}
-use Rattle.nextest_config.specs.NextestVersion.Experimental.{HasOneMore, IsUnknown}
+use Rattle.nextest_config.specs.NextestVersion.{HasOneMore, IsUnknown}
 use Rattle.nextest_config.proofs.Members.{none_in_order, none_of_none}
 use Rattle.nextest_config.proofs.Naming.{all_keys, key_known, key_unknown}
 use Rattle.nextest_config.proofs.nextest_version.experimental_deserialize.unknown_keys.Goals as goal

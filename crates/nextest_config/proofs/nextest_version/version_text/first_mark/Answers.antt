@@ -1,5 +1,4 @@
-use Rattle.nextest_config.specs.NextestVersion.VersionTextLaws.{mark_at}
-use Rattle.nextest_config.specs.NextestVersion.VersionText.{hyphen, plus_sign}
+use Rattle.nextest_config.specs.NextestVersion.{hyphen, mark_at, plus_sign}
 use Rattle.nextest_config.proofs.nextest_version.version_text.first_mark.Goals as goal
 
 pub returns-in-45 : goal.returns-in-45

@@ -1,12 +1,11 @@
 use Rattle.std.proofs.Common.{◌++◌, Some, None, refl, ap, chars, inr}
 use Rattle.nextest_config_values.proofs.Texts.{no_colon_chars, split_colon}
-use Rattle.nextest_config_values.specs.Identifier.ConfigIdentifier.{tool_mark}
+use Rattle.nextest_config_values.specs.Identifier.{tool_mark}
 use Rattle.nextest_config_values.proofs.identifier.config_identifier.judge_components.Goals as goal
 
 pub returns-in_default-clause-refused : goal.returns-in_default-clause-refused
 returns-in_default-clause-refused c =
-    let none = split_colon c.args.components.now None c.utf8.components c.in_default.ensures.cases in
-    (chars c.args.components.now, refl, no_colon_chars c.args.components.now c.utf8.components none)
+    (chars c.args.components.now, refl, no_colon_chars c.args.components.now c.utf8.components (split_colon c.args.components.now None c.utf8.components c.in_default.ensures.cases))
 
 pub returns-in-Ok-clause-accepted : goal.returns-in-Ok-clause-accepted
 returns-in-Ok-clause-accepted c =

@@ -4,7 +4,7 @@ use Rattle.std.proofs.lemmas.Iterator.{YieldsList-from_chars}
 use Rattle.std.proofs.lemmas.Iterator.Consumers.{YieldsList-end}
 use Rattle.std.proofs.lemmas.List.{flat_map_more, map-id}
 use Rattle.std.specs.Str.{chars}
-use Rattle.nextest_config_values.specs.Read.Text.{escaped, quoted_text}
+use Rattle.nextest_config_values.specs.Read.{escaped, quoted_text}
 use Rattle.nextest_config_values.proofs.read.text.write_quoted.Goals as goal
 
 -- all characters between the quotes

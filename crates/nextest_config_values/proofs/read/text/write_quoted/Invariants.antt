@@ -1,6 +1,6 @@
 use Rattle.std.proofs.Common.{codes, ◌++◌, flat_map}
 use Rattle.std.specs.Fmt.{HasWritten, IsPlainFormatter}
-use Rattle.nextest_config_values.specs.Read.Text.{escaped}
+use Rattle.nextest_config_values.specs.Read.{escaped}
 use Rattle.nextest_config_values.proofs.read.text.write_quoted.Given as goal
 
 -- the opening quote and the characters so far are written

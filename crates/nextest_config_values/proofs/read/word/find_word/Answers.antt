@@ -1,7 +1,6 @@
 use Rattle.std.proofs.Common.{◌≢◌, ◌∙◌}
 use Rattle.std.proofs.lemmas.List.{take_all}
 use Rattle.std.specs.Cmp.Lexicographic.{other_text}
-use Rattle.std.specs.List.{AllByRecursion}
 use Rattle.nextest_config_values.proofs.Lists.{all_more}
 use Rattle.nextest_config_values.proofs.Words.{no_word}
 use Rattle.nextest_config_values.proofs.read.word.find_word.Goals as goal
@@ -14,6 +13,5 @@ loop-value-preserved g c =
 
 pub returns : goal.returns
 returns g c =
-    let whole = take_all c.loop-value.value-index c.all-value-items.result.now c.loop-value-test.false in
-    let none : AllByRecursion (λ x. g.T.Word.word x ≢ c.args.text.now) g.T.Word.all = rw (whole, c.all-value-items.ensures) at c.loop-value.invariant in
-    no_word g.T.Word.all g.T.Word.word c.args.text.now g.met.T.Word.reads_back none
+    no_word g.T.Word.all g.T.Word.word c.args.text.now g.met.T.Word.reads_back
+    (rw (take_all c.loop-value.value-index c.all-value-items.result.now c.loop-value-test.false, c.all-value-items.ensures) at c.loop-value.invariant)

@@ -1,4 +1,4 @@
-use Rattle.nextest_config.specs.NextestVersion.Experimental.{IsEnabled, features_left}
+use Rattle.nextest_config.specs.NextestVersion.{features_left, IsEnabled}
 use Rattle.nextest_config.proofs.Features.{goes_on, those_of_all}
 use Rattle.nextest_config.proofs.Members.{one_that_fails, one_that_holds}
 use Rattle.nextest_config.proofs.nextest_version.experimental.ConfigExperimental.from_env.Goals as goal

@@ -1,6 +1,6 @@
 use Rattle.std.proofs.Common.{◌≡◌, ◌∙◌, Some, ap, sym, option_map, rules}
 use Rattle.std.specs.Option.{option_copied}
-use Rattle.nextest_config.specs.NextestVersion.Experimental.{variable_of}
+use Rattle.nextest_config.specs.NextestVersion.{variable_of}
 use Rattle.nextest_config.proofs.Features.{not_set, set_to}
 use Rattle.nextest_config.proofs.nextest_version.experimental.ConfigExperimental.is_enabled.Goals as goal
 

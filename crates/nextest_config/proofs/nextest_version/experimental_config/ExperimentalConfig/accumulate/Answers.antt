@@ -1,10 +1,16 @@
-use Rattle.std.proofs.Common.{◌++◌, [], ◌∷◌, map, string_bytes, sym, ap, ◌∙◌}
+use Rattle.std.proofs.Common.{◌≡◌, ◌++◌, ℕ, List, [], ◌∷◌, length, map, refl, arith, string_bytes, sym, ap, ◌∙◌}
 use Rattle.std.proofs.lemmas.List.{append-nil, length-map, map_push}
-use Rattle.nextest_config.specs.NextestVersion.ExperimentalConfig.{unknown_of}
-use Rattle.nextest_config.specs.NextestVersion.Source.{Place, place_of}
-use Rattle.nextest_config.proofs.Entries.{no_entry, one_entry}
+use Rattle.nextest_config.specs.NextestVersion.{entry_at, Place, place_of, unknown_of}
 use Rattle.nextest_config.proofs.Orders.{features_in_order, features_joined}
 use Rattle.nextest_config.proofs.nextest_version.experimental_config.ExperimentalConfig.accumulate.Goals as goal
+
+no_entry : (place : Place) (names : List (List ℕ)) → length names ≡ 0 → entry_at place names ≡ []
+no_entry place [] none = refl
+no_entry place (name ∷ names) none = absurd (omega (arith, none))
+
+one_entry : (place : Place) (names : List (List ℕ)) → (length names ≡ 0 → ⊥) → entry_at place names ≡ record { place = place; names = names } ∷ []
+one_entry place [] some = absurd (some refl)
+one_entry place (name ∷ names) some = refl
 
 pub returns-then-is_empty : goal.returns-then-is_empty
 returns-then-is_empty c =

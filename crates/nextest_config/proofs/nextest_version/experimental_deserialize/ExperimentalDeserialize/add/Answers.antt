@@ -1,5 +1,5 @@
 use Rattle.std.proofs.Common.{map, string_bytes}
-use Rattle.nextest_config.specs.NextestVersion.ExperimentalDeserialize.{features_of}
+use Rattle.nextest_config.specs.NextestVersion.{features_of}
 use Rattle.nextest_config.proofs.Naming.{adds_feature, adds_other}
 use Rattle.nextest_config.proofs.nextest_version.experimental_deserialize.ExperimentalDeserialize.add.Goals as goal
 

@@ -1,10 +1,8 @@
-use Rattle.std.proofs.Common.{map, refl, string_bytes, subst, sym}
-use Rattle.std.proofs.lemmas.List.{map_push}
+use Rattle.std.proofs.Common.{map, refl, string_bytes, subst}
 use Rattle.std.proofs.lemmas.Map.Iter.{iter_end}
 use Rattle.std.specs.Map.Iter.{deref}
-use Rattle.nextest_config.specs.NextestVersion.Experimental.{HasOneMore}
-use Rattle.nextest_config.specs.NextestVersion.ExperimentalDeserialize.{features_of}
-use Rattle.nextest_config.proofs.Members.{HasBoth, both_with_more, both_with_none}
+use Rattle.nextest_config.specs.NextestVersion.{features_of, HasOneMore}
+use Rattle.nextest_config.proofs.Members.{both_with_more, both_with_none}
 use Rattle.nextest_config.proofs.Naming.{all_names, seen_key}
 use Rattle.nextest_config.proofs.nextest_version.experimental_deserialize.ExperimentalDeserialize.feature_names.Goals as goal
 
@@ -16,8 +14,8 @@ loop-name-preserved c =
     let words = map string_bytes c.in_ok-names.names.keys in
     let more = subst (λ text. HasOneMore (map string_bytes c.loop-name.names.keys) text (map string_bytes c.add_text.new.texts.keys)) c.as_str.ensures.value c.in_ok-add_text.ensures.added in (
       c.in_ok-add_text.ensures.in_order,
-      subst (λ names. HasBoth words names (map string_bytes c.add_text.new.texts.keys)) (sym (map_push seen_key c.loop-name.yielded c.in-Some.name))
-          (both_with_more words (map seen_key c.loop-name.yielded) (map string_bytes c.loop-name.names.keys) (map string_bytes c.add_text.new.texts.keys) (seen_key c.in-Some.name) c.loop-name.invariant.1 more),
+      both_with_more seen_key words c.loop-name.yielded
+          (map string_bytes c.loop-name.names.keys) (map string_bytes c.add_text.new.texts.keys) c.in-Some.name c.loop-name.invariant.1 more,
     )
 
 pub returns : goal.returns

@@ -1,5 +1,5 @@
 use Rattle.std.proofs.Common.{map, string_bytes}
-use Rattle.nextest_config.specs.NextestVersion.Experimental.{TextsInOrder}
+use Rattle.nextest_config.specs.NextestVersion.{TextsInOrder}
 use Rattle.nextest_config.proofs.Members.{HasBoth}
 use Rattle.nextest_config.proofs.Naming.{seen_key}
 use Rattle.nextest_config.proofs.nextest_version.experimental_deserialize.ExperimentalDeserialize.feature_names.Given as goal

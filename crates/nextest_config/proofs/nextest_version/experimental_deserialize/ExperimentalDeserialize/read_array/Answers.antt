@@ -1,8 +1,7 @@
 use Rattle.std.proofs.Common.{◌≤◌, length, subst}
 use Rattle.std.proofs.lemmas.Result.{err_from_is_err_and}
 use Rattle.toml.specs.View.{array_view, view}
-use Rattle.nextest_config_values.specs.Read.Fault.{fault_of}
-use Rattle.nextest_config.specs.NextestVersion.ExperimentalDeserialize.{features_of}
+use Rattle.nextest_config.specs.NextestVersion.{features_of}
 use Rattle.nextest_config.proofs.Naming.{all_named, item_added, item_here, none_so_far, refuses_array}
 use Rattle.nextest_config.proofs.nextest_version.experimental_deserialize.ExperimentalDeserialize.read_array.Goals as goal
 
@@ -10,7 +9,7 @@ pub returns-in_err-read_item-clause-refused : goal.returns-in_err-read_item-clau
 returns-in_err-read_item-clause-refused c =
     let here = item_here c.deref-value-items.result.now c.args.array.now.items c.loop-index.index c.value-item.result c.deref-value-items.ensures.value c.loop-index-test.true c.value-item.is in
     let p = err_from_is_err_and c.from_residual.result c.from_residual.ensures.1 in
-    rw (p.1, p.2) (refuses_array (array_view c.args.array.now) c.loop-index.index (view c.value-item.result) (features_of c.loop-index.features) c.args.at.now (fault_of c.in_err-read_item.field-0.0) c.loop-index.invariant here c.in_err-read_item.ensures.refused)
+    rw (p.1, p.2) (refuses_array (array_view c.args.array.now) c.loop-index.index (view c.value-item.result) (features_of c.loop-index.features) c.args.at.now c.in_err-read_item.field-0.0 c.loop-index.invariant here c.in_err-read_item.ensures.refused)
 
 pub loop-index-init : goal.loop-index-init
 loop-index-init c = rw c.new-features.ensures (none_so_far (array_view c.args.array.now))

@@ -1,8 +1,6 @@
 use Rattle.std.proofs.Common.{map, rules}
 use Rattle.std.proofs.lemmas.List.{take_all}
-use Rattle.nextest_config.specs.NextestVersion.ErrorKind.{wrong_of}
-use Rattle.nextest_config.specs.NextestVersion.Source.{source_of}
-use Rattle.nextest_config.specs.NextestVersion.VersionOnly.{Adds, StandsFor, configuration_of}
+use Rattle.nextest_config.specs.NextestVersion.{Adds, configuration_of, source_of, StandsFor}
 use Rattle.nextest_config_values.proofs.Lists.{map-take_more}
 use Rattle.nextest_config.proofs.Readings.{only_memory, refusal_of_list}
 use Rattle.nextest_config.proofs.Selection.{selects}
@@ -16,7 +14,7 @@ loop-position-init c = stands_none (configuration_of c.new-so_far.result) c.new-
 pub returns-in-Err-clause-refused : goal.returns-in-Err-clause-refused
 returns-in-Err-clause-refused c =
     let stands = c.loop-position.invariant in
-    refusal_of_list c.args.sources.now c.loop-position.position c.index-sources-position.result (wrong_of c.in-Err.kind) c.at.result c.loop-position-test.true
+    refusal_of_list c.args.sources.now c.loop-position.position c.index-sources-position.result c.in-Err.kind c.at.result c.loop-position-test.true
     c.index-sources-position.is (stands.0, stands.1) c.in-Err.ensures.refused c.at.ensures
 
 pub returns-in-Err-clause-only : goal.returns-in-Err-clause-only

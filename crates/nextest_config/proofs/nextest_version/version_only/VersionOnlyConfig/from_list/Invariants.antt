@@ -1,8 +1,6 @@
 use Rattle.std.proofs.Common.{map, take}
-use Rattle.nextest_config.specs.NextestVersion.Source.{source_of}
-use Rattle.nextest_config.specs.NextestVersion.VersionOnly.{StandsFor, configuration_of}
+use Rattle.nextest_config.specs.NextestVersion.{configuration_of, source_of, StandsFor}
 use Rattle.nextest_config.proofs.nextest_version.version_only.VersionOnlyConfig.from_list.Given as goal
 
--- the configuration stands for the sources so far
 abbrev pub invariant-loop-position : goal.invariant-loop-position
 invariant-loop-position l = StandsFor (map source_of (take l.position l.sources)) (configuration_of l.so_far)

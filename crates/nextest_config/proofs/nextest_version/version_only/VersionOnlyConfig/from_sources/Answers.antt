@@ -1,10 +1,7 @@
 use Rattle.std.proofs.Common.{map, reverse}
 use Rattle.std.proofs.lemmas.Result.{err_from_is_err_and}
-use Rattle.nextest_config.specs.NextestVersion.Error.{refusal_of}
-use Rattle.nextest_config.specs.NextestVersion.ErrorKind.{wrong_of}
-use Rattle.nextest_config.specs.NextestVersion.Source.{place_of, repository_source, sources_of, tool_source}
-use Rattle.nextest_config.specs.NextestVersion.VersionOnly.{Adds, configuration_of}
-use Rattle.nextest_config.proofs.Readings.{error_in_front, error_last, only_no_memory}
+use Rattle.nextest_config.specs.NextestVersion.{Adds, configuration_of, place_of, repository_source, sources_of, tool_source}
+use Rattle.nextest_config.proofs.Readings.{error_in_front, error_last, no_error_but_memory}
 use Rattle.nextest_config.proofs.Selection.{selects}
 use Rattle.nextest_config.proofs.Standing.{stands_more}
 use Rattle.nextest_config.proofs.nextest_version.version_only.VersionOnlyConfig.from_sources.Goals as goal
@@ -13,13 +10,13 @@ use Rattle.nextest_config.proofs.nextest_version.version_only.VersionOnlyConfig.
 pub returns-in_err-config-clause-refused : goal.returns-in_err-config-clause-refused
 returns-in_err-config-clause-refused c =
     let p = err_from_is_err_and c.from_residual.result c.from_residual.ensures.1 in
-    rw (p.1, p.2) (error_in_front (map tool_source (reverse c.args.tools.now)) _ (refusal_of c.in_err-config.field-0.0) c.in_err-config.ensures.refused)
+    rw (p.1, p.2) (error_in_front (map tool_source (reverse c.args.tools.now)) _ c.in_err-config.field-0.0 c.in_err-config.ensures.refused)
 
 pub returns-in_err-config-clause-only : goal.returns-in_err-config-clause-only
 returns-in_err-config-clause-only c reads =
     let p = err_from_is_err_and c.from_residual.result c.from_residual.ensures.1 in
-    rw (p.1, p.2) (only_no_memory (sources_of c.args.repository.now c.args.tools.now) (refusal_of c.in_err-config.field-0.0) reads
-    (error_in_front (map tool_source (reverse c.args.tools.now)) _ (refusal_of c.in_err-config.field-0.0) c.in_err-config.ensures.refused))
+    rw (p.1, p.2) (no_error_but_memory (sources_of c.args.repository.now c.args.tools.now) c.in_err-config.field-0.0 reads
+    (error_in_front (map tool_source (reverse c.args.tools.now)) _ c.in_err-config.field-0.0 c.in_err-config.ensures.refused))
 
 -- the repository's file is taken in behind those of the tools
 pub returns-in-Ok-clause-stands : goal.returns-in-Ok-clause-stands
@@ -39,8 +36,8 @@ pub returns-in-Err-clause-refused : goal.returns-in-Err-clause-refused
 returns-in-Err-clause-refused c =
     let source = repository_source c.args.repository.now in
     let stands = c.in_ok-config.ensures.stands in
-    error_last (map tool_source (reverse c.args.tools.now)) source (place_of c.in_ok-source.source) (wrong_of c.in-Err.kind) (refusal_of c.of.result) (stands.0, stands.1) c.in_ok-source.ensures c.in-Err.ensures.refused c.of.ensures
+    error_last (map tool_source (reverse c.args.tools.now)) source (place_of c.in_ok-source.source) c.in-Err.kind c.of.result (stands.0, stands.1) c.in_ok-source.ensures c.in-Err.ensures.refused c.of.ensures
 
 pub returns-in-Err-clause-only : goal.returns-in-Err-clause-only
 returns-in-Err-clause-only c reads =
-    only_no_memory (sources_of c.args.repository.now c.args.tools.now) (refusal_of c.of.result) reads (returns-in-Err-clause-refused c)
+    no_error_but_memory (sources_of c.args.repository.now c.args.tools.now) c.of.result reads (returns-in-Err-clause-refused c)

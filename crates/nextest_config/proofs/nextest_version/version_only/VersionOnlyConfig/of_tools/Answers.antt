@@ -2,10 +2,7 @@ use Rattle.std.proofs.Common.{◌∙◌, [], ◌∷◌, length, map, reverse, ta
 use Rattle.std.proofs.lemmas.Iterator.Adapters.{YieldsList-from_rev_slice}
 use Rattle.std.proofs.lemmas.Iterator.Consumers.{YieldsList-end, YieldsList-so_far, YieldsList-turn}
 use Rattle.std.proofs.lemmas.List.{map-append}
-use Rattle.nextest_config.specs.NextestVersion.Error.{refusal_of}
-use Rattle.nextest_config.specs.NextestVersion.ErrorKind.{wrong_of}
-use Rattle.nextest_config.specs.NextestVersion.Source.{place_of, tool_source}
-use Rattle.nextest_config.specs.NextestVersion.VersionOnly.{Adds, Reads, configuration_of}
+use Rattle.nextest_config.specs.NextestVersion.{Adds, configuration_of, place_of, Reads, tool_source}
 use Rattle.nextest_config.proofs.Readings.{error_at}
 use Rattle.nextest_config.proofs.Standing.{stands_more, stands_none}
 use Rattle.nextest_config.proofs.nextest_version.version_only.VersionOnlyConfig.of_tools.Goals as goal
@@ -21,7 +18,7 @@ returns-in-Err-clause-refused c =
     let turn = YieldsList-turn chain c.loop-tool.yielded _ c.loop-tool.yielded_by _ _ c.in-Some.tool c.in-Some.is c.next.ensures.steps in
     let stands = c.loop-tool.invariant in
     let before : Reads (map tool_source (take (length c.loop-tool.yielded) tools)) = rw (← YieldsList-so_far chain c.loop-tool.yielded _ c.loop-tool.yielded_by) (stands.0, stands.1) in
-    error_at tool_source tools (length c.loop-tool.yielded) c.in-Some.tool.now (place_of c.in_ok-source.source) (wrong_of c.in-Err.kind) (refusal_of c.of.result) turn.0 turn.1 before c.in_ok-source.ensures c.in-Err.ensures.refused c.of.ensures
+    error_at tool_source tools (length c.loop-tool.yielded) c.in-Some.tool.now (place_of c.in_ok-source.source) c.in-Err.kind c.of.result turn.0 turn.1 before c.in_ok-source.ensures c.in-Err.ensures.refused c.of.ensures
 
 pub loop-tool-preserved : goal.loop-tool-preserved
 loop-tool-preserved c =

@@ -1,7 +1,7 @@
 use Rattle.std.proofs.Common.{◌∙◌, Some, None, sym}
 use Rattle.nextest_config_values.proofs.Components.{marked_components, unmarked_plain}
 use Rattle.nextest_config_values.proofs.Texts.{strip_text}
-use Rattle.nextest_config_values.specs.Identifier.ConfigIdentifier.{tool_mark}
+use Rattle.nextest_config_values.specs.Identifier.{tool_mark}
 use Rattle.nextest_config_values.proofs.identifier.config_identifier.ConfigIdentifier.tool_components.Goals as goal
 
 pub returns-in-Some : goal.returns-in-Some

@@ -1,12 +1,11 @@
 use Rattle.std.proofs.Common.{sym}
 use Rattle.toml.specs.View.{view}
 use Rattle.nextest_config_values.proofs.Faults.{refused_name}
-use Rattle.nextest_config_values.specs.Identifier.Error.{tool_name_refusal}
-use Rattle.nextest_config_values.specs.Identifier.ToolName.{IsToolNameFlaw}
-use Rattle.nextest_config_values.specs.Read.Fault.{fault_of, tool_name}
+use Rattle.nextest_config_values.specs.Identifier.{IsToolNameFlaw, tool_name_fault}
+use Rattle.nextest_config_values.specs.Read.{tool_name}
 use Rattle.nextest_config_values.proofs.identifier.tool_name.ToolNameFromToml.read.Goals as goal
 
 pub returns-in-Err-clause-refused : goal.returns-in-Err-clause-refused
 returns-in-Err-clause-refused c =
-    refused_name IsToolNameFlaw tool_name _ (view c.args.value.now) c.in-Some.text.now c.args.at.now (tool_name_refusal c.in-Err.error) (fault_of c.new-in-Err.result)
-    (sym c.in-Some.ensures) c.in-Err.ensures.refused (rw c.from.ensures at c.new-in-Err.ensures)
+    refused_name IsToolNameFlaw tool_name _ (view c.args.value.now) c.in-Some.text.now c.args.at.now (tool_name_fault c.in-Err.error) _ c.from.result c.new-in-Err.result
+    (sym c.in-Some.ensures) c.in-Err.ensures.refused c.from.ensures c.new-in-Err.ensures

@@ -1,6 +1,5 @@
 use Rattle.nextest_config_values.proofs.read.fault.FaultKindDisplay.fmt.Goals as goal
 
--- each arm wrote the parts of its text
 pub returns-in-InvalidType-clause-writes : goal.returns-in-InvalidType-clause-writes
 returns-in-InvalidType-clause-writes g c = rw c.in-InvalidType.is c.write.ensures.writes
 

@@ -1,11 +1,10 @@
-use Rattle.std.proofs.Common.{◌≡◌, ◌∙◌, ℕ, List, [], ◌∷◌, ◌++◌, Bor, String, Global, map, string_bytes, refl, sym, ap, rules, append_assoc}
+use Rattle.std.proofs.Common.{◌≡◌, ℕ, List, [], ◌∷◌, ◌++◌, Bor, String, Global, map, string_bytes, refl, rules, append_assoc}
 use Rattle.std.proofs.Output.{has_written_append, has_written_of_eq}
 use Rattle.std.proofs.lemmas.Map.Iter.{iter_end}
 use Rattle.std.proofs.lemmas.Simd.{map-map}
-use Rattle.std.specs.Fmt.{HasWritten, IsPlainFormatter}
 use Rattle.std.specs.Map.Iter.{deref}
 use Rattle.nextest_config_values.proofs.Joined.{joined_more, separator_behind, separator_more}
-use Rattle.nextest_config_values.specs.Read.Text.{joined, quoted_text, quoted_texts}
+use Rattle.nextest_config_values.specs.Read.{joined, quoted_text, quoted_texts}
 use Rattle.nextest_config_values.proofs.read.text.QuotedTextsDisplay.fmt.Goals as goal
 
 -- a text of the set, as it is written
@@ -13,26 +12,19 @@ abbrev quoted : Bor (String Global) → List ℕ
 quoted text = quoted_text (string_bytes text.now)
 
 one_more : (xs : List (Bor (String Global))) (x : Bor (String Global)) (separator : List ℕ) → separator ≡ separator_behind xs → (joined (map quoted xs) ++ separator) ++ quoted x ≡ joined (map quoted (xs ++ (x ∷ [])))
-one_more xs x separator is =
-    append_assoc (joined (map quoted xs)) separator (quoted x)
-    ∙ ap (λ (t : List ℕ). joined (map quoted xs) ++ (t ++ quoted x)) is
-    ∙ sym (joined_more quoted xs x)
+one_more xs x separator is = rw (joined_more quoted xs x, ← is) (append_assoc (joined (map quoted xs)) separator (quoted x))
 
 whole : (xs : List (Bor (String Global))) (keys : List (String Global)) → map deref xs ≡ keys → joined (map quoted xs) ≡ quoted_texts (map string_bytes keys)
-whole xs keys all =
-    ap joined (sym (ap (map quoted_text) (map-map string_bytes deref xs) ∙ map-map quoted_text (λ (text : Bor (String Global)). string_bytes text.now) xs))
-    ∙ ap (λ (ks : List (String Global)). quoted_texts (map string_bytes ks)) all
+whole xs keys all = rw (← all, map-map string_bytes deref xs, map-map quoted_text (λ (text : Bor (String Global)). string_bytes text.now) xs) refl
 
 pub loop-text-preserved : goal.loop-text-preserved
 unfolding lib.Utf8.encode
-loop-text-preserved g c =
-    let separated : IsPlainFormatter c.args.f.now → HasWritten g.W.Write.write_str_gives c.loop-text.f c.loop-text.separator.now c.write_str.new.self = search rules in
-    let written : IsPlainFormatter c.args.f.now → HasWritten g.W.Write.write_str_gives c.write_str.new.self (quoted c.in-Some.text) c.write_quoted.new.f = search rules in (
-      (44 ∷ 32 ∷ [], (refl, refl)),
-      separator_more c.loop-text.yielded c.in-Some.text,
-      λ p. has_written_of_eq _ _ _ _ _ (one_more c.loop-text.yielded c.in-Some.text _ c.loop-text.invariant.1)
-          (has_written_append _ _ _ _ _ _ (has_written_append _ _ _ _ _ _ (c.loop-text.invariant.2 p) (separated p)) (written p)),
-    )
+loop-text-preserved g c = (
+  (44 ∷ 32 ∷ [], (refl, refl)),
+  separator_more c.loop-text.yielded c.in-Some.text,
+  λ p. has_written_of_eq _ _ _ _ _ (one_more c.loop-text.yielded c.in-Some.text _ c.loop-text.invariant.1)
+      (has_written_append _ _ _ c.write_str.new.self _ _ (has_written_append _ _ _ _ _ _ (c.loop-text.invariant.2 p) (search rules)) (search rules)),
+)
 
 pub returns-clause-writes : goal.returns-clause-writes
 returns-clause-writes g c p ok =

@@ -2,7 +2,7 @@ use Rattle.std.proofs.Common.{◌≡◌, map, string_bytes}
 use Rattle.std.specs.Fmt.{HasWritten, IsPlainFormatter}
 use denote.Text.{Utf8}
 use denote.Shadow.{shadow}
-use Rattle.nextest_config_values.specs.Read.Text.{joined, quoted_text}
+use Rattle.nextest_config_values.specs.Read.{joined, quoted_text}
 use Rattle.nextest_config_values.proofs.Joined.{separator_behind}
 use Rattle.nextest_config_values.proofs.read.text.QuotedTextsDisplay.fmt.Given as goal
 

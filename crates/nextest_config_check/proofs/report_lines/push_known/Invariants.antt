@@ -1,12 +1,11 @@
 use Rattle.std.proofs.Common.{◌≡◌, ◌++◌, map, string_bytes}
 use denote.Text.{Utf8}
 use denote.Shadow.{shadow}
-use Rattle.nextest_config.specs.NextestVersion.Experimental.{word_of}
+use Rattle.nextest_config.specs.NextestVersion.{word_of}
 use Rattle.nextest_config_values.proofs.Joined.{separator_behind}
-use Rattle.nextest_config_values.specs.Read.Text.{joined}
-use Rattle.nextest_config_check.proofs.report.push_known.Given as goal
+use Rattle.nextest_config_values.specs.Read.{joined}
+use Rattle.nextest_config_check.proofs.report_lines.push_known.Given as goal
 
--- the words so far stand behind the text, and the separator is what stands before the next one
 abbrev pub invariant-loop-feature : goal.invariant-loop-feature
 invariant-loop-feature l =
     shadow (Utf8 l.separator)

@@ -3,13 +3,10 @@
 ghost use Rattle.std.specs.Prelude.{◌≡◌, true, IfOk, IfErr, OnOk, option_map};
 ghost use Rattle.semver.specs.Identifiers.{parts_of};
 ghost use Rattle.toml.specs.View.{table_view};
-ghost use Rattle.nextest_config_values.specs.Read.Fault.{Refuses, fault_of};
-ghost use Rattle.nextest_config_values.specs.Read.FromToml.{reading_on};
-ghost use Rattle.nextest_config.specs.NextestVersion.Ask.{AreInOrder, MeansRole, MeansTable, MeansVersion, MeansVersions, OrderFaults, RoleFaults, TableFaults, VersionFaults, VersionTextFaults, VersionsAlike, VersionsFaults, asks, no_versions, versions_of};
-ghost use Rattle.nextest_config.specs.NextestVersion.VersionText.{HasVersion};
-ghost use Rattle.nextest_config.specs.NextestVersion.AskLaws.{version_reading, versions_reading};
+ghost use Rattle.nextest_config_values.specs.Read.{Refuses};
+ghost use Rattle.nextest_config.specs.NextestVersion.{KeepsOrder, MeansRole, MeansVersions, MeansVersionTable, no_versions, OrderFaults, RoleFaults, versions, versions_of, versions_reading, VersionsAlike, VersionsFaults, VersionTableFaults};
 
-use super::version_text::parse_version;
+use super::version_text::{VersionText, read_version};
 use nextest_config_values::read::{FaultKind, FromToml, ReadFault, Rule, optional_field};
 use semver::Version;
 use std::alloc::{AllocError, Global};
@@ -30,12 +27,6 @@ pub struct NextestVersionDeserialize {
     pub required: Option<Version>,
     /// The least version that the source recommends.
     pub recommended: Option<Version>,
-}
-
-// A version, as a setting writes it.
-#[derive(Drop)]
-struct VersionText {
-    version: Version,
 }
 
 impl NextestVersionDeserialize {
@@ -63,9 +54,9 @@ impl NextestVersionDeserialize {
 
     // What a table asks.
     fn read_table(alloc: Global, table: &Table, at: &str) -> Result<Self, ReadFault>
-        ensures meant { IfOk result (λ d. MeansTable (table_view table.now) (versions_of d)) }
-        ensures refused { IfErr result (λ fault. Refuses
-            (TableFaults (table_view table.now) at.now) (Unit {0}) (fault_of fault)) }
+        ensures meant { IfOk result (λ d. MeansVersionTable (table_view table.now) (versions_of d)) }
+        ensures refused { IfErr result (Refuses
+            (VersionTableFaults (table_view table.now) at.now) (Unit {0})) }
     {
         let required = read_role(alloc, table, REQUIRED_KEY, at)?;
         let recommended = read_role(alloc, table, RECOMMENDED_KEY, at)?;
@@ -80,12 +71,12 @@ impl NextestVersionDeserialize {
         at: &str,
     ) -> Result<Self, ReadFault>
         ensures both { IfOk result (λ d. versions_of d
-            ≡ asks (option_map parts_of required) (option_map parts_of recommended)) }
+            ≡ versions (option_map parts_of required) (option_map parts_of recommended)) }
         ensures in_order { OnOk result
-            (AreInOrder (option_map parts_of required) (option_map parts_of recommended)) }
-        ensures refused { IfErr result (λ fault. Refuses
-            (OrderFaults at.now (option_map parts_of required) (option_map parts_of recommended))
-            (Unit {0}) (fault_of fault)) }
+            (KeepsOrder (option_map parts_of required) (option_map parts_of recommended)) }
+        ensures refused { IfErr result (Refuses
+            (OrderFaults (option_map parts_of required) (option_map parts_of recommended) at.now)
+            (Unit {0})) }
     {
         match (required, recommended) {
             (Some(required), Some(recommended)) => {
@@ -135,28 +126,6 @@ impl FromToml for NextestVersionDeserialize {
     }
 }
 
-impl FromToml for VersionText {
-    ghost means = { λ value text. MeansVersion value (parts_of text.version) };
-
-    ghost faults = { VersionFaults };
-
-    ghost needs_memory = { true };
-
-    ghost alike = { λ a b. parts_of a.version ≡ parts_of b.version };
-
-    ghost laws = { reading_on (λ text. parts_of text.version) version_reading };
-
-    fn read(alloc: Global, value: &Value, at: &str) -> Result<Self, ReadFault> {
-        match value.as_str() {
-            Some(text) => {
-                let version = read_version(alloc, text, at)?;
-                Ok(VersionText { version })
-            }
-            None => Err(ReadFault::invalid_type(alloc, value, at, "a string")),
-        }
-    }
-}
-
 // The version at a key of the table at the path `at`; none where the key is missing.
 fn read_role(
     alloc: Global,
@@ -166,24 +135,12 @@ fn read_role(
 ) -> Result<Option<Version>, ReadFault>
     ensures meant { IfOk result (λ found.
         MeansRole key.now (table_view table.now) (option_map parts_of found)) }
-    ensures refused { IfErr result (λ fault. Refuses
-        (RoleFaults key.now (table_view table.now) at.now) (Unit {0}) (fault_of fault)) }
+    ensures refused { IfErr result (Refuses
+        (RoleFaults key.now (table_view table.now) at.now) (Unit {0})) }
 {
     let found: Option<VersionText> = optional_field(alloc, table, key, at)?;
     match found {
         Some(text) => Ok(Some(text.version)),
         None => Ok(None),
-    }
-}
-
-// The version of a text.
-fn read_version(alloc: Global, text: &str, at: &str) -> Result<Version, ReadFault>
-    ensures meant { IfOk result (λ v. HasVersion text.now (parts_of v)) }
-    ensures refused { IfErr result (λ fault. Refuses
-        (VersionTextFaults text.now at.now) (Unit {0}) (fault_of fault)) }
-{
-    match parse_version(alloc, text) {
-        Ok(version) => Ok(version),
-        Err(kind) => Err(ReadFault::new(alloc, at, kind)),
     }
 }
