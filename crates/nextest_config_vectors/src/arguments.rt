@@ -1,7 +1,6 @@
 //! Tool arguments.
 
-use crate::rows::{check, check_at_sizes, named, shown, unescaped};
-use crate::subjects::Subject;
+use crate::rows::{Subject, Told, answered, check, check_at_sizes, named, shown, unescaped};
 use nextest_config_values::tool_config::{ToolConfigFile, ToolConfigFileParseError};
 use std::alloc::Global;
 use std::test::Fail;
@@ -38,15 +37,28 @@ argument | _«-»: | InvalidToolName _«-»:: invalid tool name "_«-»"
 argument | a«-»: | EmptyConfigFile a«-»:
 "#;
 
-pub(crate) fn answer(alloc: Global, call: &str, input: &str) -> Result<String, Fail> {
-    let text = unescaped(alloc, input)?;
-    match ToolConfigFile::from_str(alloc, text.as_str()) {
-        Ok(file) => Ok(format!(in alloc; "{} {}", file.tool, file.config_file)?),
-        Err(error) => match call {
-            "argument" => refusal(alloc, &error),
-            "refusal" => Ok(format!(in alloc; "{error:?}")?),
-            _ => shown(alloc, &error),
-        },
+struct Arguments;
+
+impl Subject for Arguments {
+    fn answer(alloc: Global, call: &str, input: &str) -> Result<String, Fail> {
+        let text = unescaped(alloc, input)?;
+        answered(alloc, call, ToolConfigFile::from_str(alloc, text.as_str()))
+    }
+}
+
+impl Told for ToolConfigFile {
+    fn told(&self, alloc: Global, _call: &str) -> Result<String, Fail> {
+        named(alloc, self.tool.as_str(), self.config_file.as_str())
+    }
+}
+
+impl Told for ToolConfigFileParseError {
+    fn told(&self, alloc: Global, call: &str) -> Result<String, Fail> {
+        match call {
+            "argument" => refusal(alloc, self),
+            "refusal" => Ok(format!(in alloc; "{self:?}")?),
+            _ => shown(alloc, self),
+        }
     }
 }
 
@@ -70,10 +82,10 @@ fn refusal(alloc: Global, error: &ToolConfigFileParseError) -> Result<String, Fa
 
 #[test]
 fn arguments_are_cut_at_their_first_colon(rt: HostRuntime) -> Result<(), Fail> {
-    check(&rt, Subject::Arguments, ROWS)
+    check::<Arguments>(&rt, ROWS)
 }
 
 #[test]
 fn arguments_of_any_length_are_cut(rt: HostRuntime) -> Result<(), Fail> {
-    check_at_sizes(&rt, Subject::Arguments, LONG)
+    check_at_sizes::<Arguments>(&rt, LONG)
 }

@@ -1,6 +1,6 @@
 //! Values beside one another: equality, copies, order and hashes.
 
-use crate::rows::{cut, no_such_call};
+use crate::rows::{Subject, cut, no_such_call};
 use crate::values::FromRow;
 use nextest_config::nextest_version::{
     ConfigExperimental, ConfigParseError, ConfigParseErrorKind, ConfigSource, ConfigSourceKind,
@@ -22,19 +22,23 @@ use std::hash::{DefaultHasher, Hash, Hasher};
 use std::test::Fail;
 
 /// Whether the two values of a row are equal.
-pub(crate) fn equal(alloc: Global, call: &str, input: &str) -> Result<String, Fail> {
-    match call {
-        "ConfigIdentifier" => pair::<ConfigIdentifier>(alloc, input),
-        "InvalidIdentifier" => pair::<InvalidIdentifier>(alloc, input),
-        "InvalidToolName" => pair::<InvalidToolName>(alloc, input),
-        "FaultKind" => pair::<FaultKind>(alloc, input),
-        "ReadFault" => pair::<ReadFault>(alloc, input),
-        "Rule" => pair::<Rule>(alloc, input),
-        "ToolConfigFile" => pair::<ToolConfigFile>(alloc, input),
-        "ToolConfigFileParseError" => pair::<ToolConfigFileParseError>(alloc, input),
-        "ToolName" => pair::<ToolName>(alloc, input),
-        "TrackDefault" => pair::<TrackDefault<u32>>(alloc, input),
-        call => equal_sources(alloc, call, input),
+pub(crate) struct Equality;
+
+impl Subject for Equality {
+    fn answer(alloc: Global, call: &str, input: &str) -> Result<String, Fail> {
+        match call {
+            "ConfigIdentifier" => pair::<ConfigIdentifier>(alloc, input),
+            "InvalidIdentifier" => pair::<InvalidIdentifier>(alloc, input),
+            "InvalidToolName" => pair::<InvalidToolName>(alloc, input),
+            "FaultKind" => pair::<FaultKind>(alloc, input),
+            "ReadFault" => pair::<ReadFault>(alloc, input),
+            "Rule" => pair::<Rule>(alloc, input),
+            "ToolConfigFile" => pair::<ToolConfigFile>(alloc, input),
+            "ToolConfigFileParseError" => pair::<ToolConfigFileParseError>(alloc, input),
+            "ToolName" => pair::<ToolName>(alloc, input),
+            "TrackDefault" => pair::<TrackDefault<u32>>(alloc, input),
+            call => equal_sources(alloc, call, input),
+        }
     }
 }
 
@@ -84,66 +88,140 @@ fn likeness<T: PartialEq + Debug>(alloc: Global, left: &T, right: &T) -> Result<
 }
 
 /// Whether a copy of the row's value is the same.
-pub(crate) fn copied(alloc: Global, call: &str, input: &str) -> Result<String, Fail> {
-    match call {
-        "ConfigIdentifier" => copy(alloc, input, |it: &ConfigIdentifier| it.clone(alloc)),
-        "ConfigSource" => copy(alloc, input, |it: &ConfigSource| it.clone(alloc)),
-        "ConfigSourceKind" => copy(alloc, input, |it: &ConfigSourceKind| it.clone(alloc)),
-        "ExperimentalConfig" => copy(alloc, input, |it: &ExperimentalConfig| it.clone(alloc)),
-        "ExperimentalDeserialize" => {
-            copy(alloc, input, |it: &ExperimentalDeserialize| it.clone(alloc))
+pub(crate) struct Copies;
+
+impl Subject for Copies {
+    fn answer(alloc: Global, call: &str, input: &str) -> Result<String, Fail> {
+        match call {
+            "ConfigIdentifier" => copy::<ConfigIdentifier>(alloc, input),
+            "ConfigSource" => copy::<ConfigSource>(alloc, input),
+            "ConfigSourceKind" => copy::<ConfigSourceKind>(alloc, input),
+            "ExperimentalConfig" => copy::<ExperimentalConfig>(alloc, input),
+            "ExperimentalDeserialize" => copy::<ExperimentalDeserialize>(alloc, input),
+            "NextestVersionConfig" => copy::<NextestVersionConfig>(alloc, input),
+            "NextestVersionDeserialize" => copy::<NextestVersionDeserialize>(alloc, input),
+            "NextestVersionEval" => copy::<NextestVersionEval>(alloc, input),
+            "NextestVersionReq" => copy::<NextestVersionReq>(alloc, input),
+            "ToolConfigFile" => copy::<ToolConfigFile>(alloc, input),
+            "ToolName" => copy::<ToolName>(alloc, input),
+            "VersionOnlyConfig" => copy::<VersionOnlyConfig>(alloc, input),
+            "TrackDefault" => copy::<TrackDefault<u32>>(alloc, input),
+            _ => no_such_call(),
         }
-        "ToolConfigFile" => copy(alloc, input, |it: &ToolConfigFile| it.clone(alloc)),
-        "ToolName" => copy(alloc, input, |it: &ToolName| it.clone(alloc)),
-        "TrackDefault" => copy(alloc, input, |it: &TrackDefault<u32>| it.clone()),
-        "TrackDefault copied" => copy(alloc, input, |it: &TrackDefault<u32>| Ok(*it)),
-        call => copied_versions(alloc, call, input),
     }
 }
 
-fn copied_versions(alloc: Global, call: &str, input: &str) -> Result<String, Fail> {
-    match call {
-        "NextestVersionConfig" => copy(alloc, input, |it: &NextestVersionConfig| it.clone(alloc)),
-        "NextestVersionDeserialize" => {
-            copy(
-                alloc,
-                input,
-                |it: &NextestVersionDeserialize| it.clone(alloc),
-            )
-        }
-        "NextestVersionEval" => copy(alloc, input, |it: &NextestVersionEval| it.clone(alloc)),
-        "NextestVersionReq" => copy(alloc, input, |it: &NextestVersionReq| it.clone(alloc)),
-        "VersionOnlyConfig" => copy(alloc, input, |it: &VersionOnlyConfig| it.clone(alloc)),
-        _ => no_such_call(),
+// A value with a copy of its own.
+trait Copied: Sized {
+    fn copied(&self, alloc: Global) -> Result<Self, AllocError>;
+}
+
+impl Copied for ConfigIdentifier {
+    fn copied(&self, alloc: Global) -> Result<Self, AllocError> {
+        self.clone(alloc)
     }
 }
 
-fn copy<T: FromRow + PartialEq + Debug + Drop, F: Fn(&T) -> Result<T, AllocError> + Drop>(
+impl Copied for ConfigSource {
+    fn copied(&self, alloc: Global) -> Result<Self, AllocError> {
+        self.clone(alloc)
+    }
+}
+
+impl Copied for ConfigSourceKind {
+    fn copied(&self, alloc: Global) -> Result<Self, AllocError> {
+        self.clone(alloc)
+    }
+}
+
+impl Copied for ExperimentalConfig {
+    fn copied(&self, alloc: Global) -> Result<Self, AllocError> {
+        self.clone(alloc)
+    }
+}
+
+impl Copied for ExperimentalDeserialize {
+    fn copied(&self, alloc: Global) -> Result<Self, AllocError> {
+        self.clone(alloc)
+    }
+}
+
+impl Copied for NextestVersionConfig {
+    fn copied(&self, alloc: Global) -> Result<Self, AllocError> {
+        self.clone(alloc)
+    }
+}
+
+impl Copied for NextestVersionDeserialize {
+    fn copied(&self, alloc: Global) -> Result<Self, AllocError> {
+        self.clone(alloc)
+    }
+}
+
+impl Copied for NextestVersionEval {
+    fn copied(&self, alloc: Global) -> Result<Self, AllocError> {
+        self.clone(alloc)
+    }
+}
+
+impl Copied for NextestVersionReq {
+    fn copied(&self, alloc: Global) -> Result<Self, AllocError> {
+        self.clone(alloc)
+    }
+}
+
+impl Copied for ToolConfigFile {
+    fn copied(&self, alloc: Global) -> Result<Self, AllocError> {
+        self.clone(alloc)
+    }
+}
+
+impl Copied for ToolName {
+    fn copied(&self, alloc: Global) -> Result<Self, AllocError> {
+        self.clone(alloc)
+    }
+}
+
+impl Copied for VersionOnlyConfig {
+    fn copied(&self, alloc: Global) -> Result<Self, AllocError> {
+        self.clone(alloc)
+    }
+}
+
+impl Copied for TrackDefault<u32> {
+    fn copied(&self, _alloc: Global) -> Result<Self, AllocError> {
+        let copy = *self;
+        copy.clone()
+    }
+}
+
+fn copy<T: FromRow + Copied + PartialEq + Debug + Drop>(
     alloc: Global,
     input: &str,
-    clone: F,
-) -> Result<String, Fail>
-    requires { F.IsAlwaysCallable clone }
-{
+) -> Result<String, Fail> {
     let value = T::from_row(alloc, input)?;
-    let copy = clone(&value)?;
+    let copy = value.copied(alloc)?;
     likeness(alloc, &copy, &value)
 }
 
 /// How the two values of a row compare, or whether their hashes do.
-pub(crate) fn ordered(alloc: Global, call: &str, input: &str) -> Result<String, Fail> {
-    match call {
-        "ConfigExperimental" => order::<ConfigExperimental>(alloc, input),
-        "ConfigIdentifier" => order::<ConfigIdentifier>(alloc, input),
-        "Severity" => order::<Severity>(alloc, input),
-        "ToolName" => order::<ToolName>(alloc, input),
-        "set of ConfigExperimental" => distinct::<ConfigExperimental>(alloc, input),
-        "set of ConfigIdentifier" => distinct::<ConfigIdentifier>(alloc, input),
-        "set of Severity" => distinct::<Severity>(alloc, input),
-        "set of ToolName" => distinct::<ToolName>(alloc, input),
-        "hash of ConfigIdentifier" => hashed::<ConfigIdentifier>(alloc, input),
-        "hash of ToolName" => hashed::<ToolName>(alloc, input),
-        _ => no_such_call(),
+pub(crate) struct Orders;
+
+impl Subject for Orders {
+    fn answer(alloc: Global, call: &str, input: &str) -> Result<String, Fail> {
+        match call {
+            "ConfigExperimental" => order::<ConfigExperimental>(alloc, input),
+            "ConfigIdentifier" => order::<ConfigIdentifier>(alloc, input),
+            "Severity" => order::<Severity>(alloc, input),
+            "ToolName" => order::<ToolName>(alloc, input),
+            "set of ConfigExperimental" => distinct::<ConfigExperimental>(alloc, input),
+            "set of ConfigIdentifier" => distinct::<ConfigIdentifier>(alloc, input),
+            "set of Severity" => distinct::<Severity>(alloc, input),
+            "set of ToolName" => distinct::<ToolName>(alloc, input),
+            "hash of ConfigIdentifier" => hashed::<ConfigIdentifier>(alloc, input),
+            "hash of ToolName" => hashed::<ToolName>(alloc, input),
+            _ => no_such_call(),
+        }
     }
 }
 

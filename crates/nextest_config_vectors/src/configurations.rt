@@ -1,7 +1,7 @@
 //! Values that rows write: configurations, verdicts and refusals of sources.
 
 use crate::sources::listed;
-use crate::values::{FromRow, names, word};
+use crate::values::{FromRow, names, part, word};
 use nextest_config::nextest_version::{
     ConfigParseError, ConfigParseErrorKind, ConfigSource, ExperimentalConfig, ListRefusal,
     NextestVersionEval, Severity, SourceText, VersionOnlyConfig,
@@ -22,8 +22,9 @@ impl FromRow for VersionOnlyConfig {
 /// Writes a list of sources.
 impl FromRow for ExperimentalConfig {
     fn from_row(alloc: Global, text: &str) -> Result<Self, Fail> {
-        let config = VersionOnlyConfig::from_row(alloc, text)?;
-        Ok(config.experimental().clone(alloc)?)
+        part(VersionOnlyConfig::from_row(alloc, text)?, |config| {
+            config.experimental().clone(alloc)
+        })
     }
 }
 

@@ -1,8 +1,7 @@
 //! The texts of faults.
 
-use crate::rows::{check, check_at_sizes, cut, shown};
-use crate::subjects::Subject;
-use crate::values::{FromRow, expected};
+use crate::rows::{Subject, Told, check, check_at_sizes, cut, shown, tell};
+use crate::values::{FromRow, expected, word};
 use nextest_config_values::read::{FaultKind, ReadFault};
 use std::alloc::Global;
 use std::test::Fail;
@@ -29,12 +28,12 @@ invalid_value a string | p, 1 | p: invalid value: integer `1`, expected a string
 unknown_variant `a` | p, x | p: unknown variant `x`, expected `a`
 missing_field | p, k | p: missing configuration field "p.k"
 missing_field | , k | missing configuration field "k"
-memory |  | out of memory
+memory | ,  | out of memory
 
-# faults keep their kind while memory lasts
-kept new | p, Custom PreRelease | ReadFault { path: "p", kind: Custom(PreRelease) }
-kept invalid_type a string | p, true | ReadFault { path: "p", kind: InvalidType { found: "boolean `true`", expected: "a string" } }
-kept new | p, Memory | ReadFault { path: "", kind: Memory } of memory
+# faults keep their kind while memory lasts, and say whether it did
+kept new | p, Custom PreRelease | ReadFault { path: "p", kind: Custom(PreRelease) }, false
+kept invalid_type a string | p, true | ReadFault { path: "p", kind: InvalidType { found: "boolean `true`", expected: "a string" } }, false
+kept new | p, Memory | ReadFault { path: "", kind: Memory }, true
 "#;
 
 const LONG: &str = r#"
@@ -46,35 +45,35 @@ unknown_variant `a` | p«p», x«x» | p«p»: unknown variant `x«x»`, expecte
 missing_field | p«p», k«k» | p«p»: missing configuration field "p«p».k«k»"
 "#;
 
-pub(crate) fn answer(alloc: Global, call: &str, input: &str) -> Result<String, Fail> {
-    match call.strip_prefix("kept ") {
-        Some(call) => kept(alloc, &fault(alloc, call, input)?),
-        None => shown(alloc, &fault(alloc, call, input)?),
-    }
-}
+struct Faults;
 
-fn kept(alloc: Global, fault: &ReadFault) -> Result<String, Fail> {
-    let memory = if fault.is_memory() { " of memory" } else { "" };
-    Ok(format!(in alloc; "{fault:?}{memory}")?)
-}
-
-fn fault(alloc: Global, call: &str, input: &str) -> Result<ReadFault, Fail> {
-    if call == "memory" {
-        return Ok(ReadFault::memory(alloc));
-    }
-    let (at, given) = cut(input, ", ")?;
-    let (call, wanted) = call.split_once(' ').unwrap_or((call, ""));
-    match call {
-        "new" => Ok(ReadFault::new(alloc, at, FaultKind::from_row(alloc, given)?)),
-        "unknown_variant" => Ok(ReadFault::unknown_variant(alloc, given, at, expected(wanted))),
-        "missing_field" => Ok(ReadFault::missing_field(alloc, given, at)),
-        call => mismatch(
-            alloc,
-            call,
-            &Value::from_str(alloc, given)?,
-            at,
-            expected(wanted),
-        ),
+impl Subject for Faults {
+    fn answer(alloc: Global, call: &str, input: &str) -> Result<String, Fail> {
+        let (at, given) = cut(input, ", ")?;
+        let (maker, wanted) = word(call.strip_prefix("kept ").unwrap_or(call));
+        match maker {
+            "new" => tell(
+                alloc,
+                call,
+                ReadFault::new(alloc, at, FaultKind::from_row(alloc, given)?),
+            ),
+            "unknown_variant" => {
+                tell(
+                    alloc,
+                    call,
+                    ReadFault::unknown_variant(alloc, given, at, expected(wanted)),
+                )
+            }
+            "missing_field" => tell(alloc, call, ReadFault::missing_field(alloc, given, at)),
+            "memory" => tell(alloc, call, ReadFault::memory(alloc)),
+            _ => mismatch(
+                alloc,
+                call,
+                &Value::from_str(alloc, given)?,
+                at,
+                expected(wanted),
+            ),
+        }
     }
 }
 
@@ -84,20 +83,38 @@ fn mismatch(
     value: &Value,
     at: &str,
     expected: &'static str,
-) -> Result<ReadFault, Fail> {
-    match call {
-        "invalid_type" => Ok(ReadFault::invalid_type(alloc, value, at, expected)),
-        "invalid_value" => Ok(ReadFault::invalid_value(alloc, value, at, expected)),
-        _ => Err(Fail::new("no such fault")),
+) -> Result<String, Fail> {
+    if call.contains("invalid_type") {
+        tell(
+            alloc,
+            call,
+            ReadFault::invalid_type(alloc, value, at, expected),
+        )
+    } else {
+        tell(
+            alloc,
+            call,
+            ReadFault::invalid_value(alloc, value, at, expected),
+        )
+    }
+}
+
+impl Told for ReadFault {
+    fn told(&self, alloc: Global, call: &str) -> Result<String, Fail> {
+        if call.starts_with("kept ") {
+            Ok(format!(in alloc; "{self:?}, {}", self.is_memory())?)
+        } else {
+            shown(alloc, self)
+        }
     }
 }
 
 #[test]
 fn faults_print_their_path_and_reason(rt: HostRuntime) -> Result<(), Fail> {
-    check(&rt, Subject::Faults, ROWS)
+    check::<Faults>(&rt, ROWS)
 }
 
 #[test]
 fn long_faults_are_printed(rt: HostRuntime) -> Result<(), Fail> {
-    check_at_sizes(&rt, Subject::Faults, LONG)
+    check_at_sizes::<Faults>(&rt, LONG)
 }

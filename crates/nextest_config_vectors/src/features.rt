@@ -1,7 +1,7 @@
 //! Experimental features.
 
-use crate::rows::{check, check_at_sizes, cut, no_such_call, shown};
-use crate::subjects::Subject;
+use crate::asked::Lists;
+use crate::rows::{Subject, Told, answered, check, check_at_sizes, cut, no_such_call, shown};
 use nextest_config::nextest_version::{ConfigExperimental, ExperimentalDeserialize};
 use nextest_config_values::read::FromToml;
 use std::alloc::Global;
@@ -44,45 +44,49 @@ setting | [«'x',» 1] | experimental[«#»]: invalid type: integer `1`, expecte
 
 const LISTS: &str = r#"
 # unknown features come behind the version
-0.9.50 | repository r.toml => nextest-version = "99.0.0"\nexperimental = ["future"] | Error: 99.0.0, repository r.toml, 0.9.50
-features | repository r.toml => nextest-version = "99.0.0"\nexperimental = ["future"] | known; repository r.toml: future
+0.9.50 | repository: r.toml => nextest-version = "99.0.0"\nexperimental = ["future"] | Error: 99.0.0, repository r.toml, 0.9.50
+features | repository: r.toml => nextest-version = "99.0.0"\nexperimental = ["future"] | known; repository r.toml: future
 
 # an empty list names no feature
 features |  | known
 
 # a repository names features or is refused
-features | repository r.toml => experimental = { benchmarks = false, b = 1, a = "x" } | known; repository r.toml: a b
-features | repository r.toml => experimental = ["benchmarks", 1] | source 0: repository r.toml: experimental[1]: invalid type: integer `1`, expected a string
-features | repository r.toml => experimental = { setup-scripts = 1 } | source 0: repository r.toml: experimental.setup-scripts: invalid type: integer `1`, expected a boolean
-features | repository r.toml => experimental = 1 | source 0: repository r.toml: experimental: invalid type: integer `1`, expected a table ({ setup-scripts = true, benchmarks = true }) or an array (["setup-scripts", "benchmarks"])
-features | repository r.toml => experimental = 1\nnextest-version = 1 | source 0: repository r.toml: nextest-version: invalid type: integer `1`, expected a table ({ required = "0.9.20", recommended = "0.9.30" }) or a string ("0.9.50")
+features | repository: r.toml => experimental = { benchmarks = false, b = 1, a = "x" } | known; repository r.toml: a b
+features | repository: r.toml => experimental = ["benchmarks", 1] | source 0: repository r.toml: experimental[1]: invalid type: integer `1`, expected a string
+features | repository: r.toml => experimental = { setup-scripts = 1 } | source 0: repository r.toml: experimental.setup-scripts: invalid type: integer `1`, expected a boolean
+features | repository: r.toml => experimental = 1 | source 0: repository r.toml: experimental: invalid type: integer `1`, expected a table ({ setup-scripts = true, benchmarks = true }) or an array (["setup-scripts", "benchmarks"])
+features | repository: r.toml => experimental = 1\nnextest-version = 1 | source 0: repository r.toml: nextest-version: invalid type: integer `1`, expected a table ({ required = "0.9.20", recommended = "0.9.30" }) or a string ("0.9.50")
 
 # a tool names no feature or is refused
-features | tool my-tool:/etc/t.toml => experimental = [] | known
-features | tool my-tool:/etc/t.toml => experimental = { setup-scripts = false } | known
-features | tool my-tool:/etc/t.toml => experimental = { x = false } | source 0: tool my-tool (/etc/t.toml): experimental features in a tool configuration: "x"
-features | tool my-tool:/etc/t.toml => experimental = ["x", "benchmarks"] | source 0: tool my-tool (/etc/t.toml): experimental features in a tool configuration: "benchmarks", "x"
-features | tool my-tool:/etc/t.toml => experimental = ["benchmarks", 1] | source 0: tool my-tool (/etc/t.toml): experimental[1]: invalid type: integer `1`, expected a string
-features | tool my-tool:/etc/t.toml => experimental = ["benchmarks", 1]\nnextest-version = "1" | source 0: tool my-tool (/etc/t.toml): nextest-version: invalid version "1"
-features | tool my-tool:/etc/t.toml => experimental = ["benchmarks"]\nnextest-version = "1" | source 0: tool my-tool (/etc/t.toml): nextest-version: invalid version "1"
+features | tool my-tool: /etc/t.toml => experimental = [] | known
+features | tool my-tool: /etc/t.toml => experimental = { setup-scripts = false } | known
+features | tool my-tool: /etc/t.toml => experimental = { x = false } | source 0: tool my-tool (/etc/t.toml): experimental features in a tool configuration: "x"
+features | tool my-tool: /etc/t.toml => experimental = ["x", "benchmarks"] | source 0: tool my-tool (/etc/t.toml): experimental features in a tool configuration: "benchmarks", "x"
+features | tool my-tool: /etc/t.toml => experimental = ["benchmarks", 1] | source 0: tool my-tool (/etc/t.toml): experimental[1]: invalid type: integer `1`, expected a string
+features | tool my-tool: /etc/t.toml => experimental = ["benchmarks", 1]\nnextest-version = "1" | source 0: tool my-tool (/etc/t.toml): nextest-version: invalid version "1"
+features | tool my-tool: /etc/t.toml => experimental = ["benchmarks"]\nnextest-version = "1" | source 0: tool my-tool (/etc/t.toml): nextest-version: invalid version "1"
 
 # sources are taken together up to a refused one
-features | repository b.toml => experimental = ["benchmarks", "x"] && explicit c.toml && tool my-tool:/etc/t.toml => experimental = {} && repository a.toml => experimental = { setup-scripts = true, benchmarks = false, z = 1, y = 2 } && repository b.toml => experimental = ["benchmarks", "x"] && repository d.toml => x = 1 | known setup-scripts benchmarks; repository b.toml: x; repository a.toml: y z; repository b.toml: x
-features | repository a.toml => nextest-version = "0.9.50" && repository b.toml => x = && tool my-tool:/etc/t.toml => experimental = ["benchmarks"] | source 1: repository b.toml: not a TOML document
+features | repository: b.toml => experimental = ["benchmarks", "x"] && explicit: c.toml && tool my-tool: /etc/t.toml => experimental = {} && repository: a.toml => experimental = { setup-scripts = true, benchmarks = false, z = 1, y = 2 } && repository: b.toml => experimental = ["benchmarks", "x"] && repository: d.toml => x = 1 | known setup-scripts benchmarks; repository b.toml: x; repository a.toml: y z; repository b.toml: x
+features | repository: a.toml => nextest-version = "0.9.50" && repository: b.toml => x = && tool my-tool: /etc/t.toml => experimental = ["benchmarks"] | source 1: repository b.toml: not a TOML document
 "#;
 
 const LONG_LISTS: &str = r#"
-features | «repository @.toml => experimental = ["x"] && » | known«; repository @.toml: x»
-features | repository r.toml => experimental = ['a', «'x@',» 'benchmarks'] | known benchmarks; repository r.toml: a« x@»
+features | «repository: @.toml => experimental = ["x"] && » | known«; repository @.toml: x»
+features | repository: r.toml => experimental = ['a', «'x@',» 'benchmarks'] | known benchmarks; repository r.toml: a« x@»
 "#;
 
-pub(crate) fn answer(alloc: Global, call: &str, input: &str) -> Result<String, Fail> {
-    match call {
-        "all" => all(alloc),
-        "word" => Ok(format!(in alloc; "{:?}", ConfigExperimental::from_str(input))?),
-        "variables" => variables(alloc, input),
-        "setting" => setting(alloc, input),
-        _ => no_such_call(),
+struct Features;
+
+impl Subject for Features {
+    fn answer(alloc: Global, call: &str, input: &str) -> Result<String, Fail> {
+        match call {
+            "all" => all(alloc),
+            "word" => Ok(format!(in alloc; "{:?}", ConfigExperimental::from_str(input))?),
+            "variables" => variables(alloc, input),
+            "setting" => setting(alloc, input),
+            _ => no_such_call(),
+        }
     }
 }
 
@@ -98,26 +102,38 @@ fn all(alloc: Global) -> Result<String, Fail> {
 }
 
 fn variables(alloc: Global, input: &str) -> Result<String, Fail> {
-    let mut variables: BTreeMap<String, String> = BTreeMap::new(alloc);
+    let mut variables = BTreeMap::new(alloc);
     for variable in input.split_whitespace() {
-        let (name, value) = cut(variable, "=")?;
-        variables.insert(
-            String::from_str(alloc, name)?,
-            String::from_str(alloc, value)?,
-        )?;
+        set(alloc, &mut variables, variable)?;
     }
     words(alloc, &ConfigExperimental::from_env(alloc, &variables)?)
 }
 
+fn set(
+    alloc: Global,
+    variables: &mut BTreeMap<String, String>,
+    variable: &str,
+) -> Result<(), Fail> {
+    let (name, value) = cut(variable, "=")?;
+    let value = String::from_str(alloc, value)?;
+    variables.insert(String::from_str(alloc, name)?, value)?;
+    Ok(())
+}
+
 fn setting(alloc: Global, text: &str) -> Result<String, Fail> {
     let value = Value::from_str(alloc, text)?;
-    match ExperimentalDeserialize::read(alloc, &value, "experimental") {
-        Ok(asked) => {
-            let known = words(alloc, &asked.known)?;
-            let unknown = joined(alloc, &asked.unknown)?;
-            Ok(format!(in alloc; "known{known}; unknown{unknown}")?)
-        }
-        Err(fault) => shown(alloc, &fault),
+    answered(
+        alloc,
+        "setting",
+        ExperimentalDeserialize::read(alloc, &value, "experimental"),
+    )
+}
+
+impl Told for ExperimentalDeserialize {
+    fn told(&self, alloc: Global, _call: &str) -> Result<String, Fail> {
+        let known = words(alloc, &self.known)?;
+        let unknown = joined(alloc, &self.unknown)?;
+        Ok(format!(in alloc; "known{known}; unknown{unknown}")?)
     }
 }
 
@@ -143,20 +159,20 @@ pub(crate) fn joined(alloc: Global, names: &BTreeSet<String>) -> Result<String, 
 
 #[test]
 fn features_are_read_and_told(rt: HostRuntime) -> Result<(), Fail> {
-    check(&rt, Subject::Features, ROWS)
+    check::<Features>(&rt, ROWS)
 }
 
 #[test]
 fn any_number_of_features_is_read(rt: HostRuntime) -> Result<(), Fail> {
-    check_at_sizes(&rt, Subject::Features, LONG)
+    check_at_sizes::<Features>(&rt, LONG)
 }
 
 #[test]
 fn sources_name_features_or_are_refused(rt: HostRuntime) -> Result<(), Fail> {
-    check(&rt, Subject::Lists, LISTS)
+    check::<Lists>(&rt, LISTS)
 }
 
 #[test]
 fn any_number_of_sources_names_features(rt: HostRuntime) -> Result<(), Fail> {
-    check_at_sizes(&rt, Subject::Lists, LONG_LISTS)
+    check_at_sizes::<Lists>(&rt, LONG_LISTS)
 }

@@ -5,8 +5,7 @@ ghost use Rattle.toml.specs.Data.{as_integer};
 ghost use Rattle.nextest_config_values.specs.Read.FromToml.{FaultsAs, MeansAs, reading_on};
 ghost use Rattle.nextest_config_values.specs.Read.Plain.{IsOutside, MeansNumber, number_reading};
 
-use crate::rows::{check, check_at_sizes, cut, made, no_such_call};
-use crate::subjects::Subject;
+use crate::rows::{Subject, check, check_at_sizes, cut, made, no_such_call};
 use nextest_config_values::read::{FromToml, ReadFault, field_or, optional_field, required_field};
 use nextest_config_values::track_default::TrackDefault;
 use std::alloc::Global;
@@ -69,16 +68,20 @@ optional share at p«p» | { share = 101 } | p«p».share: invalid value: intege
 optional share at p | {«k@ = 1,» share = 40 } | Some(Percent { percent: 40 })
 "#;
 
-pub(crate) fn answer(alloc: Global, call: &str, input: &str) -> Result<String, Fail> {
-    let value = Value::from_str(alloc, input)?;
-    let Some(table) = value.as_table() else {
-        return Err(Fail::new("no table"));
-    };
-    let (call, at) = cut(call, " at ")?;
-    let Some((call, key)) = call.rsplit_once(' ') else {
-        return Err(Fail::new("no key"));
-    };
-    field(alloc, call, table, key, at)
+struct Fields;
+
+impl Subject for Fields {
+    fn answer(alloc: Global, call: &str, input: &str) -> Result<String, Fail> {
+        let value = Value::from_str(alloc, input)?;
+        let Some(table) = value.as_table() else {
+            return Err(Fail::new("no table"));
+        };
+        let (call, at) = cut(call, " at ")?;
+        let Some((call, key)) = call.rsplit_once(' ') else {
+            return Err(Fail::new("no key"));
+        };
+        field(alloc, call, table, key, at)
+    }
 }
 
 fn field(alloc: Global, call: &str, table: &Table, key: &str, at: &str) -> Result<String, Fail> {
@@ -101,10 +104,10 @@ fn field(alloc: Global, call: &str, table: &Table, key: &str, at: &str) -> Resul
 
 #[test]
 fn fields_are_read_at_their_paths(rt: HostRuntime) -> Result<(), Fail> {
-    check(&rt, Subject::Fields, ROWS)
+    check::<Fields>(&rt, ROWS)
 }
 
 #[test]
 fn fields_with_long_paths_are_read(rt: HostRuntime) -> Result<(), Fail> {
-    check_at_sizes(&rt, Subject::Fields, LONG)
+    check_at_sizes::<Fields>(&rt, LONG)
 }

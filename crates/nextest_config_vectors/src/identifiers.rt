@@ -1,7 +1,9 @@
 //! Identifiers and tool names.
 
-use crate::rows::{check, check_at_sizes, named, no_such_call, shown, unescaped};
-use crate::subjects::Subject;
+use crate::rows::{
+    Subject, Told, answered, check, check_at_size, check_at_sizes, named, no_such_call, shown,
+    unescaped,
+};
 use nextest_config_values::helpers::is_valid_identifier_unicode;
 use nextest_config_values::identifier::{
     ConfigIdentifier, InvalidIdentifier, InvalidToolName, ToolName,
@@ -38,7 +40,9 @@ identifier | @tool:foo:bar:baz | ToolIdentifierInvalidXid @tool:foo:bar:baz
 
 # a tool identifier has two components
 components | @tool:Δabc_def-ghi:foo-bar | Δabc_def-ghi and foo-bar
+is a tool's | @tool:Δabc_def-ghi:foo-bar | true
 components | foo-bar | none
+is a tool's | foo-bar | false
 
 # an identifier is kept in its normal form
 bytes | e\u{301}x | c3 a9 78
@@ -69,73 +73,53 @@ plain | 9a | Err(InvalidXid)
 plain | \u{301} | Err(InvalidXid)
 "#;
 
-pub(crate) fn answer(alloc: Global, call: &str, input: &str) -> Result<String, Fail> {
-    let text = unescaped(alloc, input)?;
-    let text = text.as_str();
-    match call {
-        "identifier" => identifier(alloc, text),
-        "tool name" => tool_name(alloc, text),
-        "components" => components(alloc, text),
-        "bytes" => bytes(alloc, text),
-        "plain" => Ok(format!(in alloc; "{:?}", is_valid_identifier_unicode(text))?),
-        _ => no_such_call(),
+const LONG: &str = r#"
+identifier | a«-» | a«-»
+identifier | a«-»! | InvalidXid a«-»!
+tool name | a«é» | a«é»
+plain | a«-» | Ok(())
+plain | a«-»! | Err(InvalidXid)
+"#;
+
+const MEGABYTE: &str = r#"
+identifier | «e\u{301}» | «é»
+identifier | «e\u{301}»\u{20} | InvalidXid «é»  |
+"#;
+
+struct Identifiers;
+
+impl Subject for Identifiers {
+    fn answer(alloc: Global, call: &str, input: &str) -> Result<String, Fail> {
+        let text = unescaped(alloc, input)?;
+        let text = text.as_str();
+        match call {
+            "tool name" => answered(alloc, call, ToolName::new(alloc, text)),
+            "plain" => Ok(format!(in alloc; "{:?}", is_valid_identifier_unicode(text))?),
+            _ => answered(alloc, call, ConfigIdentifier::new(alloc, text)),
+        }
     }
 }
 
-fn identifier(alloc: Global, text: &str) -> Result<String, Fail> {
-    match ConfigIdentifier::new(alloc, text) {
-        Ok(identifier) => shown(alloc, &identifier),
-        Err(error) => refused_identifier(alloc, &error),
+impl Told for ConfigIdentifier {
+    fn told(&self, alloc: Global, call: &str) -> Result<String, Fail> {
+        match call {
+            "identifier" => shown(alloc, self),
+            "components" => components(alloc, self),
+            "bytes" => bytes(alloc, self),
+            "is a tool's" => Ok(self.is_tool_identifier().to_string(alloc)?),
+            _ => no_such_call(),
+        }
     }
 }
 
-fn refused_identifier(alloc: Global, error: &InvalidIdentifier) -> Result<String, Fail> {
-    let (name, text) = match error {
-        InvalidIdentifier::Empty => ("Empty", ""),
-        InvalidIdentifier::InvalidXid(text) => ("InvalidXid", text.as_str()),
-        InvalidIdentifier::ToolIdentifierInvalidFormat(text) => {
-            ("ToolIdentifierInvalidFormat", text.as_str())
-        }
-        InvalidIdentifier::ToolComponentEmpty(text) => ("ToolComponentEmpty", text.as_str()),
-        InvalidIdentifier::ToolIdentifierInvalidXid(text) => {
-            ("ToolIdentifierInvalidXid", text.as_str())
-        }
-        InvalidIdentifier::Memory => ("Memory", ""),
-    };
-    named(alloc, name, text)
-}
-
-fn tool_name(alloc: Global, text: &str) -> Result<String, Fail> {
-    match ToolName::new(alloc, text) {
-        Ok(name) => shown(alloc, &name),
-        Err(error) => refused_tool_name(alloc, &error),
+fn components(alloc: Global, identifier: &ConfigIdentifier) -> Result<String, Fail> {
+    match identifier.tool_components() {
+        Some((tool, name)) => Ok(format!(in alloc; "{tool} and {name}")?),
+        None => Ok(String::from_str(alloc, "none")?),
     }
 }
 
-fn refused_tool_name(alloc: Global, error: &InvalidToolName) -> Result<String, Fail> {
-    let (name, text) = match error {
-        InvalidToolName::Empty => ("Empty", ""),
-        InvalidToolName::StartsWithToolPrefix(text) => ("StartsWithToolPrefix", text.as_str()),
-        InvalidToolName::InvalidXid(text) => ("InvalidXid", text.as_str()),
-        InvalidToolName::Memory => ("Memory", ""),
-    };
-    named(alloc, name, text)
-}
-
-fn components(alloc: Global, text: &str) -> Result<String, Fail> {
-    let identifier = ConfigIdentifier::new(alloc, text)?;
-    let line = match identifier.tool_components() {
-        Some((tool, name)) if identifier.is_tool_identifier() => {
-            format!(in alloc; "{tool} and {name}")?
-        }
-        None if !identifier.is_tool_identifier() => String::from_str(alloc, "none")?,
-        _ => String::from_str(alloc, "components and no tool")?,
-    };
-    Ok(line)
-}
-
-fn bytes(alloc: Global, text: &str) -> Result<String, Fail> {
-    let identifier = ConfigIdentifier::new(alloc, text)?;
+fn bytes(alloc: Global, identifier: &ConfigIdentifier) -> Result<String, Fail> {
     let mut line = String::new(alloc);
     for byte in identifier.as_str().as_bytes() {
         line.push_str(format!(in alloc; "{byte:02x} ")?.as_str())?;
@@ -143,18 +127,55 @@ fn bytes(alloc: Global, text: &str) -> Result<String, Fail> {
     Ok(String::from_str(alloc, line.trim_end())?)
 }
 
-#[test]
-fn names_are_kept_or_break_one_rule(rt: HostRuntime) -> Result<(), Fail> {
-    check(&rt, Subject::Identifiers, ROWS)
+impl Told for InvalidIdentifier {
+    fn told(&self, alloc: Global, _call: &str) -> Result<String, Fail> {
+        match self {
+            InvalidIdentifier::Empty => named(alloc, "Empty", ""),
+            InvalidIdentifier::InvalidXid(text) => named(alloc, "InvalidXid", text.as_str()),
+            InvalidIdentifier::ToolIdentifierInvalidFormat(text) => {
+                named(alloc, "ToolIdentifierInvalidFormat", text.as_str())
+            }
+            InvalidIdentifier::ToolComponentEmpty(text) => {
+                named(alloc, "ToolComponentEmpty", text.as_str())
+            }
+            InvalidIdentifier::ToolIdentifierInvalidXid(text) => {
+                named(alloc, "ToolIdentifierInvalidXid", text.as_str())
+            }
+            InvalidIdentifier::Memory => named(alloc, "Memory", ""),
+        }
+    }
 }
 
-const LONG: &str = r#"
-identifier | a«-» | a«-»
-identifier | a«-»! | InvalidXid a«-»!
-tool name | a«é» | a«é»
-"#;
+impl Told for ToolName {
+    fn told(&self, alloc: Global, _call: &str) -> Result<String, Fail> {
+        shown(alloc, self)
+    }
+}
+
+impl Told for InvalidToolName {
+    fn told(&self, alloc: Global, _call: &str) -> Result<String, Fail> {
+        match self {
+            InvalidToolName::Empty => named(alloc, "Empty", ""),
+            InvalidToolName::StartsWithToolPrefix(text) => {
+                named(alloc, "StartsWithToolPrefix", text.as_str())
+            }
+            InvalidToolName::InvalidXid(text) => named(alloc, "InvalidXid", text.as_str()),
+            InvalidToolName::Memory => named(alloc, "Memory", ""),
+        }
+    }
+}
+
+#[test]
+fn names_are_kept_or_break_one_rule(rt: HostRuntime) -> Result<(), Fail> {
+    check::<Identifiers>(&rt, ROWS)
+}
+
+#[test]
+fn a_long_text_is_judged(rt: HostRuntime) -> Result<(), Fail> {
+    check_at_size::<Identifiers>(&rt, MEGABYTE, 349525)
+}
 
 #[test]
 fn names_of_any_length_are_kept(rt: HostRuntime) -> Result<(), Fail> {
-    check_at_sizes(&rt, Subject::Identifiers, LONG)
+    check_at_sizes::<Identifiers>(&rt, LONG)
 }

@@ -36,8 +36,6 @@ mod rows;
 #[cfg(test)]
 mod sources;
 #[cfg(test)]
-mod subjects;
-#[cfg(test)]
 mod texts;
 #[cfg(test)]
 mod values;

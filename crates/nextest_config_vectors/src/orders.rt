@@ -1,7 +1,7 @@
 //! Orders, hashes and defaults.
 
-use crate::rows::{check, no_such_call};
-use crate::subjects::Subject;
+use crate::compared::Orders;
+use crate::rows::{Subject, check, no_such_call};
 use nextest_config::nextest_version::{
     ExperimentalConfig, ExperimentalDeserialize, NextestVersionConfig, NextestVersionReq,
     VersionOnlyConfig,
@@ -92,40 +92,44 @@ ExperimentalConfig |  | ExperimentalConfig { known: {}, unknown: [] }
 VersionOnlyConfig |  | VersionOnlyConfig { nextest_version: NextestVersionConfig { required: None, recommended: None }, experimental: ExperimentalConfig { known: {}, unknown: [] } }
 "#;
 
-/// The value that a type has at first.
-pub(crate) fn first(alloc: Global, call: &str, _input: &str) -> Result<String, Fail> {
-    match call {
-        "TerminateMode" => default::<TerminateMode>(alloc),
-        "FlakyResult" => default::<FlakyResult>(alloc),
-        "LeakTimeoutResult" => default::<LeakTimeoutResult>(alloc),
-        "SlowTimeoutResult" => default::<SlowTimeoutResult>(alloc),
-        "ReportSkipPolicy" => default::<ReportSkipPolicy>(alloc),
-        "JunitFlakyFailStatus" => default::<JunitFlakyFailStatus>(alloc),
-        "TrackDefault u32" => default::<TrackDefault<u32>>(alloc),
-        "TrackDefault bool" => default::<TrackDefault<bool>>(alloc),
-        "NextestVersionReq" => default::<NextestVersionReq>(alloc),
-        "NextestVersionConfig" => default::<NextestVersionConfig>(alloc),
-        "ExperimentalDeserialize" => written(alloc, &ExperimentalDeserialize::new(alloc)),
-        "ExperimentalConfig" => written(alloc, &ExperimentalConfig::new(alloc)),
-        "VersionOnlyConfig" => written(alloc, &VersionOnlyConfig::new(alloc)),
-        _ => no_such_call(),
+// The value that a type has at first.
+struct Defaults;
+
+impl Subject for Defaults {
+    fn answer(alloc: Global, call: &str, _input: &str) -> Result<String, Fail> {
+        match call {
+            "TerminateMode" => default::<TerminateMode>(alloc),
+            "FlakyResult" => default::<FlakyResult>(alloc),
+            "LeakTimeoutResult" => default::<LeakTimeoutResult>(alloc),
+            "SlowTimeoutResult" => default::<SlowTimeoutResult>(alloc),
+            "ReportSkipPolicy" => default::<ReportSkipPolicy>(alloc),
+            "JunitFlakyFailStatus" => default::<JunitFlakyFailStatus>(alloc),
+            "TrackDefault u32" => default::<TrackDefault<u32>>(alloc),
+            "TrackDefault bool" => default::<TrackDefault<bool>>(alloc),
+            "NextestVersionReq" => default::<NextestVersionReq>(alloc),
+            "NextestVersionConfig" => default::<NextestVersionConfig>(alloc),
+            "ExperimentalDeserialize" => written(alloc, ExperimentalDeserialize::new(alloc)),
+            "ExperimentalConfig" => written(alloc, ExperimentalConfig::new(alloc)),
+            "VersionOnlyConfig" => written(alloc, VersionOnlyConfig::new(alloc)),
+            _ => no_such_call(),
+        }
     }
 }
 
 fn default<T: Default + Debug + Drop>(alloc: Global) -> Result<String, Fail> {
-    written(alloc, &T::default())
+    written(alloc, T::default())
 }
 
-fn written<T: Debug>(alloc: Global, value: &T) -> Result<String, Fail> {
+fn written<T: Debug + Drop>(alloc: Global, value: T) -> Result<String, Fail> {
     Ok(format!(in alloc; "{value:?}")?)
 }
 
 #[test]
 fn values_are_in_order(rt: HostRuntime) -> Result<(), Fail> {
-    check(&rt, Subject::Orders, ORDERS)
+    check::<Orders>(&rt, ORDERS)
 }
 
 #[test]
 fn defaults_are_as_documented(rt: HostRuntime) -> Result<(), Fail> {
-    check(&rt, Subject::Defaults, DEFAULTS)
+    check::<Defaults>(&rt, DEFAULTS)
 }

@@ -1,7 +1,6 @@
 //! Relative paths.
 
-use crate::rows::{check, check_at_sizes, shown};
-use crate::subjects::Subject;
+use crate::rows::{Subject, Told, answered, check, check_at_sizes};
 use nextest_config_values::helpers::deserialize_relative_path;
 use std::alloc::Global;
 use std::test::Fail;
@@ -33,21 +32,28 @@ at p | 'a«/b»' | a«/b»
 at p«p» | 'a«/b»/..' | p«p»: invalid value: string "a«/b»/..", expected a relative path with no parent components
 "#;
 
-pub(crate) fn answer(alloc: Global, call: &str, input: &str) -> Result<String, Fail> {
-    let at = call.strip_prefix("at ").unwrap_or("?");
-    let value = Value::from_str(alloc, input)?;
-    match deserialize_relative_path(alloc, &value, at) {
-        Ok(path) => Ok(path),
-        Err(fault) => shown(alloc, &fault),
+struct Paths;
+
+impl Subject for Paths {
+    fn answer(alloc: Global, call: &str, input: &str) -> Result<String, Fail> {
+        let at = call.strip_prefix("at ").unwrap_or("?");
+        let value = Value::from_str(alloc, input)?;
+        answered(alloc, call, deserialize_relative_path(alloc, &value, at))
+    }
+}
+
+impl Told for String {
+    fn told(&self, alloc: Global, _call: &str) -> Result<String, Fail> {
+        Ok(String::from_str(alloc, self.as_str())?)
     }
 }
 
 #[test]
 fn relative_paths_are_kept_as_written_and_others_refused(rt: HostRuntime) -> Result<(), Fail> {
-    check(&rt, Subject::Paths, ROWS)
+    check::<Paths>(&rt, ROWS)
 }
 
 #[test]
 fn relative_paths_of_any_length_are_kept(rt: HostRuntime) -> Result<(), Fail> {
-    check_at_sizes(&rt, Subject::Paths, LONG)
+    check_at_sizes::<Paths>(&rt, LONG)
 }

@@ -1,7 +1,6 @@
 //! Values that print, each as its text alone.
 
-use crate::rows::{check, check_at_sizes, no_such_call, shown};
-use crate::subjects::Subject;
+use crate::rows::{Subject, check, check_at_sizes, no_such_call, shown};
 use crate::values::FromRow;
 use nextest_config::nextest_version::{
     ConfigExperimental, ConfigParseError, ConfigParseErrorKind, ConfigSource, ListRefusal,
@@ -107,15 +106,15 @@ ConfigExperimental | setup-scripts | setup-scripts
 ConfigExperimental | wrapper-scripts | wrapper-scripts
 ConfigExperimental | benchmarks | benchmarks
 
-ConfigSource | tool my-tool:/etc/t.toml | tool my-tool (/etc/t.toml)
-ConfigSource | tool a: | tool a ()
-written ConfigSource | tool a:"\u{1}) | "tool a (\"\u{1}))"
-ConfigSource | explicit a.toml | explicit a.toml
-ConfigSource | explicit  | explicit  |
-written ConfigSource | explicit "a"\u{1} | "explicit \"a\"\u{1}"
-ConfigSource | repository .config/nextest.toml | repository .config/nextest.toml
-ConfigSource | repository  | repository  |
-written ConfigSource | repository é\u{7f}( | "repository é\u{7f}("
+ConfigSource | tool my-tool: /etc/t.toml | tool my-tool (/etc/t.toml)
+ConfigSource | tool a:  | tool a ()
+written ConfigSource | tool a: "\u{1}) | "tool a (\"\u{1}))"
+ConfigSource | explicit: a.toml | explicit a.toml
+ConfigSource | explicit:  | explicit  |
+written ConfigSource | explicit: "a"\u{1} | "explicit \"a\"\u{1}"
+ConfigSource | repository: .config/nextest.toml | repository .config/nextest.toml
+ConfigSource | repository:  | repository  |
+written ConfigSource | repository: é\u{7f}( | "repository é\u{7f}("
 
 ConfigParseErrorKind | TomlParseError | not a TOML document
 ConfigParseErrorKind | VersionOnlyDeserializeError p, Custom PreRelease | p: pre-release identifiers are not supported in nextest-version
@@ -125,16 +124,16 @@ ConfigParseErrorKind | ExperimentalFeaturesInToolConfig z a"\n b | experimental 
 ConfigParseErrorKind | ExperimentalFeaturesInToolConfig  | experimental features in a tool configuration:  |
 ConfigParseErrorKind | Memory | out of memory
 
-ConfigParseError | explicit a.toml => x = | explicit a.toml: not a TOML document
-ConfigParseError | repository  => x = | repository : not a TOML document
-ConfigParseError | tool a:/x => nextest-version = '1' | tool a (/x): nextest-version: invalid version "1"
-ConfigParseError | tool a:/x => experimental = ['x', 'benchmarks'] | tool a (/x): experimental features in a tool configuration: "benchmarks", "x"
-ConfigParseError | explicit a.toml => experimental = 1 | explicit a.toml: experimental: invalid type: integer `1`, expected a table ({ setup-scripts = true, benchmarks = true }) or an array (["setup-scripts", "benchmarks"])
+ConfigParseError | explicit: a.toml => x = | explicit a.toml: not a TOML document
+ConfigParseError | repository:  => x = | repository : not a TOML document
+ConfigParseError | tool a: /x => nextest-version = '1' | tool a (/x): nextest-version: invalid version "1"
+ConfigParseError | tool a: /x => experimental = ['x', 'benchmarks'] | tool a (/x): experimental features in a tool configuration: "benchmarks", "x"
+ConfigParseError | explicit: a.toml => experimental = 1 | explicit a.toml: experimental: invalid type: integer `1`, expected a table ({ setup-scripts = true, benchmarks = true }) or an array (["setup-scripts", "benchmarks"])
 ConfigParseError | Memory | out of memory
 
-ListRefusal | 0 explicit a.toml => x = | source 0: explicit a.toml: not a TOML document
-ListRefusal | 1 tool a:/x => experimental = ['x'] | source 1: tool a (/x): experimental features in a tool configuration: "x"
-ListRefusal | 18446744073709551615 repository a => nextest-version = 1.5 | source 18446744073709551615: repository a: nextest-version: invalid type: floating point, expected a table ({ required = "0.9.20", recommended = "0.9.30" }) or a string ("0.9.50")
+ListRefusal | 0 explicit: a.toml => x = | source 0: explicit a.toml: not a TOML document
+ListRefusal | 1 tool a: /x => experimental = ['x'] | source 1: tool a (/x): experimental features in a tool configuration: "x"
+ListRefusal | 18446744073709551615 repository: a => nextest-version = 1.5 | source 18446744073709551615: repository a: nextest-version: invalid type: floating point, expected a table ({ required = "0.9.20", recommended = "0.9.30" }) or a string ("0.9.50")
 ListRefusal | 7 Memory | source 7: out of memory
 ListRefusal | Memory | out of memory
 "#;
@@ -162,21 +161,25 @@ FaultKind | UnknownField «x» / a boolean | unknown field `«x»`, expected a b
 FaultKind | MissingField «x» | missing configuration field "«x»"
 ReadFault | p«p», Custom PreRelease | p«p»: pre-release identifiers are not supported in nextest-version
 ReadFault | p«p», MissingField «x» | p«p»: missing configuration field "«x»"
-ConfigSource | tool a«a»:«x» | tool a«a» («x»)
-ConfigSource | explicit a«x» | explicit a«x»
-ConfigSource | repository a«x» | repository a«x»
+ConfigSource | tool a«a»: «x» | tool a«a» («x»)
+ConfigSource | explicit: a«x» | explicit a«x»
+ConfigSource | repository: a«x» | repository a«x»
 ConfigParseErrorKind | VersionOnlyDeserializeError p«p», Custom NotVersion «x» | p«p»: invalid version "«x»"
 ConfigParseErrorKind | ExperimentalFeaturesInToolConfig «x@ »z | experimental features in a tool configuration: «"x@", »"z"
-ConfigParseError | explicit a«x» => x = | explicit a«x»: not a TOML document
-ConfigParseError | repository a«x» => nextest-version = '«x»' | repository a«x»: nextest-version: invalid version "«x»"
-ListRefusal | «#» explicit a«x» => x = | source «#»: explicit a«x»: not a TOML document
+ConfigParseError | explicit: a«x» => x = | explicit a«x»: not a TOML document
+ConfigParseError | repository: a«x» => nextest-version = '«x»' | repository a«x»: nextest-version: invalid version "«x»"
+ListRefusal | «#» explicit: a«x» => x = | source «#»: explicit a«x»: not a TOML document
 "#;
 
 /// The text of a value, or how a source would write the text.
-pub(crate) fn answer(alloc: Global, call: &str, input: &str) -> Result<String, Fail> {
-    match call.strip_prefix("written ") {
-        Some(call) => Ok(format!(in alloc; "{:?}", text_of(alloc, call, input)?)?),
-        None => text_of(alloc, call, input),
+struct Printed;
+
+impl Subject for Printed {
+    fn answer(alloc: Global, call: &str, input: &str) -> Result<String, Fail> {
+        match call.strip_prefix("written ") {
+            Some(call) => Ok(format!(in alloc; "{:?}", text_of(alloc, call, input)?)?),
+            None => text_of(alloc, call, input),
+        }
     }
 }
 
@@ -206,10 +209,10 @@ fn text<T: FromRow + Display + Drop>(alloc: Global, input: &str) -> Result<Strin
 
 #[test]
 fn each_value_prints_its_text_alone(rt: HostRuntime) -> Result<(), Fail> {
-    check(&rt, Subject::Printed, ROWS)
+    check::<Printed>(&rt, ROWS)
 }
 
 #[test]
 fn long_values_print_their_texts_alone(rt: HostRuntime) -> Result<(), Fail> {
-    check_at_sizes(&rt, Subject::Printed, LONG)
+    check_at_sizes::<Printed>(&rt, LONG)
 }

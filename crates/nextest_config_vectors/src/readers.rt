@@ -1,7 +1,6 @@
 //! The plain readers, words and marks.
 
-use crate::rows::{check, check_at_sizes, made, no_such_call};
-use crate::subjects::Subject;
+use crate::rows::{Subject, check, check_at_sizes, made, no_such_call, tell};
 use nextest_config_elements::junit::JunitFlakyFailStatus;
 use nextest_config_elements::leak_timeout::LeakTimeoutResult;
 use nextest_config_elements::max_fail::TerminateMode;
@@ -9,7 +8,7 @@ use nextest_config_elements::report_skip_policy::ReportSkipPolicy;
 use nextest_config_elements::retry_policy::FlakyResult;
 use nextest_config_elements::slow_timeout::SlowTimeoutResult;
 use nextest_config_values::identifier::{ConfigIdentifier, ToolName};
-use nextest_config_values::read::{FromToml, NonZeroCount};
+use nextest_config_values::read::{FromToml, NonZeroCount, Word};
 use nextest_config_values::track_default::TrackDefault;
 use std::alloc::Global;
 use std::fmt::Debug;
@@ -31,6 +30,9 @@ bool | true | true
 u32 | 4294967295 | 4294967295
 String | "a\nb" | "a\nb"
 NonZeroCount | 9223372036854775807 | NonZeroCount { count: 9223372036854775807 }
+NonZeroCount::new | 0 | None
+NonZeroCount::new | 1 | Some(1)
+NonZeroCount::new | 9223372036854775807 | Some(9223372036854775807)
 
 # unknown words are refused with the known ones
 FlakyResult | 'Fail' | p: unknown variant `Fail`, expected `fail` or `pass`
@@ -38,14 +40,20 @@ ReportSkipPolicy | 'x' | p: unknown variant `x`, expected one of `none`, `ignore
 TerminateMode | '' | p: unknown variant ``, expected `wait` or `immediate`
 SlowTimeoutResult | 1 | p: invalid type: integer `1`, expected a string
 
-# words are read
-TerminateMode | 'wait' | Wait
-TerminateMode | 'immediate' | Immediate
-FlakyResult | 'fail' | Fail
-LeakTimeoutResult | 'pass' | Pass
-SlowTimeoutResult | 'fail' | Fail
-ReportSkipPolicy | 'ignored' | Ignored
-JunitFlakyFailStatus | 'success' | Success
+# words are read and told
+TerminateMode | 'wait' | Wait wait
+TerminateMode | 'immediate' | Immediate immediate
+FlakyResult | 'fail' | Fail fail
+FlakyResult | 'pass' | Pass pass
+LeakTimeoutResult | 'fail' | Fail fail
+LeakTimeoutResult | 'pass' | Pass pass
+SlowTimeoutResult | 'fail' | Fail fail
+SlowTimeoutResult | 'pass' | Pass pass
+ReportSkipPolicy | 'none' | None none
+ReportSkipPolicy | 'ignored' | Ignored ignored
+ReportSkipPolicy | 'all' | All all
+JunitFlakyFailStatus | 'failure' | Failure failure
+JunitFlakyFailStatus | 'success' | Success success
 
 # what was read is marked
 TrackDefault u32 | 5 | TrackDefault { value: 5, is_deserialized: true }
@@ -78,30 +86,38 @@ ConfigIdentifier | '@tool:a«a»' | p: tool identifier isn't @tool:name:identifi
 ToolName | 'a«é»' | ToolName { text: "a«é»" }
 "#;
 
-pub(crate) fn answer(alloc: Global, call: &str, input: &str) -> Result<String, Fail> {
-    let value = Value::from_str(alloc, input)?;
-    match call {
-        "bool" => read::<bool>(alloc, &value),
-        "u32" => read::<u32>(alloc, &value),
-        "String" => read::<String>(alloc, &value),
-        "NonZeroCount" => read::<NonZeroCount>(alloc, &value),
-        "TrackDefault u32" => read::<TrackDefault<u32>>(alloc, &value),
-        "TrackDefault bool" => read::<TrackDefault<bool>>(alloc, &value),
-        "ConfigIdentifier" => read::<ConfigIdentifier>(alloc, &value),
-        "ToolName" => read::<ToolName>(alloc, &value),
-        _ => word(alloc, call, &value),
+struct Readers;
+
+impl Subject for Readers {
+    fn answer(alloc: Global, call: &str, input: &str) -> Result<String, Fail> {
+        let value = Value::from_str(alloc, input)?;
+        match call {
+            "bool" => read::<bool>(alloc, &value),
+            "u32" => read::<u32>(alloc, &value),
+            "String" => read::<String>(alloc, &value),
+            "NonZeroCount::new" => {
+                let count = NonZeroCount::new(input.parse()?).map(NonZeroCount::get);
+                Ok(format!(in alloc; "{count:?}")?)
+            }
+            "NonZeroCount" => read::<NonZeroCount>(alloc, &value),
+            "TrackDefault u32" => read::<TrackDefault<u32>>(alloc, &value),
+            "TrackDefault bool" => read::<TrackDefault<bool>>(alloc, &value),
+            "ConfigIdentifier" => read::<ConfigIdentifier>(alloc, &value),
+            "ToolName" => read::<ToolName>(alloc, &value),
+            _ => word(alloc, call, &value),
+        }
     }
 }
 
 fn word(alloc: Global, call: &str, value: &Value) -> Result<String, Fail> {
     match call {
-        "FlakyResult" => read::<FlakyResult>(alloc, value),
-        "JunitFlakyFailStatus" => read::<JunitFlakyFailStatus>(alloc, value),
-        "LeakTimeoutResult" => read::<LeakTimeoutResult>(alloc, value),
-        "ReportSkipPolicy" => read::<ReportSkipPolicy>(alloc, value),
-        "SlowTimeoutResult" => read::<SlowTimeoutResult>(alloc, value),
-        "TerminateMode" => read::<TerminateMode>(alloc, value),
-        _ => Err(Fail::new("no such type")),
+        "FlakyResult" => read_word::<FlakyResult>(alloc, value),
+        "JunitFlakyFailStatus" => read_word::<JunitFlakyFailStatus>(alloc, value),
+        "LeakTimeoutResult" => read_word::<LeakTimeoutResult>(alloc, value),
+        "ReportSkipPolicy" => read_word::<ReportSkipPolicy>(alloc, value),
+        "SlowTimeoutResult" => read_word::<SlowTimeoutResult>(alloc, value),
+        "TerminateMode" => read_word::<TerminateMode>(alloc, value),
+        _ => no_such_call(),
     }
 }
 
@@ -109,12 +125,19 @@ fn read<T: FromToml + Debug + Drop>(alloc: Global, value: &Value) -> Result<Stri
     made(alloc, T::read(alloc, value, "p"))
 }
 
+fn read_word<T: Word + Debug>(alloc: Global, value: &Value) -> Result<String, Fail> {
+    match T::read(alloc, value, "p") {
+        Ok(word) => Ok(format!(in alloc; "{word:?} {}", word.as_word())?),
+        Err(fault) => tell(alloc, "", fault),
+    }
+}
+
 #[test]
 fn values_are_read_or_refused(rt: HostRuntime) -> Result<(), Fail> {
-    check(&rt, Subject::Readers, ROWS)
+    check::<Readers>(&rt, ROWS)
 }
 
 #[test]
 fn long_values_are_read_or_refused(rt: HostRuntime) -> Result<(), Fail> {
-    check_at_sizes(&rt, Subject::Readers, LONG)
+    check_at_sizes::<Readers>(&rt, LONG)
 }

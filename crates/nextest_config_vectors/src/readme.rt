@@ -1,5 +1,6 @@
 //! What a user of the libraries writes, as README shows it.
 
+use crate::values::part;
 use nextest_config::nextest_version::{
     ConfigSource, ConfigSourceKind, NextestVersionEval, SourceText, VersionOnlyConfig,
 };
@@ -7,7 +8,7 @@ use nextest_config_elements::max_fail::TerminateMode;
 use nextest_config_values::identifier::ToolName;
 use nextest_config_values::read::FromToml;
 use semver::Version;
-use std::alloc::Global;
+use std::alloc::{AllocError, Global};
 use std::test::Fail;
 use toml::Value;
 
@@ -26,32 +27,30 @@ fn source(
     })
 }
 
-// What a tool and a repository tell a current version.
-fn check(alloc: Global, current: &str) -> Result<String, Fail> {
+// A tool's file and a repository's.
+fn sources(alloc: Global) -> Result<Vec<SourceText>, Fail> {
     let tool = ConfigSourceKind::Tool(ToolName::new(alloc, "my-tool")?);
     let repository = ConfigSourceKind::DiscoveredRepository;
-    let sources = [
-        source(
-            alloc,
-            tool,
-            "/etc/my-tool.toml",
-            "nextest-version = '0.9.50'",
-        )?,
-        source(
-            alloc,
-            repository,
-            ".config/nextest.toml",
-            "nextest-version = { recommended = '0.9.60' }",
-        )?,
-    ];
-    let config = VersionOnlyConfig::from_list(alloc, &sources)?;
-    let current = Version::parse(alloc, current)?;
-    let verdict = config.nextest_version().eval(alloc, &current, false)?;
-    describe(alloc, &verdict)
+    let required = "nextest-version = '0.9.50'";
+    let recommended = "nextest-version = { recommended = '0.9.60' }";
+    let mut sources = Vec::new(alloc);
+    sources.push(source(alloc, tool, "/etc/my-tool.toml", required)?)?;
+    sources.push(source(alloc, repository, ".config/nextest.toml", recommended)?)?;
+    Ok(sources)
 }
 
-fn describe(alloc: Global, verdict: &NextestVersionEval) -> Result<String, Fail> {
-    let text = match verdict {
+// What they tell a current version.
+fn check(
+    alloc: Global,
+    sources: &[SourceText],
+    current: &Version,
+) -> Result<NextestVersionEval, Fail> {
+    let config = VersionOnlyConfig::from_list(alloc, sources)?;
+    Ok(config.nextest_version().eval(alloc, current, false)?)
+}
+
+fn describe(alloc: Global, verdict: &NextestVersionEval) -> Result<String, AllocError> {
+    match verdict {
         NextestVersionEval::Satisfied => String::from_str(alloc, "satisfied"),
         NextestVersionEval::Error {
             required,
@@ -73,34 +72,44 @@ fn describe(alloc: Global, verdict: &NextestVersionEval) -> Result<String, Fail>
             source,
             ..
         } => format!(in alloc; "{recommended} is recommended by {source}"),
-    };
-    Ok(text?)
+    }
 }
 
 // What a TOML value says of running tests once the fail limit is reached.
-fn terminate(alloc: Global, value: &str) -> Result<String, Fail> {
-    let value = Value::from_str(alloc, value)?;
-    match TerminateMode::read(alloc, &value, "profile.ci.fail-fast.terminate") {
-        Ok(mode) => Ok(mode.to_string(alloc)?),
-        Err(fault) => Ok(fault.to_string(alloc)?),
+fn terminate(alloc: Global, value: &Value) -> Result<String, AllocError> {
+    match TerminateMode::read(alloc, value, "profile.ci.fail-fast.terminate") {
+        Ok(mode) => mode.to_string(alloc),
+        Err(fault) => fault.to_string(alloc),
     }
+}
+
+// What the sources tell a current version, as a line.
+fn told(alloc: Global, current: &str) -> Result<String, Fail> {
+    let sources = sources(alloc)?;
+    let current = Version::parse(alloc, current)?;
+    part(
+        check(alloc, &sources, &current)?,
+        |verdict| describe(alloc, verdict),
+    )
 }
 
 #[test]
 fn a_version_is_checked_and_a_setting_is_read(rt: HostRuntime) -> Result<(), Fail> {
     let alloc = rt.alloc();
     assert_eq!(rt;
-        check(alloc, "0.9.49")?.as_str(),
+        told(alloc, "0.9.49")?.as_str(),
         "0.9.50 is required by tool my-tool (/etc/my-tool.toml)"
     );
     assert_eq!(rt;
-        check(alloc, "0.9.55")?.as_str(),
+        told(alloc, "0.9.55")?.as_str(),
         "0.9.60 is recommended by repository .config/nextest.toml"
     );
-    assert_eq!(rt; check(alloc, "0.9.60")?.as_str(), "satisfied");
-    assert_eq!(rt; terminate(alloc, "'immediate'")?.as_str(), "immediate");
+    assert_eq!(rt; told(alloc, "0.9.60")?.as_str(), "satisfied");
+    let value = Value::string(alloc, "immediate")?;
+    assert_eq!(rt; terminate(alloc, &value)?.as_str(), "immediate");
+    let value = Value::string(alloc, "now")?;
     assert_eq!(rt;
-        terminate(alloc, "'now'")?.as_str(),
+        terminate(alloc, &value)?.as_str(),
         "profile.ci.fail-fast.terminate: unknown variant `now`, expected `wait` or `immediate`"
     );
     Ok(())

@@ -3,7 +3,6 @@
 //! A blank line is no row, nor is one that begins with `#`. An answer that is empty or ends in a space
 //! is followed by ` |`.
 
-use crate::subjects::Subject;
 use std::alloc::Global;
 use std::fmt::{Debug, Display};
 use std::process::Abort;
@@ -15,41 +14,59 @@ const SIZES: [usize; 37] = [
     511, 512, 513, 1023, 1024, 1025, 2047, 2048, 2049, 4095, 4096, 4097, 5000,
 ];
 
+/// What tables of rows are about.
+pub(crate) trait Subject {
+    /// What a call answers for an input.
+    fn answer(alloc: Global, call: &str, input: &str) -> Result<String, Fail>;
+}
+
 /// Asks for the answer of each row, and compares it.
-pub(crate) fn check(
-    rt: &(impl Abort + AllocGlobal),
-    subject: Subject,
-    rows: &str,
-) -> Result<(), Fail> {
-    for row in rows.lines() {
-        check_row(rt, subject, row)?;
+pub(crate) fn check<S: Subject>(rt: &(impl Abort + AllocGlobal), rows: &str) -> Result<(), Fail> {
+    for line in rows.lines() {
+        if is_row(line) {
+            check_row::<S>(rt, line)?;
+        }
     }
     Ok(())
 }
 
-fn check_row(rt: &(impl Abort + AllocGlobal), subject: Subject, row: &str) -> Result<(), Fail> {
-    if row.is_empty() || row.starts_with('#') {
-        return Ok(());
-    }
+fn is_row(line: &str) -> bool {
+    !line.is_empty() && !line.starts_with('#')
+}
+
+fn check_row<S: Subject>(rt: &(impl Abort + AllocGlobal), row: &str) -> Result<(), Fail> {
     let (call, rest) = cut(row, " | ")?;
     let (input, wanted) = cut(rest, " | ")?;
-    let line = subject.answer(rt.alloc(), call, input)?;
-    let wanted = wanted.strip_suffix(" |").unwrap_or(wanted);
-    assert_eq!(rt; line.as_str(), wanted, "in {row}");
+    let line = S::answer(rt.alloc(), call, input)?;
+    compare(rt, row, line.as_str(), wanted);
     Ok(())
+}
+
+fn compare(rt: &impl Abort, row: &str, line: &str, wanted: &str) {
+    let wanted = wanted.strip_suffix(" |").unwrap_or(wanted);
+    assert_eq!(rt; line, wanted, "in {row}");
 }
 
 /// Does the same at each size, that is with each `«PIECE»` of the rows that many times. A `@` in a piece
 /// is its number, in five digits. `«#»` is the size.
-pub(crate) fn check_at_sizes(
+pub(crate) fn check_at_sizes<S: Subject>(
     rt: &(impl Abort + AllocGlobal),
-    subject: Subject,
     rows: &str,
 ) -> Result<(), Fail> {
     for size in SIZES {
-        check(rt, subject, grown(rt.alloc(), rows, size)?.as_str())?;
+        check_at_size::<S>(rt, rows, size)?;
     }
     Ok(())
+}
+
+/// Does the same at one size.
+pub(crate) fn check_at_size<S: Subject>(
+    rt: &(impl Abort + AllocGlobal),
+    rows: &str,
+    size: usize,
+) -> Result<(), Fail> {
+    let rows = grown(rt.alloc(), rows, size)?;
+    check::<S>(rt, rows.as_str())
 }
 
 fn grown(alloc: Global, rows: &str, size: usize) -> Result<String, Fail> {
@@ -96,26 +113,51 @@ pub(crate) fn unescaped(alloc: Global, text: &str) -> Result<String, Fail> {
     made.push_str(parts.next().unwrap_or(""))?;
     for part in parts {
         let (code, rest) = cut(part, "}")?;
-        made.push(char::from_u32(u32::from_str_radix(code, 16)?).unwrap_or('?'))?;
+        made.push(character(code)?)?;
         made.push_str(rest)?;
     }
     Ok(made)
 }
 
+fn character(code: &str) -> Result<char, Fail> {
+    let code = u32::from_str_radix(code, 16)?;
+    Ok(char::from_u32(code).unwrap_or('?'))
+}
+
 /// The text of a value, which is the same whatever a format asks for.
 pub(crate) fn shown<T: Display>(alloc: Global, value: &T) -> Result<String, Fail> {
     let text = format!(in alloc; "{value}")?;
-    let wide = format!(in alloc; "{value:>40}")?;
-    let filled = format!(in alloc; "{value:*^60}")?;
-    let other = format!(in alloc; "{value:#}")?;
-    if wide == text && filled == text && other == text {
+    let formatted = format!(in alloc; "{value:>40}{value:*^60}{value:#}")?;
+    if formatted == text.repeat(alloc, 3)? {
         Ok(text)
     } else {
-        Ok(format!(in alloc; "{text}, but also {wide}, {filled} and {other}")?)
+        Ok(formatted)
     }
 }
 
-/// What was answered: a value as its source would write it, or a refusal as it prints.
+/// A value of which a call tells something.
+pub(crate) trait Told {
+    fn told(&self, alloc: Global, call: &str) -> Result<String, Fail>;
+}
+
+/// What the call tells of a value.
+pub(crate) fn tell<T: Told + Drop>(alloc: Global, call: &str, value: T) -> Result<String, Fail> {
+    value.told(alloc, call)
+}
+
+/// What the call tells of what was answered.
+pub(crate) fn answered<T: Told + Drop, E: Told + Drop>(
+    alloc: Global,
+    call: &str,
+    answer: Result<T, E>,
+) -> Result<String, Fail> {
+    match answer {
+        Ok(value) => value.told(alloc, call),
+        Err(error) => error.told(alloc, call),
+    }
+}
+
+/// What was answered: a value as a source would write it, or a refusal as it prints.
 pub(crate) fn made<T: Debug + Drop, E: Display + Drop>(
     alloc: Global,
     answer: Result<T, E>,

@@ -27,32 +27,37 @@ impl FromRow for ConfigSourceKind {
     }
 }
 
-/// Writes `tool NAME:PATH`, `explicit PATH` or `repository PATH`.
+/// Writes `KIND: PATH`.
 impl FromRow for ConfigSource {
     fn from_row(alloc: Global, text: &str) -> Result<Self, Fail> {
-        let (kind, path) = match text.strip_prefix("tool ") {
-            Some(_) => cut(text, ":")?,
-            None => word(text),
-        };
+        let (kind, path) = cut(text, ": ")?;
         let path = unescaped(alloc, path)?;
         let kind = ConfigSourceKind::from_row(alloc, kind)?;
         Ok(ConfigSource { kind, path })
     }
 }
 
-// What stands before the arrow, and behind it the contents, none where there is no arrow.
-fn contents(alloc: Global, text: &str) -> Result<(&str, Option<String>), Fail> {
+// A source, and its contents where an arrow stands before them.
+fn parts(text: &str) -> (&str, Option<&str>) {
     match text.split_once(" => ") {
-        Some((source, contents)) => Ok((source, Some(unescaped(alloc, contents)?))),
-        None => Ok((text, None)),
+        Some((source, contents)) => (source, Some(contents)),
+        None => (text, None),
+    }
+}
+
+fn contents(alloc: Global, text: Option<&str>) -> Result<Option<String>, Fail> {
+    match text {
+        Some(text) => Ok(Some(unescaped(alloc, text)?)),
+        None => Ok(None),
     }
 }
 
 /// Writes `SOURCE => CONTENTS`, or the source alone.
 impl FromRow for SourceText {
     fn from_row(alloc: Global, text: &str) -> Result<Self, Fail> {
-        let (source, contents) = contents(alloc, text)?;
+        let (source, text) = parts(text);
         let source = ConfigSource::from_row(alloc, source)?;
+        let contents = contents(alloc, text)?;
         Ok(SourceText { source, contents })
     }
 }
@@ -60,18 +65,25 @@ impl FromRow for SourceText {
 /// Writes a tool's source and its contents.
 impl FromRow for ToolText {
     fn from_row(alloc: Global, text: &str) -> Result<Self, Fail> {
-        let (source, contents) = contents(alloc, text)?;
-        let file = ToolConfigFile::from_str(alloc, word(source).1)?;
-        Ok(ToolText { file, contents })
+        let (source, text) = parts(text);
+        let (kind, path) = cut(source, ": ")?;
+        let tool = ToolName::new(alloc, word(kind).1)?;
+        let config_file = unescaped(alloc, path)?;
+        let contents = contents(alloc, text)?;
+        Ok(ToolText {
+            file: ToolConfigFile { tool, config_file },
+            contents,
+        })
     }
 }
 
 /// Writes a repository's source and its contents.
 impl FromRow for RepositoryText {
     fn from_row(alloc: Global, text: &str) -> Result<Self, Fail> {
-        let (source, contents) = contents(alloc, text)?;
-        let (kind, path) = word(source);
+        let (source, text) = parts(text);
+        let (kind, path) = cut(source, ": ")?;
         let path = unescaped(alloc, path)?;
+        let contents = contents(alloc, text)?;
         Ok(RepositoryText {
             explicit: kind == "explicit",
             path,

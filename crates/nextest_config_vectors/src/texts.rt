@@ -1,7 +1,6 @@
 //! The texts of values.
 
-use crate::rows::{check, check_at_sizes, no_such_call, shown, unescaped};
-use crate::subjects::Subject;
+use crate::rows::{Subject, check, check_at_sizes, no_such_call, shown, unescaped};
 use crate::values::names;
 use nextest_config_values::read::{QuotedText, QuotedTexts, found_text, quoted};
 use std::alloc::Global;
@@ -51,13 +50,17 @@ texts | «x@ »z | «"x@", »"z"
 found | '«x»' | string "«x»"
 "#;
 
-pub(crate) fn answer(alloc: Global, call: &str, input: &str) -> Result<String, Fail> {
-    match call {
-        "quoted" => quoted_text(alloc, input),
-        "written out" => Ok(format!(in alloc; "{:?}", quoted_text(alloc, input)?)?),
-        "texts" => shown(alloc, &QuotedTexts(&names(alloc, input)?)),
-        "found" => Ok(found_text(alloc, &Value::from_str(alloc, input)?)?),
-        _ => no_such_call(),
+struct Texts;
+
+impl Subject for Texts {
+    fn answer(alloc: Global, call: &str, input: &str) -> Result<String, Fail> {
+        match call {
+            "quoted" => quoted_text(alloc, input),
+            "written out" => Ok(format!(in alloc; "{:?}", quoted_text(alloc, input)?)?),
+            "texts" => shown(alloc, &QuotedTexts(&names(alloc, input)?)),
+            "found" => Ok(found_text(alloc, &Value::from_str(alloc, input)?)?),
+            _ => no_such_call(),
+        }
     }
 }
 
@@ -74,10 +77,10 @@ fn quoted_text(alloc: Global, input: &str) -> Result<String, Fail> {
 
 #[test]
 fn texts_of_values(rt: HostRuntime) -> Result<(), Fail> {
-    check(&rt, Subject::Texts, ROWS)
+    check::<Texts>(&rt, ROWS)
 }
 
 #[test]
 fn texts_of_any_length(rt: HostRuntime) -> Result<(), Fail> {
-    check_at_sizes(&rt, Subject::Texts, LONG)
+    check_at_sizes::<Texts>(&rt, LONG)
 }

@@ -9,7 +9,7 @@ use nextest_config_values::read::{FaultKind, FromToml, ReadFault, Rule};
 use nextest_config_values::tool_config::{ToolConfigFile, ToolConfigFileParseError};
 use nextest_config_values::track_default::TrackDefault;
 use semver::Version;
-use std::alloc::Global;
+use std::alloc::{AllocError, Global};
 use std::collections::BTreeSet;
 use std::test::Fail;
 use toml::Value;
@@ -27,6 +27,16 @@ pub(crate) fn word(text: &str) -> (&str, &str) {
 
 fn no_such_word<T>() -> Result<T, Fail> {
     Err(Fail::new("a row has a word of no value"))
+}
+
+/// What is made of a value, which is then let go.
+pub(crate) fn part<W: Drop, T, F: Fn(&W) -> Result<T, AllocError> + Drop>(
+    whole: W,
+    copy: F,
+) -> Result<T, Fail>
+    requires { F.IsAlwaysCallable copy }
+{
+    Ok(copy(&whole)?)
 }
 
 /// A set of names.

@@ -1,7 +1,6 @@
 //! Values of `nextest-version`, as the reader of the setting reads them.
 
-use crate::rows::{check, check_at_sizes, shown};
-use crate::subjects::Subject;
+use crate::rows::{Subject, Told, answered, check, check_at_sizes, named};
 use nextest_config::nextest_version::NextestVersionDeserialize;
 use nextest_config_values::read::FromToml;
 use semver::Version;
@@ -49,16 +48,24 @@ p | '00«0».1' | p: invalid version "00«0».1"
 p | {«k@ = 1,» required = '0.9', recommended = '0.9.60' } | 0.9.0 0.9.60
 "#;
 
-/// What a value at the path of the call asks.
-pub(crate) fn answer(alloc: Global, call: &str, input: &str) -> Result<String, Fail> {
-    let value = Value::from_str(alloc, input)?;
-    match NextestVersionDeserialize::read(alloc, &value, call) {
-        Ok(asked) => {
-            let required = version(alloc, &asked.required)?;
-            let recommended = version(alloc, &asked.recommended)?;
-            Ok(format!(in alloc; "{required} {recommended}")?)
-        }
-        Err(fault) => shown(alloc, &fault),
+struct VersionValues;
+
+impl Subject for VersionValues {
+    fn answer(alloc: Global, at: &str, input: &str) -> Result<String, Fail> {
+        let value = Value::from_str(alloc, input)?;
+        answered(
+            alloc,
+            at,
+            NextestVersionDeserialize::read(alloc, &value, at),
+        )
+    }
+}
+
+impl Told for NextestVersionDeserialize {
+    fn told(&self, alloc: Global, _call: &str) -> Result<String, Fail> {
+        let required = version(alloc, &self.required)?;
+        let recommended = version(alloc, &self.recommended)?;
+        named(alloc, required.as_str(), recommended.as_str())
     }
 }
 
@@ -71,10 +78,10 @@ fn version(alloc: Global, version: &Option<Version>) -> Result<String, Fail> {
 
 #[test]
 fn versions_of_a_text_or_a_table_are_read(rt: HostRuntime) -> Result<(), Fail> {
-    check(&rt, Subject::VersionValues, ROWS)
+    check::<VersionValues>(&rt, ROWS)
 }
 
 #[test]
 fn versions_of_long_texts_and_tables_are_read(rt: HostRuntime) -> Result<(), Fail> {
-    check_at_sizes(&rt, Subject::VersionValues, LONG)
+    check_at_sizes::<VersionValues>(&rt, LONG)
 }
