@@ -22,6 +22,11 @@ memory_wanted means needs_memory IsFault fault never_both refused = search rules
 pub refused_as : {X : Type 0} (means : X → Type 0) (IsFault : Fault → Type 0) (expected : Fault) (fault : ReadFault) → IsFault expected → RefusesAs expected fault → Refuses IsFault (WantsMemory means true) fault
 refused_as means IsFault expected fault has refused = refused_mapped fault refused (λ wanted x m. refl) (λ f same. subst IsFault (sym same) has)
 
+-- a refusal as this fault is one of a reader that has it, where the value means nothing
+pub refused_unmeant : {X : Type 0} (means : X → Type 0) (needs_memory : Bool) (IsFault : Fault → Type 0) (expected : Fault) (fault : ReadFault) → ((x : X) → ¬ means x) → IsFault expected → RefusesAs expected fault
+    → Refuses IsFault (WantsMemory means needs_memory) fault
+refused_unmeant means needs_memory IsFault expected fault none has refused = refused_mapped fault refused (λ wanted x m. absurd (none x m)) (λ f same. subst IsFault (sym same) has)
+
 pub refused_memory : (IsFault : Fault → Type 0) {wanted : Type 0} (fault : ReadFault) → IsMemory fault → wanted → Refuses IsFault wanted fault
 refused_memory IsFault fault memory wanted = rw memory.1 ((memory.0, refl), wanted)
 

@@ -1,8 +1,11 @@
 pub mod Arguments
 pub mod Components
+pub mod Durations
 pub mod Faults
 pub mod Joined
 pub mod Lists
 pub mod Paths
+pub mod Runs
 pub mod Texts
+pub mod Units
 pub mod Words

@@ -45,7 +45,7 @@ chars_behind p text rest h e = ap chars e ∙ chars-append p rest h.utf8 ∙ ap 
 pub not_behind : (p s : List ℕ) → IsPlainText p → IsUtf8 s → ((rest : List ℕ) → s ≢ p ++ rest) → (cs : List ℕ) → chars s ≢ p ++ cs
 not_behind p s h u none cs e = none _ (sym (encodes-chars s u) ∙ ap encode_utf8_all e ∙ encodes-append p cs ∙ ap (λ q. q ++ encode_utf8_all cs) h.encoded)
 
-ascii_encoded : (p : List ℕ) → AllByRecursion (λ b. b < 128) p → encode_utf8_all p ≡ p
+pub ascii_encoded : (p : List ℕ) → AllByRecursion (λ b. b < 128) p → encode_utf8_all p ≡ p
 ascii_encoded [] h = refl
 ascii_encoded (b ∷ p) h = ap (λ front. front ++ encode_utf8_all p) (encode_ascii b h.0) ∙ ap (λ rest. b ∷ rest) (ascii_encoded p h.1)
 

@@ -1,4 +1,4 @@
--- Characters that rules and printed texts name, by their codes; in UTF-8 each is one byte with the same code.
+-- Characters that rules and printed texts name, by their codes; in UTF-8 each but the last is one byte with the same code.
 use Rattle.std.specs.Prelude.{ℕ}
 
 abbrev pub nul : ℕ
@@ -36,3 +36,7 @@ colon = 58
 
 abbrev pub backslash : ℕ
 backslash = 92
+
+-- U+00B5, of two bytes
+abbrev pub micro_sign : ℕ
+micro_sign = 181

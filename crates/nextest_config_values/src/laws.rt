@@ -1,6 +1,8 @@
 //! Laws of the definitions, for every value. They call nothing.
 
 ghost use Rattle.std.specs.Prelude.{◌≡◌, ℕ, List};
+ghost use Rattle.nextest_config_values.specs.Duration.{IsDuration, IsDurationFault, Item, Spells};
+ghost use Rattle.nextest_config_values.specs.declared.duration.DurationFault.{DurationFault};
 ghost use Rattle.nextest_config_values.specs.Identifier.{AnswersAlike, IdentifierFlaw, IsIdentifier, IsIdentifierFault, IsToolName, IsToolNameFault, NameFault, normal_chars, ToolNameFlaw};
 ghost use Rattle.nextest_config_values.specs.ToolConfig.{Argument, ArgumentFault, IsArgumentFault, IsToolArgument};
 
@@ -39,4 +41,16 @@ pub fn law_same_normal_form()
         → AnswersAlike (IsIdentifier s) (IsIdentifier t) × AnswersAlike (IsIdentifierFault s) (IsIdentifierFault t) }
     ensures tool_names { (s t : List ℕ) → normal_chars s ≡ normal_chars t
         → AnswersAlike (IsToolName s) (IsToolName t) × AnswersAlike (IsToolNameFault s) (IsToolNameFault t) }
+{}
+
+/// No text is spelled by two lists of items, wherever white space stands; none has two durations, two
+/// faults as one, or both.
+pub fn law_duration_once()
+    ensures one_spelling { (text : List ℕ) (items others : List Item)
+        → Spells items text → Spells others text → items ≡ others }
+    ensures one_duration { (text : List ℕ) (m n : ℕ) → IsDuration text m → IsDuration text n → m ≡ n }
+    ensures one_fault { (text : List ℕ) (e f : DurationFault)
+        → IsDurationFault text e → IsDurationFault text f → e ≡ f }
+    ensures never_both { (text : List ℕ) (nanoseconds : ℕ) (f : DurationFault)
+        → IsDuration text nanoseconds → IsDurationFault text f → ⊥ }
 {}

@@ -1,0 +1,312 @@
+-- What the steps of reading a duration have read, and that their faults are those of the text.
+use Rattle.std.proofs.Common.{◌≡◌, ◌≢◌, ℕ, ◌+◌, ◌-◌, ◌*◌, ◌<◌, ◌^◌, Bool, List, [], ◌∷◌, ◌++◌, length, Some, None, refl, sym, ap, ◌∙◌, subst, inl, inr, rules, arith}
+use Rattle.std.specs.Prelude.{min, IsTrue, Err, Result, chars, encode_utf8_all}
+use Rattle.std.proofs.lemmas.Bool.{cases_Bool}
+use Rattle.std.proofs.lemmas.List.{append_assoc, append-nil, length-append}
+use Rattle.std.proofs.lemmas.Str.{chars-encodes, chars_from_encodes, encodes-append, encodes-chars}
+use Rattle.std.specs.Char.{is_ascii_digit, is_whitespace}
+use Rattle.std.specs.Duration.{FitsDuration}
+use Rattle.std.specs.Str.{IsUtf8, skip_leading_whitespace, trim_start}
+use Rattle.std.proofs.lemmas.Str.Parse.{IsDigitsTest, IsNumeralModel, numerals_by_value, parse_digits}
+use Rattle.std.specs.Str.Parse.{ParsesUnsigned, digits_value}
+use Rattle.std.specs.Result.{OkIff}
+use Rattle.nextest_config_values.proofs.Lists.{all_joined, all_weaker}
+use Rattle.nextest_config_values.proofs.Texts.{ascii_encoded}
+use Rattle.nextest_config_values.specs.Duration.{AreAll, AreFittingDigits, BeginsWith, EndsWith, HasNumberThatFits, IsDuration, IsDurationFault, IsFaultBehind, IsFront, IsItemText, IsLongestFront, IsNext, IsNextFault, IsRun, IsUncut, Item, Spells, is_in_word, offset, total, unit_length}
+use Rattle.nextest_config_values.specs.DurationLaws.{Stops, covers, nothing_before, one_next}
+use Rattle.nextest_config_values.specs.DurationSteps.{IsCutBehind, IsFaultAt, IsReadItem}
+use Rattle.nextest_config_values.specs.declared.duration.DurationFault.{DurationFault}
+use Rattle.nextest_config_values.specs.declared.duration.DurationFault.TheVariants as faults
+
+-- ---- offsets
+
+pub offset_of_text : (text : List ℕ) → IsUtf8 text → offset (chars text) ≡ length text
+offset_of_text text u = ap length (encodes-chars text u)
+
+pub offset_behind : (front behind : List ℕ) → offset (front ++ behind) ≡ offset front + offset behind
+offset_behind front behind = ap length (encodes-append front behind) ∙ length-append (encode_utf8_all front) (encode_utf8_all behind)
+
+-- ---- runs
+
+-- white space in front of what doesn't begin with any
+pub record IsTrimmed (text space behind : List ℕ) : Type 0 where
+  pub whole : text ≡ space ++ behind
+  pub run : IsRun is_whitespace space behind
+
+skipped : (cs : List ℕ) → (space : List ℕ) × IsTrimmed cs space (skip_leading_whitespace cs)
+skipped [] = ([], record { whole = refl; run = record { inside = tt; over = λ begins. begins } })
+skipped (c ∷ cs) = elim (cases_Bool (is_whitespace c)) [
+  | inl white ↦ let inner = skipped cs in rw white (c ∷ inner.0, record { whole = ap (λ rest. c ∷ rest) inner.1.whole; run = record { inside = (white, inner.1.run.inside); over = inner.1.run.over } })
+  | inr other ↦ rw other ([], record { whole = refl; run = record { inside = tt; over = search rules } })
+]
+
+-- the clause of `trim_start`
+pub trimmed : (text rest : List ℕ) → IsUtf8 rest → rest ≡ trim_start text → (space : List ℕ) × IsTrimmed (chars text) space (chars rest)
+unfolding trim_start
+trimmed text rest u e = rw (← chars_from_encodes (skip_leading_whitespace (chars text)) rest u (sym e)) (skipped (chars text))
+
+run_begins : (kind : ℕ → Bool) (cs : List ℕ) → (run behind : List ℕ) × (cs ≡ run ++ behind) × IsRun kind run behind
+run_begins kind [] = ([], [], refl, record { inside = tt; over = λ begins. begins })
+run_begins kind (c ∷ cs) = elim (cases_Bool (kind c)) [
+  | inl holds ↦ let inner = run_begins kind cs in (c ∷ inner.0, inner.1, ap (λ rest. c ∷ rest) inner.2, record { inside = (holds, inner.3.inside); over = inner.3.over })
+  | inr other ↦ ([], c ∷ cs, refl, record { inside = tt; over = search rules })
+]
+
+-- digits are followed by white space and a word, each possibly empty
+pub next_behind : (text digits behind : List ℕ) → text ≡ digits ++ behind → IsRun is_ascii_digit digits behind → (gap word rest : List ℕ) × IsNext text digits gap word rest
+next_behind text digits behind e run =
+    let space = run_begins is_whitespace behind in
+    let letters = run_begins is_in_word space.1 in
+    let parts : behind ≡ space.0 ++ (letters.0 ++ letters.1) = space.2 ∙ ap (λ rest. space.0 ++ rest) letters.2 in (
+      space.0,
+      letters.0,
+      letters.1,
+      record {
+        whole = e ∙ ap (λ rest. digits ++ rest) parts;
+        of_digits = subst (IsRun is_ascii_digit digits) parts run;
+        of_gap = subst (IsRun is_whitespace space.0) letters.2 space.3;
+        of_word = letters.3;
+      },
+    )
+
+-- ---- the longest front
+
+no_such_item : (place : ℕ) (digits gap word : List ℕ) (fault : DurationFault) (number unit : ℕ) → IsNextFault place digits gap word fault
+    → digits ≢ [] → digits_value 10 digits ≡ number → unit_length word ≡ Some unit → number < 2 ^ 64 → ⊥
+no_such_item place digits gap word faults.Empty number unit told some is_number is_unit fits = told
+no_such_item place digits gap word faults.SumTooLarge number unit told some is_number is_unit fits = told
+no_such_item place digits gap word (faults.NumberExpected at) number unit told some is_number is_unit fits = some told.0
+no_such_item place digits gap word (faults.NumberTooLarge at) number unit told some is_number is_unit fits = omega (arith, told.0, is_number, fits)
+no_such_item place digits gap word (faults.UnitMissing at) number unit told some is_number is_unit fits = cc (rw told.1 at is_unit)
+no_such_item place digits gap word (faults.UnitUnknown at) number unit told some is_number is_unit fits = cc (told.2, is_unit)
+
+-- where this fault stands, no item begins
+fault_stops : (place : ℕ) (text : List ℕ) (fault : DurationFault) → ¬ BeginsWith is_whitespace text → IsFaultAt place text fault → Stops HasNumberThatFits text
+fault_stops place text fault no_space (digits, gap, word, behind, next, told) = record {
+  no_space = no_space;
+  no_item = λ item other_digits other_gap other_word rest other_next some is_number is_unit fits.
+      let same = one_next text digits gap word behind other_digits other_gap other_word rest next other_next in
+      no_such_item place digits gap word fault item.number item.unit told (rw same.0 some) (rw same.0 is_number) (rw same.2 is_unit) fits;
+}
+
+pub longest_front : (text front behind : List ℕ) (items : List Item) → IsFront text front behind items → Stops HasNumberThatFits behind → IsLongestFront text front behind items
+longest_front text front behind items a stops = record {
+  is_front = a;
+  longest = λ other rest others b. (covers HasNumberThatFits items others front behind other rest a.spelled b.spelled (sym a.whole ∙ b.whole) a.uncut b.uncut stops b.fit).longer;
+}
+
+pub end_stops : Stops HasNumberThatFits []
+end_stops = record {
+  no_space = λ begins. begins;
+  no_item = λ item digits gap word behind next some is_number is_unit fits. some (nothing_before digits (gap ++ (word ++ behind)) next.whole);
+}
+
+-- ---- the digits of a number
+
+digit_text : IsDigitsTest (AreAll is_ascii_digit)
+digit_text = record { empty = tt; parts = λ c cs h. search rules; more = λ c cs is rest. search rules }
+
+own : IsNumeralModel (AreAll is_ascii_digit) (digits_value 10)
+own = numerals_by_value (AreAll is_ascii_digit) digit_text
+
+digits_ascii : (cs : List ℕ) → AreAll is_ascii_digit cs → encode_utf8_all cs ≡ cs
+digits_ascii cs h = ascii_encoded cs (all_weaker (λ c. IsTrue (is_ascii_digit c)) (λ b. b < 128) (λ c digit. search rules) cs h)
+
+-- digits are the same by bytes and by characters
+pub digits_same : (text : List ℕ) → IsUtf8 text → AreAll is_ascii_digit (chars text) → text ≡ chars text
+digits_same text u h = sym (encodes-chars text u) ∙ digits_ascii (chars text) h
+
+-- what `parse` answers of digits
+pub parsed : {E : Type 0} (text : List ℕ) (r : Result ℕ E) → IsUtf8 text → AreAll is_ascii_digit (chars text) → ParsesUnsigned 64 10 text r → OkIff r ((0 < length text) × (digits_value 10 (chars text) < 2 ^ 64)) (digits_value 10 (chars text))
+parsed text r u h p =
+    let same = digits_same text u h in
+    subst (λ t. OkIff r ((0 < length text) × (digits_value 10 t < 2 ^ 64)) (digits_value 10 t)) same (parse_digits own 64 text r p (subst (AreAll is_ascii_digit) (sym same) h))
+
+-- ---- the steps of reading an item
+
+pub chars_nil : (text : List ℕ) → length text ≡ 0 → chars text ≡ []
+chars_nil [] e = chars-encodes [] refl
+chars_nil (c ∷ text) e = absurd (omega (arith, e))
+
+pub chars_some : (text : List ℕ) → IsUtf8 text → 0 < length text → chars text ≢ []
+chars_some text u some e = omega (arith, some, ap length (sym (encodes-chars text u) ∙ ap encode_utf8_all e))
+
+module _ (place : ℕ) (text digits behind : List ℕ) (cut : IsCutBehind is_ascii_digit text digits behind) where
+  pub number_expected : length digits ≡ 0 → IsFaultAt place (chars text) (faults.NumberExpected place)
+  number_expected none =
+      let next = next_behind (chars text) (chars digits) (chars behind) cut.characters cut.is_run in
+      (chars digits, next.0, next.1, next.2, next.3, (chars_nil digits none, refl))
+
+  pub number_too_large : {E : Type 0} (e : E) → 0 < length digits → ParsesUnsigned 64 10 digits (Err e) → IsFaultAt place (chars text) (faults.NumberTooLarge place)
+  number_too_large e some p =
+      let next = next_behind (chars text) (chars digits) (chars behind) cut.characters cut.is_run in
+      let large : ¬ (digits_value 10 (chars digits) < 2 ^ 64) = λ fits. parsed digits (Err e) cut.run_utf8 cut.is_run.inside p (some, fits) in
+      (chars digits, next.0, next.1, next.2, next.3, (omega (arith, large), refl))
+
+module _ (place : ℕ) (text digits behind gap trimmed_text word rest : List ℕ) (text_utf8 : IsUtf8 text) (trimmed_utf8 : IsUtf8 trimmed_text)
+    (cut : IsCutBehind is_ascii_digit text digits behind) (trim : IsTrimmed (chars behind) gap (chars trimmed_text)) (letters : IsCutBehind is_in_word trimmed_text word rest)
+    (number : ℕ) (is_number : ((0 < length digits) × (digits_value 10 (chars digits) < 2 ^ 64)) × (number ≡ digits_value 10 (chars digits))) where
+  next : IsNext (chars text) (chars digits) gap (chars word) (chars rest)
+  next =
+      let parts : chars behind ≡ gap ++ (chars word ++ chars rest) = trim.whole ∙ ap (λ r. gap ++ r) letters.characters in
+      record {
+        whole = cut.characters ∙ ap (λ r. chars digits ++ r) parts;
+        of_digits = subst (IsRun is_ascii_digit (chars digits)) parts cut.is_run;
+        of_gap = subst (IsRun is_whitespace gap) letters.characters trim.run;
+        of_word = letters.is_run;
+      }
+
+  at_word : length text ≡ offset (chars digits ++ gap) + length trimmed_text
+  at_word =
+      let parts : chars text ≡ (chars digits ++ gap) ++ chars trimmed_text = cut.characters ∙ ap (λ r. chars digits ++ r) trim.whole ∙ sym (append_assoc (chars digits) gap (chars trimmed_text)) in
+      sym (offset_of_text text text_utf8) ∙ ap offset parts ∙ offset_behind (chars digits ++ gap) (chars trimmed_text) ∙ ap (λ n. offset (chars digits ++ gap) + n) (offset_of_text trimmed_text trimmed_utf8)
+
+  fitting : AreFittingDigits (chars digits)
+  fitting = (chars_some digits cut.run_utf8 is_number.0.0, is_number.0.1)
+
+  word_place : place + (length text - length trimmed_text) ≡ place + offset (chars digits ++ gap)
+  word_place = omega (arith, at_word)
+
+  pub unit_missing : length word ≡ 0 → IsFaultAt place (chars text) (faults.UnitMissing (place + (length text - length trimmed_text)))
+  unit_missing none = (chars digits, gap, chars word, chars rest, next, (fitting, chars_nil word none, word_place))
+
+  pub unit_unknown : 0 < length word → unit_length (chars word) ≡ None → IsFaultAt place (chars text) (faults.UnitUnknown (place + (length text - length trimmed_text)))
+  unit_unknown some unknown = (chars digits, gap, chars word, chars rest, next, (fitting, chars_some word letters.run_utf8 some, unknown, word_place))
+
+  pub read : (unit : ℕ) → unit_length (chars word) ≡ Some unit → IsReadItem (chars text) (number * unit) (chars rest)
+  read unit known = record {
+    item = record { number = number; unit = unit };
+    here = chars digits ++ (gap ++ chars word);
+    whole = next.whole ∙ sym (append_assoc (chars digits) (gap ++ chars word) (chars rest) ∙ ap (λ r. chars digits ++ r) (append_assoc gap (chars word) (chars rest)));
+    is_item = record {
+      space = [];
+      digits = chars digits;
+      gap = gap;
+      word = chars word;
+      whole = refl;
+      space_is_white = tt;
+      some_digits = fitting.0;
+      digits_are = cut.is_run.inside;
+      number_is = sym is_number.1;
+      gap_is_white = trim.run.inside;
+      unit_is = known;
+    };
+    fits = omega (arith, is_number.0.1, is_number.1);
+    length_is = refl;
+    over = letters.is_run.over;
+  }
+
+-- ---- the way through a text
+
+white_no_end : (cs : List ℕ) → AreAll is_whitespace cs → ¬ EndsWith is_in_word cs
+white_no_end [] h ends = ends
+white_no_end (c ∷ []) h ends = search rules
+white_no_end (c ∷ d ∷ cs) h ends = white_no_end (d ∷ cs) h.1 ends
+
+no_end_behind : (front : List ℕ) (c : ℕ) (cs : List ℕ) → AreAll is_whitespace (c ∷ cs) → ¬ EndsWith is_in_word (front ++ (c ∷ cs))
+no_end_behind [] c cs h ends = white_no_end (c ∷ cs) h ends
+no_end_behind (x ∷ []) c cs h ends = white_no_end (c ∷ cs) h ends
+no_end_behind (x ∷ y ∷ front) c cs h ends = no_end_behind (y ∷ front) c cs h ends
+
+item_behind_white : (space text : List ℕ) (item : Item) → AreAll is_whitespace space → IsItemText text item → IsItemText (space ++ text) item
+item_behind_white space text item white h = record {
+  space = space ++ h.space;
+  digits = h.digits;
+  gap = h.gap;
+  word = h.word;
+  whole = ap (λ t. space ++ t) h.whole ∙ sym (append_assoc space h.space (h.digits ++ (h.gap ++ h.word)));
+  space_is_white = all_joined (λ c. IsTrue (is_whitespace c)) space h.space white h.space_is_white;
+  some_digits = h.some_digits;
+  digits_are = h.digits_are;
+  number_is = h.number_is;
+  gap_is_white = h.gap_is_white;
+  unit_is = h.unit_is;
+}
+
+-- two spellings in a row
+spells_both : (items more : List Item) (front text : List ℕ) → Spells items front → Spells more text → Spells (items ++ more) (front ++ text)
+spells_both [] [] front text a b = all_joined (λ c. IsTrue (is_whitespace c)) front text a b
+spells_both [] (item ∷ more) front text a (here, behind, whole, h, b) =
+    (front ++ here, behind, ap (λ t. front ++ t) whole ∙ sym (append_assoc front here behind), item_behind_white front here item a h, b)
+spells_both (item ∷ items) more front text (here, behind, whole, h, a) b =
+    (here, behind ++ text, ap (λ t. t ++ text) whole ∙ append_assoc here behind text, h, spells_both items more behind text a b)
+
+total_both : (items more : List Item) → total (items ++ more) ≡ total items + total more
+total_both [] more = omega arith
+total_both (item ∷ items) more = ap (λ n. item.number * item.unit + n) (total_both items more) ∙ omega arith
+
+-- the text is read up to what is left, and the items so far come to that many nanoseconds, or more than a u128 holds
+pub record IsReadUpTo (text left : List ℕ) (nanoseconds : ℕ) : Type 0 where
+  pub front : List ℕ
+  pub items : List Item
+  pub is_front : IsFront text front left items
+  pub no_space : ¬ BeginsWith is_whitespace left
+  pub sum : nanoseconds ≡ min (total items) (2 ^ 128 - 1)
+  pub some : left ≡ [] → items ≢ []
+
+-- before the first item
+pub begun : (text space left : List ℕ) → IsTrimmed text space left → left ≢ [] → IsReadUpTo text left 0
+begun text space left trim some = record {
+  front = space;
+  items = [];
+  is_front = record { whole = trim.whole; spelled = trim.run.inside; fit = tt; uncut = λ ends. absurd (white_no_end space trim.run.inside ends) };
+  no_space = trim.run.over;
+  sum = refl;
+  some = λ none. absurd (some none);
+}
+
+uncut_more : (front here space left : List ℕ) → ¬ BeginsWith is_in_word (space ++ left) → AreAll is_whitespace space → IsUncut (front ++ (here ++ space)) left
+uncut_more front here [] left over white = λ ends. over
+uncut_more front here (c ∷ space) left over white = λ ends. absurd (no_end_behind (front ++ here) c space white (rw (← append_assoc front here (c ∷ space)) at ends))
+
+-- one item more
+pub read_more : (text left behind rest space : List ℕ) (nanoseconds more : ℕ) → IsReadUpTo text left nanoseconds → IsReadItem left more behind → IsTrimmed behind space rest
+    → IsReadUpTo text rest (min (nanoseconds + more) (2 ^ 128 - 1))
+read_more text left behind rest space nanoseconds more a r trim = record {
+  front = a.front ++ (r.here ++ space);
+  items = a.items ++ (r.item ∷ []);
+  is_front = record {
+    whole = a.is_front.whole ∙ ap (λ t. a.front ++ t) (r.whole ∙ ap (λ t. r.here ++ t) trim.whole ∙ sym (append_assoc r.here space rest)) ∙ sym (append_assoc a.front (r.here ++ space) rest);
+    spelled = spells_both a.items (r.item ∷ []) a.front (r.here ++ space) a.is_front.spelled (r.here, space, refl, r.is_item, trim.run.inside);
+    fit = all_joined HasNumberThatFits a.items (r.item ∷ []) a.is_front.fit (r.fits, tt);
+    uncut = uncut_more a.front r.here space rest (rw trim.whole at r.over) trim.run.inside;
+  };
+  no_space = trim.run.over;
+  sum = omega (arith, a.sum, total_both a.items (r.item ∷ []), r.length_is);
+  some = λ none both. omega (arith, ap length both, length-append a.items (r.item ∷ []));
+}
+
+-- ---- the answers
+
+fault_behind : (front left : List ℕ) (items : List Item) (fault : DurationFault) → left ≢ [] → IsFaultAt (offset front) left fault → IsFaultBehind front left items fault
+fault_behind front [] items fault some told = absurd (some refl)
+fault_behind front (c ∷ cs) items fault some told = told
+
+-- what isn't an item is the fault of the text
+pub fault_within : (text left : List ℕ) (nanoseconds place : ℕ) (fault : DurationFault) (a : IsReadUpTo (chars text) left nanoseconds) → left ≢ [] → place ≡ offset a.front → IsFaultAt place left fault → IsDurationFault text fault
+fault_within text left nanoseconds place fault a some at told =
+    (a.front, left, a.items, longest_front (chars text) a.front left a.items a.is_front (fault_stops place left fault a.no_space told), fault_behind a.front left a.items fault some (rw at at told))
+
+pub empty_fault : (text space : List ℕ) → IsTrimmed (chars text) space [] → IsDurationFault text faults.Empty
+empty_fault text space trim =
+    (space, [], [], longest_front (chars text) space [] [] (record { whole = trim.whole; spelled = trim.run.inside; fit = tt; uncut = λ ends begins. begins }) end_stops, refl)
+
+module _ (text : List ℕ) (nanoseconds : ℕ) (a : IsReadUpTo (chars text) [] nanoseconds) where
+  pub sum_fault : ¬ FitsDuration nanoseconds → IsDurationFault text faults.SumTooLarge
+  sum_fault large = (a.front, [], a.items, longest_front (chars text) a.front [] a.items a.is_front end_stops, (a.some refl, λ fits. large (omega (arith, a.sum, fits))))
+
+  pub whole_duration : FitsDuration nanoseconds → IsDuration text nanoseconds
+  whole_duration fits = record {
+    items = a.items;
+    some = a.some refl;
+    spelled = rw (a.is_front.whole, append-nil a.front) a.is_front.spelled;
+    fit = a.is_front.fit;
+    sum = omega (arith, a.sum, fits);
+    sum_fits = fits;
+  }
+
+-- where what is left begins
+pub place_left : (text left : List ℕ) (nanoseconds : ℕ) (a : IsReadUpTo (chars text) (chars left) nanoseconds) → IsUtf8 text → IsUtf8 left → length text - length left ≡ offset a.front
+place_left text left nanoseconds a text_utf8 left_utf8 =
+    let sizes : length text ≡ offset a.front + length left = sym (offset_of_text text text_utf8) ∙ ap offset a.is_front.whole ∙ offset_behind a.front (chars left) ∙ ap (λ n. offset a.front + n) (offset_of_text left left_utf8) in
+    omega (arith, sizes)

@@ -1,0 +1,190 @@
+//! Durations as texts, in the manner of humantime.
+
+ghost use Rattle.std.specs.Prelude.{◌≡◌, ◌+◌, ◌<◌, ◌^◌, false, chars, length, IfErr, IfOk};
+ghost use Rattle.std.specs.Char.{is_ascii_digit};
+ghost use Rattle.std.specs.Duration.{as_nanos};
+ghost use Rattle.nextest_config_values.specs.Duration.{DurationFaults, IsDuration, IsDurationFault, is_in_word, length_in, MeansDuration, SameLength, unit_length};
+ghost use Rattle.nextest_config_values.specs.DurationLaws.{duration_reading};
+ghost use Rattle.nextest_config_values.specs.DurationSteps.{IsCutBehind, IsFaultAt, IsReadItem, rows};
+
+use crate::read::{FromToml, ReadFault};
+use std::alloc::Global;
+use std::time::Duration;
+use thiserror::Error;
+use toml::Value;
+
+// The words of the units, each with the length of its unit in nanoseconds. Letter case counts.
+const UNITS: [(&str, u64); 40] = [
+    ("nanos", 1),
+    ("nsec", 1),
+    ("ns", 1),
+    ("usec", 1_000),
+    ("us", 1_000),
+    ("µs", 1_000),
+    ("millis", 1_000_000),
+    ("msec", 1_000_000),
+    ("ms", 1_000_000),
+    ("seconds", 1_000_000_000),
+    ("second", 1_000_000_000),
+    ("secs", 1_000_000_000),
+    ("sec", 1_000_000_000),
+    ("s", 1_000_000_000),
+    ("minutes", 60_000_000_000),
+    ("minute", 60_000_000_000),
+    ("mins", 60_000_000_000),
+    ("min", 60_000_000_000),
+    ("m", 60_000_000_000),
+    ("hours", 3_600_000_000_000),
+    ("hour", 3_600_000_000_000),
+    ("hrs", 3_600_000_000_000),
+    ("hr", 3_600_000_000_000),
+    ("h", 3_600_000_000_000),
+    ("days", 86_400_000_000_000),
+    ("day", 86_400_000_000_000),
+    ("d", 86_400_000_000_000),
+    ("weeks", 604_800_000_000_000),
+    ("week", 604_800_000_000_000),
+    ("wks", 604_800_000_000_000),
+    ("wk", 604_800_000_000_000),
+    ("w", 604_800_000_000_000),
+    ("months", 2_630_016_000_000_000),
+    ("month", 2_630_016_000_000_000),
+    ("M", 2_630_016_000_000_000),
+    ("years", 31_557_600_000_000_000),
+    ("year", 31_557_600_000_000_000),
+    ("yrs", 31_557_600_000_000_000),
+    ("yr", 31_557_600_000_000_000),
+    ("y", 31_557_600_000_000_000),
+];
+
+/// Why a text is no duration. Offsets are in bytes, from 0.
+#[derive(Clone, Copy, Debug, PartialEq, Eq, Error)]
+pub enum DurationFault {
+    /// There is nothing but white space.
+    #[error("a duration is empty")]
+    Empty,
+    /// Something other than a number stands where one has to begin.
+    #[error("a number is expected at byte {at}")]
+    NumberExpected { at: usize },
+    /// The number that begins here is above 2^64 - 1.
+    #[error("the number at byte {at} is too large")]
+    NumberTooLarge { at: usize },
+    /// A number has no unit, which would begin here.
+    #[error("a unit is missing at byte {at}")]
+    UnitMissing { at: usize },
+    /// The word that begins here is no unit.
+    #[error("the unit at byte {at} is unknown")]
+    UnitUnknown { at: usize },
+    /// The sum is above 2^64 - 1 seconds and 999999999 nanoseconds.
+    #[error("a duration is too long")]
+    SumTooLarge,
+}
+
+/// Reads a duration: whole numbers, each with a unit, as in `1h 30m`. White space may stand before,
+/// between and behind them.
+pub fn parse_duration(s: &str) -> Result<Duration, DurationFault>
+    ensures accepted { IfOk result (λ duration. IsDuration s.now (as_nanos duration)) }
+    ensures refused { IfErr result (IsDurationFault s.now) }
+{
+    let mut rest = s.trim_start();
+    if rest.is_empty() {
+        return Err(DurationFault::Empty);
+    }
+    let mut nanoseconds: u128 = 0;
+    while !rest.is_empty() {
+        let (item, behind) = read_item(rest, s.len() - rest.len())?;
+        nanoseconds = nanoseconds.saturating_add(item);
+        rest = behind.trim_start();
+    }
+    if nanoseconds > Duration::MAX.as_nanos() {
+        return Err(DurationFault::SumTooLarge);
+    }
+    Ok(Duration::from_nanos_u128(nanoseconds))
+}
+
+// The nanoseconds of a number with its unit, and the text behind it. The text begins at the offset `at`.
+fn read_item(text: &str, at: usize) -> Result<(u128, &str), DurationFault>
+    requires { at + length text.now < 2 ^ 64 }
+    ensures read { IfOk result (λ x. IsReadItem (chars text.now) x.0 (chars x.1.now)) }
+    ensures shorter { IfOk result (λ x. length x.1.now < length text.now) }
+    ensures refused { IfErr result (IsFaultAt at (chars text.now)) }
+{
+    let (digits, behind) = split_digits(text);
+    if digits.is_empty() {
+        return Err(DurationFault::NumberExpected { at });
+    }
+    let Ok(number) = digits.parse::<u64>() else {
+        return Err(DurationFault::NumberTooLarge { at });
+    };
+    let behind = behind.trim_start();
+    let at = at + (text.len() - behind.len());
+    let (word, rest) = split_word(behind);
+    if word.is_empty() {
+        return Err(DurationFault::UnitMissing { at });
+    }
+    match unit_length(word) {
+        Some(unit) => Ok((u128::from(number) * u128::from(unit), rest)),
+        None => Err(DurationFault::UnitUnknown { at }),
+    }
+}
+
+// The digits at the beginning of the text, and what stands behind them.
+fn split_digits(text: &str) -> (&str, &str)
+    ensures { IsCutBehind is_ascii_digit text.now result.0.now result.1.now }
+{
+    let end = text
+        .find(|c: char| !c.is_ascii_digit())
+        .unwrap_or(text.len());
+    text.split_at(end)
+}
+
+// The word at the beginning of the text, and what stands behind it.
+fn split_word(text: &str) -> (&str, &str)
+    ensures { IsCutBehind is_in_word text.now result.0.now result.1.now }
+{
+    let end = text
+        .find(|c: char| c.is_whitespace() || c.is_ascii_digit())
+        .unwrap_or(text.len());
+    text.split_at(end)
+}
+
+// The length in nanoseconds of the unit with this word.
+fn unit_length(word: &str) -> Option<u64>
+    ensures { result ≡ unit_length (chars word.now) }
+{
+    find_unit(&UNITS, word)
+}
+
+// What stands beside the first of these names that is the word.
+fn find_unit(units: &[(&str, u64)], word: &str) -> Option<u64>
+    ensures { result ≡ length_in (rows units.now) word.now }
+{
+    for (name, length) in units {
+        if *name == word {
+            return Some(*length);
+        }
+    }
+    None
+}
+
+impl FromToml for Duration {
+    ghost means = { λ value d. MeansDuration value (as_nanos d) };
+
+    ghost faults = { DurationFaults };
+
+    ghost needs_memory = { false };
+
+    ghost alike = { SameLength };
+
+    ghost laws = { duration_reading };
+
+    fn read(alloc: Global, value: &Value, at: &str) -> Result<Self, ReadFault> {
+        let Some(text) = value.as_str() else {
+            return Err(ReadFault::invalid_type(alloc, value, at, "a duration"));
+        };
+        match parse_duration(text) {
+            Ok(duration) => Ok(duration),
+            Err(_) => Err(ReadFault::invalid_value(alloc, value, at, "a duration")),
+        }
+    }
+}
