@@ -1,0 +1,4 @@
+pub mod Durations
+pub mod GlobalTimeout
+pub mod LeakTimeout
+pub mod SlowTimeout

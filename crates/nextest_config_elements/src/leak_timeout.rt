@@ -1,8 +1,82 @@
 //! The timeout of handles that a test leaks.
 
-ghost use Rattle.std.specs.Prelude.{◌≡◌, [], ◌∷◌, codes, refl};
+ghost use Rattle.std.specs.Prelude.{◌≡◌, false, IfOk, IfErr, option_map};
+ghost use Rattle.toml.specs.View.{table_view, view};
+ghost use Rattle.nextest_config_values.specs.Read.{Refuses, WantsMemory};
+ghost use Rattle.nextest_config_elements.specs.LeakTimeout.{default_leak_timeout, leak_timeout_of, leak_timeout_reads_back, leak_timeout_results, leak_timeout_word, LeakTimeoutFaults, LeakTimeoutTableFaults, MeansLeakTimeoutSetting, MeansLeakTimeoutTable};
 
-use nextest_config_values::read::Word;
+use nextest_config_values::read::{FromToml, ReadFault, Word, field_or, required_field};
+use std::alloc::Global;
+use std::time::Duration;
+use toml::{Table, Value};
+
+const EXPECTED: &str =
+    "a table ({ period = \"500ms\", result = \"fail\" }) or a string (\"100ms\")";
+
+const PERIOD_KEY: &str = "period";
+
+const RESULT_KEY: &str = "result";
+
+/// The time that a test's handles have to close once the test has ended, and what is done then.
+#[derive(Clone, Copy, Debug, PartialEq, Eq)]
+pub struct LeakTimeout {
+    /// The time after which a test is leaky.
+    pub period: Duration,
+    /// Whether a leaky test fails or passes.
+    pub result: LeakTimeoutResult,
+}
+
+impl Default for LeakTimeout {
+    ghost is_default = { λ timeout. leak_timeout_of timeout ≡ default_leak_timeout };
+
+    fn default() -> Self {
+        LeakTimeout {
+            period: Duration::from_millis(100),
+            result: LeakTimeoutResult::default(),
+        }
+    }
+}
+
+impl LeakTimeout {
+    // The timeout that a table means.
+    fn read_table(alloc: Global, table: &Table, at: &str) -> Result<Self, ReadFault>
+        ensures meant { IfOk result (λ timeout.
+            MeansLeakTimeoutTable (table_view table.now) (leak_timeout_of timeout)) }
+        ensures refused { IfErr result (Refuses (LeakTimeoutTableFaults (table_view table.now) at.now)
+            (WantsMemory (λ timeout. MeansLeakTimeoutTable (table_view table.now)
+            (leak_timeout_of timeout)) false)) }
+    {
+        let period: Duration = required_field(alloc, table, PERIOD_KEY, at)?;
+        let result = field_or(alloc, table, RESULT_KEY, at, LeakTimeoutResult::default())?;
+        Ok(LeakTimeout { period, result })
+    }
+}
+
+/// Reads the value of `leak-timeout`: a duration text, or a table.
+pub fn deserialize_leak_timeout(
+    alloc: Global,
+    value: &Value,
+    at: &str,
+) -> Result<Option<LeakTimeout>, ReadFault>
+    ensures meant { IfOk result (MeansLeakTimeoutSetting (view value.now)) }
+    ensures refused { IfErr result (Refuses (LeakTimeoutFaults (view value.now) at.now)
+        (WantsMemory (MeansLeakTimeoutSetting (view value.now)) false)) }
+{
+    match value.as_str() {
+        Some(_) => {
+            let period = Duration::read(alloc, value, at)?;
+            let result = LeakTimeoutResult::default();
+            Ok(Some(LeakTimeout { period, result }))
+        }
+        None => match value.as_table() {
+            Some(table) => {
+                let timeout = LeakTimeout::read_table(alloc, table, at)?;
+                Ok(Some(timeout))
+            }
+            None => Err(ReadFault::invalid_type(alloc, value, at, EXPECTED)),
+        },
+    }
+}
 
 /// Whether a test that leaks its handles past the timeout fails or passes.
 #[derive(Clone, Copy, Debug, PartialEq, Eq)]
@@ -24,13 +98,11 @@ impl Default for LeakTimeoutResult {
 }
 
 impl Word for LeakTimeoutResult {
-    ghost use Rattle.nextest_config_elements.specs.declared.leak_timeout.LeakTimeoutResult.TheVariants.{Fail, Pass};
+    ghost all = { leak_timeout_results };
 
-    ghost all = { Fail ∷ Pass ∷ [] };
+    ghost word = { leak_timeout_word };
 
-    ghost word = { elim [ Fail ↦ codes "fail" | Pass ↦ codes "pass" ] };
-
-    ghost reads_back = { elim [ Fail ↦ refl | Pass ↦ refl ] };
+    ghost reads_back = { leak_timeout_reads_back };
 
     fn all() -> &'static [Self] {
         &[LeakTimeoutResult::Fail, LeakTimeoutResult::Pass]

@@ -1,6 +1,7 @@
 //! The settings of nextest's profiles.
 #![tactic(auto)]
 
+pub mod global_timeout;
 pub mod junit;
 pub mod leak_timeout;
 pub mod max_fail;

@@ -1,8 +1,126 @@
 //! The timeout of slow tests.
 
-ghost use Rattle.std.specs.Prelude.{◌≡◌, [], ◌∷◌, codes, refl};
+ghost use Rattle.std.specs.Prelude.{◌≡◌, false, IfOk, IfErr, option_map};
+ghost use Rattle.std.specs.Duration.{as_nanos};
+ghost use Rattle.toml.specs.View.{table_view, view};
+ghost use Rattle.nextest_config_values.specs.Read.{Refuses, WantsMemory};
+ghost use Rattle.nextest_config_elements.specs.Durations.{seconds};
+ghost use Rattle.nextest_config_elements.specs.SlowTimeout.{default_grace_period, MeansSlowTimeoutSetting, MeansSlowTimeoutTable, slow_timeout_of, slow_timeout_reads_back, slow_timeout_results, slow_timeout_word, SlowTimeoutFaults, SlowTimeoutTableFaults, with_period};
 
-use nextest_config_values::read::Word;
+use nextest_config_values::read::{
+    FromToml, NonZeroCount, ReadFault, Word, field_or, optional_field, required_field,
+};
+use std::alloc::Global;
+use std::time::Duration;
+use toml::{Table, Value};
+
+const EXPECTED: &str = "a table ({ period = \"60s\", terminate-after = 2 }) or a string (\"60s\")";
+
+const PERIOD_KEY: &str = "period";
+
+const TERMINATE_AFTER_KEY: &str = "terminate-after";
+
+const GRACE_PERIOD_KEY: &str = "grace-period";
+
+const ON_TIMEOUT_KEY: &str = "on-timeout";
+
+/// The time after which a test is slow, and what is done then.
+#[derive(Clone, Copy, Debug, PartialEq, Eq)]
+pub struct SlowTimeout {
+    /// The time after which a test is slow.
+    pub period: Duration,
+    /// The number of periods after which a slow test is terminated; none, and it never is.
+    pub terminate_after: Option<NonZeroCount>,
+    /// The time that a test has to end by itself once it is told to.
+    pub grace_period: Duration,
+    /// Whether a terminated test fails or passes.
+    pub on_timeout: SlowTimeoutResult,
+}
+
+impl SlowTimeout {
+    /// A timeout that no test meets: roughly 30 years.
+    pub fn very_large() -> Self
+        ensures { slow_timeout_of result ≡ with_period (seconds 946_080_000) }
+    {
+        SlowTimeout::with_period(Duration::from_secs(946_080_000))
+    }
+
+    // A timeout of this period that terminates nothing.
+    fn with_period(period: Duration) -> Self
+        ensures { slow_timeout_of result ≡ with_period (as_nanos period) }
+    {
+        SlowTimeout {
+            period,
+            terminate_after: None,
+            grace_period: default_grace_period(),
+            on_timeout: SlowTimeoutResult::Fail,
+        }
+    }
+
+    // The timeout that a table means.
+    fn read_table(alloc: Global, table: &Table, at: &str) -> Result<Self, ReadFault>
+        ensures meant { IfOk result (λ timeout.
+            MeansSlowTimeoutTable (table_view table.now) (slow_timeout_of timeout)) }
+        ensures refused { IfErr result (Refuses (SlowTimeoutTableFaults (table_view table.now) at.now)
+            (WantsMemory (λ timeout. MeansSlowTimeoutTable (table_view table.now)
+            (slow_timeout_of timeout)) false)) }
+    {
+        let period: Duration = required_field(alloc, table, PERIOD_KEY, at)?;
+        let terminate_after: Option<NonZeroCount> = optional_field(
+            alloc,
+            table,
+            TERMINATE_AFTER_KEY,
+            at,
+        )?;
+        let grace_period = field_or(alloc, table, GRACE_PERIOD_KEY, at, default_grace_period())?;
+        let on_timeout = field_or(
+            alloc,
+            table,
+            ON_TIMEOUT_KEY,
+            at,
+            SlowTimeoutResult::default(),
+        )?;
+        Ok(SlowTimeout {
+            period,
+            terminate_after,
+            grace_period,
+            on_timeout,
+        })
+    }
+}
+
+/// Reads the value of `slow-timeout`: a duration text, the empty text for no timeout, or a table.
+pub fn deserialize_slow_timeout(
+    alloc: Global,
+    value: &Value,
+    at: &str,
+) -> Result<Option<SlowTimeout>, ReadFault>
+    ensures meant { IfOk result (MeansSlowTimeoutSetting (view value.now)) }
+    ensures refused { IfErr result (Refuses (SlowTimeoutFaults (view value.now) at.now)
+        (WantsMemory (MeansSlowTimeoutSetting (view value.now)) false)) }
+{
+    if let Some(text) = value.as_str() {
+        if text.is_empty() {
+            return Ok(None);
+        }
+        let period = Duration::read(alloc, value, at)?;
+        return Ok(Some(SlowTimeout::with_period(period)));
+    }
+    match value.as_table() {
+        Some(table) => {
+            let timeout = SlowTimeout::read_table(alloc, table, at)?;
+            Ok(Some(timeout))
+        }
+        None => Err(ReadFault::invalid_type(alloc, value, at, EXPECTED)),
+    }
+}
+
+// The grace period where none is given.
+fn default_grace_period() -> Duration
+    ensures { as_nanos result ≡ default_grace_period }
+{
+    Duration::from_secs(10)
+}
 
 /// Whether a test that is terminated by its timeout fails or passes.
 #[derive(Clone, Copy, Debug, PartialEq, Eq)]
@@ -24,13 +142,11 @@ impl Default for SlowTimeoutResult {
 }
 
 impl Word for SlowTimeoutResult {
-    ghost use Rattle.nextest_config_elements.specs.declared.slow_timeout.SlowTimeoutResult.TheVariants.{Fail, Pass};
+    ghost all = { slow_timeout_results };
 
-    ghost all = { Fail ∷ Pass ∷ [] };
+    ghost word = { slow_timeout_word };
 
-    ghost word = { elim [ Fail ↦ codes "fail" | Pass ↦ codes "pass" ] };
-
-    ghost reads_back = { elim [ Fail ↦ refl | Pass ↦ refl ] };
+    ghost reads_back = { slow_timeout_reads_back };
 
     fn all() -> &'static [Self] {
         &[SlowTimeoutResult::Fail, SlowTimeoutResult::Pass]

@@ -3,6 +3,7 @@ pub mod Components
 pub mod Durations
 pub mod Faults
 pub mod Joined
+pub mod Keys
 pub mod Lists
 pub mod Paths
 pub mod Runs

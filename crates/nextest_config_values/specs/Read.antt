@@ -10,7 +10,7 @@ pub use Fault.{broken_rule, BrokenRule, build_metadata, custom, fault_at, fault_
 pub use Text.{escaped, FaultOrMemory, found_text, joined, quoted_texts, told_text, unnamed}
 unfoldable pub use Text.{quoted_text}
 pub use FromToml.{equality, FaultsAs, FaultsKind, IsReading, MeansAs, MeansKind, MeansNothing, reading_as, reading_on, text_expected, WantsMemory, WrongKind}
-pub use Plain.{bool_reading, HasNoFault, IsCount, IsOutside, IsU32, MeansNumber, MeansText, MeansTruth, number_reading, SameText, string_reading}
-pub use Word.{IsNoWord, MeansWord, value_of, word_reading, words_text}
-pub use Field.{FaultsThen, MeansOptional, MeansOr, MeansRequired, MeansThen, OptionalFaults, RequiredFaults, Then, WantsIfPresent, WantsIfRequired}
-pub use Readings.{at_key, held, kind_reading, made_of, nothing_wrong, one_then, optional_reading, or_reading, required_reading, rule_reading, said_as, then_reading, wrong_kind}
+pub use Plain.{bool_reading, count_expected, count_reading, CountFaults, HasNoFault, IsCount, IsOutside, IsU32, MeansCount, MeansNumber, MeansText, MeansTruth, number_reading, SameText, string_reading}
+pub use Word.{IsNoWord, MeansWord, MeansWordText, value_of, word_reading, words_text, WordTextFaults}
+pub use Field.{FaultsThen, KeyOr, MeansOptional, MeansOr, MeansRequired, MeansThen, OptionalFaults, OptionalKey, OptionalKeyFaults, RequiredFaults, RequiredKey, RequiredKeyFaults, Then, WantsIfPresent, WantsIfRequired}
+pub use Readings.{at_key, held, kind_reading, made_of, nothing_wrong, one_then, only_this, optional_reading, or_reading, reading_at, reading_each, required_reading, rule_reading, said_as, then_reading, wrong_kind}

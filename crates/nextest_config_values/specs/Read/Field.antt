@@ -1,6 +1,6 @@
 -- What the fields of a table mean, by the value at the key, if any.
 use Rattle.std.specs.Prelude.{◌≡◌, ℕ, Bool, List, Option, Some, None, ◌⊎◌}
-use Rattle.toml.specs.Data.{Data}
+use Rattle.toml.specs.Data.{Data, Members, get_member}
 use Rattle.nextest_config_values.specs.Read.Fault.{Fault, missing, path_of}
 use Rattle.nextest_config_values.specs.Read.FromToml.{WantsMemory}
 
@@ -38,6 +38,28 @@ WantsIfPresent means needs_memory (Some value) = WantsMemory (means value) needs
 abbrev pub WantsIfRequired : {X : Type 0} → (Data → X → Type 0) → Bool → Option Data → Type 0
 WantsIfRequired means needs_memory None = Unit {0}
 WantsIfRequired means needs_memory (Some value) = WantsMemory (means value) needs_memory
+
+-- ---- at a key of a table
+
+-- a required key
+abbrev pub RequiredKey : {X : Type 0} → List ℕ → (Data → X → Type 0) → Members → X → Type 0
+RequiredKey key means members = MeansRequired means (get_member key members)
+
+-- a key that may be missing
+abbrev pub OptionalKey : {X : Type 0} → List ℕ → (Data → X → Type 0) → Members → Option X → Type 0
+OptionalKey key means members = MeansOptional means (get_member key members)
+
+-- a key with a default
+abbrev pub KeyOr : {X : Type 0} → List ℕ → X → (Data → X → Type 0) → Members → X → Type 0
+KeyOr key default means members = MeansOr default means (get_member key members)
+
+-- what is wrong at a required key
+abbrev pub RequiredKeyFaults : List ℕ → (Data → List ℕ → Fault → Type 0) → Members → List ℕ → Fault → Type 0
+RequiredKeyFaults key faults members = RequiredFaults faults key (get_member key members)
+
+-- what is wrong at a key that may be missing
+abbrev pub OptionalKeyFaults : List ℕ → (Data → List ℕ → Fault → Type 0) → Members → List ℕ → Fault → Type 0
+OptionalKeyFaults key faults members at = OptionalFaults faults (get_member key members) (path_of at key)
 
 -- ---- in turn
 

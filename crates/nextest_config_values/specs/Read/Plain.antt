@@ -40,6 +40,18 @@ IsU32 number = number < 2 ^ 32
 abbrev pub IsCount : ℕ → Type 0
 IsCount number = (0 < number) × (number < 2 ^ 64)
 
+-- what a reader of counts expects
+abbrev pub count_expected : List ℕ
+count_expected = codes "a nonzero usize"
+
+-- the value is this count
+abbrev pub MeansCount : Data → ℕ → Type 0
+MeansCount = MeansAs as_integer (MeansNumber IsCount)
+
+-- the value is no count
+abbrev pub CountFaults : Data → List ℕ → Fault → Type 0
+CountFaults = FaultsAs as_integer count_expected (IsOutside IsCount count_expected)
+
 -- ---- their laws
 
 held_truth : IsHeldReading MeansTruth HasNoFault (λ x y. x ≡ y)
@@ -76,3 +88,7 @@ string_reading = reading_as as_str text_expected MeansText HasNoFault SameText h
 pub number_reading : (IsIn : ℕ → Type 0) (expected : List ℕ)
     → IsReading (MeansAs as_integer (MeansNumber IsIn)) (FaultsAs as_integer expected (IsOutside IsIn expected)) (λ x y. x ≡ y)
 number_reading IsIn expected = reading_as as_integer expected (MeansNumber IsIn) (IsOutside IsIn expected) (λ x y. x ≡ y) (held_number IsIn expected)
+
+-- the reading of a count
+pub count_reading : IsReading MeansCount CountFaults (λ x y. x ≡ y)
+count_reading = number_reading IsCount count_expected

@@ -41,7 +41,7 @@ made_of make reading = record {
 }
 
 -- a reading for each value is one of all values
-reading_each : {D X : Type 0} {means : D → X → Type 0} {faults : D → List ℕ → Fault → Type 0} {alike : X → X → Type 0} → IsEquivalence alike
+pub reading_each : {D X : Type 0} {means : D → X → Type 0} {faults : D → List ℕ → Fault → Type 0} {alike : X → X → Type 0} → IsEquivalence alike
     → ((value : D) → IsReading {D = Unit {0}} (λ u. means value) (λ u. faults value) alike) → IsReading means faults alike
 reading_each equivalence each = record {
   equivalence = equivalence;
@@ -50,12 +50,12 @@ reading_each equivalence each = record {
   never_both = λ value. (each value).never_both tt;
 }
 
-reading_at : {D X : Type 0} {means : D → X → Type 0} {faults : D → List ℕ → Fault → Type 0} {alike : X → X → Type 0} → IsReading means faults alike → (value : D)
+pub reading_at : {D X : Type 0} {means : D → X → Type 0} {faults : D → List ℕ → Fault → Type 0} {alike : X → X → Type 0} → IsReading means faults alike → (value : D)
     → IsReading {D = Unit {0}} (λ u. means value) (λ u. faults value) alike
 reading_at reading value = reading_of (λ u. value) (λ at. at) reading
 
 -- this result, whatever the value is
-only_this : {D X : Type 0} {alike : X → X → Type 0} → IsEquivalence alike → (result : X) → IsReading {D = D} (λ value x. x ≡ result) (λ value at f. ⊥) alike
+pub only_this : {D X : Type 0} {alike : X → X → Type 0} → IsEquivalence alike → (result : X) → IsReading {D = D} (λ value x. x ≡ result) (λ value at f. ⊥) alike
 only_this {alike = alike} equivalence result = record {
   equivalence = equivalence;
   one_meaning = λ value x y a b. subst (alike x) (a ∙ sym b) (equivalence.itself x);

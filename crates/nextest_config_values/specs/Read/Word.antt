@@ -35,6 +35,14 @@ MeansWord word held x = word x ≡ held
 abbrev pub IsNoWord : {X : Type 0} → (X → List ℕ) → List ℕ → List ℕ → Data → List ℕ → Fault → Type 0
 IsNoWord {X} word expected held value at fault = ((x : X) → word x ≢ held) × (fault ≡ unknown_word held at expected)
 
+-- the value is a text that is the word of this one
+abbrev pub MeansWordText : {X : Type 0} → (X → List ℕ) → Data → X → Type 0
+MeansWordText word = MeansAs as_str (MeansWord word)
+
+-- the value is no text, or a text that is none of these words
+abbrev pub WordTextFaults : {X : Type 0} → (X → List ℕ) → List X → Data → List ℕ → Fault → Type 0
+WordTextFaults word all = FaultsAs as_str text_expected (IsNoWord word (words_text (map word all)))
+
 module _ {X : Type 0} (all : List X) (word : X → List ℕ) (reads_back : (x : X) → value_of word all (word x) ≡ Some x) where
   -- a word is that of one value
   one_value : (x y : X) → word x ≡ word y → x ≡ y

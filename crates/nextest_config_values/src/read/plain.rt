@@ -2,7 +2,7 @@
 
 ghost use Rattle.std.specs.Prelude.{◌≡◌, ◌≢◌, ◌<◌, ◌↔◌, ℕ, pos, true, false, codes, IsSome, IfSome, MatchOption};
 ghost use Rattle.toml.specs.Data.{as_bool, as_integer, as_str};
-ghost use Rattle.nextest_config_values.specs.Read.{bool_reading, FaultsAs, HasNoFault, IsCount, IsOutside, IsU32, MeansAs, MeansNumber, MeansText, MeansTruth, number_reading, SameText, string_reading, text_expected};
+ghost use Rattle.nextest_config_values.specs.Read.{bool_reading, count_reading, CountFaults, FaultsAs, HasNoFault, IsCount, IsOutside, IsU32, MeansAs, MeansCount, MeansNumber, MeansText, MeansTruth, number_reading, SameText, string_reading, text_expected};
 
 use super::fault::ReadFault;
 use super::from_toml::FromToml;
@@ -112,15 +112,15 @@ impl NonZeroCount {
 }
 
 impl FromToml for NonZeroCount {
-    ghost means = { MeansAs as_integer (MeansNumber IsCount) };
+    ghost means = { MeansCount };
 
-    ghost faults = { FaultsAs as_integer (codes "a nonzero usize") (IsOutside IsCount (codes "a nonzero usize")) };
+    ghost faults = { CountFaults };
 
     ghost needs_memory = { false };
 
     ghost alike = { ◌≡◌ };
 
-    ghost laws = { number_reading IsCount (codes "a nonzero usize") };
+    ghost laws = { count_reading };
 
     fn read(alloc: Global, value: &Value, at: &str) -> Result<Self, ReadFault> {
         match value.as_integer() {

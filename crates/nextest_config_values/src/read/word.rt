@@ -1,8 +1,7 @@
 //! Enums whose values are words.
 
 ghost use Rattle.std.specs.Prelude.{◌≡◌, ◌≢◌, ℕ, List, Some, false, map, MatchOption};
-ghost use Rattle.toml.specs.Data.{as_str};
-ghost use Rattle.nextest_config_values.specs.Read.{FaultsAs, IsNoWord, MeansAs, MeansWord, text_expected, value_of, word_reading, words_text};
+ghost use Rattle.nextest_config_values.specs.Read.{MeansWordText, value_of, word_reading, words_text, WordTextFaults};
 
 use super::fault::ReadFault;
 use super::from_toml::FromToml;
@@ -32,9 +31,9 @@ pub trait Word: Copy + 'static {
 }
 
 impl<T: Word> FromToml for T {
-    ghost means = { MeansAs as_str (MeansWord T.word) };
+    ghost means = { MeansWordText T.word };
 
-    ghost faults = { FaultsAs as_str text_expected (IsNoWord T.word (words_text (map T.word T.all))) };
+    ghost faults = { WordTextFaults T.word T.all };
 
     ghost needs_memory = { false };
 

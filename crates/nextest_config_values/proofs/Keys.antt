@@ -1,0 +1,50 @@
+-- Keys of a table whose values are seen through a part of what a reader gives, and refusals that are passed on.
+use Rattle.std.proofs.Common.{◌≡◌, Bool, Option, Some, None, Result, option_map, ap, subst}
+use Rattle.std.proofs.lemmas.Result.{err_from_is_err_and}
+use Rattle.std.specs.Result.{IfErr, IsErrAnd}
+use Rattle.std.specs.Prelude.{IsTrue}
+use Rattle.toml.specs.Data.{Data}
+use Rattle.nextest_config_values.specs.Read.Fault.{Fault}
+use Rattle.nextest_config_values.specs.Read.{MeansOptional, MeansOr, MeansRequired, Refuses, WantsIfPresent, WantsIfRequired}
+use Rattle.nextest_config_values.specs.declared.read.fault.ReadFault.{ReadFault}
+use Rattle.nextest_config_values.proofs.Faults.{refused_mapped}
+
+-- a refusal that `?` passes on
+pub passed_on : {T : Type 0} {P Q : Fault → Type 0} {V W : Type 0} (result : Result T ReadFault) (fault : ReadFault) → IsErrAnd result (λ passed. passed ≡ fault) → Refuses P V fault → (V → W) → ((f : Fault) → P f → Q f)
+    → IfErr result (Refuses Q W)
+passed_on result fault err refused memory step =
+    let passed = err_from_is_err_and result err in
+    rw (passed.1, passed.2) (refused_mapped fault refused memory step)
+
+-- memory is wanted for what a key that may be missing means where it is for its value
+pub present_wants : {X : Type 0} (means : Data → X → Type 0) (found : Option Data) (needs_memory : Bool) → WantsIfPresent means needs_memory found → (x : Option X) → MeansOptional means found x → IsTrue needs_memory
+present_wants means None needs_memory wanted x meant = absurd wanted
+present_wants means (Some value) needs_memory wanted x meant = wanted meant.0 meant.2
+
+module _ {X Y : Type 0} (means : Data → Y → Type 0) (part : X → Y) where
+  pub seen_required : (found : Option Data) (x : X) → MeansRequired (λ value x. means value (part x)) found x → MeansRequired means found (part x)
+  seen_required None x meant = meant
+  seen_required (Some value) x meant = meant
+
+  pub seen_or : (default : X) (found : Option Data) (x : X) → MeansOr default (λ value x. means value (part x)) found x → MeansOr (part default) means found (part x)
+  seen_or default None x meant = ap part meant
+  seen_or default (Some value) x meant = meant
+
+  pub seen_optional : (found : Option Data) (x : Option X) → MeansOptional (λ value x. means value (part x)) found x → MeansOptional means found (option_map part x)
+  seen_optional None x meant = ap (option_map part) meant
+  seen_optional (Some value) x meant = (part meant.0, ap (option_map part) meant.1, meant.2)
+
+  -- ---- memory is wanted for what the key means where it is for the part
+
+  pub required_wants : (found : Option Data) (needs_memory : Bool) → WantsIfRequired (λ value x. means value (part x)) needs_memory found → (x : X) → MeansRequired means found (part x) → IsTrue needs_memory
+  required_wants None needs_memory wanted x meant = absurd meant
+  required_wants (Some value) needs_memory wanted x meant = wanted x meant
+
+  pub or_wants : (default : Y) (found : Option Data) (needs_memory : Bool) → WantsIfPresent (λ value x. means value (part x)) needs_memory found → (x : X) → MeansOr default means found (part x) → IsTrue needs_memory
+  or_wants default None needs_memory wanted x meant = absurd wanted
+  or_wants default (Some value) needs_memory wanted x meant = wanted x meant
+
+  pub optional_wants : (found : Option Data) (needs_memory : Bool) → WantsIfPresent (λ value x. means value (part x)) needs_memory found → (x : Option X) → MeansOptional means found (option_map part x) → IsTrue needs_memory
+  optional_wants None needs_memory wanted x meant = absurd wanted
+  optional_wants (Some value) needs_memory wanted None meant = cc meant.1
+  optional_wants (Some value) needs_memory wanted (Some x) meant = wanted x (subst (means value) (cc meant.1) meant.2)
