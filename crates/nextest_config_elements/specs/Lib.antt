@@ -1,4 +1,5 @@
 pub mod Durations
 pub mod GlobalTimeout
 pub mod LeakTimeout
+pub mod Priority
 pub mod SlowTimeout

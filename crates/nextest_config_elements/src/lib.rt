@@ -5,6 +5,7 @@ pub mod global_timeout;
 pub mod junit;
 pub mod leak_timeout;
 pub mod max_fail;
+pub mod priority;
 pub mod report_skip_policy;
 pub mod retry_policy;
 pub mod slow_timeout;
