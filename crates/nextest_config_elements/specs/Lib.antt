@@ -3,3 +3,4 @@ pub mod GlobalTimeout
 pub mod LeakTimeout
 pub mod Priority
 pub mod SlowTimeout
+pub mod ThreadsRequired

@@ -9,3 +9,4 @@ pub mod priority;
 pub mod report_skip_policy;
 pub mod retry_policy;
 pub mod slow_timeout;
+pub mod threads_required;
