@@ -1,1 +1,4 @@
+pub mod FailFast
+pub mod Limits
+pub mod Numbers
 pub mod Texts

@@ -1,0 +1,186 @@
+-- A text has one fail limit, or one fault.
+use Rattle.std.proofs.Common.{◌≡◌, ◌∙◌, ℕ, ◌<◌, ◌^◌, ℤ, pos, negsuc, List, [], refl, sym, ap, subst, inl, inr, arith, rules, Option, Some, None}
+use Rattle.std.specs.Prelude.{◌≤ℤ◌, ◌<ℤ◌, neg_ℤ, FitsSigned, IfErr, IfOk}
+use Rattle.std.specs.Int.{w64}
+use Rattle.std.specs.declared.result.Result.{Result}
+use Rattle.std.specs.declared.result.Result.TheVariants.{Err, Ok}
+use Rattle.nextest_config_values.specs.Identifier.{HasNoColon, IsCutAtColon, no_colon_uncut, one_cut}
+use Rattle.nextest_config_values.proofs.Faults.{fault_mapped}
+use Rattle.nextest_config_elements.specs.MaxFail.{bad_count, bad_mode, HasCount, IsAllText, IsBadCount, IsBadMode, IsCountFault, IsCountLimit, IsCountText, IsLimitFault, IsLimitText, IsNoMode, IsNotPositive, IsParted, limit_fault, LimitFault, MeansMode, IsNumberText, mode_word, not_positive, number_parts, one_number, RefusesLimit}
+use Rattle.nextest_config_elements.specs.declared.max_fail.CountFault.{CountFault}
+use Rattle.nextest_config_elements.specs.declared.max_fail.CountFault.TheVariants.{Empty, InvalidDigit, TooLarge, TooSmall}
+use Rattle.nextest_config_elements.specs.declared.max_fail.MaxFail.{MaxFail}
+use Rattle.nextest_config_elements.specs.declared.max_fail.MaxFail.TheVariants.{Count, All}
+use Rattle.nextest_config_elements.specs.declared.max_fail.MaxFailParseError.{MaxFailParseError}
+use Rattle.nextest_config_elements.specs.declared.max_fail.TerminateMode.{TerminateMode}
+use Rattle.nextest_config_elements.specs.declared.max_fail.TerminateMode.TheVariants.{Wait}
+
+-- ---- parts
+
+same_cut : (text x y u v : List ℕ) → IsCutAtColon text x y → IsCutAtColon text u v → (x ≡ u) × (y ≡ v)
+same_cut text x y u v cut other = one_cut x u y v cut.first other.first (sym cut.cut ∙ other.cut)
+
+uncut : (text x y : List ℕ) → HasNoColon text → IsCutAtColon text x y → ⊥
+uncut text x y none cut = no_colon_uncut x y (subst HasNoColon cut.cut none)
+
+one_mode : (m n : TerminateMode) (word : List ℕ) → mode_word m ≡ word → mode_word n ≡ word → m ≡ n
+one_mode m n word a b = search rules
+
+same_parts : (text x y : List ℕ) (v w : Option (List ℕ)) (m n : TerminateMode) → IsParted text x v → IsParted text y w → MeansMode v m → MeansMode w n → (x ≡ y) × (m ≡ n)
+same_parts text x y None None m n p q a b = (p.1 ∙ sym q.1, a ∙ sym b)
+same_parts text x y None (Some w) m n p q a b = absurd (uncut text y w p.0 q)
+same_parts text x y (Some v) None m n p q a b = absurd (uncut text x v q.0 p)
+same_parts text x y (Some v) (Some w) m n p q a b =
+    let same = same_cut text x v y w p q in
+    (same.0, one_mode m n v a (b ∙ sym same.1))
+
+pub same_count : (text x y : List ℕ) (m n : TerminateMode) → HasCount text x m → HasCount text y n → (x ≡ y) × (m ≡ n)
+same_count text x y m n h k = same_parts text x y h.word k.word m n h.parted k.parted h.meant k.meant
+
+mode_meant : (text x y w : List ℕ) (v : Option (List ℕ)) (m : TerminateMode) → IsParted text x v → MeansMode v m → IsCutAtColon text y w → IsNoMode w → ⊥
+mode_meant text x y w None m p a cut none = uncut text y w p.0 cut
+mode_meant text x y w (Some v) m p a cut none = none m (a ∙ (same_cut text x v y w p cut).1)
+
+-- the mode is judged once
+no_bad_mode : (text count : List ℕ) (mode : TerminateMode) (fault : LimitFault) → HasCount text count mode → IsBadMode text fault → ⊥
+no_bad_mode text count mode fault h b = mode_meant text count b.1 b.2 h.word mode h.parted h.meant b.3 b.4
+
+-- ---- counts
+
+no_digits : (text : List ℕ) (number : ℤ) → text ≡ [] → IsNumberText text number → ⊥
+no_digits text number none h = absurd (omega (arith, (number_parts [] number (subst (λ t. IsNumberText t number) none h)).0.0))
+
+not_too_large : (number : ℕ) → number < 2 ^ 63 → pos (2 ^ 63) ≤ℤ pos number → ⊥
+not_too_large number fits large = search rules
+
+not_too_small : (number : ℕ) → pos number <ℤ neg_ℤ (pos (2 ^ 63)) → ⊥
+not_too_small number small = search rules
+
+not_zero : (number : ℕ) → 0 < number → pos number ≤ℤ pos 0 → ⊥
+not_zero number positive zero = search rules
+
+pub count_not_faulty : (count : List ℕ) (max_fail : ℕ) (reason : CountFault) → IsCountText count max_fail → IsCountFault count reason → ⊥
+count_not_faulty count max_fail Empty h b = no_digits count _ b h.number
+count_not_faulty count max_fail InvalidDigit h b = b.1 _ h.number
+count_not_faulty count max_fail TooLarge h b = not_too_large max_fail h.fits (subst (λ n. pos (2 ^ 63) ≤ℤ n) (one_number count b.0 _ b.1 h.number) b.2)
+count_not_faulty count max_fail TooSmall h b = not_too_small max_fail (subst (λ n. n <ℤ neg_ℤ (pos (2 ^ 63))) (one_number count b.0 _ b.1 h.number) b.2)
+
+count_positive : (count : List ℕ) (max_fail : ℕ) → IsCountText count max_fail → IsNotPositive count → ⊥
+count_positive count max_fail h b = not_zero max_fail h.positive (subst (λ n. n ≤ℤ pos 0) (one_number count b.0 _ b.1 h.number) b.3)
+
+not_bad_count : (count : List ℕ) (max_fail : ℕ) (fault : LimitFault) → IsCountText count max_fail → IsBadCount count fault → ⊥
+not_bad_count count max_fail (bad_mode word) h b = b
+not_bad_count count max_fail (bad_count written reason) h b = count_not_faulty count max_fail reason h b.1
+not_bad_count count max_fail not_positive h b = count_positive count max_fail h b
+
+-- ---- a text's limit
+
+same_number : (count : List ℕ) (m n : ℕ) → IsCountText count m → IsCountText count n → m ≡ n
+same_number count m n h k = let same = one_number count _ _ h.number k.number in cc same
+
+pub one_limit : (text : List ℕ) (a b : MaxFail) → IsLimitText text a → IsLimitText text b → a ≡ b
+one_limit text All All h k = refl
+one_limit text All (Count n mode) h k = absurd (k.1.not_all h)
+one_limit text (Count m mode) All h k = absurd (h.1.not_all k)
+one_limit text (Count m mode) (Count n other) h k =
+    let same = same_count text h.0 k.0 mode other h.1 k.1 in
+    let number : m ≡ n = same_number k.0 m n (subst (λ count. IsCountText count m) same.0 h.2) k.2 in
+    ap (λ number. Count number mode) number ∙ ap (Count n) same.1
+
+pub no_limit_at_bad_mode : (text : List ℕ) (fault : LimitFault) (limit : MaxFail) → IsBadMode text fault → IsLimitText text limit → ⊥
+no_limit_at_bad_mode text fault All b h = b.0 h
+no_limit_at_bad_mode text fault (Count n mode) b h = no_bad_mode text h.0 mode fault h.1 b
+
+pub no_limit_without_count : (text count : List ℕ) (mode : TerminateMode) (limit : MaxFail) → HasCount text count mode → ((max_fail : ℕ) → ¬ (IsCountText count max_fail)) → IsLimitText text limit → ⊥
+no_limit_without_count text count mode All has none h = has.not_all h
+no_limit_without_count text count mode (Count n other) has none h =
+    none n (subst (λ c. IsCountText c n) (same_count text h.0 count other mode h.1 has).0 h.2)
+
+pub limit_not_faulty : (text : List ℕ) (limit : MaxFail) (fault : LimitFault) → IsLimitText text limit → IsLimitFault text fault → ⊥
+limit_not_faulty text limit fault h (inl b) = no_limit_at_bad_mode text fault limit b h
+limit_not_faulty text limit fault h (inr b) = no_limit_without_count text b.0 b.1 limit b.2 (λ max_fail count. not_bad_count b.0 max_fail fault count b.3) h
+
+-- ---- a text's fault
+
+-- no number is beyond the one end of the range and within it, or beyond the other
+large_not_small : (number : ℤ) → pos (2 ^ 63) ≤ℤ number → number <ℤ neg_ℤ (pos (2 ^ 63)) → ⊥
+large_not_small (pos n) large small = search rules
+large_not_small (negsuc n) large small = search rules
+
+large_not_in : (number : ℤ) → pos (2 ^ 63) ≤ℤ number → FitsSigned w64 number → ⊥
+large_not_in (pos n) large fits = search rules
+large_not_in (negsuc n) large fits = search rules
+
+small_not_in : (number : ℤ) → number <ℤ neg_ℤ (pos (2 ^ 63)) → FitsSigned w64 number → ⊥
+small_not_in (pos n) small fits = search rules
+small_not_in (negsuc n) small fits = search rules
+
+both_beyond : (count : List ℕ) → IsCountFault count TooLarge → IsCountFault count TooSmall → ⊥
+both_beyond count a b = large_not_small b.0 (subst (λ n. pos (2 ^ 63) ≤ℤ n) (one_number count a.0 b.0 a.1 b.1) a.2) b.2
+
+one_reason : (count : List ℕ) (r s : CountFault) → IsCountFault count r → IsCountFault count s → r ≡ s
+one_reason count Empty Empty a b = refl
+one_reason count Empty InvalidDigit a b = absurd (b.0 a)
+one_reason count Empty TooLarge a b = absurd (no_digits count b.0 a b.1)
+one_reason count Empty TooSmall a b = absurd (no_digits count b.0 a b.1)
+one_reason count InvalidDigit Empty a b = absurd (a.0 b)
+one_reason count InvalidDigit InvalidDigit a b = refl
+one_reason count InvalidDigit TooLarge a b = absurd (a.1 b.0 b.1)
+one_reason count InvalidDigit TooSmall a b = absurd (a.1 b.0 b.1)
+one_reason count TooLarge Empty a b = absurd (no_digits count a.0 b a.1)
+one_reason count TooLarge InvalidDigit a b = absurd (b.1 a.0 a.1)
+one_reason count TooLarge TooLarge a b = refl
+one_reason count TooLarge TooSmall a b = absurd (both_beyond count a b)
+one_reason count TooSmall Empty a b = absurd (no_digits count a.0 b a.1)
+one_reason count TooSmall InvalidDigit a b = absurd (b.1 a.0 a.1)
+one_reason count TooSmall TooLarge a b = absurd (both_beyond count b a)
+one_reason count TooSmall TooSmall a b = refl
+
+reason_not_in : (count : List ℕ) (r : CountFault) → IsCountFault count r → IsNotPositive count → ⊥
+reason_not_in count Empty a b = no_digits count b.0 a b.1
+reason_not_in count InvalidDigit a b = a.1 b.0 b.1
+reason_not_in count TooLarge a b = large_not_in b.0 (subst (λ n. pos (2 ^ 63) ≤ℤ n) (one_number count a.0 b.0 a.1 b.1) a.2) b.2
+reason_not_in count TooSmall a b = small_not_in b.0 (subst (λ n. n <ℤ neg_ℤ (pos (2 ^ 63))) (one_number count a.0 b.0 a.1 b.1) a.2) b.2
+
+one_bad_count : (count : List ℕ) (e f : LimitFault) → IsBadCount count e → IsBadCount count f → e ≡ f
+one_bad_count count (bad_mode word) f a b = absurd a
+one_bad_count count (bad_count text r) (bad_mode word) a b = absurd b
+one_bad_count count (bad_count text r) (bad_count other s) a b = ap (λ written. bad_count written r) (a.0 ∙ sym b.0) ∙ ap (bad_count other) (one_reason count r s a.1 b.1)
+one_bad_count count (bad_count text r) not_positive a b = absurd (reason_not_in count r a.1 b)
+one_bad_count count not_positive (bad_mode word) a b = absurd b
+one_bad_count count not_positive (bad_count other s) a b = absurd (reason_not_in count s b.1 a)
+one_bad_count count not_positive not_positive a b = refl
+
+one_bad_mode : (text : List ℕ) (e f : LimitFault) → IsBadMode text e → IsBadMode text f → e ≡ f
+one_bad_mode text e f a b = a.5 ∙ ap bad_mode (same_cut text a.1 a.2 b.1 b.2 a.3 b.3).1 ∙ sym b.5
+
+pub one_limit_fault : (text : List ℕ) (e f : LimitFault) → IsLimitFault text e → IsLimitFault text f → e ≡ f
+one_limit_fault text e f (inl a) (inl b) = one_bad_mode text e f a b
+one_limit_fault text e f (inl a) (inr b) = absurd (no_bad_mode text b.0 b.1 e b.2 a)
+one_limit_fault text e f (inr a) (inl b) = absurd (no_bad_mode text a.0 a.1 f a.2 b)
+one_limit_fault text e f (inr a) (inr b) =
+    let same = same_count text a.0 b.0 a.1 b.1 a.2 b.2 in
+    one_bad_count b.0 e f (subst (λ count. IsBadCount count e) same.0 a.3) b.3
+
+-- ---- the count of a text
+
+pub cut_count : (text count word : List ℕ) (mode : TerminateMode) → ¬ (IsAllText text) → IsCutAtColon text count word → mode_word mode ≡ word → HasCount text count mode
+cut_count text count word mode not_all cut meant = record { not_all = not_all; word = Some word; parted = cut; meant = meant }
+
+pub whole_count : (text : List ℕ) → ¬ (IsAllText text) → HasNoColon text → HasCount text text Wait
+whole_count text not_all none = record { not_all = not_all; word = None; parted = (none, refl); meant = refl }
+
+-- ---- answers, passed on
+
+pub limit_passed : (text count : List ℕ) (mode : TerminateMode) (r : Result MaxFail MaxFailParseError) → HasCount text count mode → IfOk r (IsCountLimit count mode) → IfOk r (IsLimitText text)
+limit_passed text count mode (Ok limit) has h = rw h.2 (count, has, h.1)
+limit_passed text count mode (Err error) has h = tt
+
+pub fault_passed : (text count : List ℕ) (mode : TerminateMode) (r : Result MaxFail MaxFailParseError) → HasCount text count mode → IfErr r (RefusesLimit (IsBadCount count)) → IfErr r (RefusesLimit (IsLimitFault text))
+fault_passed text count mode (Ok limit) has h = tt
+fault_passed text count mode (Err error) has h = fault_mapped (limit_fault error) h (λ memory. memory) (λ fault bad. inr (count, mode, has, bad))
+
+pub none_passed : (text count : List ℕ) (mode : TerminateMode) (r : Result MaxFail MaxFailParseError) → HasCount text count mode
+    → IfErr r (λ error. (max_fail : ℕ) → ¬ (IsCountText count max_fail)) → IfErr r (λ error. (limit : MaxFail) → ¬ (IsLimitText text limit))
+none_passed text count mode (Ok limit) has h = tt
+none_passed text count mode (Err error) has h = λ limit. no_limit_without_count text count mode limit has h

@@ -1,0 +1,42 @@
+-- A text is one number, the one that the standard library reads.
+use Rattle.std.proofs.Common.{◌≡◌, ℕ, false, eqb, ℤ, List, [], ◌∷◌, ◌++◌, refl, sym, ap, ◌∙◌, arith, inl, inr}
+use Rattle.std.proofs.lemmas.Bool.{cases_Bool, eqb-true, ne_eqb}
+use Rattle.std.proofs.lemmas.Str.Parse.{digit_from_value}
+use Rattle.std.specs.Str.Parse.{IsNumeral, digits_value, signed_digits_value, starts_with_minus, without_leading_plus, without_leading_sign}
+use Rattle.nextest_config_elements.specs.MaxFail.NumberText.{IsNumberText, Sign, minus, plus, sign_text, signed, unsigned}
+
+-- digits begin with no sign
+unsigned_parts : (digits : List ℕ) → IsNumeral 10 digits → (starts_with_minus digits ≡ false) × (without_leading_plus digits ≡ digits)
+unsigned_parts [] h = absurd (omega (arith, h.0))
+unsigned_parts (c ∷ cs) h =
+    let range = digit_from_value c h.1.0 in
+    let no_minus : eqb c 45 ≡ false = ne_eqb c 45 (λ e. omega arith) in
+    let no_plus : eqb c 43 ≡ false = ne_eqb c 43 (λ e. omega arith) in
+    (no_minus, rw no_plus refl)
+
+signed_parts : (sign : Sign) (digits : List ℕ) → IsNumeral 10 digits
+    → IsNumeral 10 (without_leading_sign (sign_text sign ++ digits)) × (signed sign (digits_value 10 digits) ≡ signed_digits_value 10 (sign_text sign ++ digits))
+signed_parts unsigned digits h =
+    let parts = unsigned_parts digits h in
+    (rw (parts.0, parts.1) h, rw (parts.0, parts.1) refl)
+signed_parts plus digits h = (h, refl)
+signed_parts minus digits h = (h, refl)
+
+-- what the parts of a number's text are to the standard library
+pub number_parts : (text : List ℕ) (number : ℤ) → IsNumberText text number → IsNumeral 10 (without_leading_sign text) × (number ≡ signed_digits_value 10 text)
+number_parts text number h =
+    let parts = signed_parts h.sign h.digits h.numeral in
+    (rw h.whole parts.0, rw h.whole (h.value ∙ parts.1))
+
+pub number_from_parts : (text : List ℕ) → IsNumeral 10 (without_leading_sign text) → IsNumberText text (signed_digits_value 10 text)
+number_from_parts [] h = absurd (omega (arith, h.0))
+number_from_parts (c ∷ cs) h = elim (cases_Bool (eqb c 45)) [
+  | inl negative ↦ record { sign = minus; digits = cs; whole = ap (λ b. b ∷ cs) (eqb-true c 45 negative); numeral = rw negative at h; value = rw negative refl }
+  | inr other ↦ elim (cases_Bool (eqb c 43)) [
+    | inl positive ↦ record { sign = plus; digits = cs; whole = ap (λ b. b ∷ cs) (eqb-true c 43 positive); numeral = rw (other, positive) at h; value = rw (other, positive) refl }
+    | inr none ↦ record { sign = unsigned; digits = c ∷ cs; whole = refl; numeral = rw (other, none) at h; value = rw (other, none) refl }
+  ]
+]
+
+pub one_number : (text : List ℕ) (m n : ℤ) → IsNumberText text m → IsNumberText text n → m ≡ n
+one_number text m n a b = (number_parts text m a).1 ∙ sym (number_parts text n b).1

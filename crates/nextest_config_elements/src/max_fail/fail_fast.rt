@@ -1,0 +1,111 @@
+//! The setting `fail-fast`.
+
+ghost use Rattle.std.specs.Prelude.{◌≡◌, false, IfErr, IfOk};
+ghost use Rattle.toml.specs.View.{table_view, view};
+ghost use Rattle.nextest_config_values.specs.Read.{Refuses, WantsMemory};
+ghost use Rattle.nextest_config_elements.specs.MaxFail.{FailFastFaults, FailFastTableFaults, IsExpected, limit_of, max_fail_reading, MaxFailFaults, MeansFailFast, MeansFailFastTable, MeansMaxFail};
+
+use super::{MaxFail, TerminateMode};
+use nextest_config_values::read::{FromToml, ReadFault, field_or, required_field};
+use std::alloc::Global;
+use toml::{Table, Value};
+
+const EXPECTED: &str = "a boolean or { max-fail = ... }";
+
+const MAX_FAIL_EXPECTED: &str = "a positive integer or the string \"all\"";
+
+/// Reads the setting `fail-fast`: a boolean, or a table with `max-fail` and, if it isn't `wait`,
+/// `terminate`. A fault names its path, which begins with `at`.
+pub fn deserialize_fail_fast(
+    alloc: Global,
+    value: &Value,
+    at: &str,
+) -> Result<Option<MaxFail>, ReadFault>
+    ensures meant { IfOk result (MeansFailFast (view value.now)) }
+    ensures refused { IfErr result (Refuses (FailFastFaults (view value.now) at.now)
+        (WantsMemory (MeansFailFast (view value.now)) false)) }
+{
+    if let Some(fail_fast) = value.as_bool() {
+        return Ok(Some(MaxFail::from_fail_fast(fail_fast)));
+    }
+    match value.as_table() {
+        Some(table) => {
+            let limit = read_table(alloc, table, at)?;
+            Ok(Some(limit))
+        }
+        None => Err(ReadFault::invalid_type(alloc, value, at, EXPECTED)),
+    }
+}
+
+// The limit of a table.
+fn read_table(alloc: Global, table: &Table, at: &str) -> Result<MaxFail, ReadFault>
+    ensures meant { IfOk result (MeansFailFastTable (table_view table.now)) }
+    ensures refused { IfErr result (Refuses (FailFastTableFaults (table_view table.now) at.now)
+        (WantsMemory (MeansFailFastTable (table_view table.now)) false)) }
+{
+    let count: MaxFailCount = required_field(alloc, table, "max-fail", at)?;
+    let terminate = field_or(alloc, table, "terminate", at, TerminateMode::Wait)?;
+    Ok(count.with(terminate))
+}
+
+// What the key `max-fail` holds.
+#[derive(Clone, Copy)]
+enum MaxFailCount {
+    Count(usize),
+    All,
+}
+
+impl MaxFailCount {
+    // The limit of this count and this mode.
+    fn with(self, terminate: TerminateMode) -> MaxFail
+        ensures { result ≡ limit_of self terminate }
+    {
+        match self {
+            MaxFailCount::Count(max_fail) => MaxFail::Count {
+                max_fail,
+                terminate,
+            },
+            MaxFailCount::All => MaxFail::All,
+        }
+    }
+}
+
+impl FromToml for MaxFailCount {
+    ghost means = { MeansMaxFail };
+
+    ghost faults = { MaxFailFaults };
+
+    ghost needs_memory = { false };
+
+    ghost alike = { ◌≡◌ };
+
+    ghost laws = { max_fail_reading };
+
+    fn read(alloc: Global, value: &Value, at: &str) -> Result<Self, ReadFault> {
+        if let Some(number) = value.as_integer() {
+            return match usize::try_from(number) {
+                Ok(count) if count > 0 => Ok(MaxFailCount::Count(count)),
+                _ => Err(ReadFault::invalid_value(alloc, value, at, MAX_FAIL_EXPECTED)),
+            };
+        }
+        match value.as_str() {
+            Some("all") => Ok(MaxFailCount::All),
+            Some(text) => Err(ReadFault::invalid_value(alloc, value, at, expected_for(text))),
+            None => Err(ReadFault::invalid_type(alloc, value, at, MAX_FAIL_EXPECTED)),
+        }
+    }
+}
+
+// What is expected in place of a text that isn't `all`. Where the text is a number, this tells how
+// to write one.
+fn expected_for(text: &str) -> &'static str
+    ensures { IsExpected text.now result.now }
+{
+    match text.parse::<i64>() {
+        Ok(number) if number > 0 => {
+            "the string \"all\" (numbers must be specified without quotes)"
+        }
+        Ok(_) => "the string \"all\" (numbers must be positive and without quotes)",
+        Err(_) => "the string \"all\" or a positive integer",
+    }
+}
