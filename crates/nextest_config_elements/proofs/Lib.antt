@@ -1,4 +1,5 @@
 pub mod FailFast
 pub mod Limits
 pub mod Numbers
+pub mod Printed
 pub mod Texts

@@ -3,6 +3,7 @@
 
 pub mod global_timeout;
 pub mod junit;
+pub mod laws;
 pub mod leak_timeout;
 pub mod max_fail;
 pub mod priority;
