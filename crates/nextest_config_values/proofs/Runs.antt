@@ -6,8 +6,7 @@ use Rattle.std.proofs.lemmas.Str.{IsUtf8-drop, IsUtf8-take, chars-append, chars-
 use Rattle.std.specs.Option.{unwrap_or}
 use Rattle.std.specs.Str.{IsUtf8, NoCharPasses, NonePass}
 use Rattle.std.specs.Str.Pattern.{FindsBy, MatchBeginsAt}
-use Rattle.nextest_config_values.specs.Duration.{AreAll, BeginsWith}
-use Rattle.nextest_config_values.specs.DurationSteps.{IsCutBehind}
+use Rattle.nextest_config_values.specs.Duration.{AreAll, BeginsWith, IsCutBehind}
 
 none_pass : (kind ends : ℕ → Bool) → ((c : ℕ) → ends c ≡ not (kind c)) → (cs : List ℕ) → NonePass ends cs → AreAll kind cs
 none_pass kind ends opposite [] h = tt

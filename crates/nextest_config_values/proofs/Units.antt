@@ -8,8 +8,7 @@ use Rattle.std.specs.Cmp.Lexicographic.{bytes_decides, other_text, pointwise, sa
 use Rattle.std.specs.List.{AllByRecursion}
 use Rattle.std.specs.Str.{IsUtf8, all_scalars as scalars}
 use denote.Ref.{Bor}
-use Rattle.nextest_config_values.specs.Duration.{length_in}
-use Rattle.nextest_config_values.specs.DurationSteps.{rows}
+use Rattle.nextest_config_values.specs.Duration.{length_in, rows}
 
 pub past_row : (table : List (Bor (List ℕ) × ℕ)) (i : ℕ) (d : Bor (List ℕ) × ℕ) (word : List ℕ) → i < length table → pointwise nat_eq (get_or table i d).0.now word ≡ false
     → length_in (rows (drop i table)) word ≡ length_in (rows (drop (i + 1) table)) word

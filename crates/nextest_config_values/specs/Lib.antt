@@ -1,7 +1,5 @@
 pub mod Characters
 pub mod Duration
-pub mod DurationLaws
-pub mod DurationSteps
 pub mod Helpers
 pub mod Identifier
 pub mod Read

@@ -3,9 +3,7 @@
 ghost use Rattle.std.specs.Prelude.{◌≡◌, ◌+◌, ◌<◌, ◌^◌, false, chars, length, IfErr, IfOk};
 ghost use Rattle.std.specs.Char.{is_ascii_digit};
 ghost use Rattle.std.specs.Duration.{as_nanos};
-ghost use Rattle.nextest_config_values.specs.Duration.{DurationFaults, IsDuration, IsDurationFault, is_in_word, length_in, MeansDuration, SameLength, unit_length};
-ghost use Rattle.nextest_config_values.specs.DurationLaws.{duration_reading};
-ghost use Rattle.nextest_config_values.specs.DurationSteps.{IsCutBehind, IsFaultAt, IsReadItem, rows};
+ghost use Rattle.nextest_config_values.specs.Duration.{duration_reading, DurationFaults, is_in_word, IsCutBehind, IsDuration, IsDurationFault, IsFaultAt, IsReadItem, length_in, MeansDuration, rows, SameLength, unit_length};
 
 use crate::read::{FromToml, ReadFault};
 use std::alloc::Global;

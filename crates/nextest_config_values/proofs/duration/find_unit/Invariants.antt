@@ -1,6 +1,5 @@
 use Rattle.std.proofs.Common.{◌≡◌, drop}
-use Rattle.nextest_config_values.specs.Duration.{length_in}
-use Rattle.nextest_config_values.specs.DurationSteps.{rows}
+use Rattle.nextest_config_values.specs.Duration.{length_in, rows}
 use Rattle.nextest_config_values.proofs.duration.find_unit.Given as goal
 
 -- the word is in no row so far

@@ -1,4 +1,4 @@
-use Rattle.nextest_config_values.specs.DurationLaws.{never_duration_and_fault, one_duration, one_duration_fault, one_spelling}
+use Rattle.nextest_config_values.specs.Duration.{never_duration_and_fault, one_duration, one_duration_fault, one_spelling}
 use Rattle.nextest_config_values.proofs.laws.law_duration_once.Goals as goal
 
 pub returns-clause-one_spelling : goal.returns-clause-one_spelling

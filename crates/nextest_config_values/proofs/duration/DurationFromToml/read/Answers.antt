@@ -3,8 +3,7 @@ use Rattle.std.specs.Duration.{as_nanos}
 use Rattle.toml.specs.Data.{as_str}
 use Rattle.toml.specs.View.{view}
 use Rattle.nextest_config_values.proofs.Faults.{refused_unmeant}
-use Rattle.nextest_config_values.specs.Duration.{DurationFaults, IsDuration, MeansDuration, duration_expected}
-use Rattle.nextest_config_values.specs.DurationLaws.{never_duration_and_fault}
+use Rattle.nextest_config_values.specs.Duration.{duration_expected, DurationFaults, IsDuration, MeansDuration, never_duration_and_fault}
 use Rattle.nextest_config_values.specs.Read.{wrong_value}
 use Rattle.nextest_config_values.proofs.duration.DurationFromToml.read.Goals as goal
 

@@ -9,7 +9,7 @@ use Rattle.std.specs.Duration.{FitsDuration, as_nanos}
 use Rattle.std.specs.List.{AllByRecursion}
 use Rattle.std.specs.Str.Parse.{digits_value}
 use Rattle.toml.specs.Data.{as_str}
-use Rattle.nextest_config_values.specs.Duration.{AreAll, BeginsWith, DurationFaults, DurationTextFaults, EndsWith, IsDuration, IsDurationFault, IsEndFault, IsFaultBehind, IsFront, IsItemText, IsLongestFront, IsNext, IsNextFault, IsRun, IsUncut, Item, MeansDuration, SameLength, Spells, duration_expected, is_in_word, length_in, offset, total, unit_length, units}
+use Rattle.nextest_config_values.specs.Duration.Grammar.{AreAll, BeginsWith, DurationFaults, DurationTextFaults, EndsWith, IsDuration, IsDurationFault, IsEndFault, IsFaultBehind, IsFront, IsItemText, IsLongestFront, IsNext, IsNextFault, IsRun, IsUncut, Item, MeansDuration, SameLength, Spells, duration_expected, is_in_word, length_in, offset, total, unit_length, units}
 use Rattle.nextest_config_values.specs.Read.FromToml.{IsHeldReading, IsReading, equality, reading_as, reading_on}
 use Rattle.nextest_config_values.specs.declared.duration.DurationFault.{DurationFault}
 
@@ -178,6 +178,14 @@ in_front whole front behind e = ap length e ∙ length-append front behind
 same_item : (item other : Item) → item.number ≡ other.number → item.unit ≡ other.unit → item ≡ other
 same_item item other numbers units = ap (λ n. record { number = n; unit = item.unit }) numbers ∙ ap (λ u. record { number = other.number; unit = u }) units
 
+same_first : (item other : Item) (items others more : List Item) → item ≡ other → items ≡ others ++ more → item ∷ items ≡ (other ∷ others) ++ more
+same_first item other items others more first rest = rw (first, rest) refl
+
+-- texts of the same parts are of the same item
+same_parts : (here there : List ℕ) (item other : Item) (h : IsItemText here item) (k : IsItemText there other) → h.space ≡ k.space → h.digits ≡ k.digits → h.gap ≡ k.gap → h.word ≡ k.word → (item ≡ other) × (here ≡ there)
+same_parts here there item other h k spaces digits gaps words =
+    (same_item item other (sym h.number_is ∙ ap (digits_value 10) digits ∙ k.number_is) (cc (h.unit_is, k.unit_is, words)), rw (h.whole, k.whole, spaces, digits, gaps, words) refl)
+
 pub covers : (P : Item → Type 0) (items others : List Item) (front behind other rest : List ℕ) → Spells items front → Spells others other → front ++ behind ≡ other ++ rest
     → IsUncut front behind → IsUncut other rest → Stops P behind → AllByRecursion P others → Covers items others front other
 covers P [] [] front behind other rest spelled also e uncut uncut_too stops holds =
@@ -199,12 +207,11 @@ covers P (item ∷ items) (other_item ∷ others) front behind other rest (here,
     let other_next = next_of_item there other_item (tail ++ rest) k (item_over there other_item others tail rest k also (rw other_whole at uncut_too)) in
     let same = one_next (h.digits ++ (h.gap ++ (h.word ++ (text ++ behind)))) h.digits h.gap h.word (text ++ behind) k.digits k.gap k.word (tail ++ rest) next (rw (← run.1) at other_next) in
     let inner = covers P items others text behind tail rest spelled also same.3 (uncut_behind here text behind (rw whole at uncut)) (uncut_behind there tail rest (rw other_whole at uncut_too)) stops holds.1 in
-    let item_is : item ≡ other_item = same_item item other_item (sym h.number_is ∙ ap (digits_value 10) same.0 ∙ k.number_is) (cc (h.unit_is, k.unit_is, same.2)) in
-    let text_is : here ≡ there = rw (h.whole, k.whole, run.0, same.0, same.1, same.2) refl in
+    let also_same = same_parts here there item other_item h k run.0 same.0 same.1 same.2 in
     record {
       more = inner.more;
-      whole = ap (λ first. first ∷ items) item_is ∙ ap (λ items. other_item ∷ items) inner.whole;
-      longer = omega (arith, inner.longer, ap length text_is, in_front front here text whole, in_front other there tail other_whole);
+      whole = same_first item other_item items others inner.more also_same.0 inner.whole;
+      longer = omega (arith, inner.longer, ap length also_same.1, in_front front here text whole, in_front other there tail other_whole);
     }
 
 -- ---- one spelling

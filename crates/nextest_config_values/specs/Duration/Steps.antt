@@ -2,7 +2,7 @@
 use Rattle.std.specs.Prelude.{◌≡◌, ℕ, ◌*◌, Bool, List, ◌++◌, chars, map}
 use Rattle.std.specs.Str.{IsUtf8}
 use denote.Ref.{Bor}
-use Rattle.nextest_config_values.specs.Duration.{BeginsWith, HasNumberThatFits, IsItemText, IsNext, IsNextFault, IsRun, Item, is_in_word}
+use Rattle.nextest_config_values.specs.Duration.Grammar.{BeginsWith, HasNumberThatFits, IsItemText, IsNext, IsNextFault, IsRun, Item, is_in_word}
 use Rattle.nextest_config_values.specs.declared.duration.DurationFault.{DurationFault}
 
 -- a text in two parts, of which the first is a run of characters of this kind
