@@ -1,13 +1,11 @@
 -- The setting `fail-fast`: a boolean, or a table with a limit and a mode.
-use Rattle.std.specs.Prelude.{◌≡◌, ◌≢◌, ℕ, ℤ, pos, negsuc, ◌≤ℤ◌, ◌<ℤ◌, Bool, List, [], ◌∷◌, codes, map, FitsSigned, ◌⊎◌, Option, Some}
+use Rattle.std.specs.Prelude.{◌≡◌, ◌≢◌, ℕ, ℤ, pos, ◌≤ℤ◌, ◌<ℤ◌, Bool, List, [], ◌∷◌, codes, map, FitsSigned, ◌⊎◌, Option, Some}
 use Rattle.std.specs.Int.{w64}
-use Rattle.std.proofs.Common.{refl, sym, ap, ◌∙◌, subst, inl, inr, rules}
 use Rattle.toml.specs.Data.{Data, Members, as_bool, as_integer, as_str, as_table, get_member, integer, string}
 use Rattle.nextest_config_values.specs.Read.Fault.{Fault}
-use Rattle.nextest_config_values.specs.Read.{at_key, equality, FaultsAs, FaultsKind, FaultsThen, IsCount, IsNoWord, IsReading, kind_reading, made_of, MeansAs, MeansKind, MeansNothing, MeansNumber, MeansOr, MeansRequired, MeansWord, OptionalFaults, or_reading, path_of, required_reading, RequiredFaults, said_as, text_expected, then_reading, value_of, word_reading, words_text, wrong_kind, wrong_value, WrongKind}
+use Rattle.nextest_config_values.specs.Read.{FaultsAs, FaultsKind, FaultsThen, IsCount, IsNoWord, MeansAs, MeansKind, MeansNothing, MeansNumber, MeansOr, MeansRequired, MeansWord, OptionalFaults, path_of, RequiredFaults, text_expected, words_text, wrong_value, WrongKind}
 use Rattle.nextest_config_elements.specs.MaxFail.Limit.{fail_fast_limit, mode_word}
 use Rattle.nextest_config_elements.specs.MaxFail.NumberText.{IsNumberText}
-use Rattle.nextest_config_elements.specs.MaxFail.NumberTextLaws.{one_number}
 use Rattle.nextest_config_elements.specs.declared.max_fail.MaxFail.{MaxFail}
 use Rattle.nextest_config_elements.specs.declared.max_fail.MaxFail.TheVariants as limits
 use Rattle.nextest_config_elements.specs.declared.max_fail.fail_fast.MaxFailCount.{MaxFailCount}
@@ -115,65 +113,3 @@ MeansFailFast value set = (limit : MaxFail) × MeansLimit value limit × (set �
 -- what is wrong with the value at a path
 abbrev pub FailFastFaults : Data → List ℕ → Fault → Type 0
 FailFastFaults value = FaultsKind TruthFaults (λ other. FaultsKind FailFastTableFaults (WrongKind fail_fast_expected) (as_table other) other) (as_bool value) value
-
--- ---- its law
-
-not_both : (number : ℤ) → pos 0 <ℤ number → number ≤ℤ pos 0 → ⊥
-not_both (pos n) a b = search rules
-not_both (negsuc n) a b = search rules
-
-one_sign : (held : List ℕ) (m n : ℤ) → HasInteger held m → HasInteger held n → pos 0 <ℤ m → n ≤ℤ pos 0 → ⊥
-one_sign held m n h k a b = not_both n (subst (λ x. pos 0 <ℤ x) (one_number held m n h.0 k.0) a) b
-
-one_expected : (held e f : List ℕ) → IsExpected held e → IsExpected held f → e ≡ f
-one_expected held e f (inl a) (inl b) = a.3 ∙ sym b.3
-one_expected held e f (inl a) (inr (inl b)) = absurd (one_sign held a.0 b.0 a.1 b.1 a.2 b.2)
-one_expected held e f (inl a) (inr (inr b)) = absurd (b.0 a.0 a.1)
-one_expected held e f (inr (inl a)) (inl b) = absurd (one_sign held b.0 a.0 b.1 a.1 b.2 a.2)
-one_expected held e f (inr (inl a)) (inr (inl b)) = a.3 ∙ sym b.3
-one_expected held e f (inr (inl a)) (inr (inr b)) = absurd (b.0 a.0 a.1)
-one_expected held e f (inr (inr a)) (inl b) = absurd (a.0 b.0 b.1)
-one_expected held e f (inr (inr a)) (inr (inl b)) = absurd (a.0 b.0 b.1)
-one_expected held e f (inr (inr a)) (inr (inr b)) = a.1 ∙ sym b.1
-
-number : IsReading MeansMaxFailNumber MaxFailNumberFaults (λ a b. a ≡ b)
-number = record {
-  equivalence = equality;
-  one_meaning = λ held x y a b. search rules;
-  one_fault = λ held at f g a b. a.1 ∙ sym b.1;
-  never_both = λ held at x f a b. b.0 a.0 a.1;
-}
-
-text : IsReading MeansMaxFailText MaxFailTextFaults (λ a b. a ≡ b)
-text = record {
-  equivalence = equality;
-  one_meaning = λ held x y a b. a.1 ∙ sym b.1;
-  one_fault = λ held at f g a b. a.3 ∙ ap (wrong_value (string held) at) (one_expected held a.1 b.1 a.2 b.2) ∙ sym b.3;
-  never_both = λ held at x f a b. b.0 a.0;
-}
-
-pub max_fail_reading : IsReading MeansMaxFail MaxFailFaults (λ a b. a ≡ b)
-max_fail_reading = kind_reading number (kind_reading text (wrong_kind max_fail_expected) as_str) as_integer
-
-mode_reads_back : (mode : TerminateMode) → value_of mode_word (Wait ∷ Immediate ∷ []) (mode_word mode) ≡ Some mode
-mode_reads_back Wait = refl
-mode_reads_back Immediate = refl
-
-terminate : IsReading MeansTerminate TerminateFaults (λ a b. a ≡ b)
-terminate = word_reading (Wait ∷ Immediate ∷ []) mode_word mode_reads_back
-
-table : IsReading MeansFailFastTable FailFastTableFaults (λ a b. a ≡ b)
-table = said_as (λ members limit meant. (meant.count, meant.of_max_fail, (meant.mode, meant.of_terminate, meant.limit_is)))
-    (then_reading (required_reading max_fail_reading max_fail_key) (λ count. made_of (limit_of count) (at_key terminate_key (or_reading terminate Wait))))
-
-truth : IsReading MeansFailFastTruth TruthFaults (λ a b. a ≡ b)
-truth = record {
-  equivalence = equality;
-  one_meaning = λ held x y a b. a ∙ sym b;
-  one_fault = λ held at f g a b. absurd a;
-  never_both = λ held at x f a b. b;
-}
-
--- a value sets one limit or has one fault, and not both
-pub fail_fast_reading : IsReading MeansFailFast FailFastFaults (λ a b. a ≡ b)
-fail_fast_reading = made_of Some (kind_reading truth (kind_reading table (wrong_kind fail_fast_expected) as_table) as_bool)
