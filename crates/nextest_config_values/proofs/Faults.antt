@@ -3,7 +3,7 @@ use Rattle.std.proofs.Common.{◌≡◌, ℕ, Bool, true, List, Option, Some, No
 use Rattle.toml.specs.Data.{Data, as_str}
 use Rattle.nextest_config_values.specs.Identifier.{IsNormalFault, NameFault, NameFaults}
 use Rattle.nextest_config_values.specs.Read.Fault.{Fault}
-use Rattle.nextest_config_values.specs.Read.{fault_at, fault_of, FaultOrMemory, FaultsAs, IsMemory, IsNameKind, Reason, Refuses, RefusesAs, RefusesKind, text_expected, WantsMemory}
+use Rattle.nextest_config_values.specs.Read.{fault_at, fault_of, FaultOrMemory, FaultsAs, IsMemory, IsNameKind, Reason, Refuses, RefusesAs, RefusesKind, RefusesOne, text_expected, WantsMemory}
 use Rattle.nextest_config_values.specs.declared.read.fault.FaultKind.{FaultKind}
 use Rattle.nextest_config_values.specs.declared.read.fault.ReadFault.{ReadFault}
 
@@ -26,6 +26,10 @@ refused_as means IsFault expected fault has refused = refused_mapped fault refus
 pub refused_unmeant : {X : Type 0} (means : X → Type 0) (needs_memory : Bool) (IsFault : Fault → Type 0) (expected : Fault) (fault : ReadFault) → ((x : X) → ¬ means x) → IsFault expected → RefusesAs expected fault
     → Refuses IsFault (WantsMemory means needs_memory) fault
 refused_unmeant means needs_memory IsFault expected fault none has refused = refused_mapped fault refused (λ wanted x m. absurd (none x m)) (λ f same. subst IsFault (sym same) has)
+
+-- a refusal as this fault, which is one of these
+pub refused_as_one : (IsFault : Fault → Type 0) (expected : Fault) (fault : ReadFault) → IsFault expected → RefusesAs expected fault → RefusesOne IsFault fault
+refused_as_one IsFault expected fault has refused = refused_mapped fault refused (λ wanted. (expected, has)) (λ f same. subst IsFault (sym same) has)
 
 pub refused_memory : (IsFault : Fault → Type 0) {wanted : Type 0} (fault : ReadFault) → IsMemory fault → wanted → Refuses IsFault wanted fault
 refused_memory IsFault fault memory wanted = rw memory.1 ((memory.0, refl), wanted)

@@ -140,6 +140,10 @@ wrong_value value at expected = fault_at at (invalid_value (found_text value) ex
 abbrev pub unknown_word : List ℕ → List ℕ → List ℕ → Fault
 unknown_word text at expected = fault_at at (unknown_variant text expected)
 
+-- a key of a table that is none of the expected ones
+abbrev pub unknown_key : List ℕ → List ℕ → List ℕ → Fault
+unknown_key key at expected = fault_at at (unknown_field key expected)
+
 -- the path of a key in the table at a path
 abbrev pub path_of : List ℕ → List ℕ → List ℕ
 path_of [] key = key
@@ -158,6 +162,10 @@ Refuses IsFault wanted fault = FaultOrMemory (fault_of fault) (IsMemory fault ×
 -- the refusal is this fault, or memory was refused
 abbrev pub RefusesAs : Fault → ReadFault → Type 0
 RefusesAs expected = Refuses (λ fault. fault ≡ expected) (Unit {0})
+
+-- the refusal is one of these faults, or memory was refused though there is one
+abbrev pub RefusesOne : (Fault → Type 0) → ReadFault → Type 0
+RefusesOne IsFault = Refuses IsFault ((fault : Fault) × IsFault fault)
 
 -- the refusal of this kind at a path
 abbrev pub RefusesKind : List ℕ → FaultKind → ReadFault → Type 0

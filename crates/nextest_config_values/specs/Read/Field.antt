@@ -1,7 +1,7 @@
 -- What the fields of a table mean, by the value at the key, if any.
 use Rattle.std.specs.Prelude.{◌≡◌, ℕ, Bool, List, Option, Some, None, ◌⊎◌}
 use Rattle.toml.specs.Data.{Data, Members, get_member}
-use Rattle.nextest_config_values.specs.Read.Fault.{Fault, missing, path_of}
+use Rattle.nextest_config_values.specs.Read.Fault.{BrokenRule, custom, Fault, fault_at, missing, path_of}
 use Rattle.nextest_config_values.specs.Read.FromToml.{WantsMemory}
 
 -- a missing key means nothing
@@ -74,3 +74,15 @@ Then {X} {F} first means later fault = first fault ⊎ ((x : X) × means x × la
 -- the faults of a first part, or of what comes behind it
 abbrev pub FaultsThen : {D X : Type 0} → (D → X → Type 0) → (D → List ℕ → Fault → Type 0) → (X → D → List ℕ → Fault → Type 0) → D → List ℕ → Fault → Type 0
 FaultsThen means faults later value at fault = Then (faults value at) (means value) (λ x. later x value at) fault
+
+-- what is wrong with the value by a check, or behind it where the check passes
+abbrev pub FaultsBehind : {D : Type 0} → (D → List ℕ → Fault → Type 0) → (D → Type 0) → (D → List ℕ → Fault → Type 0) → D → List ℕ → Fault → Type 0
+FaultsBehind checked Passes later value at fault = checked value at fault ⊎ (Passes value × later value at fault)
+
+-- a rule is broken
+abbrev pub RuleFaults : {D : Type 0} → Type 0 → BrokenRule → D → List ℕ → Fault → Type 0
+RuleFaults IsBroken rule value at fault = IsBroken × (fault ≡ fault_at at (custom rule))
+
+-- a rule is broken, or what is wrong behind it
+abbrev pub RuleThen : {D : Type 0} → Type 0 → BrokenRule → (D → List ℕ → Fault → Type 0) → D → List ℕ → Fault → Type 0
+RuleThen IsBroken rule = FaultsBehind (RuleFaults IsBroken rule) (λ value. ¬ IsBroken)

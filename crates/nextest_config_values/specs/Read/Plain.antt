@@ -40,6 +40,22 @@ IsU32 number = number < 2 ^ 32
 abbrev pub IsCount : ℕ → Type 0
 IsCount number = (0 < number) × (number < 2 ^ 64)
 
+-- the value is this boolean
+abbrev pub MeansBoolean : Data → Bool → Type 0
+MeansBoolean = MeansAs as_bool MeansTruth
+
+-- the value is no boolean
+abbrev pub BooleanFaults : Data → List ℕ → Fault → Type 0
+BooleanFaults = FaultsAs as_bool (codes "a boolean") HasNoFault
+
+-- the value is this number, which fits a u32
+abbrev pub MeansU32 : Data → ℕ → Type 0
+MeansU32 = MeansAs as_integer (MeansNumber IsU32)
+
+-- the value is no such number
+abbrev pub U32Faults : Data → List ℕ → Fault → Type 0
+U32Faults = FaultsAs as_integer (codes "u32") (IsOutside IsU32 (codes "u32"))
+
 -- what a reader of counts expects
 abbrev pub count_expected : List ℕ
 count_expected = codes "a nonzero usize"
@@ -92,3 +108,7 @@ number_reading IsIn expected = reading_as as_integer expected (MeansNumber IsIn)
 -- the reading of a count
 pub count_reading : IsReading MeansCount CountFaults (λ x y. x ≡ y)
 count_reading = number_reading IsCount count_expected
+
+-- the reading of a number that fits a u32
+pub u32_reading : IsReading MeansU32 U32Faults (λ x y. x ≡ y)
+u32_reading = number_reading IsU32 (codes "u32")

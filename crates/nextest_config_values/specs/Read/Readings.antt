@@ -3,7 +3,7 @@ use Rattle.std.specs.Prelude.{ℕ, List, Option, Some, None}
 use Rattle.std.proofs.Common.{◌≡◌, sym, ap, ◌∙◌, subst, inl, inr, rules}
 use Rattle.toml.specs.Data.{Data, get_member}
 use Rattle.nextest_config_values.specs.Read.Fault.{BrokenRule, Fault, custom, fault_at, path_of}
-use Rattle.nextest_config_values.specs.Read.Field.{FaultsThen, MeansOptional, MeansOr, MeansRequired, MeansThen, OptionalFaults, RequiredFaults, Then}
+use Rattle.nextest_config_values.specs.Read.Field.{FaultsBehind, FaultsThen, MeansOptional, MeansOr, MeansRequired, MeansThen, OptionalFaults, RequiredFaults, RuleFaults, RuleThen, Then}
 use Rattle.nextest_config_values.specs.Read.FromToml.{FaultsKind, IsEquivalence, IsHeldReading, IsReading, MeansKind, MeansNothing, WrongKind, equality}
 
 -- a meaning that says as much, with the same faults
@@ -136,6 +136,45 @@ module _ {D X Y : Type 0} {means : D → X → Type 0} {faults : D → List ℕ 
     one_fault = λ value at. one_then (first.one_fault value at) (first.never_both value at) (first.one_meaning value) (λ x. (behind x).one_fault value at);
     never_both = never_both_then;
   }
+
+-- ---- behind a check
+
+-- a check finds one fault of a value that it doesn't pass, and none of one that it does
+pub record IsCheck {D : Type 0} (Passes : D → Type 0) (faults : D → List ℕ → Fault → Type 0) : Type 0 where
+  pub one_fault : (value : D) (at : List ℕ) (f g : Fault) → faults value at f → faults value at g → f ≡ g
+  pub never_both : (value : D) (at : List ℕ) (f : Fault) → Passes value → faults value at f → ⊥
+
+module _ {D X : Type 0} {Passes : D → Type 0} {checked : D → List ℕ → Fault → Type 0} {means : D → X → Type 0} {faults : D → List ℕ → Fault → Type 0}
+    (check : IsCheck Passes checked) (behind : IsReading means faults (λ x y. x ≡ y)) where
+  one_behind : (value : D) (at : List ℕ) (f g : Fault) → FaultsBehind checked Passes faults value at f → FaultsBehind checked Passes faults value at g → f ≡ g
+  one_behind value at f g (inl a) (inl b) = check.one_fault value at f g a b
+  one_behind value at f g (inl a) (inr b) = absurd (check.never_both value at f b.0 a)
+  one_behind value at f g (inr a) (inl b) = absurd (check.never_both value at g a.0 b)
+  one_behind value at f g (inr a) (inr b) = behind.one_fault value at f g a.1 b.1
+
+  never_both_behind : (value : D) (at : List ℕ) (x : X) (f : Fault) → Passes value × means value x → FaultsBehind checked Passes faults value at f → ⊥
+  never_both_behind value at x f a (inl b) = check.never_both value at f a.0 b
+  never_both_behind value at x f a (inr b) = behind.never_both value at x f a.1 b.1
+
+  -- a check, and what comes behind it
+  pub behind_check : IsReading (λ value x. Passes value × means value x) (FaultsBehind checked Passes faults) (λ x y. x ≡ y)
+  behind_check = record {
+    equivalence = equality;
+    one_meaning = λ value x y a b. behind.one_meaning value x y a.1 b.1;
+    one_fault = one_behind;
+    never_both = never_both_behind;
+  }
+
+rule_check : {D : Type 0} (IsBroken : Type 0) (rule : BrokenRule) → IsCheck {D = D} (λ value. ¬ IsBroken) (RuleFaults IsBroken rule)
+rule_check IsBroken rule = record {
+  one_fault = λ value at f g a b. a.1 ∙ sym b.1;
+  never_both = λ value at f a b. a b.0;
+}
+
+-- a rule, and what comes behind it
+pub rule_then : {D X : Type 0} {means : D → X → Type 0} {faults : D → List ℕ → Fault → Type 0} (IsBroken : Type 0) (rule : BrokenRule) → IsReading means faults (λ x y. x ≡ y)
+    → IsReading (λ value x. ¬ IsBroken × means value x) (RuleThen IsBroken rule faults) (λ x y. x ≡ y)
+rule_then IsBroken rule behind = behind_check (rule_check IsBroken rule) behind
 
 -- ---- behind all keys
 

@@ -2,7 +2,7 @@
 
 ghost use Rattle.std.specs.Prelude.{◌≡◌, ◌↔◌, ◌++◌, IfOk, IsTrue, Some, string_bytes};
 ghost use Rattle.toml.specs.View.{view};
-ghost use Rattle.nextest_config_values.specs.Read.{broken_rule, IsMemory, kind_text, missing, path_of, path_text, RefusesAs, RefusesKind, rule_text, unknown_word, wrong_type, wrong_value};
+ghost use Rattle.nextest_config_values.specs.Read.{broken_rule, IsMemory, kind_text, missing, path_of, path_text, RefusesAs, RefusesKind, rule_text, unknown_key, unknown_word, wrong_type, wrong_value};
 ghost use Rattle.nextest_config_values.specs.declared.read.fault.FaultKind.TheVariants.{Memory};
 
 use super::text::{QuotedText, found_text};
@@ -133,6 +133,16 @@ impl ReadFault {
     {
         match String::from_str(alloc, text) {
             Ok(found) => ReadFault::new(alloc, at, FaultKind::UnknownVariant { found, expected }),
+            Err(AllocError) => ReadFault::memory(alloc),
+        }
+    }
+
+    /// The fault of a table at this path with a key that the setting doesn't know.
+    pub fn unknown_field(alloc: Global, key: &str, at: &str, expected: &'static str) -> ReadFault
+        ensures { RefusesAs (unknown_key key.now at.now expected.now) result }
+    {
+        match String::from_str(alloc, key) {
+            Ok(found) => ReadFault::new(alloc, at, FaultKind::UnknownField { found, expected }),
             Err(AllocError) => ReadFault::memory(alloc),
         }
     }

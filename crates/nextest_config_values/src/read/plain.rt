@@ -2,7 +2,7 @@
 
 ghost use Rattle.std.specs.Prelude.{◌≡◌, ◌≢◌, ◌<◌, ◌↔◌, ℕ, pos, true, false, codes, IsSome, IfSome, MatchOption};
 ghost use Rattle.toml.specs.Data.{as_bool, as_integer, as_str};
-ghost use Rattle.nextest_config_values.specs.Read.{bool_reading, count_reading, CountFaults, FaultsAs, HasNoFault, IsCount, IsOutside, IsU32, MeansAs, MeansCount, MeansNumber, MeansText, MeansTruth, number_reading, SameText, string_reading, text_expected};
+ghost use Rattle.nextest_config_values.specs.Read.{bool_reading, BooleanFaults, count_reading, CountFaults, FaultsAs, HasNoFault, IsCount, IsOutside, IsU32, MeansAs, MeansBoolean, MeansCount, MeansNumber, MeansText, MeansTruth, MeansU32, number_reading, SameText, string_reading, text_expected, u32_reading, U32Faults};
 
 use super::fault::ReadFault;
 use super::from_toml::FromToml;
@@ -11,9 +11,9 @@ use std::marker::Model;
 use toml::Value;
 
 impl FromToml for bool {
-    ghost means = { MeansAs as_bool MeansTruth };
+    ghost means = { MeansBoolean };
 
-    ghost faults = { FaultsAs as_bool (codes "a boolean") HasNoFault };
+    ghost faults = { BooleanFaults };
 
     ghost needs_memory = { false };
 
@@ -30,15 +30,15 @@ impl FromToml for bool {
 }
 
 impl FromToml for u32 {
-    ghost means = { MeansAs as_integer (MeansNumber IsU32) };
+    ghost means = { MeansU32 };
 
-    ghost faults = { FaultsAs as_integer (codes "u32") (IsOutside IsU32 (codes "u32")) };
+    ghost faults = { U32Faults };
 
     ghost needs_memory = { false };
 
     ghost alike = { ◌≡◌ };
 
-    ghost laws = { number_reading IsU32 (codes "u32") };
+    ghost laws = { u32_reading };
 
     fn read(alloc: Global, value: &Value, at: &str) -> Result<Self, ReadFault> {
         match value.as_integer() {
