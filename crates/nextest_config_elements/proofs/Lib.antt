@@ -2,4 +2,6 @@ pub mod FailFast
 pub mod Limits
 pub mod Numbers
 pub mod Printed
+pub mod RetryPolicies
 pub mod Texts
+pub mod UnknownKeys

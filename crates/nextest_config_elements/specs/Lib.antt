@@ -3,5 +3,7 @@ pub mod GlobalTimeout
 pub mod LeakTimeout
 pub mod MaxFail
 pub mod Priority
+pub mod RetryPolicy
 pub mod SlowTimeout
 pub mod ThreadsRequired
+pub mod UnknownKeys

@@ -1,8 +1,294 @@
 //! Retries.
 
-ghost use Rattle.std.specs.Prelude.{◌≡◌, [], ◌∷◌, codes, refl};
+ghost use Rattle.std.specs.Prelude.{◌≡◌, ◌↔◌, [], ◌∷◌, codes, refl, false, IfOk, IfErr, IsTrue, OnOk, option_map};
+ghost use Rattle.std.specs.Duration.{as_nanos};
+ghost use Rattle.toml.specs.Data.{integer};
+ghost use Rattle.toml.specs.View.{table_view, view};
+ghost use Rattle.nextest_config_values.specs.Read.{broken_rule, custom, fault_at, Refuses, RefusesAs, RefusesOne, WantsMemory, words_text};
+ghost use Rattle.nextest_config_elements.specs.RetryPolicy.{backoff_key, backoff_reads_back, backoff_word, BackoffFaults, backoffs_in_order, count_of, ExponentialRuleFaults, HasKeysOf, KeepsExponentialRules, keys_beside, MeansBackoff, MeansRetryNumber, MeansRetryPolicySetting, MeansRetryTable, OtherKeyFaults, retry_policy_of, RetryNumberFaults, RetryPolicyFaults, RetryTableFaults, without_delay};
+ghost use Rattle.nextest_config_elements.specs.UnknownKeys.{IsOneOf};
 
-use nextest_config_values::read::Word;
+use nextest_config_values::read::{
+    FaultKind, FromToml, ReadFault, Rule, Word, field_or, optional_field, required_field,
+};
+use std::alloc::Global;
+use std::time::Duration;
+use toml::{Table, Value};
+
+const EXPECTED: &str = "a table ({ backoff = \"fixed\", count = 5 }) or a number (5)";
+
+const BACKOFF_KEY: &str = "backoff";
+
+const COUNT_KEY: &str = "count";
+
+const DELAY_KEY: &str = "delay";
+
+const JITTER_KEY: &str = "jitter";
+
+const MAX_DELAY_KEY: &str = "max-delay";
+
+/// How often a failed test is tried again, and how long it waits between tries.
+#[derive(Clone, Copy, Debug, PartialEq, Eq)]
+pub enum RetryPolicy {
+    /// The same delay between all tries.
+    Fixed {
+        /// How often the test is tried again.
+        count: u32,
+        /// The time between tries.
+        delay: Duration,
+        /// Whether the delay is varied at random.
+        jitter: bool,
+    },
+    /// A delay that doubles from try to try.
+    Exponential {
+        /// How often the test is tried again.
+        count: u32,
+        /// The time before the first retry.
+        delay: Duration,
+        /// Whether the delay is varied at random.
+        jitter: bool,
+        /// The longest delay; none, and it grows on.
+        max_delay: Option<Duration>,
+    },
+}
+
+impl Default for RetryPolicy {
+    ghost is_default = { λ policy. retry_policy_of policy ≡ without_delay 0 };
+
+    fn default() -> RetryPolicy {
+        RetryPolicy::new_without_delay(0)
+    }
+}
+
+impl RetryPolicy {
+    /// So many tries, one right after the other.
+    pub fn new_without_delay(count: u32) -> Self
+        ensures { retry_policy_of result ≡ without_delay count }
+    {
+        RetryPolicy::Fixed {
+            count,
+            delay: Duration::ZERO,
+            jitter: false,
+        }
+    }
+
+    /// How often a test is tried again.
+    pub fn count(&self) -> u32
+        ensures { result ≡ count_of (retry_policy_of self.now) }
+    {
+        match self {
+            RetryPolicy::Fixed { count, .. } | RetryPolicy::Exponential { count, .. } => *count,
+        }
+    }
+}
+
+/// Reads the value of `retries`: a number of tries, or a table.
+pub fn deserialize_retry_policy(
+    alloc: Global,
+    value: &Value,
+    at: &str,
+) -> Result<Option<RetryPolicy>, ReadFault>
+    ensures meant { IfOk result (MeansRetryPolicySetting (view value.now)) }
+    ensures refused { IfErr result (Refuses (RetryPolicyFaults (view value.now) at.now)
+        (WantsMemory (MeansRetryPolicySetting (view value.now)) false)) }
+{
+    if let Some(number) = value.as_integer() {
+        let policy = read_number(alloc, value, number, at)?;
+        return Ok(Some(policy));
+    }
+    match value.as_table() {
+        Some(table) => {
+            let policy = read_table(alloc, table, at)?;
+            Ok(Some(policy))
+        }
+        None => Err(ReadFault::invalid_type(alloc, value, at, EXPECTED)),
+    }
+}
+
+// The policy that an integer means.
+fn read_number(
+    alloc: Global,
+    value: &Value,
+    number: i64,
+    at: &str,
+) -> Result<RetryPolicy, ReadFault>
+    requires { view value.now ≡ integer number }
+    ensures meant { IfOk result (λ policy. MeansRetryNumber number (retry_policy_of policy)) }
+    ensures refused { IfErr result (Refuses (RetryNumberFaults number at.now)
+        (WantsMemory (λ policy. MeansRetryNumber number (retry_policy_of policy)) false)) }
+{
+    if number < 0 {
+        return Err(ReadFault::invalid_value(alloc, value, at, EXPECTED));
+    }
+    match u32::try_from(number) {
+        Ok(count) => Ok(RetryPolicy::new_without_delay(count)),
+        Err(_) => Err(ReadFault::invalid_value(alloc, value, at, "a u32")),
+    }
+}
+
+// The policy that a table means.
+fn read_table(alloc: Global, table: &Table, at: &str) -> Result<RetryPolicy, ReadFault>
+    ensures meant { IfOk result (λ policy. MeansRetryTable (table_view table.now) (retry_policy_of policy)) }
+    ensures refused { IfErr result (Refuses (RetryTableFaults (table_view table.now) at.now)
+        (WantsMemory (λ policy. MeansRetryTable (table_view table.now) (retry_policy_of policy)) false)) }
+{
+    let backoff: Backoff = required_field(alloc, table, BACKOFF_KEY, at)?;
+    match backoff {
+        Backoff::Fixed => read_fixed(alloc, table, at),
+        Backoff::Exponential => read_exponential(alloc, table, at),
+    }
+}
+
+// The policy that a table with a fixed backoff means.
+fn read_fixed(alloc: Global, table: &Table, at: &str) -> Result<RetryPolicy, ReadFault>
+    ensures meant { IfOk result (λ policy.
+        MeansBackoff Backoff.Fixed (table_view table.now) (retry_policy_of policy)) }
+    ensures refused { IfErr result (Refuses (BackoffFaults Backoff.Fixed (table_view table.now) at.now)
+        (WantsMemory (λ policy.
+        MeansBackoff Backoff.Fixed (table_view table.now) (retry_policy_of policy)) false)) }
+{
+    let count = required_field(alloc, table, COUNT_KEY, at)?;
+    let delay = field_or(alloc, table, DELAY_KEY, at, Duration::ZERO)?;
+    let jitter = field_or(alloc, table, JITTER_KEY, at, false)?;
+    Backoff::Fixed.check_keys(alloc, table, at)?;
+    if jitter && delay.is_zero() {
+        return Err(broken(alloc, at, Rule::JitterWithoutDelay));
+    }
+    Ok(RetryPolicy::Fixed {
+        count,
+        delay,
+        jitter,
+    })
+}
+
+// The policy that a table with an exponential backoff means.
+fn read_exponential(alloc: Global, table: &Table, at: &str) -> Result<RetryPolicy, ReadFault>
+    ensures meant { IfOk result (λ policy.
+        MeansBackoff Backoff.Exponential (table_view table.now) (retry_policy_of policy)) }
+    ensures refused { IfErr result (Refuses (BackoffFaults Backoff.Exponential (table_view table.now) at.now)
+        (WantsMemory (λ policy.
+        MeansBackoff Backoff.Exponential (table_view table.now) (retry_policy_of policy)) false)) }
+{
+    let count = required_field(alloc, table, COUNT_KEY, at)?;
+    let delay: Duration = required_field(alloc, table, DELAY_KEY, at)?;
+    let jitter = field_or(alloc, table, JITTER_KEY, at, false)?;
+    let max_delay: Option<Duration> = optional_field(alloc, table, MAX_DELAY_KEY, at)?;
+    Backoff::Exponential.check_keys(alloc, table, at)?;
+    check_exponential(alloc, count, delay, max_delay, at)?;
+    Ok(RetryPolicy::Exponential {
+        count,
+        delay,
+        jitter,
+        max_delay,
+    })
+}
+
+// Refuses the first rule that an exponential backoff breaks.
+fn check_exponential(
+    alloc: Global,
+    count: u32,
+    delay: Duration,
+    max_delay: Option<Duration>,
+    at: &str,
+) -> Result<(), ReadFault>
+    ensures kept { OnOk result
+        (KeepsExponentialRules count (as_nanos delay) (option_map as_nanos max_delay)) }
+    ensures refused { IfErr result (RefusesOne
+        (ExponentialRuleFaults count (as_nanos delay) (option_map as_nanos max_delay) (tt {0}) at.now)) }
+{
+    if count == 0 {
+        return Err(broken(alloc, at, Rule::CountZero));
+    }
+    if delay.is_zero() {
+        return Err(broken(alloc, at, Rule::DelayZero));
+    }
+    let Some(max_delay) = max_delay else {
+        return Ok(());
+    };
+    if max_delay.is_zero() {
+        return Err(broken(alloc, at, Rule::MaxDelayZero));
+    }
+    if max_delay.as_nanos() < delay.as_nanos() {
+        return Err(broken(alloc, at, Rule::MaxDelayBelowDelay));
+    }
+    Ok(())
+}
+
+// The fault of a table that breaks a rule.
+fn broken(alloc: Global, at: &str, rule: Rule) -> ReadFault
+    ensures { RefusesAs (fault_at at.now (custom (broken_rule rule))) result }
+{
+    ReadFault::new(alloc, at, FaultKind::Custom(rule))
+}
+
+// How the delay between tries grows.
+#[derive(Clone, Copy, Debug, PartialEq, Eq)]
+enum Backoff {
+    // It doesn't.
+    Fixed,
+    // It doubles from try to try.
+    Exponential,
+}
+
+impl Word for Backoff {
+    ghost all = { backoffs_in_order };
+
+    ghost word = { backoff_word };
+
+    ghost reads_back = { backoff_reads_back };
+
+    fn all() -> &'static [Self] {
+        &[Backoff::Fixed, Backoff::Exponential]
+    }
+
+    fn as_word(self) -> &'static str {
+        match self {
+            Backoff::Fixed => "fixed",
+            Backoff::Exponential => "exponential",
+        }
+    }
+
+    fn expected() -> &'static str {
+        "`fixed` or `exponential`"
+    }
+}
+
+impl Backoff {
+    // Refuses the first key, in byte order, that doesn't belong to this backoff.
+    fn check_keys(self, alloc: Global, table: &Table, at: &str) -> Result<(), ReadFault>
+        ensures kept { OnOk result (HasKeysOf self (table_view table.now)) }
+        ensures refused { IfErr result
+            (RefusesOne (OtherKeyFaults self (table_view table.now) at.now)) }
+    {
+        for key in table.keys() {
+            if !self.has_key(key.as_str()) {
+                return Err(ReadFault::unknown_field(alloc, key.as_str(), at, self.keys()));
+            }
+        }
+        Ok(())
+    }
+
+    // Whether the key belongs to this backoff.
+    fn has_key(self, key: &str) -> bool
+        ensures { IsTrue result ↔ IsOneOf (backoff_key ∷ keys_beside self) key.now }
+    {
+        match key {
+            BACKOFF_KEY | COUNT_KEY | DELAY_KEY | JITTER_KEY => true,
+            MAX_DELAY_KEY => self == Backoff::Exponential,
+            _ => false,
+        }
+    }
+
+    // The keys beside `backoff`, as a refusal lists them.
+    fn keys(self) -> &'static str
+        ensures { result.now ≡ words_text (keys_beside self) }
+    {
+        match self {
+            Backoff::Fixed => "one of `count`, `delay`, `jitter`",
+            Backoff::Exponential => "one of `count`, `delay`, `jitter`, `max-delay`",
+        }
+    }
+}
 
 /// Whether a flaky test, one that passes on a later attempt, fails or passes.
 #[derive(Clone, Copy, Debug, PartialEq, Eq)]

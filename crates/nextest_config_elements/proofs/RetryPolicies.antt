@@ -1,0 +1,61 @@
+-- The parts of a policy, and refusals of tables.
+use Rattle.std.proofs.Common.{◌≡◌, ℕ, Bool, false, inr, List, Option, Some, None, option_map, subst, sym}
+use Rattle.std.specs.Prelude.{IsTrue}
+use Rattle.std.specs.Duration.{as_nanos}
+use Rattle.std.specs.declared.time.Duration.{Duration}
+use Rattle.toml.specs.Data.{as_table, Data, Members, table as data_table}
+use Rattle.nextest_config_values.proofs.Faults.{refused_mapped}
+use Rattle.nextest_config_values.specs.Read.Fault.{Fault}
+use Rattle.nextest_config_values.specs.Read.{IsReading, MeansWordText, Refuses, required_reading, RequiredKey, WantsMemory, word_reading, WordTextFaults}
+use Rattle.nextest_config_values.specs.declared.read.fault.ReadFault.{ReadFault}
+use Rattle.nextest_config_elements.specs.RetryPolicy.{backoff_key, backoff_reads_back, backoff_word, BackoffFaults, backoffs_in_order, ExponentialPolicy, FixedPolicy, MeansBackoff, MeansExponential, MeansFixed, MeansRetryPolicySetting, MeansRetryTable, retry_policy_of, RetryPolicyFaults, RetryTableFaults}
+use Rattle.nextest_config_elements.specs.declared.retry_policy.Backoff.{Backoff}
+use Rattle.nextest_config_elements.specs.declared.retry_policy.Backoff.TheVariants as backoffs
+use Rattle.nextest_config_elements.specs.declared.retry_policy.RetryPolicy.{RetryPolicy}
+use Rattle.nextest_config_elements.specs.declared.retry_policy.RetryPolicy.TheVariants as policies
+
+pub fixed_parts : (table : Members) (policy : RetryPolicy) → MeansBackoff backoffs.Fixed table (retry_policy_of policy)
+    → (count : ℕ) × (delay : Duration) × (jitter : Bool) × MeansFixed table (record { count = count; delay = as_nanos delay; jitter = jitter })
+fixed_parts table (policies.Fixed count delay jitter) (meant, means, same) =
+    let parts : FixedPolicy = record { count = count; delay = as_nanos delay; jitter = jitter } in
+    let said : meant ≡ parts = cc same in
+    (count, delay, jitter, subst (MeansFixed table) said means)
+fixed_parts table (policies.Exponential count delay jitter max_delay) (meant, means, same) = cc same
+
+pub exponential_parts : (table : Members) (policy : RetryPolicy) → MeansBackoff backoffs.Exponential table (retry_policy_of policy)
+    → (count : ℕ) × (delay : Duration) × (jitter : Bool) × (max_delay : Option Duration) × MeansExponential table (record { count = count; delay = as_nanos delay; jitter = jitter; max_delay = option_map as_nanos max_delay })
+exponential_parts table (policies.Fixed count delay jitter) (meant, means, same) = cc same
+exponential_parts table (policies.Exponential count delay jitter max_delay) (meant, means, same) =
+    let parts : ExponentialPolicy = record { count = count; delay = as_nanos delay; jitter = jitter; max_delay = option_map as_nanos max_delay } in
+    let said : meant ≡ parts = cc same in
+    (count, delay, jitter, max_delay, subst (MeansExponential table) said means)
+
+-- a table has one backoff
+one_backoff : (table : Members) (a b : Backoff) → RequiredKey backoff_key (MeansWordText backoff_word) table a → RequiredKey backoff_key (MeansWordText backoff_word) table b → a ≡ b
+one_backoff =
+    let word : IsReading (MeansWordText backoff_word) (WordTextFaults backoff_word backoffs_in_order) (λ a b. a ≡ b) = word_reading backoffs_in_order backoff_word backoff_reads_back in
+    (required_reading word backoff_key).one_meaning
+
+-- a refusal behind a table's backoff is one of the table
+pub refuses_backoff : (table : Members) (at : List ℕ) (backoff : Backoff) (fault : ReadFault) → RequiredKey backoff_key (MeansWordText backoff_word) table backoff
+    → Refuses (BackoffFaults backoff table at) (WantsMemory (λ policy. MeansBackoff backoff table (retry_policy_of policy)) false) fault
+    → Refuses (RetryTableFaults table at) (WantsMemory (λ policy. MeansRetryTable table (retry_policy_of policy)) false) fault
+refuses_backoff table at backoff fault of_backoff refused = refused_mapped fault refused
+    (λ wanted policy meant. wanted policy (subst (λ (b : Backoff). MeansBackoff b table (retry_policy_of policy)) (one_backoff table meant.0 backoff meant.1 of_backoff) meant.2))
+    (λ f faulty. inr (backoff, of_backoff, faulty))
+
+-- ---- a table as the value of the setting
+
+table_value : (value : Data) (members : Members) → Some members ≡ as_table value → value ≡ data_table members
+table_value (data_table held) these is_table = cc is_table
+table_value _ these is_table = cc is_table
+
+wants_at : (table : Members) → WantsMemory (λ policy. MeansRetryTable table (retry_policy_of policy)) false → (policy : Option RetryPolicy) → MeansRetryPolicySetting (data_table table) policy → IsTrue false
+wants_at table wanted None meant = absurd meant
+wants_at table wanted (Some policy) meant = wanted policy meant
+
+pub table_wants : (value : Data) (table : Members) → Some table ≡ as_table value → WantsMemory (λ policy. MeansRetryTable table (retry_policy_of policy)) false → WantsMemory (MeansRetryPolicySetting value) false
+table_wants value table is_table wanted = subst (λ (v : Data). WantsMemory (MeansRetryPolicySetting v) false) (sym (table_value value table is_table)) (wants_at table wanted)
+
+pub table_faults : (value : Data) (table : Members) (at : List ℕ) (f : Fault) → Some table ≡ as_table value → RetryTableFaults table at f → RetryPolicyFaults value at f
+table_faults value table at f is_table faulty = subst (λ (v : Data). RetryPolicyFaults v at f) (sym (table_value value table is_table)) faulty

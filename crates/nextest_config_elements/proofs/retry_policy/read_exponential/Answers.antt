@@ -1,0 +1,89 @@
+use Rattle.std.proofs.Common.{false, inl, inr}
+use Rattle.std.specs.Duration.{as_nanos}
+use Rattle.toml.specs.Data.{get_member}
+use Rattle.toml.specs.View.{table_view}
+use Rattle.nextest_config_values.proofs.Keys.{optional_wants, or_wants, passed_on, required_wants, seen_optional, seen_required}
+use Rattle.nextest_config_values.specs.Duration.{MeansDuration}
+use Rattle.nextest_config_values.specs.Read.Fault.{Fault}
+use Rattle.nextest_config_values.specs.Read.{MeansBoolean, MeansU32}
+use Rattle.std.proofs.Common.{option_map}
+use Rattle.nextest_config_elements.proofs.RetryPolicies.{exponential_parts}
+use Rattle.nextest_config_elements.specs.RetryPolicy.{backoff_reading, count_key, delay_key, ExponentialFaults, ExponentialRuleFaults, jitter_key, max_delay_key, OtherKeyFaults, retry_policy_of}
+use Rattle.nextest_config_elements.specs.declared.retry_policy.Backoff.TheVariants as backoffs
+use Rattle.nextest_config_elements.proofs.retry_policy.read_exponential.Goals as goal
+
+pub returns-in_err-count-clause-refused : goal.returns-in_err-count-clause-refused
+returns-in_err-count-clause-refused c =
+    let members = table_view c.args.table.now in
+    passed_on c.from_residual.result c.in_err-count.field-0.0 c.from_residual.ensures.1 c.in_err-count.ensures.refused
+    (λ wanted policy meant. let parts = exponential_parts members policy meant in required_wants MeansU32 (λ x. x) (get_member count_key members) false wanted parts.0 parts.4.of_count)
+    (λ f faulty. inl faulty)
+
+pub returns-in_err-delay-clause-refused : goal.returns-in_err-delay-clause-refused
+returns-in_err-delay-clause-refused c =
+    let members = table_view c.args.table.now in
+    passed_on c.from_residual-in_err-delay.result c.in_err-delay.field-0.0 c.from_residual-in_err-delay.ensures.1 c.in_err-delay.ensures.refused
+    (λ wanted policy meant. let parts = exponential_parts members policy meant in required_wants MeansDuration as_nanos (get_member delay_key members) false wanted parts.1 parts.4.of_delay)
+    (λ f faulty. inr (c.in_ok-count.count, c.in_ok-count.ensures.meant, inl faulty))
+
+pub returns-in_err-jitter-clause-refused : goal.returns-in_err-jitter-clause-refused
+returns-in_err-jitter-clause-refused c =
+    let members = table_view c.args.table.now in
+    let delay = seen_required MeansDuration as_nanos (get_member delay_key members) c.in_ok-delay.delay c.in_ok-delay.ensures.meant in
+    passed_on c.from_residual-in_err-jitter.result c.in_err-jitter.field-0.0 c.from_residual-in_err-jitter.ensures.1 c.in_err-jitter.ensures.refused
+    (λ wanted policy meant. let parts = exponential_parts members policy meant in or_wants MeansBoolean (λ x. x) false (get_member jitter_key members) false wanted parts.2 parts.4.of_jitter)
+    (λ f faulty. inr (c.in_ok-count.count, c.in_ok-count.ensures.meant, inr (as_nanos c.in_ok-delay.delay, delay, inl faulty)))
+
+pub returns-in_err-max_delay-clause-refused : goal.returns-in_err-max_delay-clause-refused
+returns-in_err-max_delay-clause-refused c =
+    let members = table_view c.args.table.now in
+    let delay = seen_required MeansDuration as_nanos (get_member delay_key members) c.in_ok-delay.delay c.in_ok-delay.ensures.meant in
+    passed_on c.from_residual-in_err-max_delay.result c.in_err-max_delay.field-0.0 c.from_residual-in_err-max_delay.ensures.1 c.in_err-max_delay.ensures.refused
+    (λ wanted policy meant. let parts = exponential_parts members policy meant in optional_wants MeansDuration as_nanos (get_member max_delay_key members) false wanted parts.3 parts.4.of_max_delay)
+    (λ f faulty. inr (c.in_ok-count.count, c.in_ok-count.ensures.meant, inr (as_nanos c.in_ok-delay.delay, delay, inr (c.in_ok-jitter.jitter, c.in_ok-jitter.ensures.meant, inl faulty))))
+
+pub returns-in_err-check_keys-clause-refused : goal.returns-in_err-check_keys-clause-refused
+returns-in_err-check_keys-clause-refused c =
+    let members = table_view c.args.table.now in
+    let at = c.args.at.now in
+    let delay = seen_required MeansDuration as_nanos (get_member delay_key members) c.in_ok-delay.delay c.in_ok-delay.ensures.meant in
+    let max_delay = seen_optional MeansDuration as_nanos (get_member max_delay_key members) c.in_ok-max_delay.max_delay c.in_ok-max_delay.ensures.meant in
+    let step : (f : Fault) → OtherKeyFaults backoffs.Exponential members at f → ExponentialFaults members at f =
+    λ f faulty. inr (
+      c.in_ok-count.count,
+      c.in_ok-count.ensures.meant,
+      inr (
+        as_nanos c.in_ok-delay.delay,
+        delay,
+        inr (
+          c.in_ok-jitter.jitter,
+          c.in_ok-jitter.ensures.meant,
+          inr (option_map as_nanos c.in_ok-max_delay.max_delay, max_delay, inl faulty),
+        ),
+      ),
+    ) in
+    passed_on c.from_residual-in_err-check_keys.result c.in_err-check_keys.field-0.0 c.from_residual-in_err-check_keys.ensures.1 c.in_err-check_keys.ensures.refused
+    (λ one policy meant. absurd ((backoff_reading backoffs.Exponential).never_both members at (retry_policy_of policy) one.0 meant (step one.0 one.1))) step
+
+pub returns-in_err-check_exponential-clause-refused : goal.returns-in_err-check_exponential-clause-refused
+returns-in_err-check_exponential-clause-refused c =
+    let members = table_view c.args.table.now in
+    let at = c.args.at.now in
+    let delay = seen_required MeansDuration as_nanos (get_member delay_key members) c.in_ok-delay.delay c.in_ok-delay.ensures.meant in
+    let max_delay = seen_optional MeansDuration as_nanos (get_member max_delay_key members) c.in_ok-max_delay.max_delay c.in_ok-max_delay.ensures.meant in
+    let step : (f : Fault) → ExponentialRuleFaults c.in_ok-count.count (as_nanos c.in_ok-delay.delay) (option_map as_nanos c.in_ok-max_delay.max_delay) members at f → ExponentialFaults members at f =
+    λ f faulty. inr (
+      c.in_ok-count.count,
+      c.in_ok-count.ensures.meant,
+      inr (
+        as_nanos c.in_ok-delay.delay,
+        delay,
+        inr (
+          c.in_ok-jitter.jitter,
+          c.in_ok-jitter.ensures.meant,
+          inr (option_map as_nanos c.in_ok-max_delay.max_delay, max_delay, inr (c.in_ok-check_keys.ensures.kept, faulty)),
+        ),
+      ),
+    ) in
+    passed_on c.from_residual-in_err-check_exponential.result c.in_err-check_exponential.field-0.0 c.from_residual-in_err-check_exponential.ensures.1 c.in_err-check_exponential.ensures.refused
+    (λ one policy meant. absurd ((backoff_reading backoffs.Exponential).never_both members at (retry_policy_of policy) one.0 meant (step one.0 one.1))) step
