@@ -1,6 +1,6 @@
 //! Tool arguments.
 
-use crate::rows::{Subject, Told, answered, check, check_at_sizes, named, shown, unescaped};
+use crate::rows::{Escaped, Subject, Told, answered, check, done, shown, written};
 use nextest_config_values::tool_config::{ToolConfigFile, ToolConfigFileParseError};
 use std::alloc::Global;
 use std::test::Fail;
@@ -27,9 +27,8 @@ printed | a | tool configuration file isn't of the form NAME:PATH: a
 printed | a: | tool configuration file without a path: a:
 printed | a:b | tool configuration file isn't an absolute path: b
 printed | :/b | tool configuration file without a valid tool name: :/b: tool name is empty
-"#;
 
-const LONG: &str = r#"
+# at every size
 argument | a«-»:/«x» | a«-» /«x»
 argument | a:b«:» | ConfigFileNotAbsolute b«:»
 argument | a«-» | InvalidFormat a«-»
@@ -41,14 +40,13 @@ struct Arguments;
 
 impl Subject for Arguments {
     fn answer(alloc: Global, call: &str, input: &str) -> Result<String, Fail> {
-        let text = unescaped(alloc, input)?;
-        answered(alloc, call, ToolConfigFile::from_str(alloc, text.as_str()))
+        answered(alloc, call, ToolConfigFile::from_str(alloc, input))
     }
 }
 
 impl Told for ToolConfigFile {
     fn told(&self, alloc: Global, _call: &str) -> Result<String, Fail> {
-        named(alloc, self.tool.as_str(), self.config_file.as_str())
+        done(format!(in alloc; "{} {}", self.tool, self.config_file))
     }
 }
 
@@ -56,7 +54,7 @@ impl Told for ToolConfigFileParseError {
     fn told(&self, alloc: Global, call: &str) -> Result<String, Fail> {
         match call {
             "argument" => refusal(alloc, self),
-            "refusal" => Ok(format!(in alloc; "{self:?}")?),
+            "refusal" => written(alloc, self),
             _ => shown(alloc, self),
         }
     }
@@ -65,27 +63,22 @@ impl Told for ToolConfigFileParseError {
 fn refusal(alloc: Global, error: &ToolConfigFileParseError) -> Result<String, Fail> {
     match error {
         ToolConfigFileParseError::InvalidFormat { input } => {
-            named(alloc, "InvalidFormat", input.as_str())
+            done(format!(in alloc; "InvalidFormat {input}"))
         }
         ToolConfigFileParseError::InvalidToolName { input, error } => {
-            Ok(format!(in alloc; "InvalidToolName {input}: {error}")?)
+            done(format!(in alloc; "InvalidToolName {input}: {error}"))
         }
         ToolConfigFileParseError::EmptyConfigFile { input } => {
-            named(alloc, "EmptyConfigFile", input.as_str())
+            done(format!(in alloc; "EmptyConfigFile {input}"))
         }
         ToolConfigFileParseError::ConfigFileNotAbsolute { config_file } => {
-            named(alloc, "ConfigFileNotAbsolute", config_file.as_str())
+            done(format!(in alloc; "ConfigFileNotAbsolute {config_file}"))
         }
-        ToolConfigFileParseError::Memory => named(alloc, "Memory", ""),
+        ToolConfigFileParseError::Memory => shown(alloc, error),
     }
 }
 
 #[test]
 fn arguments_are_cut_at_their_first_colon(rt: HostRuntime) -> Result<(), Fail> {
-    check::<Arguments>(&rt, ROWS)
-}
-
-#[test]
-fn arguments_of_any_length_are_cut(rt: HostRuntime) -> Result<(), Fail> {
-    check_at_sizes::<Arguments>(&rt, LONG)
+    check::<Escaped<Arguments>>(&rt, ROWS)
 }

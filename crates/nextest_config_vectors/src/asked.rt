@@ -1,16 +1,15 @@
 //! What sources ask together, and what a current version is told.
 
 use crate::features::{joined, words};
-use crate::rows::{Subject, Told, answered, cut, no_such_call, shown, tell};
+use crate::rows::{Subject, Told, answered, done, no_such_call, shown, tell, written};
 use crate::sources::listed;
-use crate::values::{FromRow, word};
+use crate::values::{FromRow, both, word};
 use nextest_config::nextest_version::{
     ConfigParseError, ConfigSource, ExperimentalConfig, ListRefusal, NextestVersionConfig,
-    NextestVersionDeserialize, NextestVersionEval, NextestVersionReq, RepositoryText, SourceText,
-    ToolText, VersionOnlyConfig,
+    NextestVersionEval, NextestVersionReq, RepositoryText, SourceText, ToolText, VersionOnlyConfig,
 };
 use semver::Version;
-use std::alloc::Global;
+use std::alloc::{AllocError, Global};
 use std::collections::BTreeSet;
 use std::test::Fail;
 
@@ -54,10 +53,8 @@ impl Subject for Asks {
 }
 
 fn take_in(alloc: Global, config: &mut NextestVersionConfig, ask: &str) -> Result<(), Fail> {
-    let (source, versions) = cut(ask, " => ")?;
-    let source = ConfigSource::from_row(alloc, source)?;
-    let versions = NextestVersionDeserialize::from_row(alloc, versions)?;
-    Ok(config.accumulate(alloc, versions, &source)?)
+    let (source, versions): (ConfigSource, _) = both(alloc, ask, " => ")?;
+    done(config.accumulate(alloc, versions, &source))
 }
 
 impl Told for ListRefusal {
@@ -74,10 +71,10 @@ impl Told for ListRefusal {
 impl Told for ConfigParseError {
     fn told(&self, alloc: Global, call: &str) -> Result<String, Fail> {
         match self.source() {
-            Some(source) if call == "error" => Ok(format!(in alloc;
+            Some(source) if call == "error" => done(format!(in alloc;
                 "{:?}, {source}",
                 self.kind()
-            )?),
+            )),
             _ => shown(alloc, self),
         }
     }
@@ -94,43 +91,64 @@ impl Told for VersionOnlyConfig {
 
 // The known features, and each source with its unknown ones.
 fn features(alloc: Global, experimental: &ExperimentalConfig) -> Result<String, Fail> {
-    let mut line = String::from_str(alloc, "known")?;
-    line.push_str(words(alloc, experimental.known())?.as_str())?;
+    let known = words(alloc, experimental.known())?;
+    let unknown = unknown(alloc, experimental)?;
+    done(format!(in alloc; "known{known}{unknown}"))
+}
+
+fn unknown(alloc: Global, experimental: &ExperimentalConfig) -> Result<String, Fail> {
+    let mut line = String::new(alloc);
     for (source, names) in experimental.source_errors() {
-        line.push_str(entry(alloc, source, names)?.as_str())?;
+        push_entry(alloc, &mut line, source, names)?;
     }
     Ok(line)
 }
 
-fn entry(alloc: Global, source: &ConfigSource, names: &BTreeSet<String>) -> Result<String, Fail> {
+fn push_entry(
+    alloc: Global,
+    line: &mut String,
+    source: &ConfigSource,
+    names: &BTreeSet<String>,
+) -> Result<(), Fail> {
     let names = joined(alloc, names)?;
-    Ok(format!(in alloc; "; {source}:{names}")?)
+    let entry = format!(in alloc; "; {source}:{names}")?;
+    done(line.push_str(entry.as_str()))
 }
 
 // The versions that are kept, or what they tell a current version.
 impl Told for NextestVersionConfig {
     fn told(&self, alloc: Global, call: &str) -> Result<String, Fail> {
         if call == "versions" {
-            let required = kept(alloc, &self.required)?;
-            let recommended = kept(alloc, &self.recommended)?;
-            return Ok(format!(in alloc; "{required}, {recommended}")?);
+            return versions(alloc, self);
         }
         let (current, flag) = word(call);
         let current = Version::parse(alloc, current)?;
-        tell(
+        answered(
             alloc,
             call,
-            self.eval(alloc, &current, flag == "--override")?,
+            self.eval(alloc, &current, flag == "--override"),
         )
+    }
+}
+
+fn versions(alloc: Global, config: &NextestVersionConfig) -> Result<String, Fail> {
+    let required = kept(alloc, &config.required)?;
+    let recommended = kept(alloc, &config.recommended)?;
+    done(format!(in alloc; "{required}, {recommended}"))
+}
+
+impl Told for AllocError {
+    fn told(&self, alloc: Global, _call: &str) -> Result<String, Fail> {
+        written(alloc, self)
     }
 }
 
 fn kept(alloc: Global, req: &NextestVersionReq) -> Result<String, Fail> {
     match (req.version(), req) {
         (Some(version), NextestVersionReq::Version { version: _, source }) => {
-            Ok(format!(in alloc; "{version} from {source}")?)
+            done(format!(in alloc; "{version} from {source}"))
         }
-        (None, NextestVersionReq::None) => Ok(String::from_str(alloc, "none")?),
+        (None, NextestVersionReq::None) => done(String::from_str(alloc, "none")),
         _ => no_such_call(),
     }
 }
@@ -140,7 +158,7 @@ impl Told for NextestVersionEval {
     fn told(&self, alloc: Global, _call: &str) -> Result<String, Fail> {
         let severity = self.severity();
         let (mark, asked, current, source) = match self {
-            NextestVersionEval::Satisfied => return Ok(format!(in alloc; "{severity:?}")?),
+            NextestVersionEval::Satisfied => return written(alloc, &severity),
             NextestVersionEval::Error {
                 required,
                 current,
@@ -162,6 +180,6 @@ impl Told for NextestVersionEval {
                 source,
             } => ("overridden ", recommended, current, source),
         };
-        Ok(format!(in alloc; "{mark}{severity:?}: {asked}, {source}, {current}")?)
+        done(format!(in alloc; "{mark}{severity:?}: {asked}, {source}, {current}"))
     }
 }

@@ -1,7 +1,7 @@
 //! Values beside one another: equality, copies, order and hashes.
 
-use crate::rows::{Subject, cut, no_such_call};
-use crate::values::FromRow;
+use crate::rows::{Subject, done, no_such_call, written};
+use crate::values::{FromRow, both};
 use nextest_config::nextest_version::{
     ConfigExperimental, ConfigParseError, ConfigParseErrorKind, ConfigSource, ConfigSourceKind,
     ExperimentalConfig, ExperimentalDeserialize, ListRefusal, NextestVersionConfig,
@@ -65,10 +65,7 @@ fn equal_sources(alloc: Global, call: &str, input: &str) -> Result<String, Fail>
 
 // The two values that a text writes.
 fn two<T: FromRow + Drop>(alloc: Global, input: &str) -> Result<(T, T), Fail> {
-    let (left, right) = cut(input, " ~ ")?;
-    let left = T::from_row(alloc, left)?;
-    let right = T::from_row(alloc, right)?;
-    Ok((left, right))
+    both(alloc, input, " ~ ")
 }
 
 fn pair<T: FromRow + PartialEq + Debug + Drop>(alloc: Global, input: &str) -> Result<String, Fail> {
@@ -78,13 +75,21 @@ fn pair<T: FromRow + PartialEq + Debug + Drop>(alloc: Global, input: &str) -> Re
 
 // Values are the same exactly where a source would write them alike.
 fn likeness<T: PartialEq + Debug>(alloc: Global, left: &T, right: &T) -> Result<String, Fail> {
-    let written_alike = format!(in alloc; "{left:?}")? == format!(in alloc; "{right:?}")?;
-    let answer = match (left == right, right == left, written_alike) {
-        (true, true, true) => "same",
-        (false, false, false) => "differ",
-        _ => "same in one way alone",
-    };
-    Ok(String::from_str(alloc, answer)?)
+    let same = left == right;
+    if same != (right == left) || same != written_alike(alloc, left, right)? {
+        return done(String::from_str(alloc, "same in one way alone"));
+    }
+    sameness(alloc, same)
+}
+
+fn written_alike<T: Debug>(alloc: Global, left: &T, right: &T) -> Result<bool, Fail> {
+    let left = written(alloc, left)?;
+    let right = written(alloc, right)?;
+    Ok(left == right)
+}
+
+fn sameness(alloc: Global, same: bool) -> Result<String, Fail> {
+    done(String::from_str(alloc, if same { "same" } else { "differ" }))
 }
 
 /// Whether a copy of the row's value is the same.
@@ -227,14 +232,21 @@ impl Subject for Orders {
 
 fn order<T: FromRow + Ord + Drop>(alloc: Global, input: &str) -> Result<String, Fail> {
     let (left, right) = two::<T>(alloc, input)?;
-    let order = left.cmp(&right);
-    if left.partial_cmp(&right) == Some(order)
-        && right.cmp(&left) == order.reverse()
+    match order_of(&left, &right) {
+        Some(order) => written(alloc, &order),
+        None => done(String::from_str(alloc, "the comparisons disagree")),
+    }
+}
+
+fn order_of<T: Ord>(left: &T, right: &T) -> Option<Ordering> {
+    let order = left.cmp(right);
+    if left.partial_cmp(right) == Some(order)
+        && right.cmp(left) == order.reverse()
         && (left == right) == (order == Ordering::Equal)
     {
-        Ok(format!(in alloc; "{order:?}")?)
+        Some(order)
     } else {
-        Ok(String::from_str(alloc, "the comparisons disagree")?)
+        None
     }
 }
 
@@ -242,19 +254,23 @@ fn order<T: FromRow + Ord + Drop>(alloc: Global, input: &str) -> Result<String, 
 fn distinct<T: FromRow + Eq + Hash + Drop>(alloc: Global, input: &str) -> Result<String, Fail> {
     let mut set: HashSet<T> = HashSet::new(alloc);
     for word in input.split(" ~ ") {
-        set.insert(T::from_row(alloc, word)?)?;
+        add(alloc, &mut set, word)?;
     }
-    Ok(set.len().to_string(alloc)?)
+    done(set.len().to_string(alloc))
+}
+
+fn add<T: FromRow + Eq + Hash + Drop>(
+    alloc: Global,
+    set: &mut HashSet<T>,
+    word: &str,
+) -> Result<(), Fail> {
+    set.insert(T::from_row(alloc, word)?)?;
+    Ok(())
 }
 
 fn hashed<T: FromRow + Hash + Drop>(alloc: Global, input: &str) -> Result<String, Fail> {
     let (left, right) = two::<T>(alloc, input)?;
-    let answer = if hash_of(&left) == hash_of(&right) {
-        "same"
-    } else {
-        "differ"
-    };
-    Ok(String::from_str(alloc, answer)?)
+    sameness(alloc, hash_of(&left) == hash_of(&right))
 }
 
 fn hash_of<T: Hash>(value: &T) -> u64 {

@@ -1,7 +1,8 @@
 //! Values that rows write: configurations, verdicts and refusals of sources.
 
+use crate::rows::{cut, done};
 use crate::sources::listed;
-use crate::values::{FromRow, names, part, word};
+use crate::values::{FromRow, both, names, part, word};
 use nextest_config::nextest_version::{
     ConfigParseError, ConfigParseErrorKind, ConfigSource, ExperimentalConfig, ListRefusal,
     NextestVersionEval, Severity, SourceText, VersionOnlyConfig,
@@ -15,7 +16,7 @@ use std::test::Fail;
 impl FromRow for VersionOnlyConfig {
     fn from_row(alloc: Global, text: &str) -> Result<Self, Fail> {
         let sources: Vec<SourceText> = listed(alloc, text)?;
-        Ok(VersionOnlyConfig::from_list(alloc, &sources)?)
+        done(VersionOnlyConfig::from_list(alloc, &sources))
     }
 }
 
@@ -35,11 +36,9 @@ impl FromRow for NextestVersionEval {
         if name == "Satisfied" {
             return Ok(NextestVersionEval::Satisfied);
         }
-        let (asked, rest) = word(rest);
-        let (current, source) = word(rest);
-        let asked = Version::parse(alloc, asked)?;
-        let current = Version::parse(alloc, current)?;
-        let source = ConfigSource::from_row(alloc, source)?;
+        let (asked, rest) = cut(rest, " ")?;
+        let asked = Version::from_row(alloc, asked)?;
+        let (current, source) = both(alloc, rest, " ")?;
         short(name, asked, current, source)
     }
 }
@@ -93,8 +92,9 @@ impl FromRow for ConfigParseErrorKind {
         match name {
             "TomlParseError" => Ok(ConfigParseErrorKind::TomlParseError),
             "VersionOnlyDeserializeError" => {
-                let fault = ReadFault::from_row(alloc, rest)?;
-                Ok(ConfigParseErrorKind::VersionOnlyDeserializeError(fault))
+                ReadFault::from_row(alloc, rest).map(
+                    ConfigParseErrorKind::VersionOnlyDeserializeError,
+                )
             }
             "ExperimentalFeaturesInToolConfig" => {
                 let features = names(alloc, rest)?;
@@ -113,22 +113,32 @@ impl FromRow for ConfigParseError {
             return Ok(ConfigParseError::from(AllocError));
         }
         let sources: Vec<SourceText> = listed(alloc, text)?;
-        match VersionOnlyConfig::from_list(alloc, &sources) {
-            Err(ListRefusal::Refused { position: _, error }) => Ok(error),
-            _ => Err(Fail::new("the sources are read")),
-        }
+        error_of(refusal(VersionOnlyConfig::from_list(alloc, &sources))?)
+    }
+}
+
+// Why a call refused.
+fn refusal<T: Drop, E>(answer: Result<T, E>) -> Result<E, Fail> {
+    match answer {
+        Ok(_value) => Err(Fail::new("the sources are read")),
+        Err(error) => Ok(error),
+    }
+}
+
+fn error_of(refusal: ListRefusal) -> Result<ConfigParseError, Fail> {
+    match refusal {
+        ListRefusal::Refused { position: _, error } => Ok(error),
+        ListRefusal::Memory => Err(Fail::new("no source is refused")),
     }
 }
 
 /// Writes a position and the error there, or `Memory`.
 impl FromRow for ListRefusal {
     fn from_row(alloc: Global, text: &str) -> Result<Self, Fail> {
-        let (position, error) = word(text);
-        if position == "Memory" {
+        if text == "Memory" {
             return Ok(ListRefusal::Memory);
         }
-        let position = position.parse()?;
-        let error = ConfigParseError::from_row(alloc, error)?;
+        let (position, error) = both(alloc, text, " ")?;
         Ok(ListRefusal::Refused { position, error })
     }
 }

@@ -1,6 +1,6 @@
 //! The texts of faults.
 
-use crate::rows::{Subject, Told, check, check_at_sizes, cut, shown, tell};
+use crate::rows::{Subject, Told, check, cut, done, shown, tell};
 use crate::values::{FromRow, expected, word};
 use nextest_config_values::read::{FaultKind, ReadFault};
 use std::alloc::Global;
@@ -34,9 +34,8 @@ memory | ,  | out of memory
 kept new | p, Custom PreRelease | ReadFault { path: "p", kind: Custom(PreRelease) }, false
 kept invalid_type a string | p, true | ReadFault { path: "p", kind: InvalidType { found: "boolean `true`", expected: "a string" } }, false
 kept new | p, Memory | ReadFault { path: "", kind: Memory }, true
-"#;
 
-const LONG: &str = r#"
+# at every size
 new | p«p», UnknownField «f» / `a` | p«p»: unknown field `«f»`, expected `a`
 new | p«p», Custom NotVersion «"» | p«p»: invalid version "«\"»"
 invalid_type a boolean | p«p», '«x»' | p«p»: invalid type: string "«x»", expected a boolean
@@ -52,29 +51,32 @@ impl Subject for Faults {
         let (at, given) = cut(input, ", ")?;
         let (maker, wanted) = word(call.strip_prefix("kept ").unwrap_or(call));
         match maker {
-            "new" => tell(
-                alloc,
-                call,
-                ReadFault::new(alloc, at, FaultKind::from_row(alloc, given)?),
-            ),
+            "new" => made_of(alloc, call, at, given),
             "unknown_variant" => {
-                tell(
-                    alloc,
-                    call,
-                    ReadFault::unknown_variant(alloc, given, at, expected(wanted)),
-                )
+                let fault = ReadFault::unknown_variant(alloc, given, at, expected(wanted));
+                tell(alloc, call, fault)
             }
             "missing_field" => tell(alloc, call, ReadFault::missing_field(alloc, given, at)),
             "memory" => tell(alloc, call, ReadFault::memory(alloc)),
-            _ => mismatch(
-                alloc,
-                call,
-                &Value::from_str(alloc, given)?,
-                at,
-                expected(wanted),
-            ),
+            _ => unexpected(alloc, call, given, at, expected(wanted)),
         }
     }
+}
+
+fn made_of(alloc: Global, call: &str, at: &str, kind: &str) -> Result<String, Fail> {
+    let kind = FaultKind::from_row(alloc, kind)?;
+    tell(alloc, call, ReadFault::new(alloc, at, kind))
+}
+
+fn unexpected(
+    alloc: Global,
+    call: &str,
+    value: &str,
+    at: &str,
+    expected: &'static str,
+) -> Result<String, Fail> {
+    let value = Value::from_str(alloc, value)?;
+    mismatch(alloc, call, &value, at, expected)
 }
 
 fn mismatch(
@@ -102,7 +104,7 @@ fn mismatch(
 impl Told for ReadFault {
     fn told(&self, alloc: Global, call: &str) -> Result<String, Fail> {
         if call.starts_with("kept ") {
-            Ok(format!(in alloc; "{self:?}, {}", self.is_memory())?)
+            done(format!(in alloc; "{self:?}, {}", self.is_memory()))
         } else {
             shown(alloc, self)
         }
@@ -112,9 +114,4 @@ impl Told for ReadFault {
 #[test]
 fn faults_print_their_path_and_reason(rt: HostRuntime) -> Result<(), Fail> {
     check::<Faults>(&rt, ROWS)
-}
-
-#[test]
-fn long_faults_are_printed(rt: HostRuntime) -> Result<(), Fail> {
-    check_at_sizes::<Faults>(&rt, LONG)
 }

@@ -1,7 +1,8 @@
 //! Experimental features.
 
 use crate::asked::Lists;
-use crate::rows::{Subject, Told, answered, check, check_at_sizes, cut, no_such_call, shown};
+use crate::rows::{Escaped, Subject, Told, answered, check, done, no_such_call, written};
+use crate::values::both;
 use nextest_config::nextest_version::{ConfigExperimental, ExperimentalDeserialize};
 use nextest_config_values::read::FromToml;
 use std::alloc::Global;
@@ -32,9 +33,8 @@ setting | { wrapper-scripts = true } | known wrapper-scripts; unknown
 setting | ['benchmarks', 1] | experimental[1]: invalid type: integer `1`, expected a string
 setting | { setup-scripts = 1 } | experimental.setup-scripts: invalid type: integer `1`, expected a boolean
 setting | 1 | experimental: invalid type: integer `1`, expected a table ({ setup-scripts = true, benchmarks = true }) or an array (["setup-scripts", "benchmarks"])
-"#;
 
-const LONG: &str = r#"
+# at every size
 variables | «V@=1 »NEXTEST_EXPERIMENTAL_BENCHMARKS=1 |  benchmarks
 variables | «V@=1 »NEXTEST_EXPERIMENTAL_BENCHMARKS=1«1»1 |  |
 setting | [«'x@',» 'benchmarks'] | known benchmarks; unknown« x@»
@@ -69,9 +69,8 @@ features | tool my-tool: /etc/t.toml => experimental = ["benchmarks"]\nnextest-v
 # sources are taken together up to a refused one
 features | repository: b.toml => experimental = ["benchmarks", "x"] && explicit: c.toml && tool my-tool: /etc/t.toml => experimental = {} && repository: a.toml => experimental = { setup-scripts = true, benchmarks = false, z = 1, y = 2 } && repository: b.toml => experimental = ["benchmarks", "x"] && repository: d.toml => x = 1 | known setup-scripts benchmarks; repository b.toml: x; repository a.toml: y z; repository b.toml: x
 features | repository: a.toml => nextest-version = "0.9.50" && repository: b.toml => x = && tool my-tool: /etc/t.toml => experimental = ["benchmarks"] | source 1: repository b.toml: not a TOML document
-"#;
 
-const LONG_LISTS: &str = r#"
+# at every size
 features | «repository: @.toml => experimental = ["x"] && » | known«; repository @.toml: x»
 features | repository: r.toml => experimental = ['a', «'x@',» 'benchmarks'] | known benchmarks; repository r.toml: a« x@»
 "#;
@@ -82,7 +81,7 @@ impl Subject for Features {
     fn answer(alloc: Global, call: &str, input: &str) -> Result<String, Fail> {
         match call {
             "all" => all(alloc),
-            "word" => Ok(format!(in alloc; "{:?}", ConfigExperimental::from_str(input))?),
+            "word" => written(alloc, &ConfigExperimental::from_str(input)),
             "variables" => variables(alloc, input),
             "setting" => setting(alloc, input),
             _ => no_such_call(),
@@ -93,12 +92,15 @@ impl Subject for Features {
 fn all(alloc: Global) -> Result<String, Fail> {
     let mut line = String::new(alloc);
     for feature in ConfigExperimental::known_features() {
-        line.push_str(shown(alloc, &feature)?.as_str())?;
-        line.push(' ')?;
-        line.push_str(feature.env_var().unwrap_or("-"))?;
-        line.push(';')?;
+        push_feature(alloc, &mut line, feature)?;
     }
     Ok(line)
+}
+
+fn push_feature(alloc: Global, line: &mut String, feature: ConfigExperimental) -> Result<(), Fail> {
+    let variable = feature.env_var().unwrap_or("-");
+    let entry = format!(in alloc; "{feature} {variable};")?;
+    done(line.push_str(entry.as_str()))
 }
 
 fn variables(alloc: Global, input: &str) -> Result<String, Fail> {
@@ -114,9 +116,8 @@ fn set(
     variables: &mut BTreeMap<String, String>,
     variable: &str,
 ) -> Result<(), Fail> {
-    let (name, value) = cut(variable, "=")?;
-    let value = String::from_str(alloc, value)?;
-    variables.insert(String::from_str(alloc, name)?, value)?;
+    let (name, value) = both(alloc, variable, "=")?;
+    variables.insert(name, value)?;
     Ok(())
 }
 
@@ -133,16 +134,20 @@ impl Told for ExperimentalDeserialize {
     fn told(&self, alloc: Global, _call: &str) -> Result<String, Fail> {
         let known = words(alloc, &self.known)?;
         let unknown = joined(alloc, &self.unknown)?;
-        Ok(format!(in alloc; "known{known}; unknown{unknown}")?)
+        done(format!(in alloc; "known{known}; unknown{unknown}"))
     }
+}
+
+fn push_word(line: &mut String, word: &str) -> Result<(), Fail> {
+    line.push(' ')?;
+    done(line.push_str(word))
 }
 
 /// The words of features, each behind a space.
 pub(crate) fn words(alloc: Global, known: &BTreeSet<ConfigExperimental>) -> Result<String, Fail> {
     let mut line = String::new(alloc);
     for feature in known {
-        line.push(' ')?;
-        line.push_str(feature.as_word())?;
+        push_word(&mut line, feature.as_word())?;
     }
     Ok(line)
 }
@@ -151,8 +156,7 @@ pub(crate) fn words(alloc: Global, known: &BTreeSet<ConfigExperimental>) -> Resu
 pub(crate) fn joined(alloc: Global, names: &BTreeSet<String>) -> Result<String, Fail> {
     let mut line = String::new(alloc);
     for name in names {
-        line.push(' ')?;
-        line.push_str(name.as_str())?;
+        push_word(&mut line, name.as_str())?;
     }
     Ok(line)
 }
@@ -163,16 +167,6 @@ fn features_are_read_and_told(rt: HostRuntime) -> Result<(), Fail> {
 }
 
 #[test]
-fn any_number_of_features_is_read(rt: HostRuntime) -> Result<(), Fail> {
-    check_at_sizes::<Features>(&rt, LONG)
-}
-
-#[test]
 fn sources_name_features_or_are_refused(rt: HostRuntime) -> Result<(), Fail> {
-    check::<Lists>(&rt, LISTS)
-}
-
-#[test]
-fn any_number_of_sources_names_features(rt: HostRuntime) -> Result<(), Fail> {
-    check_at_sizes::<Lists>(&rt, LONG_LISTS)
+    check::<Escaped<Lists>>(&rt, LISTS)
 }

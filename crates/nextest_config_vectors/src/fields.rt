@@ -5,7 +5,7 @@ ghost use Rattle.toml.specs.Data.{as_integer};
 ghost use Rattle.nextest_config_values.specs.Read.FromToml.{FaultsAs, MeansAs, reading_on};
 ghost use Rattle.nextest_config_values.specs.Read.Plain.{IsOutside, MeansNumber, number_reading};
 
-use crate::rows::{Subject, check, check_at_sizes, cut, made, no_such_call};
+use crate::rows::{Subject, check, cut, made, no_such_call};
 use nextest_config_values::read::{FromToml, ReadFault, field_or, optional_field, required_field};
 use nextest_config_values::track_default::TrackDefault;
 use std::alloc::Global;
@@ -59,9 +59,8 @@ u32 k at p | {} | p: missing configuration field "p.k"
 u32 k at  | {} | missing configuration field "k"
 optional u32 k at p | {} | None
 or 7 k at p | {} | 7
-"#;
 
-const LONG: &str = r#"
+# at every size
 u32 k at p«p» | {} | p«p»: missing configuration field "p«p».k"
 u32 k«k» at p | {} | p: missing configuration field "p.k«k»"
 optional share at p«p» | { share = 101 } | p«p».share: invalid value: integer `101`, expected a percentage
@@ -73,14 +72,18 @@ struct Fields;
 impl Subject for Fields {
     fn answer(alloc: Global, call: &str, input: &str) -> Result<String, Fail> {
         let value = Value::from_str(alloc, input)?;
-        let Some(table) = value.as_table() else {
-            return Err(Fail::new("no table"));
-        };
-        let (call, at) = cut(call, " at ")?;
-        let Some((call, key)) = call.rsplit_once(' ') else {
-            return Err(Fail::new("no key"));
-        };
-        field(alloc, call, table, key, at)
+        match value.as_table() {
+            Some(table) => keyed(alloc, call, table),
+            None => Err(Fail::new("no table")),
+        }
+    }
+}
+
+fn keyed(alloc: Global, call: &str, table: &Table) -> Result<String, Fail> {
+    let (call, at) = cut(call, " at ")?;
+    match call.rsplit_once(' ') {
+        Some((call, key)) => field(alloc, call, table, key, at),
+        None => Err(Fail::new("no key")),
     }
 }
 
@@ -105,9 +108,4 @@ fn field(alloc: Global, call: &str, table: &Table, key: &str, at: &str) -> Resul
 #[test]
 fn fields_are_read_at_their_paths(rt: HostRuntime) -> Result<(), Fail> {
     check::<Fields>(&rt, ROWS)
-}
-
-#[test]
-fn fields_with_long_paths_are_read(rt: HostRuntime) -> Result<(), Fail> {
-    check_at_sizes::<Fields>(&rt, LONG)
 }

@@ -1,7 +1,7 @@
 //! Tools' files and the repository's, read together.
 
 use crate::asked::Files;
-use crate::rows::{check, check_at_sizes};
+use crate::rows::{Escaped, check};
 use std::test::Fail;
 
 const ROWS: &str = r#"
@@ -42,9 +42,8 @@ error | tool one: /1.toml => x = && tool two: /2.toml => x = && tool three: /3.t
 0.9.50 | tool one: /1.toml => x = 1 && tool two: /2.toml => nextest-version = "1" && tool three: /3.toml => x = 1 && repository: r.toml => x = | tool two (/2.toml): nextest-version: invalid version "1"
 0.9.50 | tool one: /1.toml => nextest-version = "1" && tool two: /2.toml => x = 1 && tool three: /3.toml => experimental = ["x"] && repository: r.toml =>  | tool three (/3.toml): experimental features in a tool configuration: "x"
 0.9.50 | tool one: /1.toml => nextest-version = "1" && tool two: /2.toml => x = 1 && repository: r.toml => x = | tool one (/1.toml): nextest-version: invalid version "1"
-"#;
 
-const LONG: &str = r#"
+# at every size
 versions | tool a: /a.toml => nextest-version = "0.9.50" && «tool t@: /t.toml => nextest-version = "0.9.50" && »repository: r.toml | 0.9.50 from tool a (/a.toml), none
 error | tool a: /a.toml => x = && «tool t@: /t.toml => x = 1 && »repository: r.toml => x = | TomlParseError, tool a (/a.toml)
 features | tool a«a»: /a«a».toml => experimental = ["x«x»"] && repository: r.toml | tool a«a» (/a«a».toml): experimental features in a tool configuration: "x«x»"
@@ -52,10 +51,5 @@ features | tool a«a»: /a«a».toml => experimental = ["x«x»"] && repository:
 
 #[test]
 fn tools_are_read_in_reverse_and_then_the_repository(rt: HostRuntime) -> Result<(), Fail> {
-    check::<Files>(&rt, ROWS)
-}
-
-#[test]
-fn any_number_of_tools_is_read(rt: HostRuntime) -> Result<(), Fail> {
-    check_at_sizes::<Files>(&rt, LONG)
+    check::<Escaped<Files>>(&rt, ROWS)
 }

@@ -1,8 +1,7 @@
 //! Identifiers and tool names.
 
 use crate::rows::{
-    Subject, Told, answered, check, check_at_size, check_at_sizes, named, no_such_call, shown,
-    unescaped,
+    Escaped, Subject, Told, answered, check, check_at, done, no_such_call, shown, variant, written,
 };
 use nextest_config_values::helpers::is_valid_identifier_unicode;
 use nextest_config_values::identifier::{
@@ -71,9 +70,8 @@ plain | a-9_\u{301} | Ok(())
 plain |  | Err(Empty)
 plain | 9a | Err(InvalidXid)
 plain | \u{301} | Err(InvalidXid)
-"#;
 
-const LONG: &str = r#"
+# at every size
 identifier | a«-» | a«-»
 identifier | a«-»! | InvalidXid a«-»!
 tool name | a«é» | a«é»
@@ -90,12 +88,10 @@ struct Identifiers;
 
 impl Subject for Identifiers {
     fn answer(alloc: Global, call: &str, input: &str) -> Result<String, Fail> {
-        let text = unescaped(alloc, input)?;
-        let text = text.as_str();
         match call {
-            "tool name" => answered(alloc, call, ToolName::new(alloc, text)),
-            "plain" => Ok(format!(in alloc; "{:?}", is_valid_identifier_unicode(text))?),
-            _ => answered(alloc, call, ConfigIdentifier::new(alloc, text)),
+            "tool name" => answered(alloc, call, ToolName::new(alloc, input)),
+            "plain" => written(alloc, &is_valid_identifier_unicode(input)),
+            _ => answered(alloc, call, ConfigIdentifier::new(alloc, input)),
         }
     }
 }
@@ -106,7 +102,7 @@ impl Told for ConfigIdentifier {
             "identifier" => shown(alloc, self),
             "components" => components(alloc, self),
             "bytes" => bytes(alloc, self),
-            "is a tool's" => Ok(self.is_tool_identifier().to_string(alloc)?),
+            "is a tool's" => done(self.is_tool_identifier().to_string(alloc)),
             _ => no_such_call(),
         }
     }
@@ -114,35 +110,27 @@ impl Told for ConfigIdentifier {
 
 fn components(alloc: Global, identifier: &ConfigIdentifier) -> Result<String, Fail> {
     match identifier.tool_components() {
-        Some((tool, name)) => Ok(format!(in alloc; "{tool} and {name}")?),
-        None => Ok(String::from_str(alloc, "none")?),
+        Some((tool, name)) => done(format!(in alloc; "{tool} and {name}")),
+        None => done(String::from_str(alloc, "none")),
     }
 }
 
 fn bytes(alloc: Global, identifier: &ConfigIdentifier) -> Result<String, Fail> {
     let mut line = String::new(alloc);
     for byte in identifier.as_str().as_bytes() {
-        line.push_str(format!(in alloc; "{byte:02x} ")?.as_str())?;
+        push_byte(alloc, &mut line, *byte)?;
     }
-    Ok(String::from_str(alloc, line.trim_end())?)
+    done(String::from_str(alloc, line.trim_end()))
+}
+
+fn push_byte(alloc: Global, line: &mut String, byte: u8) -> Result<(), Fail> {
+    let digits = format!(in alloc; "{byte:02x} ")?;
+    done(line.push_str(digits.as_str()))
 }
 
 impl Told for InvalidIdentifier {
     fn told(&self, alloc: Global, _call: &str) -> Result<String, Fail> {
-        match self {
-            InvalidIdentifier::Empty => named(alloc, "Empty", ""),
-            InvalidIdentifier::InvalidXid(text) => named(alloc, "InvalidXid", text.as_str()),
-            InvalidIdentifier::ToolIdentifierInvalidFormat(text) => {
-                named(alloc, "ToolIdentifierInvalidFormat", text.as_str())
-            }
-            InvalidIdentifier::ToolComponentEmpty(text) => {
-                named(alloc, "ToolComponentEmpty", text.as_str())
-            }
-            InvalidIdentifier::ToolIdentifierInvalidXid(text) => {
-                named(alloc, "ToolIdentifierInvalidXid", text.as_str())
-            }
-            InvalidIdentifier::Memory => named(alloc, "Memory", ""),
-        }
+        variant(alloc, self)
     }
 }
 
@@ -154,28 +142,16 @@ impl Told for ToolName {
 
 impl Told for InvalidToolName {
     fn told(&self, alloc: Global, _call: &str) -> Result<String, Fail> {
-        match self {
-            InvalidToolName::Empty => named(alloc, "Empty", ""),
-            InvalidToolName::StartsWithToolPrefix(text) => {
-                named(alloc, "StartsWithToolPrefix", text.as_str())
-            }
-            InvalidToolName::InvalidXid(text) => named(alloc, "InvalidXid", text.as_str()),
-            InvalidToolName::Memory => named(alloc, "Memory", ""),
-        }
+        variant(alloc, self)
     }
 }
 
 #[test]
 fn names_are_kept_or_break_one_rule(rt: HostRuntime) -> Result<(), Fail> {
-    check::<Identifiers>(&rt, ROWS)
+    check::<Escaped<Identifiers>>(&rt, ROWS)
 }
 
 #[test]
 fn a_long_text_is_judged(rt: HostRuntime) -> Result<(), Fail> {
-    check_at_size::<Identifiers>(&rt, MEGABYTE, 349525)
-}
-
-#[test]
-fn names_of_any_length_are_kept(rt: HostRuntime) -> Result<(), Fail> {
-    check_at_sizes::<Identifiers>(&rt, LONG)
+    check_at::<Escaped<Identifiers>>(&rt, MEGABYTE, &[349525])
 }

@@ -1,7 +1,7 @@
 //! Orders, hashes and defaults.
 
 use crate::compared::Orders;
-use crate::rows::{Subject, check, no_such_call};
+use crate::rows::{Escaped, Subject, check, no_such_call, written};
 use nextest_config::nextest_version::{
     ExperimentalConfig, ExperimentalDeserialize, NextestVersionConfig, NextestVersionReq,
     VersionOnlyConfig,
@@ -108,25 +108,25 @@ impl Subject for Defaults {
             "TrackDefault bool" => default::<TrackDefault<bool>>(alloc),
             "NextestVersionReq" => default::<NextestVersionReq>(alloc),
             "NextestVersionConfig" => default::<NextestVersionConfig>(alloc),
-            "ExperimentalDeserialize" => written(alloc, ExperimentalDeserialize::new(alloc)),
-            "ExperimentalConfig" => written(alloc, ExperimentalConfig::new(alloc)),
-            "VersionOnlyConfig" => written(alloc, VersionOnlyConfig::new(alloc)),
+            "ExperimentalDeserialize" => initial(alloc, ExperimentalDeserialize::new(alloc)),
+            "ExperimentalConfig" => initial(alloc, ExperimentalConfig::new(alloc)),
+            "VersionOnlyConfig" => initial(alloc, VersionOnlyConfig::new(alloc)),
             _ => no_such_call(),
         }
     }
 }
 
 fn default<T: Default + Debug + Drop>(alloc: Global) -> Result<String, Fail> {
-    written(alloc, T::default())
+    initial(alloc, T::default())
 }
 
-fn written<T: Debug + Drop>(alloc: Global, value: T) -> Result<String, Fail> {
-    Ok(format!(in alloc; "{value:?}")?)
+fn initial<T: Debug + Drop>(alloc: Global, value: T) -> Result<String, Fail> {
+    written(alloc, &value)
 }
 
 #[test]
 fn values_are_in_order(rt: HostRuntime) -> Result<(), Fail> {
-    check::<Orders>(&rt, ORDERS)
+    check::<Escaped<Orders>>(&rt, ORDERS)
 }
 
 #[test]

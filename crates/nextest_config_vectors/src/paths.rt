@@ -1,6 +1,6 @@
 //! Relative paths.
 
-use crate::rows::{Subject, Told, answered, check, check_at_sizes};
+use crate::rows::{Subject, Told, answered, check, done};
 use nextest_config_values::helpers::deserialize_relative_path;
 use std::alloc::Global;
 use std::test::Fail;
@@ -25,9 +25,8 @@ at p | '../foo/bar' | p: invalid value: string "../foo/bar", expected a relative
 at p | '../foo' | p: invalid value: string "../foo", expected a relative path with no parent components
 at p | 'foo/..' | p: invalid value: string "foo/..", expected a relative path with no parent components
 at p | 1 | p: invalid type: integer `1`, expected a string
-"#;
 
-const LONG: &str = r#"
+# at every size
 at p | 'a«/b»' | a«/b»
 at p«p» | 'a«/b»/..' | p«p»: invalid value: string "a«/b»/..", expected a relative path with no parent components
 "#;
@@ -44,16 +43,11 @@ impl Subject for Paths {
 
 impl Told for String {
     fn told(&self, alloc: Global, _call: &str) -> Result<String, Fail> {
-        Ok(String::from_str(alloc, self.as_str())?)
+        done(String::from_str(alloc, self.as_str()))
     }
 }
 
 #[test]
 fn relative_paths_are_kept_as_written_and_others_refused(rt: HostRuntime) -> Result<(), Fail> {
     check::<Paths>(&rt, ROWS)
-}
-
-#[test]
-fn relative_paths_of_any_length_are_kept(rt: HostRuntime) -> Result<(), Fail> {
-    check_at_sizes::<Paths>(&rt, LONG)
 }

@@ -1,6 +1,6 @@
 //! Values that print, each as its text alone.
 
-use crate::rows::{Subject, check, check_at_sizes, no_such_call, shown};
+use crate::rows::{Escaped, Subject, check, no_such_call, shown, written};
 use crate::values::FromRow;
 use nextest_config::nextest_version::{
     ConfigExperimental, ConfigParseError, ConfigParseErrorKind, ConfigSource, ListRefusal,
@@ -136,9 +136,8 @@ ListRefusal | 1 tool a: /x => experimental = ['x'] | source 1: tool a (/x): expe
 ListRefusal | 18446744073709551615 repository: a => nextest-version = 1.5 | source 18446744073709551615: repository a: nextest-version: invalid type: floating point, expected a table ({ required = "0.9.20", recommended = "0.9.30" }) or a string ("0.9.50")
 ListRefusal | 7 Memory | source 7: out of memory
 ListRefusal | Memory | out of memory
-"#;
 
-const LONG: &str = r#"
+# at every size
 ConfigIdentifier | a«a» | a«a»
 ConfigIdentifier | @tool:a«a»:b«b» | @tool:a«a»:b«b»
 ToolName | a«a» | a«a»
@@ -177,7 +176,7 @@ struct Printed;
 impl Subject for Printed {
     fn answer(alloc: Global, call: &str, input: &str) -> Result<String, Fail> {
         match call.strip_prefix("written ") {
-            Some(call) => Ok(format!(in alloc; "{:?}", text_of(alloc, call, input)?)?),
+            Some(call) => written(alloc, &text_of(alloc, call, input)?),
             None => text_of(alloc, call, input),
         }
     }
@@ -204,15 +203,11 @@ fn text_of(alloc: Global, call: &str, input: &str) -> Result<String, Fail> {
 }
 
 fn text<T: FromRow + Display + Drop>(alloc: Global, input: &str) -> Result<String, Fail> {
-    shown(alloc, &T::from_row(alloc, input)?)
+    let value = T::from_row(alloc, input)?;
+    shown(alloc, &value)
 }
 
 #[test]
 fn each_value_prints_its_text_alone(rt: HostRuntime) -> Result<(), Fail> {
-    check::<Printed>(&rt, ROWS)
-}
-
-#[test]
-fn long_values_print_their_texts_alone(rt: HostRuntime) -> Result<(), Fail> {
-    check_at_sizes::<Printed>(&rt, LONG)
+    check::<Escaped<Printed>>(&rt, ROWS)
 }

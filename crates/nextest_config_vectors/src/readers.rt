@@ -1,6 +1,6 @@
 //! The plain readers, words and marks.
 
-use crate::rows::{Subject, check, check_at_sizes, made, no_such_call, tell};
+use crate::rows::{Subject, Told, answered, check, done, made, no_such_call, written};
 use nextest_config_elements::junit::JunitFlakyFailStatus;
 use nextest_config_elements::leak_timeout::LeakTimeoutResult;
 use nextest_config_elements::max_fail::TerminateMode;
@@ -73,9 +73,8 @@ ToolName | '' | p: tool name is empty
 ToolName | '@tool' | p: tool name begins with @tool: "@tool"
 ToolName | 'a:b' | p: invalid tool name "a:b"
 ToolName | true | p: invalid type: boolean `true`, expected a string
-"#;
 
-const LONG: &str = r#"
+# at every size
 String | '«x»' | "«x»"
 bool | '«x»' | p: invalid type: string "«x»", expected a boolean
 bool | [«1,»] | p: invalid type: sequence, expected a boolean
@@ -90,22 +89,29 @@ struct Readers;
 
 impl Subject for Readers {
     fn answer(alloc: Global, call: &str, input: &str) -> Result<String, Fail> {
-        let value = Value::from_str(alloc, input)?;
-        match call {
-            "bool" => read::<bool>(alloc, &value),
-            "u32" => read::<u32>(alloc, &value),
-            "String" => read::<String>(alloc, &value),
-            "NonZeroCount::new" => {
-                let count = NonZeroCount::new(input.parse()?).map(NonZeroCount::get);
-                Ok(format!(in alloc; "{count:?}")?)
-            }
-            "NonZeroCount" => read::<NonZeroCount>(alloc, &value),
-            "TrackDefault u32" => read::<TrackDefault<u32>>(alloc, &value),
-            "TrackDefault bool" => read::<TrackDefault<bool>>(alloc, &value),
-            "ConfigIdentifier" => read::<ConfigIdentifier>(alloc, &value),
-            "ToolName" => read::<ToolName>(alloc, &value),
-            _ => word(alloc, call, &value),
+        if call == "NonZeroCount::new" {
+            return counted(alloc, input.parse()?);
         }
+        let value = Value::from_str(alloc, input)?;
+        answer(alloc, call, &value)
+    }
+}
+
+fn counted(alloc: Global, count: usize) -> Result<String, Fail> {
+    written(alloc, &NonZeroCount::new(count).map(NonZeroCount::get))
+}
+
+fn answer(alloc: Global, call: &str, value: &Value) -> Result<String, Fail> {
+    match call {
+        "bool" => read::<bool>(alloc, value),
+        "u32" => read::<u32>(alloc, value),
+        "String" => read::<String>(alloc, value),
+        "NonZeroCount" => read::<NonZeroCount>(alloc, value),
+        "TrackDefault u32" => read::<TrackDefault<u32>>(alloc, value),
+        "TrackDefault bool" => read::<TrackDefault<bool>>(alloc, value),
+        "ConfigIdentifier" => read::<ConfigIdentifier>(alloc, value),
+        "ToolName" => read::<ToolName>(alloc, value),
+        _ => word(alloc, call, value),
     }
 }
 
@@ -125,19 +131,21 @@ fn read<T: FromToml + Debug + Drop>(alloc: Global, value: &Value) -> Result<Stri
     made(alloc, T::read(alloc, value, "p"))
 }
 
-fn read_word<T: Word + Debug>(alloc: Global, value: &Value) -> Result<String, Fail> {
-    match T::read(alloc, value, "p") {
-        Ok(word) => Ok(format!(in alloc; "{word:?} {}", word.as_word())?),
-        Err(fault) => tell(alloc, "", fault),
+// A word, which is told beside its value.
+#[derive(Drop)]
+struct Named<T>(T);
+
+impl<T: Word + Debug> Told for Named<T> {
+    fn told(&self, alloc: Global, _call: &str) -> Result<String, Fail> {
+        done(format!(in alloc; "{:?} {}", self.0, self.0.as_word()))
     }
+}
+
+fn read_word<T: Word + Debug>(alloc: Global, value: &Value) -> Result<String, Fail> {
+    answered(alloc, "", T::read(alloc, value, "p").map(Named))
 }
 
 #[test]
 fn values_are_read_or_refused(rt: HostRuntime) -> Result<(), Fail> {
     check::<Readers>(&rt, ROWS)
-}
-
-#[test]
-fn long_values_are_read_or_refused(rt: HostRuntime) -> Result<(), Fail> {
-    check_at_sizes::<Readers>(&rt, LONG)
 }

@@ -1,5 +1,6 @@
 //! What a user of the libraries writes, as README shows it.
 
+use crate::rows::{self, Subject, done, no_such_call};
 use crate::values::part;
 use nextest_config::nextest_version::{
     ConfigSource, ConfigSourceKind, NextestVersionEval, SourceText, VersionOnlyConfig,
@@ -93,24 +94,32 @@ fn told(alloc: Global, current: &str) -> Result<String, Fail> {
     )
 }
 
+const ROWS: &str = r#"
+verdict | 0.9.49 | 0.9.50 is required by tool my-tool (/etc/my-tool.toml)
+verdict | 0.9.55 | 0.9.60 is recommended by repository .config/nextest.toml
+verdict | 0.9.60 | satisfied
+terminate | immediate | immediate
+terminate | now | profile.ci.fail-fast.terminate: unknown variant `now`, expected `wait` or `immediate`
+"#;
+
+struct Readme;
+
+impl Subject for Readme {
+    fn answer(alloc: Global, call: &str, input: &str) -> Result<String, Fail> {
+        match call {
+            "verdict" => told(alloc, input),
+            "terminate" => terminated(alloc, input),
+            _ => no_such_call(),
+        }
+    }
+}
+
+fn terminated(alloc: Global, input: &str) -> Result<String, Fail> {
+    let value = Value::string(alloc, input)?;
+    done(terminate(alloc, &value))
+}
+
 #[test]
 fn a_version_is_checked_and_a_setting_is_read(rt: HostRuntime) -> Result<(), Fail> {
-    let alloc = rt.alloc();
-    assert_eq!(rt;
-        told(alloc, "0.9.49")?.as_str(),
-        "0.9.50 is required by tool my-tool (/etc/my-tool.toml)"
-    );
-    assert_eq!(rt;
-        told(alloc, "0.9.55")?.as_str(),
-        "0.9.60 is recommended by repository .config/nextest.toml"
-    );
-    assert_eq!(rt; told(alloc, "0.9.60")?.as_str(), "satisfied");
-    let value = Value::string(alloc, "immediate")?;
-    assert_eq!(rt; terminate(alloc, &value)?.as_str(), "immediate");
-    let value = Value::string(alloc, "now")?;
-    assert_eq!(rt;
-        terminate(alloc, &value)?.as_str(),
-        "profile.ci.fail-fast.terminate: unknown variant `now`, expected `wait` or `immediate`"
-    );
-    Ok(())
+    rows::check::<Readme>(&rt, ROWS)
 }

@@ -20,11 +20,33 @@ pub(crate) trait Subject {
     fn answer(alloc: Global, call: &str, input: &str) -> Result<String, Fail>;
 }
 
-/// Asks for the answer of each row, and compares it.
+/// A subject whose inputs write some characters as `\n` or `\u{..}`.
+pub(crate) struct Escaped<S> {
+    _subject: S,
+}
+
+impl<S: Subject> Subject for Escaped<S> {
+    fn answer(alloc: Global, call: &str, input: &str) -> Result<String, Fail> {
+        let input = unescaped(alloc, input)?;
+        S::answer(alloc, call, input.as_str())
+    }
+}
+
+/// Asks for the answer of each row, and compares it. A row with `«PIECE»` is asked for at each size, that is
+/// with each piece that many times. A `@` in a piece is its number, in five digits. `«#»` is the size.
 pub(crate) fn check<S: Subject>(rt: &(impl Abort + AllocGlobal), rows: &str) -> Result<(), Fail> {
+    check_at::<S>(rt, rows, &SIZES)
+}
+
+/// Does the same at sizes of its own.
+pub(crate) fn check_at<S: Subject>(
+    rt: &(impl Abort + AllocGlobal),
+    rows: &str,
+    sizes: &[usize],
+) -> Result<(), Fail> {
     for line in rows.lines() {
         if is_row(line) {
-            check_row::<S>(rt, line)?;
+            check_sizes::<S>(rt, line, sizes)?;
         }
     }
     Ok(())
@@ -32,6 +54,29 @@ pub(crate) fn check<S: Subject>(rt: &(impl Abort + AllocGlobal), rows: &str) -> 
 
 fn is_row(line: &str) -> bool {
     !line.is_empty() && !line.starts_with('#')
+}
+
+fn check_sizes<S: Subject>(
+    rt: &(impl Abort + AllocGlobal),
+    row: &str,
+    sizes: &[usize],
+) -> Result<(), Fail> {
+    if !row.contains('«') {
+        return check_row::<S>(rt, row);
+    }
+    for size in sizes {
+        check_grown::<S>(rt, row, *size)?;
+    }
+    Ok(())
+}
+
+fn check_grown<S: Subject>(
+    rt: &(impl Abort + AllocGlobal),
+    row: &str,
+    size: usize,
+) -> Result<(), Fail> {
+    let row = grown(rt.alloc(), row, size)?;
+    check_row::<S>(rt, row.as_str())
 }
 
 fn check_row<S: Subject>(rt: &(impl Abort + AllocGlobal), row: &str) -> Result<(), Fail> {
@@ -47,54 +92,43 @@ fn compare(rt: &impl Abort, row: &str, line: &str, wanted: &str) {
     assert_eq!(rt; line, wanted, "in {row}");
 }
 
-/// Does the same at each size, that is with each `«PIECE»` of the rows that many times. A `@` in a piece
-/// is its number, in five digits. `«#»` is the size.
-pub(crate) fn check_at_sizes<S: Subject>(
-    rt: &(impl Abort + AllocGlobal),
-    rows: &str,
-) -> Result<(), Fail> {
-    for size in SIZES {
-        check_at_size::<S>(rt, rows, size)?;
+fn grown(alloc: Global, row: &str, size: usize) -> Result<String, Fail> {
+    let mut text = String::new(alloc);
+    for part in row.split('«') {
+        grow(alloc, &mut text, part, size)?;
+    }
+    Ok(text)
+}
+
+fn grow(alloc: Global, text: &mut String, part: &str, size: usize) -> Result<(), Fail> {
+    let Some((piece, rest)) = part.split_once('»') else {
+        return done(text.push_str(part));
+    };
+    repeat(alloc, text, piece, size)?;
+    done(text.push_str(rest))
+}
+
+fn repeat(alloc: Global, text: &mut String, piece: &str, size: usize) -> Result<(), Fail> {
+    if piece == "#" {
+        return numbered(alloc, text, ("", ""), size);
+    }
+    for number in 10000..size.saturating_add(10000) {
+        match piece.split_once('@') {
+            Some(sides) => numbered(alloc, text, sides, number)?,
+            None => text.push_str(piece)?,
+        }
     }
     Ok(())
 }
 
-/// Does the same at one size.
-pub(crate) fn check_at_size<S: Subject>(
-    rt: &(impl Abort + AllocGlobal),
-    rows: &str,
-    size: usize,
+fn numbered(
+    alloc: Global,
+    text: &mut String,
+    sides: (&str, &str),
+    number: usize,
 ) -> Result<(), Fail> {
-    let rows = grown(rt.alloc(), rows, size)?;
-    check::<S>(rt, rows.as_str())
-}
-
-fn grown(alloc: Global, rows: &str, size: usize) -> Result<String, Fail> {
-    let mut text = String::new(alloc);
-    let mut parts = rows.split('«');
-    text.push_str(parts.next().unwrap_or(""))?;
-    for part in parts {
-        let (piece, rest) = cut(part, "»")?;
-        match piece {
-            "#" => text.push_str(size.to_string(alloc)?.as_str())?,
-            piece => text.push_str(repeated(alloc, piece, size)?.as_str())?,
-        }
-        text.push_str(rest)?;
-    }
-    Ok(text)
-}
-
-fn repeated(alloc: Global, piece: &str, size: usize) -> Result<String, Fail> {
-    let Some((before, after)) = piece.split_once('@') else {
-        return Ok(piece.repeat(alloc, size)?);
-    };
-    let mut text = String::new(alloc);
-    for number in 10000..size.saturating_add(10000) {
-        text.push_str(before)?;
-        text.push_str(number.to_string(alloc)?.as_str())?;
-        text.push_str(after)?;
-    }
-    Ok(text)
+    let piece = format!(in alloc; "{}{number}{}", sides.0, sides.1)?;
+    done(text.push_str(piece.as_str()))
 }
 
 /// The two sides of the first of these marks.
@@ -105,23 +139,47 @@ pub(crate) fn cut<'t>(text: &'t str, mark: &str) -> Result<(&'t str, &'t str), F
     }
 }
 
-/// The text with `\n` and `\u{..}` for the characters that they name.
-pub(crate) fn unescaped(alloc: Global, text: &str) -> Result<String, Fail> {
-    let text = text.replace(alloc, "\\n", "\n")?;
-    let mut made = String::new(alloc);
-    let mut parts = text.split("\\u{");
-    made.push_str(parts.next().unwrap_or(""))?;
+// The text with the characters that its escapes name.
+fn unescaped(alloc: Global, text: &str) -> Result<String, Fail> {
+    let mut parts = text.split('\\');
+    let mut made = String::from_str(alloc, parts.next().unwrap_or(""))?;
     for part in parts {
-        let (code, rest) = cut(part, "}")?;
-        made.push(character(code)?)?;
-        made.push_str(rest)?;
+        unescape(&mut made, part)?;
     }
     Ok(made)
 }
 
-fn character(code: &str) -> Result<char, Fail> {
-    let code = u32::from_str_radix(code, 16)?;
-    Ok(char::from_u32(code).unwrap_or('?'))
+fn unescape(text: &mut String, part: &str) -> Result<(), Fail> {
+    let (character, rest) = named_by(part);
+    text.push(character)?;
+    done(text.push_str(rest))
+}
+
+// What a backslash in front of a text names, and what stands behind that.
+fn named_by(text: &str) -> (char, &str) {
+    if let Some(rest) = text.strip_prefix('n') {
+        return ('\n', rest);
+    }
+    let Some(rest) = text.strip_prefix("u{") else {
+        return ('\\', text);
+    };
+    match rest.split_once('}') {
+        Some((code, rest)) => (character(code), rest),
+        None => ('\\', text),
+    }
+}
+
+fn character(code: &str) -> char {
+    let code = u32::from_str_radix(code, 16).unwrap_or(u32::MAX);
+    char::from_u32(code).unwrap_or('?')
+}
+
+/// An answer whose want, if any, fails the test.
+pub(crate) fn done<T, E>(answer: Result<T, E>) -> Result<T, Fail>
+where
+    Fail: From<E>,
+{
+    Ok(answer?)
 }
 
 /// The text of a value, which is the same whatever a format asks for.
@@ -163,19 +221,21 @@ pub(crate) fn made<T: Debug + Drop, E: Display + Drop>(
     answer: Result<T, E>,
 ) -> Result<String, Fail> {
     match answer {
-        Ok(value) => Ok(format!(in alloc; "{value:?}")?),
+        Ok(value) => written(alloc, &value),
         Err(error) => shown(alloc, &error),
     }
 }
 
-/// A name and what it holds.
-pub(crate) fn named(alloc: Global, name: &str, held: &str) -> Result<String, Fail> {
-    let mut line = String::from_str(alloc, name)?;
-    if !held.is_empty() {
-        line.push(' ')?;
-        line.push_str(held)?;
-    }
-    Ok(line)
+/// A value as a source would write it.
+pub(crate) fn written<T: Debug>(alloc: Global, value: &T) -> Result<String, Fail> {
+    done(format!(in alloc; "{value:?}"))
+}
+
+/// A variant that has no more than a text, and the text.
+pub(crate) fn variant<T: Debug>(alloc: Global, value: &T) -> Result<String, Fail> {
+    let text = written(alloc, value)?;
+    let text = text.replace(alloc, "(\"", " ")?;
+    done(text.replace(alloc, "\")", ""))
 }
 
 pub(crate) fn no_such_call() -> Result<String, Fail> {

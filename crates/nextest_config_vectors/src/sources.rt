@@ -1,7 +1,7 @@
 //! Values that rows write: sources, versions and what is kept of them.
 
-use crate::rows::{cut, unescaped};
-use crate::values::{FromRow, word};
+use crate::rows::{cut, done};
+use crate::values::{FromRow, both, word};
 use nextest_config::nextest_version::{
     ConfigExperimental, ConfigSource, ConfigSourceKind, ExperimentalDeserialize,
     NextestVersionConfig, NextestVersionDeserialize, NextestVersionReq, RepositoryText, SourceText,
@@ -10,7 +10,6 @@ use nextest_config::nextest_version::{
 use nextest_config_values::identifier::ToolName;
 use nextest_config_values::read::FromToml;
 use nextest_config_values::tool_config::ToolConfigFile;
-use semver::Version;
 use std::alloc::Global;
 use std::test::Fail;
 use toml::Value;
@@ -19,7 +18,7 @@ use toml::Value;
 impl FromRow for ConfigSourceKind {
     fn from_row(alloc: Global, text: &str) -> Result<Self, Fail> {
         match word(text) {
-            ("tool", name) => Ok(ConfigSourceKind::Tool(ToolName::new(alloc, name)?)),
+            ("tool", name) => ToolName::from_row(alloc, name).map(ConfigSourceKind::Tool),
             ("explicit", _) => Ok(ConfigSourceKind::ExplicitRepository),
             ("repository", _) => Ok(ConfigSourceKind::DiscoveredRepository),
             _ => Err(Fail::new("no kind of a source")),
@@ -30,34 +29,27 @@ impl FromRow for ConfigSourceKind {
 /// Writes `KIND: PATH`.
 impl FromRow for ConfigSource {
     fn from_row(alloc: Global, text: &str) -> Result<Self, Fail> {
-        let (kind, path) = cut(text, ": ")?;
-        let path = unescaped(alloc, path)?;
-        let kind = ConfigSourceKind::from_row(alloc, kind)?;
+        let (kind, path) = both(alloc, text, ": ")?;
         Ok(ConfigSource { kind, path })
     }
 }
 
 // A source, and its contents where an arrow stands before them.
-fn parts(text: &str) -> (&str, Option<&str>) {
+fn parts<T: FromRow + Drop>(alloc: Global, text: &str) -> Result<(T, Option<String>), Fail> {
     match text.split_once(" => ") {
-        Some((source, contents)) => (source, Some(contents)),
-        None => (text, None),
-    }
-}
-
-fn contents(alloc: Global, text: Option<&str>) -> Result<Option<String>, Fail> {
-    match text {
-        Some(text) => Ok(Some(unescaped(alloc, text)?)),
-        None => Ok(None),
+        Some((source, contents)) => {
+            let source = T::from_row(alloc, source)?;
+            let contents = String::from_str(alloc, contents)?;
+            Ok((source, Some(contents)))
+        }
+        None => Ok((T::from_row(alloc, text)?, None)),
     }
 }
 
 /// Writes `SOURCE => CONTENTS`, or the source alone.
 impl FromRow for SourceText {
     fn from_row(alloc: Global, text: &str) -> Result<Self, Fail> {
-        let (source, text) = parts(text);
-        let source = ConfigSource::from_row(alloc, source)?;
-        let contents = contents(alloc, text)?;
+        let (source, contents) = parts(alloc, text)?;
         Ok(SourceText { source, contents })
     }
 }
@@ -65,14 +57,25 @@ impl FromRow for SourceText {
 /// Writes a tool's source and its contents.
 impl FromRow for ToolText {
     fn from_row(alloc: Global, text: &str) -> Result<Self, Fail> {
-        let (source, text) = parts(text);
-        let (kind, path) = cut(source, ": ")?;
-        let tool = ToolName::new(alloc, word(kind).1)?;
-        let config_file = unescaped(alloc, path)?;
-        let contents = contents(alloc, text)?;
+        let (file, contents): (ToolSource, _) = parts(alloc, text)?;
         Ok(ToolText {
-            file: ToolConfigFile { tool, config_file },
+            file: file.file,
             contents,
+        })
+    }
+}
+
+// A tool's file, as a source is written.
+#[derive(Drop)]
+struct ToolSource {
+    file: ToolConfigFile,
+}
+
+impl FromRow for ToolSource {
+    fn from_row(alloc: Global, text: &str) -> Result<Self, Fail> {
+        let (tool, config_file) = both(alloc, word(text).1, ": ")?;
+        Ok(ToolSource {
+            file: ToolConfigFile { tool, config_file },
         })
     }
 }
@@ -80,10 +83,8 @@ impl FromRow for ToolText {
 /// Writes a repository's source and its contents.
 impl FromRow for RepositoryText {
     fn from_row(alloc: Global, text: &str) -> Result<Self, Fail> {
-        let (source, text) = parts(text);
-        let (kind, path) = cut(source, ": ")?;
-        let path = unescaped(alloc, path)?;
-        let contents = contents(alloc, text)?;
+        let (kind, text) = cut(text, ": ")?;
+        let (path, contents) = parts(alloc, text)?;
         Ok(RepositoryText {
             explicit: kind == "explicit",
             path,
@@ -103,20 +104,21 @@ pub(crate) fn listed<T: FromRow + Drop>(alloc: Global, text: &str) -> Result<Vec
     Ok(values)
 }
 
-fn version(alloc: Global, text: &str) -> Result<Option<Version>, Fail> {
-    if text == "none" {
-        Ok(None)
-    } else {
-        Ok(Some(Version::parse(alloc, text)?))
+/// Writes a value, or `none`.
+impl<T: FromRow> FromRow for Option<T> {
+    fn from_row(alloc: Global, text: &str) -> Result<Self, Fail> {
+        if text == "none" {
+            Ok(None)
+        } else {
+            Ok(Some(T::from_row(alloc, text)?))
+        }
     }
 }
 
 /// Writes the required and the recommended version.
 impl FromRow for NextestVersionDeserialize {
     fn from_row(alloc: Global, text: &str) -> Result<Self, Fail> {
-        let (required, recommended) = word(text);
-        let required = version(alloc, required)?;
-        let recommended = version(alloc, recommended)?;
+        let (required, recommended) = both(alloc, text, " ")?;
         Ok(NextestVersionDeserialize {
             required,
             recommended,
@@ -127,23 +129,18 @@ impl FromRow for NextestVersionDeserialize {
 /// Writes `VERSION SOURCE`, or `none`.
 impl FromRow for NextestVersionReq {
     fn from_row(alloc: Global, text: &str) -> Result<Self, Fail> {
-        let (asked, source) = word(text);
-        match version(alloc, asked)? {
-            Some(version) => {
-                let source = ConfigSource::from_row(alloc, source)?;
-                Ok(NextestVersionReq::Version { version, source })
-            }
-            None => Ok(NextestVersionReq::None),
+        if text == "none" {
+            return Ok(NextestVersionReq::None);
         }
+        let (version, source) = both(alloc, text, " ")?;
+        Ok(NextestVersionReq::Version { version, source })
     }
 }
 
 /// Writes what is kept in the two roles.
 impl FromRow for NextestVersionConfig {
     fn from_row(alloc: Global, text: &str) -> Result<Self, Fail> {
-        let (required, recommended) = cut(text, " & ")?;
-        let required = NextestVersionReq::from_row(alloc, required)?;
-        let recommended = NextestVersionReq::from_row(alloc, recommended)?;
+        let (required, recommended) = both(alloc, text, " & ")?;
         Ok(NextestVersionConfig {
             required,
             recommended,
@@ -155,13 +152,13 @@ impl FromRow for NextestVersionConfig {
 impl FromRow for ExperimentalDeserialize {
     fn from_row(alloc: Global, text: &str) -> Result<Self, Fail> {
         let value = Value::from_str(alloc, text)?;
-        Ok(ExperimentalDeserialize::read(alloc, &value, "experimental")?)
+        done(ExperimentalDeserialize::read(alloc, &value, "experimental"))
     }
 }
 
 /// Writes the feature's word.
 impl FromRow for ConfigExperimental {
     fn from_row(_alloc: Global, text: &str) -> Result<Self, Fail> {
-        Ok(ConfigExperimental::from_str(text)?)
+        done(ConfigExperimental::from_str(text))
     }
 }

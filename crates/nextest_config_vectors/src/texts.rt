@@ -1,6 +1,6 @@
 //! The texts of values.
 
-use crate::rows::{Subject, check, check_at_sizes, no_such_call, shown, unescaped};
+use crate::rows::{Escaped, Subject, check, done, no_such_call, shown, written};
 use crate::values::names;
 use nextest_config_values::read::{QuotedText, QuotedTexts, found_text, quoted};
 use std::alloc::Global;
@@ -41,9 +41,8 @@ found | [1, 2] | sequence
 found | { a = 1 } | map
 found | 1.5 | floating point
 found | 1979-05-27 | datetime
-"#;
 
-const LONG: &str = r#"
+# at every size
 quoted | a«\u{1}» | "a«\u{1}»"
 quoted | «"» | "«\"»"
 texts | «x@ »z | «"x@", »"z"
@@ -56,31 +55,36 @@ impl Subject for Texts {
     fn answer(alloc: Global, call: &str, input: &str) -> Result<String, Fail> {
         match call {
             "quoted" => quoted_text(alloc, input),
-            "written out" => Ok(format!(in alloc; "{:?}", quoted_text(alloc, input)?)?),
-            "texts" => shown(alloc, &QuotedTexts(&names(alloc, input)?)),
-            "found" => Ok(found_text(alloc, &Value::from_str(alloc, input)?)?),
+            "written out" => written(alloc, &quoted_text(alloc, input)?),
+            "texts" => quoted_texts(alloc, input),
+            "found" => found(alloc, input),
             _ => no_such_call(),
         }
     }
 }
 
+fn quoted_texts(alloc: Global, input: &str) -> Result<String, Fail> {
+    let names = names(alloc, input)?;
+    shown(alloc, &QuotedTexts(&names))
+}
+
+fn found(alloc: Global, input: &str) -> Result<String, Fail> {
+    let value = Value::from_str(alloc, input)?;
+    done(found_text(alloc, &value))
+}
+
+// A text that is printed as it is quoted.
 fn quoted_text(alloc: Global, input: &str) -> Result<String, Fail> {
-    let text = unescaped(alloc, input)?;
-    let printed = shown(alloc, &QuotedText(text.as_str()))?;
-    let quoted = quoted(alloc, text.as_str())?;
+    let printed = shown(alloc, &QuotedText(input))?;
+    let quoted = quoted(alloc, input)?;
     if quoted == printed {
         Ok(quoted)
     } else {
-        Ok(format!(in alloc; "{quoted}, but also {printed}")?)
+        done(format!(in alloc; "{quoted}, but also {printed}"))
     }
 }
 
 #[test]
 fn texts_of_values(rt: HostRuntime) -> Result<(), Fail> {
-    check::<Texts>(&rt, ROWS)
-}
-
-#[test]
-fn texts_of_any_length(rt: HostRuntime) -> Result<(), Fail> {
-    check_at_sizes::<Texts>(&rt, LONG)
+    check::<Escaped<Texts>>(&rt, ROWS)
 }

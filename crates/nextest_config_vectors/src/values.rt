@@ -1,18 +1,17 @@
 //! Values that rows write: names, refusals and faults.
 
-use crate::rows::{cut, unescaped};
+use crate::rows::{cut, done};
 use nextest_config_elements::max_fail::TerminateMode;
 use nextest_config_values::identifier::{
     ConfigIdentifier, InvalidIdentifier, InvalidToolName, ToolName,
 };
-use nextest_config_values::read::{FaultKind, FromToml, ReadFault, Rule};
+use nextest_config_values::read::{FaultKind, ReadFault, Rule};
 use nextest_config_values::tool_config::{ToolConfigFile, ToolConfigFileParseError};
 use nextest_config_values::track_default::TrackDefault;
 use semver::Version;
 use std::alloc::{AllocError, Global};
 use std::collections::BTreeSet;
 use std::test::Fail;
-use toml::Value;
 
 /// A type whose values rows write.
 pub(crate) trait FromRow: Sized {
@@ -23,6 +22,18 @@ pub(crate) trait FromRow: Sized {
 // The first word, and what stands behind it.
 pub(crate) fn word(text: &str) -> (&str, &str) {
     text.split_once(' ').unwrap_or((text, ""))
+}
+
+/// The two values that a text writes on the sides of the first of these marks.
+pub(crate) fn both<A: FromRow + Drop, B: FromRow>(
+    alloc: Global,
+    text: &str,
+    mark: &str,
+) -> Result<(A, B), Fail> {
+    let (left, right) = cut(text, mark)?;
+    let left = A::from_row(alloc, left)?;
+    let right = B::from_row(alloc, right)?;
+    Ok((left, right))
 }
 
 fn no_such_word<T>() -> Result<T, Fail> {
@@ -42,15 +53,39 @@ pub(crate) fn part<W: Drop, T, F: Fn(&W) -> Result<T, AllocError> + Drop>(
 /// A set of names.
 pub(crate) fn names(alloc: Global, text: &str) -> Result<BTreeSet<String>, Fail> {
     let mut names = BTreeSet::new(alloc);
-    for name in text.split_whitespace() {
-        names.insert(unescaped(alloc, name)?)?;
+    for name in text.split(' ') {
+        if !name.is_empty() {
+            names.insert(String::from_str(alloc, name)?)?;
+        }
     }
     Ok(names)
 }
 
-impl FromRow for TerminateMode {
+impl FromRow for String {
     fn from_row(alloc: Global, text: &str) -> Result<Self, Fail> {
-        Ok(TerminateMode::read(alloc, &Value::string(alloc, text)?, "")?)
+        done(String::from_str(alloc, text))
+    }
+}
+
+impl FromRow for Version {
+    fn from_row(alloc: Global, text: &str) -> Result<Self, Fail> {
+        done(Version::parse(alloc, text))
+    }
+}
+
+impl FromRow for usize {
+    fn from_row(_alloc: Global, text: &str) -> Result<Self, Fail> {
+        done(text.parse())
+    }
+}
+
+impl FromRow for TerminateMode {
+    fn from_row(_alloc: Global, text: &str) -> Result<Self, Fail> {
+        match text {
+            "wait" => Ok(TerminateMode::Wait),
+            "immediate" => Ok(TerminateMode::Immediate),
+            _ => no_such_word(),
+        }
     }
 }
 
@@ -69,20 +104,20 @@ impl FromRow for TrackDefault<u32> {
 
 impl FromRow for ConfigIdentifier {
     fn from_row(alloc: Global, text: &str) -> Result<Self, Fail> {
-        Ok(ConfigIdentifier::new(alloc, unescaped(alloc, text)?.as_str())?)
+        done(ConfigIdentifier::new(alloc, text))
     }
 }
 
 impl FromRow for ToolName {
     fn from_row(alloc: Global, text: &str) -> Result<Self, Fail> {
-        Ok(ToolName::new(alloc, unescaped(alloc, text)?.as_str())?)
+        done(ToolName::new(alloc, text))
     }
 }
 
 impl FromRow for InvalidIdentifier {
     fn from_row(alloc: Global, text: &str) -> Result<Self, Fail> {
         let (name, text) = word(text);
-        let text = unescaped(alloc, text)?;
+        let text = String::from_str(alloc, text)?;
         match name {
             "Empty" => Ok(InvalidIdentifier::Empty),
             "InvalidXid" => Ok(InvalidIdentifier::InvalidXid(text)),
@@ -100,7 +135,7 @@ impl FromRow for InvalidIdentifier {
 impl FromRow for InvalidToolName {
     fn from_row(alloc: Global, text: &str) -> Result<Self, Fail> {
         let (name, text) = word(text);
-        let text = unescaped(alloc, text)?;
+        let text = String::from_str(alloc, text)?;
         match name {
             "Empty" => Ok(InvalidToolName::Empty),
             "StartsWithToolPrefix" => Ok(InvalidToolName::StartsWithToolPrefix(text)),
@@ -113,7 +148,7 @@ impl FromRow for InvalidToolName {
 
 impl FromRow for ToolConfigFile {
     fn from_row(alloc: Global, text: &str) -> Result<Self, Fail> {
-        Ok(ToolConfigFile::from_str(alloc, unescaped(alloc, text)?.as_str())?)
+        done(ToolConfigFile::from_str(alloc, text))
     }
 }
 
@@ -121,7 +156,7 @@ impl FromRow for ToolConfigFileParseError {
     fn from_row(alloc: Global, text: &str) -> Result<Self, Fail> {
         let (name, text) = word(text);
         let (input, error) = text.split_once(" / ").unwrap_or((text, "Memory"));
-        let input = unescaped(alloc, input)?;
+        let input = String::from_str(alloc, input)?;
         match name {
             "InvalidFormat" => Ok(ToolConfigFileParseError::InvalidFormat { input }),
             "InvalidToolName" => {
@@ -144,40 +179,47 @@ impl FromRow for Rule {
         match name {
             "PreRelease" => Ok(Rule::PreRelease),
             "BuildMetadata" => Ok(Rule::BuildMetadata),
-            "NotVersion" => {
-                let text = unescaped(alloc, text)?;
-                Ok(Rule::NotVersion { text })
-            }
-            "RequiredAboveRecommended" => {
-                let (required, recommended) = word(text);
-                let required = Version::parse(alloc, required)?;
-                let recommended = Version::parse(alloc, recommended)?;
-                Ok(Rule::RequiredAboveRecommended {
-                    required,
-                    recommended,
-                })
-            }
             "JitterWithoutDelay" => Ok(Rule::JitterWithoutDelay),
             "CountZero" => Ok(Rule::CountZero),
             "DelayZero" => Ok(Rule::DelayZero),
             "MaxDelayZero" => Ok(Rule::MaxDelayZero),
             "MaxDelayBelowDelay" => Ok(Rule::MaxDelayBelowDelay),
-            "Priority" => {
-                let priority = text.parse()?;
-                Ok(Rule::Priority { priority })
-            }
-            _ => no_such_word(),
+            name => rule_of(alloc, name, text),
         }
     }
+}
+
+// The broken rule that tells what breaks it.
+fn rule_of(alloc: Global, name: &str, text: &str) -> Result<Rule, Fail> {
+    match name {
+        "NotVersion" => {
+            let text = String::from_str(alloc, text)?;
+            Ok(Rule::NotVersion { text })
+        }
+        "RequiredAboveRecommended" => above(alloc, text),
+        "Priority" => {
+            let priority = text.parse()?;
+            Ok(Rule::Priority { priority })
+        }
+        _ => no_such_word(),
+    }
+}
+
+fn above(alloc: Global, text: &str) -> Result<Rule, Fail> {
+    let (required, recommended) = both(alloc, text, " ")?;
+    Ok(Rule::RequiredAboveRecommended {
+        required,
+        recommended,
+    })
 }
 
 impl FromRow for FaultKind {
     fn from_row(alloc: Global, text: &str) -> Result<Self, Fail> {
         let (name, rest) = word(text);
         match name {
-            "Custom" => Ok(FaultKind::Custom(Rule::from_row(alloc, rest)?)),
-            "Identifier" => Ok(FaultKind::Identifier(InvalidIdentifier::from_row(alloc, rest)?)),
-            "ToolName" => Ok(FaultKind::ToolName(InvalidToolName::from_row(alloc, rest)?)),
+            "Custom" => Rule::from_row(alloc, rest).map(FaultKind::Custom),
+            "Identifier" => InvalidIdentifier::from_row(alloc, rest).map(FaultKind::Identifier),
+            "ToolName" => InvalidToolName::from_row(alloc, rest).map(FaultKind::ToolName),
             "Memory" => Ok(FaultKind::Memory),
             name => mismatch(alloc, name, rest),
         }
@@ -188,7 +230,7 @@ impl FromRow for FaultKind {
 fn mismatch(alloc: Global, name: &str, text: &str) -> Result<FaultKind, Fail> {
     let (found, wanted) = text.split_once(" / ").unwrap_or((text, ""));
     let expected = expected(wanted);
-    let found = unescaped(alloc, found)?;
+    let found = String::from_str(alloc, found)?;
     match name {
         "InvalidType" => Ok(FaultKind::InvalidType { found, expected }),
         "InvalidValue" => Ok(FaultKind::InvalidValue { found, expected }),
@@ -212,9 +254,7 @@ pub(crate) fn expected(text: &str) -> &'static str {
 
 impl FromRow for ReadFault {
     fn from_row(alloc: Global, text: &str) -> Result<Self, Fail> {
-        let (path, kind) = cut(text, ", ")?;
-        let path = unescaped(alloc, path)?;
-        let kind = FaultKind::from_row(alloc, kind)?;
+        let (path, kind) = both(alloc, text, ", ")?;
         Ok(ReadFault { path, kind })
     }
 }

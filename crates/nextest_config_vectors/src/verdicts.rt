@@ -1,7 +1,7 @@
 //! What lists of sources ask, and what a current version is told.
 
 use crate::asked::{Asks, Lists};
-use crate::rows::{check, check_at_sizes};
+use crate::rows::{Escaped, check};
 use std::test::Fail;
 
 const ROWS: &str = r#"
@@ -58,9 +58,8 @@ versions | explicit: a.toml | none, none
 
 # an error tells its kind and source
 error | repository: 0.toml => nextest-version = "0.9.50" && repository: 1.toml => x = | TomlParseError, repository 1.toml
-"#;
 
-const LONG: &str = r#"
+# at every size
 versions | «repository: @.toml && » | none, none
 0.9.49 | «repository: @.toml => nextest-version = "0.9.50" && »repository: r.toml => nextest-version = "0.9.50" | Error: 0.9.50, repository r.toml, 0.9.49
 0.9.49 | repository: r.toml => «k@ = 1\n»nextest-version = "0.9.50" | Error: 0.9.50, repository r.toml, 0.9.49
@@ -76,28 +75,17 @@ const ASKS: &str = r#"
 0.9.55 --override | repository: a.toml => 0.9.50 0.9.60 | overridden Warn: 0.9.60, repository a.toml, 0.9.55
 0.9.60 | repository: a.toml => 0.9.50 0.9.60 | Satisfied
 versions | repository: a.toml => none none | none, none
-"#;
 
-const LONG_ASKS: &str = r#"
+# at every size
 versions | «repository: @.toml => 0.9.50 none && »repository: r.toml => 0.9.50 0.9.60 | 0.9.50 from repository r.toml, 0.9.60 from repository r.toml
 "#;
 
 #[test]
 fn the_greatest_version_of_a_list_is_told_with_its_source(rt: HostRuntime) -> Result<(), Fail> {
-    check::<Lists>(&rt, ROWS)
-}
-
-#[test]
-fn lists_of_any_length_are_read(rt: HostRuntime) -> Result<(), Fail> {
-    check_at_sizes::<Lists>(&rt, LONG)
+    check::<Escaped<Lists>>(&rt, ROWS)
 }
 
 #[test]
 fn versions_are_taken_in_one_by_one(rt: HostRuntime) -> Result<(), Fail> {
     check::<Asks>(&rt, ASKS)
-}
-
-#[test]
-fn any_number_of_versions_is_taken_in(rt: HostRuntime) -> Result<(), Fail> {
-    check_at_sizes::<Asks>(&rt, LONG_ASKS)
 }

@@ -1,6 +1,6 @@
 //! Values of `nextest-version`, as the reader of the setting reads them.
 
-use crate::rows::{Subject, Told, answered, check, check_at_sizes, named};
+use crate::rows::{Subject, Told, answered, check, done};
 use nextest_config::nextest_version::NextestVersionDeserialize;
 use nextest_config_values::read::FromToml;
 use semver::Version;
@@ -38,9 +38,8 @@ nextest-version | { required = '1', recommended = 2 } | nextest-version.required
 nextest-version | { required = '1.0', recommended = 2 } | nextest-version.recommended: invalid type: integer `2`, expected a string
 nextest-version | { required = '0.9.60', recommended = '0.9.50' } | nextest-version: required version (0.9.60) must not be greater than recommended version (0.9.50)
 nextest-version | true | nextest-version: invalid type: boolean `true`, expected a table ({ required = "0.9.20", recommended = "0.9.30" }) or a string ("0.9.50")
-"#;
 
-const LONG: &str = r#"
+# at every size
 p«p» | '1.0-a«a»' | p«p»: pre-release identifiers are not supported in nextest-version
 p | '1.0.«x»' | p: invalid version "1.0.«x»"
 p | '20000000000000000000«0».0' | p: invalid version "20000000000000000000«0».0"
@@ -65,23 +64,18 @@ impl Told for NextestVersionDeserialize {
     fn told(&self, alloc: Global, _call: &str) -> Result<String, Fail> {
         let required = version(alloc, &self.required)?;
         let recommended = version(alloc, &self.recommended)?;
-        named(alloc, required.as_str(), recommended.as_str())
+        done(format!(in alloc; "{required} {recommended}"))
     }
 }
 
 fn version(alloc: Global, version: &Option<Version>) -> Result<String, Fail> {
     match version {
-        Some(version) => Ok(version.to_string(alloc)?),
-        None => Ok(String::from_str(alloc, "none")?),
+        Some(version) => done(version.to_string(alloc)),
+        None => done(String::from_str(alloc, "none")),
     }
 }
 
 #[test]
 fn versions_of_a_text_or_a_table_are_read(rt: HostRuntime) -> Result<(), Fail> {
     check::<VersionValues>(&rt, ROWS)
-}
-
-#[test]
-fn versions_of_long_texts_and_tables_are_read(rt: HostRuntime) -> Result<(), Fail> {
-    check_at_sizes::<VersionValues>(&rt, LONG)
 }
