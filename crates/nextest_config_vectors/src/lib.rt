@@ -10,6 +10,8 @@ mod compared;
 #[cfg(test)]
 mod configurations;
 #[cfg(test)]
+mod durations;
+#[cfg(test)]
 mod equality;
 #[cfg(test)]
 mod faults;
@@ -22,6 +24,8 @@ mod files;
 #[cfg(test)]
 mod identifiers;
 #[cfg(test)]
+mod limits;
+#[cfg(test)]
 mod orders;
 #[cfg(test)]
 mod paths;
@@ -33,6 +37,8 @@ mod readers;
 mod readme;
 #[cfg(test)]
 mod rows;
+#[cfg(test)]
+mod settings;
 #[cfg(test)]
 mod sources;
 #[cfg(test)]
