@@ -34,11 +34,11 @@ abbrev pub retry_policy_of : RetryPolicy → RetryPolicyRecord
 retry_policy_of (policies.Fixed count delay jitter) = fixed (record { count = count; delay = as_nanos delay; jitter = jitter })
 retry_policy_of (policies.Exponential count delay jitter max_delay) = exponential (record { count = count; delay = as_nanos delay; jitter = jitter; max_delay = option_map as_nanos max_delay })
 
--- so many tries at once
+-- so many retries, with no delay
 abbrev pub without_delay : ℕ → RetryPolicyRecord
 without_delay count = fixed (record { count = count; delay = 0; jitter = false })
 
--- how often a policy tries again
+-- how often a policy tries a test again
 abbrev pub count_of : RetryPolicyRecord → ℕ
 count_of (fixed policy) = policy.count
 count_of (exponential policy) = policy.count
@@ -175,7 +175,7 @@ RetryTableFaults = FaultsThen (RequiredKey backoff_key (MeansWordText backoff_wo
 abbrev pub retries_expected : List ℕ
 retries_expected = codes "a table ({ backoff = \"fixed\", count = 5 }) or a number (5)"
 
--- the integer is a number of tries, with no delay
+-- the integer is a number of retries, with no delay
 abbrev pub MeansRetryNumber : ℤ → RetryPolicyRecord → Type 0
 MeansRetryNumber (pos number) policy = IsU32 number × (policy ≡ without_delay number)
 MeansRetryNumber (negsuc number) policy = ⊥

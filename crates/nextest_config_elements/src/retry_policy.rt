@@ -39,7 +39,7 @@ pub enum RetryPolicy {
         /// Whether the delay is varied at random.
         jitter: bool,
     },
-    /// A delay that doubles from try to try.
+    /// A delay that grows exponentially from try to try.
     Exponential {
         /// How often the test is tried again.
         count: u32,
@@ -61,7 +61,7 @@ impl Default for RetryPolicy {
 }
 
 impl RetryPolicy {
-    /// So many tries, one right after the other.
+    /// So many retries, with no delay between them.
     pub fn new_without_delay(count: u32) -> Self
         ensures { retry_policy_of result ≡ without_delay count }
     {
@@ -82,7 +82,8 @@ impl RetryPolicy {
     }
 }
 
-/// Reads the value of `retries`: a number of tries, or a table.
+/// Reads the value of `retries`: a number of retries, or a table. A fault names its path, which begins
+/// with `at`: the first in the order of the fields, then the first unknown key, then a broken rule.
 pub fn deserialize_retry_policy(
     alloc: Global,
     value: &Value,
@@ -226,7 +227,7 @@ fn broken(alloc: Global, at: &str, rule: Rule) -> ReadFault
 enum Backoff {
     // It doesn't.
     Fixed,
-    // It doubles from try to try.
+    // Exponentially, from try to try.
     Exponential,
 }
 

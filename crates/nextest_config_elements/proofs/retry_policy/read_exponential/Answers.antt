@@ -1,4 +1,4 @@
-use Rattle.std.proofs.Common.{false, inl, inr}
+use Rattle.std.proofs.Common.{false, refl, inl, inr}
 use Rattle.std.specs.Duration.{as_nanos}
 use Rattle.toml.specs.Data.{get_member}
 use Rattle.toml.specs.View.{table_view}
@@ -8,7 +8,7 @@ use Rattle.nextest_config_values.specs.Read.Fault.{Fault}
 use Rattle.nextest_config_values.specs.Read.{MeansBoolean, MeansU32}
 use Rattle.std.proofs.Common.{option_map}
 use Rattle.nextest_config_elements.proofs.RetryPolicies.{exponential_parts}
-use Rattle.nextest_config_elements.specs.RetryPolicy.{backoff_reading, count_key, delay_key, ExponentialFaults, ExponentialRuleFaults, jitter_key, max_delay_key, OtherKeyFaults, retry_policy_of}
+use Rattle.nextest_config_elements.specs.RetryPolicy.{backoff_reading, count_key, delay_key, ExponentialFaults, ExponentialPolicy, ExponentialRuleFaults, jitter_key, max_delay_key, MeansExponential, OtherKeyFaults, retry_policy_of}
 use Rattle.nextest_config_elements.specs.declared.retry_policy.Backoff.TheVariants as backoffs
 use Rattle.nextest_config_elements.proofs.retry_policy.read_exponential.Goals as goal
 
@@ -87,3 +87,17 @@ returns-in_err-check_exponential-clause-refused c =
     ) in
     passed_on c.from_residual-in_err-check_exponential.result c.in_err-check_exponential.field-0.0 c.from_residual-in_err-check_exponential.ensures.1 c.in_err-check_exponential.ensures.refused
     (λ one policy meant. absurd ((backoff_reading backoffs.Exponential).never_both members at (retry_policy_of policy) one.0 meant (step one.0 one.1))) step
+
+pub returns-clause-meant : goal.returns-clause-meant
+returns-clause-meant c =
+    let members = table_view c.args.table.now in
+    let policy : ExponentialPolicy = record { count = c.in_ok-count.count; delay = as_nanos c.in_ok-delay.delay; jitter = c.in_ok-jitter.jitter; max_delay = option_map as_nanos c.in_ok-max_delay.max_delay } in
+    let meant : MeansExponential members policy = record {
+      of_count = c.in_ok-count.ensures.meant;
+      of_delay = seen_required MeansDuration as_nanos (get_member delay_key members) c.in_ok-delay.delay c.in_ok-delay.ensures.meant;
+      of_jitter = c.in_ok-jitter.ensures.meant;
+      of_max_delay = seen_optional MeansDuration as_nanos (get_member max_delay_key members) c.in_ok-max_delay.max_delay c.in_ok-max_delay.ensures.meant;
+      of_keys = c.in_ok-check_keys.ensures.kept;
+      of_rules = c.in_ok-check_exponential.ensures.kept;
+    } in
+    (policy, meant, refl)
