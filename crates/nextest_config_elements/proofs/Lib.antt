@@ -3,5 +3,5 @@ pub mod Limits
 pub mod Numbers
 pub mod Printed
 pub mod RetryPolicies
-pub mod Texts
+pub mod TimeoutTexts
 pub mod UnknownKeys

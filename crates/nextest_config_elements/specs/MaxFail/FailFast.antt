@@ -1,9 +1,9 @@
 -- The setting `fail-fast`: a boolean, or a table with a limit and a mode.
-use Rattle.std.specs.Prelude.{◌≡◌, ◌≢◌, ℕ, ℤ, pos, ◌≤ℤ◌, ◌<ℤ◌, Bool, List, [], ◌∷◌, codes, map, FitsSigned, ◌⊎◌, Option, Some}
+use Rattle.std.specs.Prelude.{◌≡◌, ◌≢◌, ℕ, ℤ, pos, ◌≤ℤ◌, ◌<ℤ◌, Bool, List, [], ◌∷◌, codes, FitsSigned, ◌⊎◌, Option, Some}
 use Rattle.std.specs.Int.{w64}
-use Rattle.toml.specs.Data.{Data, Members, as_bool, as_integer, as_str, as_table, get_member, integer, string}
+use Rattle.toml.specs.Data.{Data, Members, as_bool, as_integer, as_str, as_table, integer, string}
 use Rattle.nextest_config_values.specs.Read.Fault.{Fault}
-use Rattle.nextest_config_values.specs.Read.{FaultsAs, FaultsKind, FaultsThen, IsCount, IsNoWord, MeansAs, MeansKind, MeansNothing, MeansNumber, MeansOr, MeansRequired, MeansWord, OptionalFaults, path_of, RequiredFaults, text_expected, words_text, wrong_value, WrongKind}
+use Rattle.nextest_config_values.specs.Read.{FaultsKind, FaultsThen, IsCount, KeyOr, MeansKind, MeansNothing, MeansNumber, MeansWordText, OptionalKeyFaults, RequiredKey, RequiredKeyFaults, WordTextFaults, wrong_value, WrongKind}
 use Rattle.nextest_config_elements.specs.MaxFail.Limit.{fail_fast_limit, mode_word}
 use Rattle.nextest_config_elements.specs.MaxFail.NumberText.{IsNumberText}
 use Rattle.nextest_config_elements.specs.declared.max_fail.MaxFail.{MaxFail}
@@ -68,11 +68,11 @@ MaxFailFaults value = FaultsKind MaxFailNumberFaults (λ other. FaultsKind MaxFa
 
 -- the mode of a word
 abbrev pub MeansTerminate : Data → TerminateMode → Type 0
-MeansTerminate = MeansAs as_str (MeansWord mode_word)
+MeansTerminate = MeansWordText mode_word
 
 -- what is wrong with it
 abbrev pub TerminateFaults : Data → List ℕ → Fault → Type 0
-TerminateFaults = FaultsAs as_str text_expected (IsNoWord mode_word (words_text (map mode_word (Wait ∷ Immediate ∷ []))))
+TerminateFaults = WordTextFaults mode_word (Wait ∷ Immediate ∷ [])
 
 -- ---- the setting
 
@@ -85,14 +85,14 @@ limit_of All mode = limits.All
 pub record MeansFailFastTable (members : Members) (limit : MaxFail) : Type 0 where
   pub count : MaxFailCount
   pub mode : TerminateMode
-  pub of_max_fail : MeansRequired MeansMaxFail (get_member max_fail_key members) count
-  pub of_terminate : MeansOr Wait MeansTerminate (get_member terminate_key members) mode
+  pub of_max_fail : RequiredKey max_fail_key MeansMaxFail members count
+  pub of_terminate : KeyOr terminate_key Wait MeansTerminate members mode
   pub limit_is : limit ≡ limit_of count mode
 
 -- what is wrong with the table: at `max-fail`, and behind it at `terminate`
 abbrev pub FailFastTableFaults : Members → List ℕ → Fault → Type 0
-FailFastTableFaults = FaultsThen (λ members. MeansRequired MeansMaxFail (get_member max_fail_key members)) (λ members. RequiredFaults MaxFailFaults max_fail_key (get_member max_fail_key members))
-    (λ count members at. OptionalFaults TerminateFaults (get_member terminate_key members) (path_of at terminate_key))
+FailFastTableFaults = FaultsThen (RequiredKey max_fail_key MeansMaxFail) (RequiredKeyFaults max_fail_key MaxFailFaults) (λ count.
+    OptionalKeyFaults terminate_key TerminateFaults)
 
 -- the boolean sets this limit
 abbrev pub MeansFailFastTruth : Bool → MaxFail → Type 0

@@ -1,6 +1,6 @@
 use Rattle.toml.specs.View.{view}
 use Rattle.nextest_config_values.proofs.Keys.{passed_on}
-use Rattle.nextest_config_elements.proofs.Texts.{leak_faults, leak_wants}
+use Rattle.nextest_config_elements.proofs.TimeoutTexts.{leak_faults, leak_wants}
 use Rattle.nextest_config_elements.proofs.leak_timeout.deserialize_leak_timeout.Goals as goal
 
 pub returns-in_err-period-in-Some-clause-refused : goal.returns-in_err-period-in-Some-clause-refused

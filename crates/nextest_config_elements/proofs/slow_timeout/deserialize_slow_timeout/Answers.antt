@@ -1,7 +1,7 @@
 use Rattle.toml.specs.View.{view}
 use Rattle.std.proofs.Common.{◌<◌, length, rules}
 use Rattle.nextest_config_values.proofs.Keys.{passed_on}
-use Rattle.nextest_config_elements.proofs.Texts.{slow_faults, slow_wants}
+use Rattle.nextest_config_elements.proofs.TimeoutTexts.{slow_faults, slow_wants}
 use Rattle.nextest_config_elements.proofs.slow_timeout.deserialize_slow_timeout.Goals as goal
 
 pub returns-in_err-period-clause-refused : goal.returns-in_err-period-clause-refused
