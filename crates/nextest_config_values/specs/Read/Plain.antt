@@ -1,6 +1,6 @@
 -- What the plain readers mean by what a value holds.
 use Rattle.std.specs.Prelude.{◌≡◌, ◌≢◌, ℕ, ◌<◌, ◌^◌, ℤ, pos, Bool, List, codes, String, string_bytes}
-use Rattle.std.proofs.Common.{refl, sym, ◌∙◌}
+use Rattle.std.proofs.Common.{sym, ◌∙◌}
 use Rattle.std.specs.declared.alloc.Global.{Global}
 use Rattle.toml.specs.Data.{Data, as_bool, as_integer, as_str}
 use Rattle.nextest_config_values.specs.Read.Fault.{Fault, wrong_value}
