@@ -1,5 +1,5 @@
+pub mod Cuts
 pub mod Enough
-pub mod Precedences
 pub mod Readings
 pub mod Refusals
 pub mod Standing
@@ -9,6 +9,7 @@ pub mod OneVerdict
 pub mod OneRefusal
 pub mod OneConfiguration
 pub mod AddedSource
+pub mod Joins
 pub mod Members
 pub mod Orders
 pub mod Features

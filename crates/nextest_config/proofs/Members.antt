@@ -91,6 +91,10 @@ module _ {K : Type 0} (eq : K → K → Bool) (itself : (x : K) → eq x x ≡ t
   found_member k (x ∷ xs) h = ⊎_elim (λ same. or_left (eq k x) (is_member eq xs k) (subst (λ y. eq k y ≡ true) (sym same) (itself k)))
       (λ later. or_right (eq k x) (is_member eq xs k) (found_member k xs later)) (contains_cases x xs h)
 
+  -- the test finds those that the list has
+  pub member_iff : (k : K) (xs : List K) → (is_member eq xs k ≡ true) ↔ Contains xs k
+  member_iff k xs = (Contains-from_any exact k xs, found_member k xs)
+
   pub has_union : (xs ys zs : List K) → IsUnion eq xs ys zs → HasBoth xs ys zs
   has_union xs ys zs union k =
       let in_xs = is_member eq xs k in

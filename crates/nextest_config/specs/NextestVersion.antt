@@ -2,9 +2,11 @@
 pub mod VersionText
 pub mod VersionTextLaws
 pub mod Precedence
+pub mod PrecedenceLaws
 pub mod Source
 pub mod NextestVersionDeserialize
 pub mod Requirement
+pub mod RequirementLaws
 pub mod Verdict
 pub mod ErrorKind
 pub mod Error
@@ -13,8 +15,10 @@ pub mod ExperimentalDeserialize
 pub mod ExperimentalLaws
 pub mod ExperimentalSteps
 pub mod ExperimentalConfig
+pub mod ExperimentalConfigLaws
 pub mod VersionOnlyDeserialize
 pub mod VersionOnly
+pub mod VersionOnlyLaws
 pub use VersionText.{BreaksVersion, HasVersion, hyphen, IsPlain, IsVersionFault, IsVersionText, MeansVersion, Numbers, plain, plus_sign, VersionFaults, VersionTextFaults}
 pub use VersionTextLaws.{mark_at, no_version, read_three, read_two, third, version_once, version_reading}
 pub use Precedence.{is_below, IsBelow, IsEnough, IsEnoughByNumbers, precedence}
@@ -28,6 +32,6 @@ pub use Experimental.{all_features, feature_cmp, features_left, FeaturesInOrder,
 pub use ExperimentalDeserialize.{AreNamed, AreNames, AreSetsInOrder, FeatureArrayFaults, Features, features_of, FeaturesAlike, FeaturesFaults, FeatureTableFaults, FirstSwitchFaults, IsAmong, IsTextAt, IsUnknownKey, IsWordAmong, item_path, ItemFaults, MeansFeatureArray, MeansFeatures, MeansFeatureTable, MeansSwitch, no_features, SwitchFaults, text_in}
 pub use ExperimentalLaws.{features_in_one_order, features_meant, features_reading, one_at_a_place, switch, texts_in_one_order}
 pub use ExperimentalSteps.{AddsItem, AddsText}
-pub use ExperimentalConfig.{AddsFeatures, entry_at, errors_left, experimental_of, no_experimental, told_by, Unknown, unknown_of}
+pub use ExperimentalConfig.{AddsFeatures, AreSeenAs, entry_at, errors_left, experimental_of, features_from, has_feature, join_features, no_experimental, no_features_seen, seen_features, SeenFeatures, told_by, Unknown, unknown_of}
 pub use VersionOnlyDeserialize.{Ask, ask_of, Asks, AsksFeatures, AsksVersions, BreaksToolRule, experimental_key, IsWrong, IsWrongBehind, IsWrongDocument, IsWrongSetting, IsWrongTable, KeepsToolRule, nothing, TextAsks, version_key}
-pub use VersionOnly.{Adds, alone, AreEnabled, AreRead, Asked, AsksNoGreater, AsksNone, AsksOther, Configuration, configuration_of, entry_of, IsEnabledBySome, IsErrorOfList, IsFirstRefused, IsFromSource, IsGreatest, IsRead, IsReadAs, IsRefusalOf, IsRefused, IsSelectedFor, neutral, Reads, SelectsAmong, SelectsFor, StandsFor, StandsForAsks, StandsIn}
+pub use VersionOnly.{Adds, alone, AreEnabled, AreRead, Asked, AsksNoGreater, AsksNone, AsksOther, Configuration, configuration_from, configuration_of, entry_of, IsEnabledBySome, IsErrorOfList, IsFirstRefused, IsFirstRefusedAmong, IsFromSource, IsGreatest, IsJoinOf, IsRead, IsReadAs, IsRefusalOf, IsRefused, IsSeenAs, IsSelectedFor, join_configurations, neutral, neutral_seen, Reads, seen_configuration, SeenConfiguration, SelectsAmong, SelectsFor, StandsFor, StandsForAsks, StandsIn}
