@@ -1,11 +1,17 @@
 -- A list that is read in pieces.
-use Rattle.std.proofs.Common.{◌≡◌, ◌↔◌, ◌⊎◌, ◌+◌, ℕ, List, [], ◌∷◌, ◌++◌, length, length-append, refl, sym, ap, ◌∙◌, inl, inr, ⊎_elim, subst, append_assoc, arith}
+use Rattle.std.proofs.Common.{◌≡◌, ◌↔◌, ◌⊎◌, ◌+◌, ℕ, List, [], ◌∷◌, ◌++◌, length, length-append, map, refl, sym, ap, ◌∙◌, inl, inr, ⊎_elim, subst, append_assoc, arith}
+use mathlib.Core.Logic.Iff as iff
 use Rattle.std.proofs.lemmas.List.Concat.{flat_map-append}
 use Rattle.std.specs.List.{AllByRecursion, AllZip}
-use Rattle.nextest_config.specs.Merge.{in_a_row, IsCut}
-use Rattle.nextest_config.specs.NextestVersion.{AreRead, Asked, Configuration, IsFirstRefused, IsFirstRefusedAmong, IsJoinOf, IsReadAs, Reads, Refusal, StandsFor}
+use Rattle.nextest_config.specs.Merge.{in_a_row, IsCut, total}
+use Rattle.nextest_config.specs.NextestVersion.{AreRead, Asked, Configuration, IsFirstRefused, IsFirstRefusedAmong, IsJoinOf, IsReadAs, join_configurations, neutral_seen, Reads, Refusal, seen_configuration, SeenConfiguration, StandsFor}
+use Rattle.nextest_config.specs.NextestVersion.ExperimentalLaws.{same_truth}
 use Rattle.nextest_config.specs.NextestVersion.Source.{Source}
-use Rattle.nextest_config.proofs.Standing.{stands_in_a_row, zip_joined}
+use Rattle.nextest_config.specs.declared.nextest_version.experimental.ConfigExperimental.{ConfigExperimental}
+use Rattle.nextest_config_values.proofs.Lists.{all_weaker}
+use Rattle.nextest_config.proofs.OneConfiguration.{one_kept}
+use Rattle.nextest_config.proofs.OneVerdict.{all_plain, all_read_once, IsPlainAsked}
+use Rattle.nextest_config.proofs.Standing.{all_seen, seen_of, stands_in_a_row, StandsSeen, zip_joined}
 
 -- ---- which lists read
 
@@ -107,6 +113,31 @@ refused_by_pieces sources pieces position refusal cut = (
 
 -- ---- what stands for it
 
-pub stands_by_pieces : (sources : List Source) (pieces : List (List Source)) (configurations : List Configuration) (joined : Configuration) → IsCut sources pieces → AllZip StandsFor pieces configurations
-    → IsJoinOf configurations joined → StandsFor sources joined
-stands_by_pieces sources pieces configurations joined cut stand is = subst (λ xs. StandsFor xs joined) cut (stands_in_a_row pieces configurations joined stand is)
+-- one thing is seen of what stands for sources
+seen_once : (sources : List Source) (asked : List Asked) (s t : SeenConfiguration) → AreRead sources asked → StandsSeen asked s → StandsSeen asked t → s ≡ t
+seen_once sources asked s t read h k =
+    let plain = all_plain sources asked read in
+    let required = one_kept (λ ask. ask.versions.required) asked s.roles.required t.roles.required (all_weaker IsPlainAsked _ (λ a p. p.of_required) asked plain) h.required k.required in
+    let recommended = one_kept (λ ask. ask.versions.recommended) asked s.roles.recommended t.roles.recommended (all_weaker IsPlainAsked _ (λ a p. p.of_recommended) asked plain) h.recommended k.recommended in
+    let enables : (feature : ConfigExperimental) → s.experimental.enables feature ≡ t.experimental.enables feature = λ feature. same_truth _ _ (iff.trans (h.enabled feature) (iff.symm (k.enabled feature))) in
+    let unknown = h.unknown ∙ sym k.unknown in
+    λ i. record { roles = record { required = required i; recommended = recommended i }; experimental = record { enables = λ feature. enables feature i; unknown = unknown i } }
+
+-- what stands for the pieces in a row is the join of what stands for each
+join_of_pieces : (pieces : List (List Source)) (configurations : List Configuration) (whole : Configuration) → AllZip StandsFor pieces configurations → StandsFor (in_a_row pieces) whole → IsJoinOf configurations whole
+join_of_pieces pieces configurations whole stand (asked, read, stands) =
+    let (others, other_read, joined) = all_seen pieces configurations stand in
+    let join = total join_configurations neutral_seen (map seen_configuration configurations) in
+    let same = all_read_once (in_a_row pieces) others asked other_read read in
+    let seen = seen_once (in_a_row pieces) asked (seen_configuration whole) join read (seen_of asked whole stands) (subst (λ xs. StandsSeen xs join) same joined) in
+    record {
+      roles = ap (λ (s : SeenConfiguration). s.roles) seen;
+      experimental = record { same = ap (λ (s : SeenConfiguration). s.experimental) seen; in_order = stands.known.in_order };
+    }
+
+pub stands_by_pieces : (sources : List Source) (pieces : List (List Source)) (configurations : List Configuration) (whole : Configuration) → IsCut sources pieces → AllZip StandsFor pieces configurations
+    → StandsFor sources whole ↔ IsJoinOf configurations whole
+stands_by_pieces sources pieces configurations whole cut stand = (
+  λ stands. join_of_pieces pieces configurations whole stand (subst (λ xs. StandsFor xs whole) (sym cut) stands),
+  λ is. subst (λ xs. StandsFor xs whole) cut (stands_in_a_row pieces configurations whole stand is),
+)

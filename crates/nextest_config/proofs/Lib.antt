@@ -3,6 +3,7 @@ pub mod Enough
 pub mod Readings
 pub mod Refusals
 pub mod Standing
+pub mod Reorderings
 pub mod Selection
 pub mod Verdicts
 pub mod OneVerdict

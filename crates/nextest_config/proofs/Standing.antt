@@ -76,13 +76,13 @@ module _ (role : Ask → Option Parts) where
 -- ---- what is seen of a configuration
 
 -- what is seen stands for the asks, whatever the order of the known features
-record StandsSeen (asked : List Asked) (seen : SeenConfiguration) : Type 0 where
-  required : StandsIn (λ ask. ask.versions.required) asked seen.roles.required
-  recommended : StandsIn (λ ask. ask.versions.recommended) asked seen.roles.recommended
-  enabled : (feature : ConfigExperimental) → IsTrue (seen.experimental.enables feature) ↔ IsEnabledBySome asked feature
-  unknown : seen.experimental.unknown ≡ flat_map entry_of asked
+pub record StandsSeen (asked : List Asked) (seen : SeenConfiguration) : Type 0 where
+  pub required : StandsIn (λ ask. ask.versions.required) asked seen.roles.required
+  pub recommended : StandsIn (λ ask. ask.versions.recommended) asked seen.roles.recommended
+  pub enabled : (feature : ConfigExperimental) → IsTrue (seen.experimental.enables feature) ↔ IsEnabledBySome asked feature
+  pub unknown : seen.experimental.unknown ≡ flat_map entry_of asked
 
-seen_of : (asked : List Asked) (c : Configuration) → StandsForAsks asked c → StandsSeen asked (seen_configuration c)
+pub seen_of : (asked : List Asked) (c : Configuration) → StandsForAsks asked c → StandsSeen asked (seen_configuration c)
 seen_of asked c h = record {
   required = h.required;
   recommended = h.recommended;
@@ -157,7 +157,7 @@ zip_joined R [] (u ∷ us) ys vs h k = absurd h
 zip_joined R (x ∷ xs) [] ys vs h k = absurd h
 zip_joined R (x ∷ xs) (u ∷ us) ys vs h k = (h.0, zip_joined R xs us ys vs h.1 k)
 
-all_seen : (pieces : List (List Source)) (configurations : List Configuration) → AllZip StandsFor pieces configurations
+pub all_seen : (pieces : List (List Source)) (configurations : List Configuration) → AllZip StandsFor pieces configurations
     → (asked : List Asked) × AreRead (in_a_row pieces) asked × StandsSeen asked (total join_configurations neutral_seen (map seen_configuration configurations))
 all_seen [] [] h = ([], tt, seen_none)
 all_seen [] (c ∷ configurations) h = absurd h

@@ -4,9 +4,9 @@ ghost use Rattle.std.specs.Prelude.{◌≡◌, ◌≢◌, ◌↔◌, ◌++◌, �
 ghost use Rattle.std.specs.List.{AllByRecursion, AllZip};
 ghost use Rattle.std.specs.Ordering.{nat_cmp};
 ghost use Rattle.semver.specs.Parse.{Parts};
-ghost use Rattle.nextest_config.specs.Merge.{IsCut, IsMonoid};
+ghost use Rattle.nextest_config.specs.Merge.{IsCut, IsMonoid, IsReordering};
 ghost use Rattle.nextest_config.specs.NextestVersion.Verdict.{Verdict};
-ghost use Rattle.nextest_config.specs.NextestVersion.{alone, Asked, Configuration, IsBelow, IsEnough, IsEnoughByNumbers, IsFirstRefused, IsFirstRefusedAmong, IsFromSource, IsJoinOf, IsNoGraver, IsOverriding, IsSatisfied, IsSelected, IsSelectedFor, IsVersionText, join_configurations, join_features, join_kept, join_roles, Kept, neutral_seen, no_features_seen, no_roles, Numbers, plain, rank, Reads, Refusal, Roles, satisfied, Shortfall, StandsFor, verdict, warn};
+ghost use Rattle.nextest_config.specs.NextestVersion.{Agree, alone, Asked, Configuration, IsBelow, IsEnough, IsEnoughByNumbers, IsFirstRefused, IsFirstRefusedAmong, IsFromSource, IsJoinOf, IsNoGraver, IsOverriding, IsSatisfied, IsSelected, IsSelectedFor, IsVersionText, join_configurations, join_features, join_kept, join_roles, Kept, neutral_seen, no_features_seen, no_roles, Numbers, plain, rank, Reads, Refusal, Roles, satisfied, Shortfall, StandsFor, verdict, warn};
 ghost use Rattle.nextest_config.specs.NextestVersion.Source.{Source};
 ghost use Rattle.nextest_config.specs.declared.nextest_version.verdict.Severity.{Severity};
 
@@ -60,8 +60,8 @@ pub fn law_join()
 {}
 
 /// Reading is the same however a list is cut. It reads exactly where each piece does; its first refused
-/// position is that of the first refused piece, counted from the list's beginning; and the join, in
-/// order, of configurations that stand for the pieces stands for the list.
+/// position is that of the first refused piece, counted from the list's beginning; and a configuration
+/// stands for it exactly where it is the join, in order, of those that stand for the pieces.
 pub fn law_cut()
     ensures reads { (sources : List Source) (pieces : List (List Source)) → IsCut sources pieces
         → Reads sources ↔ AllByRecursion Reads pieces }
@@ -69,9 +69,20 @@ pub fn law_cut()
         (refusal : Refusal) → IsCut sources pieces
         → IsFirstRefused sources position refusal ↔ IsFirstRefusedAmong pieces position refusal }
     ensures stands { (sources : List Source) (pieces : List (List Source))
-        (configurations : List Configuration) (joined : Configuration) → IsCut sources pieces
-        → AllZip StandsFor pieces configurations → IsJoinOf configurations joined
-        → StandsFor sources joined }
+        (configurations : List Configuration) (whole : Configuration) → IsCut sources pieces
+        → AllZip StandsFor pieces configurations
+        → StandsFor sources whole ↔ IsJoinOf configurations whole }
+{}
+
+/// Of a list that reads, each reordering reads, and what stands for both keeps the same versions, knows
+/// the same features and has the same unknown names in some order; and on each current version,
+/// overridden or not, both are told the same, from whichever of the sources that ask one version.
+pub fn law_reorder()
+    ensures reads { (sources reordered : List Source) → IsReordering sources reordered
+        → Reads sources → Reads reordered }
+    ensures agree { (sources reordered : List Source) (configuration other : Configuration)
+        → IsReordering sources reordered → StandsFor sources configuration
+        → StandsFor reordered other → Agree configuration other }
 {}
 
 /// No list of sources has two selected verdicts.

@@ -1,15 +1,15 @@
 -- Lists of sources: what each asks, the first that is refused, and what stands for them all.
-use Rattle.std.specs.Prelude.{◌≡◌, ◌≢◌, ◌↔◌, ◌+◌, ℕ, List, ◌∷◌, ◌++◌, length, map, flat_map, Contains, Bool, Option, Some, None, IfSome}
+use Rattle.std.specs.Prelude.{◌≡◌, ◌≢◌, ◌↔◌, ◌+◌, ℕ, List, ◌∷◌, ◌++◌, length, map, flat_map, Contains, Bool, Option, Some, None, IfSome, option_map}
 use Rattle.std.specs.List.{AllByRecursion, AllZip}
 use Rattle.semver.specs.Parse.{Parts}
-use Rattle.nextest_config.specs.Merge.{in_a_row, total}
+use Rattle.nextest_config.specs.Merge.{in_a_row, IsReordering, total}
 use Rattle.nextest_config.specs.NextestVersion.Error.{Refusal, RefusesBy, refusal_of}
 use Rattle.nextest_config.specs.NextestVersion.Experimental.{FeaturesInOrder}
 use Rattle.nextest_config.specs.NextestVersion.ExperimentalConfig.{AreSeenAs, Experimental, SeenFeatures, Unknown, entry_at, experimental_of, features_from, join_features, no_experimental, seen_features}
 use Rattle.nextest_config.specs.NextestVersion.Precedence.{IsBelow}
-use Rattle.nextest_config.specs.NextestVersion.Requirement.{Kept, Roles, no_roles, roles_of, roles_from, join_roles}
+use Rattle.nextest_config.specs.NextestVersion.Requirement.{Kept, Roles, kept_version, no_roles, roles_of, roles_from, join_roles}
 use Rattle.nextest_config.specs.NextestVersion.Source.{Place, Source}
-use Rattle.nextest_config.specs.NextestVersion.Verdict.{Verdict, verdict, named_place, IsSelected}
+use Rattle.nextest_config.specs.NextestVersion.Verdict.{Verdict, verdict, named_place, IsSelected, SaysTheSame}
 use Rattle.nextest_config.specs.NextestVersion.VersionOnlyDeserialize.{Ask, IsWrong, TextAsks}
 use Rattle.nextest_config.specs.declared.nextest_version.error.ConfigParseError.{ConfigParseError}
 use Rattle.nextest_config.specs.declared.nextest_version.error.ListRefusal.{ListRefusal}
@@ -171,6 +171,14 @@ IsRefusalOf sources refusals.Memory = Unit {0}
 -- the error is that of the first refused position of the list, or there was no memory
 abbrev pub IsErrorOfList : List Source → ConfigParseError → Type 0
 IsErrorOfList sources = RefusesBy (λ refusal. (position : ℕ) × IsFirstRefused sources position refusal)
+
+-- the two keep the same versions, know the same features and have the same unknown names in some order; and on each current version both verdicts say the same
+pub record Agree (configuration other : Configuration) : Type 0 where
+  pub required : option_map kept_version configuration.roles.required ≡ option_map kept_version other.roles.required
+  pub recommended : option_map kept_version configuration.roles.recommended ≡ option_map kept_version other.roles.recommended
+  pub known : configuration.experimental.known ≡ other.experimental.known
+  pub unknown : IsReordering configuration.experimental.unknown other.experimental.unknown
+  pub verdicts : (current : Parts) (overridden : Bool) → SaysTheSame (verdict configuration.roles current overridden) (verdict other.roles current overridden)
 
 -- ---- the join of configurations
 
