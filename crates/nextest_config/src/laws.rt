@@ -74,9 +74,10 @@ pub fn law_cut()
         → StandsFor sources whole ↔ IsJoinOf configurations whole }
 {}
 
-/// Of a list that reads, each reordering reads, and what stands for both keeps the same versions, knows
-/// the same features and has the same unknown names in some order; and on each current version,
-/// overridden or not, both are told the same, from whichever of the sources that ask one version.
+/// Of a list that reads, each reordering reads. What stands for the two keeps the same versions, knows
+/// the same features and has the same entries of unknown names, in some order; and on each current
+/// version, overridden or not, both verdicts are of one kind and name one version. Where several sources
+/// ask that version, the verdicts may name different ones of them.
 pub fn law_reorder()
     ensures reads { (sources reordered : List Source) → IsReordering sources reordered
         → Reads sources → Reads reordered }

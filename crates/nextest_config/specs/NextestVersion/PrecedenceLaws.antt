@@ -27,10 +27,6 @@ not_below_itself v h =
 pub below_trans : (u v w : Parts) → IsBelow u v → IsBelow v w → IsBelow u w
 below_trans u v w h k = ap is_lt (precedence_total.trans u v w (below_less _ h) (below_less _ k))
 
-pub not_below_both : (v w : Parts) → IsBelow v w → ¬ IsBelow w v
-not_below_both v w h k =
-    not_below_itself v (below_trans v w v h k)
-
 not_below_by : (o : Ordering) (u v w : Parts) → precedence u v ≡ o → ¬ IsBelow u v → ¬ IsBelow v w → ¬ IsBelow u w
 not_below_by Less u v w e above more h = above (ap is_lt e)
 not_below_by Equal u v w e above more h = more (ap is_lt (sym (precedence_total.congr u v w e) ∙ below_less _ h))

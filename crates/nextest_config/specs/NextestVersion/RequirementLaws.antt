@@ -25,21 +25,21 @@ none_last : (kept : Option Kept) → join_kept kept None ≡ kept
 none_last None = refl
 none_last (Some kept) = refl
 
-in_a_row : (a b c : Option Kept) → join_kept (join_kept a b) c ≡ join_kept a (join_kept b c)
-in_a_row None b c = refl
-in_a_row (Some a) None c = refl
-in_a_row (Some a) (Some b) None = none_last (join_kept (Some a) (Some b))
-in_a_row (Some a) (Some b) (Some c) = three_kept a b c (is_below b.version a.version) (is_below c.version b.version) refl refl
+kept_in_a_row : (a b c : Option Kept) → join_kept (join_kept a b) c ≡ join_kept a (join_kept b c)
+kept_in_a_row None b c = refl
+kept_in_a_row (Some a) None c = refl
+kept_in_a_row (Some a) (Some b) None = none_last (join_kept (Some a) (Some b))
+kept_in_a_row (Some a) (Some b) (Some c) = three_kept a b c (is_below b.version a.version) (is_below c.version b.version) refl refl
 
 pub kept_join : IsMonoid join_kept None
-kept_join = record { associative = in_a_row; neutral_first = λ kept. refl; neutral_last = none_last }
+kept_join = record { associative = kept_in_a_row; neutral_first = λ kept. refl; neutral_last = none_last }
 
 abbrev both : Option Kept → Option Kept → Roles
 both required recommended = record { required = required; recommended = recommended }
 
 pub roles_join : IsMonoid join_roles no_roles
 roles_join = record {
-  associative = λ a b c. ap₂ both (in_a_row a.required b.required c.required) (in_a_row a.recommended b.recommended c.recommended);
+  associative = λ a b c. ap₂ both (kept_in_a_row a.required b.required c.required) (kept_in_a_row a.recommended b.recommended c.recommended);
   neutral_first = λ roles. refl;
   neutral_last = λ roles. ap₂ both (none_last roles.required) (none_last roles.recommended);
 }

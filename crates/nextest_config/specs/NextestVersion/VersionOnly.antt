@@ -172,7 +172,7 @@ IsRefusalOf sources refusals.Memory = Unit {0}
 abbrev pub IsErrorOfList : List Source → ConfigParseError → Type 0
 IsErrorOfList sources = RefusesBy (λ refusal. (position : ℕ) × IsFirstRefused sources position refusal)
 
--- the two keep the same versions, know the same features and have the same unknown names in some order; and on each current version both verdicts say the same
+-- the two keep the same versions, know the same features and have the same entries of unknown names in some order; and on each current version both verdicts say the same
 pub record Agree (configuration other : Configuration) : Type 0 where
   pub required : option_map kept_version configuration.roles.required ≡ option_map kept_version other.roles.required
   pub recommended : option_map kept_version configuration.roles.recommended ≡ option_map kept_version other.roles.recommended
