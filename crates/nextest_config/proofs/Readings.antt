@@ -1,20 +1,18 @@
 -- A source is in its grammar or has an error, and not both; and the refusal of a list, from that of a source.
-use Rattle.std.proofs.Common.{◌≡◌, ℕ, ◌+◌, ◌<◌, List, [], ◌∷◌, ◌++◌, length, get_or, take, drop, map, Option, Some, None, refl, subst, ap, ◌∙◌, inl, inr, append_assoc, arith}
+use Rattle.std.proofs.Common.{◌≡◌, ℕ, ◌+◌, ◌<◌, List, length, get_or, take, drop, map, Option, Some, None, refl, subst, ◌∙◌, inl, inr, arith}
 use Rattle.std.proofs.lemmas.List.{length-map, length-take-le}
 use Rattle.toml.specs.Data.{Members, get_member}
-use Rattle.nextest_config_values.specs.Read.{FaultOrMemory, IsReading, OptionalFaults, or_reading}
+use Rattle.nextest_config_values.specs.Read.{IsReading, OptionalFaults, or_reading}
 use Rattle.nextest_config.specs.NextestVersion.Source.{Source}
-use Rattle.nextest_config.specs.NextestVersion.{AreRead, Ask, Asks, AsksFeatures, AsksVersions, BreaksToolRule, experimental_key, Features, features_meant, FeaturesFaults, IsErrorOf, IsErrorOfList, IsFirstRefused, IsKindAt, IsRead, IsReadAs, IsRefusalAt, IsRefusalOf, IsRefused, IsWrong, IsWrongDocument, IsWrongTable, KeepsToolRule, kind_of, no_features, no_versions, Place, place_of, Reads, Refusal, refusal_at, refusal_of, RefusesBy, RefusesSource, source_of, source_place, TextAsks, told_refusal, version_key, versions_meant, VersionsFaults, Wrong, wrong_of}
+use Rattle.nextest_config.specs.NextestVersion.{AreRead, Ask, Asks, AsksFeatures, AsksVersions, BreaksToolRule, experimental_key, Features, features_meant, FeaturesFaults, IsErrorOfList, IsFirstRefused, IsKindAt, IsRead, IsReadAs, IsRefusalAt, IsRefusalOf, IsRefused, IsWrong, IsWrongDocument, IsWrongTable, KeepsToolRule, kind_of, no_features, no_versions, Reads, Refusal, refusal_at, refusal_of, RefusesSource, TextAsks, version_key, versions_meant, VersionsFaults, Wrong, wrong_of}
 use Rattle.nextest_config.specs.declared.nextest_version.source.ConfigSourceKind.{ConfigSourceKind}
 use Rattle.nextest_config.specs.declared.nextest_version.source.ConfigSourceKind.TheVariants.{Tool, ExplicitRepository, DiscoveredRepository}
 use Rattle.nextest_config.specs.declared.nextest_version.error.ConfigParseError.{ConfigParseError}
 use Rattle.nextest_config.specs.declared.nextest_version.error_kind.ConfigParseErrorKind.{ConfigParseErrorKind}
 use Rattle.nextest_config.specs.declared.nextest_version.error_kind.ConfigParseErrorKind.TheVariants as kinds
-use Rattle.nextest_config_values.proofs.Faults.{fault_mapped}
 use Rattle.nextest_config.proofs.Refusals.{told_twice}
 use Rattle.nextest_config.specs.declared.nextest_version.error.ListRefusal.{ListRefusal}
 use Rattle.nextest_config.specs.declared.nextest_version.error.ListRefusal.TheVariants as refusals
-use Rattle.nextest_config.specs.declared.nextest_version.source.SourceText.{SourceText}
 use Rattle.nextest_config_values.proofs.Lists.{map-around, zip_middle}
 
 -- what stands at the key of each setting, or that it is missing
@@ -60,49 +58,20 @@ first_refused_at f xs i x refusal within here reads refused =
     record { before = map f (take i xs); source = f x; after = map f (drop (i + 1) xs); whole = whole; place = place; read = reads; refused = refused }
 
 -- what is wrong with the source at a position, behind sources that read, is the refusal of the list
-pub refusal_of_list : (sources : List SourceText) (i : ℕ) (x : SourceText) (kind : ConfigParseErrorKind) (r : ListRefusal) → i < length sources → x ≡ get_or sources i x
-    → Reads (map source_of (take i sources)) → RefusesSource (IsWrong (source_of x).place.kind (source_of x).contents) kind → IsKindAt i (place_of x.source) kind r → IsRefusalOf (map source_of sources) r
-refusal_of_list sources i x kind r within here reads is_wrong at_i =
+pub refusal_of_list : {X : Type 0} (f : X → Source) (xs : List X) (i : ℕ) (x : X) (kind : ConfigParseErrorKind) (r : ListRefusal) → i < length xs → x ≡ get_or xs i x
+    → Reads (map f (take i xs)) → RefusesSource (IsWrong (f x).place.kind (f x).contents) kind → IsKindAt i (f x).place kind r → IsRefusalOf (map f xs) r
+refusal_of_list f xs i x kind r within here reads is_wrong at_i =
     told_twice (wrong_of kind) is_wrong at_i (λ memory at. rw (at memory) tt) (λ wrong wrong_so at. by_refusal wrong wrong_so r at)
   where
-    by_refusal : (wrong : Wrong) → IsWrong (source_of x).place.kind (source_of x).contents wrong → (refusal : ListRefusal) → IsRefusalAt i (refusal_at (place_of x.source) wrong) refusal → IsRefusalOf (map source_of sources) refusal
-    by_refusal wrong wrong_so (refusals.Refused position error) at = (refusal_at (place_of x.source) wrong, at.1, rw at.0 (first_refused_at source_of sources i x _ within here reads (record { named = refl; wrong = wrong_so })))
+    by_refusal : (wrong : Wrong) → IsWrong (f x).place.kind (f x).contents wrong → (refusal : ListRefusal) → IsRefusalAt i (refusal_at (f x).place wrong) refusal → IsRefusalOf (map f xs) refusal
+    by_refusal wrong wrong_so (refusals.Refused position error) at = (refusal_at (f x).place wrong, at.1, rw at.0 (first_refused_at f xs i x _ within here reads (record { named = refl; wrong = wrong_so })))
     by_refusal wrong wrong_so refusals.Memory at = tt
 
 pub only_memory : (sources : List Source) (r : ListRefusal) → Reads sources → IsRefusalOf sources r → r ≡ refusals.Memory
 only_memory sources (refusals.Refused position error) reads first = absurd (reads_not_refused sources position first.0 reads first.2)
 only_memory sources refusals.Memory reads first = refl
 
--- ---- errors without a position
-
-no_refusal : (P : Refusal → Type 0) (place : Option Place) → FaultOrMemory (told_refusal place None) (kinds.Memory ≡ kinds.Memory) P
-no_refusal P None = refl
-no_refusal P (Some place) = refl
-
--- what is wrong with the contents of a place is the error of its source
-error_of : {P : Refusal → Type 0} (source : Source) (place : Place) (kind : ConfigParseErrorKind) (error : ConfigParseError) → place ≡ source.place → ((refusal : Refusal) → IsRefused source refusal → P refusal)
-    → RefusesSource (IsWrong place.kind source.contents) kind → IsErrorOf place kind error → RefusesBy P error
-error_of {P} source place kind error same then is_wrong is_error = told_twice (wrong_of kind) is_wrong is_error
-    (λ memory told. rw (told memory) (no_refusal P (source_place error)))
-    (λ wrong wrong_so told. rw told (then (refusal_at place wrong) (record { named = same; wrong = subst (λ (p : Place). IsWrong p.kind source.contents wrong) same wrong_so })))
-
--- what is wrong with the source at a position, behind sources that read, is the error of the list
-pub error_at : {X : Type 0} (f : X → Source) (xs : List X) (i : ℕ) (x : X) (place : Place) (kind : ConfigParseErrorKind) (error : ConfigParseError) → i < length xs → x ≡ get_or xs i x → Reads (map f (take i xs))
-    → place ≡ (f x).place → RefusesSource (IsWrong place.kind (f x).contents) kind → IsErrorOf place kind error → IsErrorOfList (map f xs) error
-error_at f xs i x place kind error within here reads same is_wrong is_error =
-    error_of (f x) place kind error same (λ refusal refused. (i, first_refused_at f xs i x refusal within here reads refused)) is_wrong is_error
-
--- and behind a list that reads
-pub error_last : (sources : List Source) (source : Source) (place : Place) (kind : ConfigParseErrorKind) (error : ConfigParseError) → Reads sources
-    → place ≡ source.place → RefusesSource (IsWrong place.kind source.contents) kind → IsErrorOf place kind error → IsErrorOfList (sources ++ (source ∷ [])) error
-error_last sources source place kind error reads same is_wrong is_error =
-    error_of source place kind error same (λ refusal refused. (length sources, record { before = sources; source = source; after = []; whole = refl; place = refl; read = reads; refused = refused })) is_wrong is_error
-
-pub error_in_front : (front rest : List Source) (error : ConfigParseError) → IsErrorOfList front error → IsErrorOfList (front ++ rest) error
-error_in_front front rest error refused = fault_mapped (refusal_of error) refused (λ memory. memory) (λ refusal (position, first).
-    let whole = ap (λ xs. xs ++ rest) first.whole ∙ append_assoc first.before (first.source ∷ first.after) rest in
-    (position, record { before = first.before; source = first.source; after = first.after ++ rest; whole = whole; place = first.place; read = first.read; refused = first.refused }))
-
+-- a list that reads has no error but the want of memory
 pub no_error_but_memory : (sources : List Source) (error : ConfigParseError) → Reads sources → IsErrorOfList sources error → kind_of error ≡ kinds.Memory
 no_error_but_memory sources error reads refused =
     told_twice (refusal_of error) refused refused (λ memory _. memory) (λ refusal found _. absurd (reads_not_refused sources found.0 refusal reads found.1))

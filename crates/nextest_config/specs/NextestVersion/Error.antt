@@ -38,10 +38,6 @@ refusal_of error = told_refusal (source_place error) (wrong_of error.kind)
 abbrev pub RefusesBy : (Refusal → Type 0) → ConfigParseError → Type 0
 RefusesBy IsSuch error = FaultOrMemory (refusal_of error) (kind_of error ≡ kinds.Memory) IsSuch
 
--- the error of this kind, of the source of that place
-abbrev pub IsErrorOf : Place → ConfigParseErrorKind → ConfigParseError → Type 0
-IsErrorOf place kind error = FaultOrMemory (wrong_of kind) (kind ≡ kinds.Memory → kind_of error ≡ kinds.Memory) (λ wrong. refusal_of error ≡ Some (refusal_at place wrong))
-
 -- the refusal of a list at this position; or there was no memory
 abbrev pub IsRefusalAt : ℕ → Refusal → ListRefusal → Type 0
 IsRefusalAt position refusal (refusals.Refused at error) = (at ≡ position) × (refusal_of error ≡ Some refusal)

@@ -1,5 +1,7 @@
 -- Configuration sources without where they lie in memory.
 use Rattle.std.specs.Prelude.{ℕ, List, [], ◌∷◌, ◌++◌, map, reverse, codes, Option, string_bytes, option_map, if◌then◌else◌}
+use Rattle.nextest_config.specs.declared.nextest_version.listed.File.{File}
+use Rattle.nextest_config.specs.declared.nextest_version.listed.File.TheVariants as files
 use Rattle.nextest_config.specs.declared.nextest_version.source.ConfigSource.{ConfigSource}
 use Rattle.nextest_config.specs.declared.nextest_version.source.ConfigSourceKind.{ConfigSourceKind}
 use Rattle.nextest_config.specs.declared.nextest_version.source.ConfigSourceKind.TheVariants.{Tool, ExplicitRepository, DiscoveredRepository}
@@ -38,6 +40,11 @@ repository_source text = record {
   place = record { kind = if text.explicit then ExplicitRepository else DiscoveredRepository; path = string_bytes text.path };
   contents = option_map string_bytes text.contents;
 }
+
+-- a tool's file or a repository's, as a source
+abbrev pub file_source : File → Source
+file_source (files.Tool tool) = tool_source tool.now
+file_source (files.Repository repository) = repository_source repository.now
 
 -- the sources, lowest priority first: the tools' files in reverse, and then the repository's
 abbrev pub sources_of : RepositoryText → List ToolText → List Source

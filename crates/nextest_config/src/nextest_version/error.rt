@@ -19,18 +19,8 @@ pub struct ConfigParseError {
 }
 
 impl ConfigParseError {
-    ghost use Rattle.nextest_config.specs.NextestVersion.Error.{IsErrorOf, kind_of, refusal_at, refusal_of, source_place};
+    ghost use Rattle.nextest_config.specs.NextestVersion.Error.{kind_of, refusal_at, refusal_of, source_place};
     ghost use Rattle.nextest_config.specs.NextestVersion.Source.{place_of};
-
-    // The error of a source; of none where a request for memory was refused.
-    pub(crate) fn of(source: ConfigSource, kind: ConfigParseErrorKind) -> Self
-        ensures { IsErrorOf (place_of source) kind result }
-    {
-        if kind.is_memory() {
-            return ConfigParseError::memory();
-        }
-        ConfigParseError::new(source, kind)
-    }
 
     // The error that says nothing of any source.
     fn memory() -> Self
@@ -107,8 +97,10 @@ pub enum ListRefusal {
 }
 
 impl ListRefusal {
+    ghost use Rattle.std.specs.Prelude.{List};
     ghost use Rattle.nextest_config.specs.NextestVersion.Error.{IsKindAt};
-    ghost use Rattle.nextest_config.specs.NextestVersion.Source.{place_of};
+    ghost use Rattle.nextest_config.specs.NextestVersion.Source.{place_of, Source};
+    ghost use Rattle.nextest_config.specs.NextestVersion.VersionOnly.{IsErrorOfList, IsRefusalOf};
 
     // The refusal of the source at this position.
     pub(crate) fn at(
@@ -128,6 +120,16 @@ impl ListRefusal {
                 error: ConfigParseError::new(source, kind),
             },
             Err(AllocError) => ListRefusal::Memory,
+        }
+    }
+
+    // The error of the source that is refused, without its position.
+    pub(crate) fn into_error(self) -> ConfigParseError
+        ensures { (sources : List Source) → IsRefusalOf sources self → IsErrorOfList sources result }
+    {
+        match self {
+            ListRefusal::Refused { position: _, error } => error,
+            ListRefusal::Memory => ConfigParseError::memory(),
         }
     }
 }

@@ -8,6 +8,7 @@ ghost use Rattle.nextest_config.specs.declared.nextest_version.error_kind.Config
 use super::error::{ConfigParseError, ListRefusal};
 use super::error_kind::ConfigParseErrorKind;
 use super::experimental_config::ExperimentalConfig;
+use super::listed::{File, Listed};
 use super::requirement::NextestVersionConfig;
 use super::source::{ConfigSource, RepositoryText, SourceText, ToolText};
 use super::version_only_deserialize::VersionOnlyDeserialize;
@@ -55,13 +56,7 @@ impl VersionOnlyConfig {
         ensures only { Reads (map source_of sources.now) → IfErr result (λ refusal. refusal ≡ Memory) }
         ensures refused { IfErr result (IsRefusalOf (map source_of sources.now)) }
     {
-        let mut so_far = VersionOnlyConfig::new(alloc);
-        for (position, source) in sources.iter().enumerate() {
-            if let Err(kind) = so_far.add(alloc, &source.source, &source.contents) {
-                return Err(ListRefusal::at(alloc, position, &source.source, kind));
-            }
-        }
-        Ok(so_far)
+        VersionOnlyConfig::read_all(alloc, sources)
     }
 
     /// Reads the tools' files, the last one first, and then the repository's, up to the first one that
@@ -81,28 +76,30 @@ impl VersionOnlyConfig {
             → IfErr result (λ error. kind_of error ≡ kinds.Memory) }
         ensures refused { IfErr result (IsErrorOfList (sources_of repository.now tools.now)) }
     {
-        let mut config = VersionOnlyConfig::of_tools(alloc, tools)?;
-        let source = repository.source(alloc)?;
-        match config.add(alloc, &source, &repository.contents) {
-            Ok(()) => Ok(config),
-            Err(kind) => Err(ConfigParseError::of(source, kind)),
+        let files = File::in_order(alloc, repository, tools)?;
+        match VersionOnlyConfig::read_all(alloc, files.as_slice()) {
+            Ok(config) => Ok(config),
+            Err(refusal) => Err(refusal.into_error()),
         }
     }
 
-    // Reads the tools' files, the last one first.
-    fn of_tools(alloc: Global, tools: &[ToolText]) -> Result<Self, ConfigParseError>
+    // Reads what is listed, lowest priority first, up to the first one that is refused.
+    fn read_all<T: Listed>(alloc: Global, listed: &[T]) -> Result<Self, ListRefusal>
+        ensures reads { OnOk result (Reads (map T.read_as listed.now)) }
         ensures stands { IfOk result (λ config.
-            StandsFor (map tool_source (reverse tools.now)) (configuration_of config)) }
-        ensures refused { IfErr result (IsErrorOfList (map tool_source (reverse tools.now))) }
+            StandsFor (map T.read_as listed.now) (configuration_of config)) }
+        ensures selected { IfOk result (λ config.
+            SelectsFor (map T.read_as listed.now) (configuration_of config).roles) }
+        ensures only { Reads (map T.read_as listed.now) → IfErr result (λ refusal. refusal ≡ Memory) }
+        ensures refused { IfErr result (IsRefusalOf (map T.read_as listed.now)) }
     {
-        let mut config = VersionOnlyConfig::new(alloc);
-        for tool in tools.iter().rev() {
-            let source = tool.source(alloc)?;
-            if let Err(kind) = config.add(alloc, &source, &tool.contents) {
-                return Err(ConfigParseError::of(source, kind));
+        let mut so_far = VersionOnlyConfig::new(alloc);
+        for (position, source) in listed.iter().enumerate() {
+            if let Err(kind) = source.add_to(alloc, &mut so_far) {
+                return Err(source.refusal(alloc, position, kind));
             }
         }
-        Ok(config)
+        Ok(so_far)
     }
 
     /// The versions that are kept.
@@ -120,7 +117,7 @@ impl VersionOnlyConfig {
     }
 
     // Takes in one more source.
-    fn add(
+    pub(super) fn add(
         &mut self,
         alloc: Global,
         source: &ConfigSource,
