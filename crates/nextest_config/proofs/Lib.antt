@@ -1,14 +1,16 @@
+pub mod Cuts
 pub mod Enough
-pub mod Precedences
 pub mod Readings
 pub mod Refusals
 pub mod Standing
+pub mod Reorderings
 pub mod Selection
 pub mod Verdicts
 pub mod OneVerdict
 pub mod OneRefusal
 pub mod OneConfiguration
 pub mod AddedSource
+pub mod Joins
 pub mod Members
 pub mod Orders
 pub mod Features

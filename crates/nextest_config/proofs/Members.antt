@@ -1,6 +1,6 @@
--- The elements of lists: after an insertion, of two lists in one, of a mapped list, of a union, in order, and those that hold something.
+-- The elements of lists: after an insertion, of two lists in one, of a mapped list, found by a test, in order, and those that hold something.
 use Rattle.std.proofs.Common.{◌≡◌, ◌↔◌, ◌⊎◌, zero, suc, Bool, true, List, [], ◌∷◌, ◌++◌, map, Contains, Ordering, Less, Equal, Greater, refl, subst, sym, ap, ◌∙◌, inl, inr, ⊎_elim, arith}
-use Rattle.std.proofs.lemmas.Bool.{or_cases, or_left, or_right}
+use Rattle.std.proofs.lemmas.Bool.{or_left, or_right}
 use mathlib.Core.Logic.{⊎_map}
 use Rattle.std.proofs.lemmas.List.{map-id, map_push}
 use Rattle.std.proofs.lemmas.List.Elements.{Contains-append_left, Contains-push, Contains-push_cases}
@@ -8,7 +8,7 @@ use Rattle.std.proofs.lemmas.Map.Views.{Contains-from_any}
 use Rattle.std.specs.BTreeSet.{insert_key}
 use Rattle.std.specs.List.Sorted.{IsStrictlySortedBy}
 use Rattle.std.specs.Ordering.{match_ordering}
-use Rattle.std.specs.Set.{IsUnion, is_member}
+use Rattle.std.specs.Set.{is_member}
 use Rattle.nextest_config_values.proofs.Lists.{all_mapped}
 use Rattle.nextest_config.specs.NextestVersion.{HasOneMore}
 
@@ -84,20 +84,16 @@ among_images f (x ∷ xs) y = (
       (contains_cases x xs there),
 )
 
--- a test that tells elements apart finds those of a union
+-- a test that tells elements apart finds those of a list
 module _ {K : Type 0} (eq : K → K → Bool) (itself : (x : K) → eq x x ≡ true) (exact : (x y : K) → eq x y ≡ true → x ≡ y) where
   found_member : (k : K) (xs : List K) → Contains xs k → is_member eq xs k ≡ true
   found_member k [] h = absurd (contains_none h)
   found_member k (x ∷ xs) h = ⊎_elim (λ same. or_left (eq k x) (is_member eq xs k) (subst (λ y. eq k y ≡ true) (sym same) (itself k)))
       (λ later. or_right (eq k x) (is_member eq xs k) (found_member k xs later)) (contains_cases x xs h)
 
-  pub has_union : (xs ys zs : List K) → IsUnion eq xs ys zs → HasBoth xs ys zs
-  has_union xs ys zs union k =
-      let in_xs = is_member eq xs k in
-      let in_ys = is_member eq ys k in (
-        λ h. ⊎_map (Contains-from_any exact k xs) (Contains-from_any exact k ys) (or_cases in_xs in_ys (sym (union k) ∙ found_member k zs h)),
-        λ h. Contains-from_any exact k zs (union k ∙ ⊎_elim (λ x. or_left in_xs in_ys (found_member k xs x)) (λ y. or_right in_xs in_ys (found_member k ys y)) h),
-      )
+  -- the test finds those that the list has
+  pub member_iff : (k : K) (xs : List K) → (is_member eq xs k ≡ true) ↔ Contains xs k
+  member_iff k xs = (Contains-from_any exact k xs, found_member k xs)
 
 -- ---- elements in order
 

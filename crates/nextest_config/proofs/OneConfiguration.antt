@@ -15,21 +15,27 @@ module _ (role : Ask → Option Parts) where
   of_last : (P : Asked → Type 0) (asked : List Asked) (kept : Kept) (h : IsGreatest role asked kept) → AllByRecursion P asked → P h.last
   of_last P asked kept h all = all_middle P h.before h.last h.after (subst (AllByRecursion P) h.whole all)
 
-  not_greater : (asked : List Asked) (kept other : Kept) → IsGreatest role asked kept → IsGreatest role asked other → ¬ IsBelow other.version kept.version
-  not_greater asked kept other h k = subst (λ found. IfSome found (λ greater. ¬ IsBelow other.version greater)) h.version (of_last (AsksNoGreater role other.version) asked kept h k.none_greater)
+  not_greater : (asked : List Asked) (kept : Kept) (v : Parts) → IsGreatest role asked kept → AllByRecursion (AsksNoGreater role v) asked → ¬ IsBelow v kept.version
+  not_greater asked kept v h none = subst (λ found. IfSome found (λ greater. ¬ IsBelow v greater)) h.version (of_last (AsksNoGreater role v) asked kept h none)
 
-  none_kept : (asked : List Asked) (kept : Kept) → IsGreatest role asked kept → AllByRecursion (AsksNone role) asked → ⊥
+  pub none_kept : (asked : List Asked) (kept : Kept) → IsGreatest role asked kept → AllByRecursion (AsksNone role) asked → ⊥
   none_kept asked kept h none = cc (h.version, of_last (AsksNone role) asked kept h none)
+
+  -- the greatest of two lists are one version, where neither list asks a greater one
+  pub one_greatest_version : (asked others : List Asked) (kept other : Kept) → AllByRecursion (λ a. IsPlainVersion (role a.ask)) asked → AllByRecursion (λ a. IsPlainVersion (role a.ask)) others → IsGreatest role asked kept → IsGreatest role others other
+      → AllByRecursion (AsksNoGreater role other.version) asked → AllByRecursion (AsksNoGreater role kept.version) others → kept.version ≡ other.version
+  one_greatest_version asked others kept other plain other_plain h k below above =
+      let of_kept : IsPlainVersion (Some kept.version) = subst IsPlainVersion h.version (of_last (λ a. IsPlainVersion (role a.ask)) asked kept h plain) in
+      let of_other : IsPlainVersion (Some other.version) = subst IsPlainVersion k.version (of_last (λ a. IsPlainVersion (role a.ask)) others other k other_plain) in
+      same_version kept.version other.version of_kept of_other (not_greater others other kept.version k above) (not_greater asked kept other.version h below)
 
   one_greatest : (asked : List Asked) (kept other : Kept) → AllByRecursion (λ a. IsPlainVersion (role a.ask)) asked → IsGreatest role asked kept → IsGreatest role asked other → kept ≡ other
   one_greatest asked kept other plain h k =
-      let of_kept : IsPlainVersion (Some kept.version) = subst IsPlainVersion h.version (of_last (λ a. IsPlainVersion (role a.ask)) asked kept h plain) in
-      let of_other : IsPlainVersion (Some other.version) = subst IsPlainVersion k.version (of_last (λ a. IsPlainVersion (role a.ask)) asked other k plain) in
-      let version : kept.version ≡ other.version = same_version kept.version other.version of_kept of_other (not_greater asked other kept k h) (not_greater asked kept other h k) in
+      let version : kept.version ≡ other.version = one_greatest_version asked asked kept other plain plain h k k.none_greater h.none_greater in
       let last : h.last ≡ k.last = one_last (AsksOther role kept.version) (AsksOther role other.version) h.last k.last h.before k.before h.after k.after (λ apart. apart (k.version ∙ ap Some (sym version))) (λ apart. apart (h.version ∙ ap Some version)) (sym h.whole ∙ k.whole) h.others_later k.others_later in
       ap₂ (λ (version : Parts) (place : Place). record { version = version; place = place }) version (sym h.place ∙ ap (λ (a : Asked). a.place) last ∙ k.place)
 
-  one_kept : (asked : List Asked) (kept other : Option Kept) → AllByRecursion (λ a. IsPlainVersion (role a.ask)) asked → StandsIn role asked kept → StandsIn role asked other → kept ≡ other
+  pub one_kept : (asked : List Asked) (kept other : Option Kept) → AllByRecursion (λ a. IsPlainVersion (role a.ask)) asked → StandsIn role asked kept → StandsIn role asked other → kept ≡ other
   one_kept asked None None plain h k = refl
   one_kept asked None (Some other) plain h k = absurd (none_kept asked other k h)
   one_kept asked (Some kept) None plain h k = absurd (none_kept asked kept h k)

@@ -1,97 +1,175 @@
--- The configuration that stands for a list, after one more source.
-use Rattle.std.proofs.Common.{◌≡◌, ◌↔◌, ◌⊎◌, List, [], ◌∷◌, ◌++◌, flat_map, Contains, Option, Some, None, refl, sym, ap, ◌∙◌, inl, inr, ⊎_elim, subst, append_assoc}
-use mathlib.Core.Logic.{⊎_map}
-use Rattle.std.proofs.lemmas.Bool.{cases_Bool, false≢true}
-use Rattle.std.proofs.lemmas.List.{flat_map_more}
+-- What stands for two lists in a row is the join of what stands for each; one more source is a case of it.
+use Rattle.std.proofs.Common.{◌≡◌, ◌↔◌, List, [], ◌∷◌, ◌++◌, flat_map, map, Contains, Option, Some, None, IfSome, IsTrue, refl, sym, ap, ap₂, ◌∙◌, inl, inr, ⊎_elim, subst, append_assoc}
+use mathlib.Core.Logic.Iff as iff
+use Rattle.std.proofs.lemmas.Bool.{cases_Bool, false≢true, or_cases, or_left, or_right}
+use Rattle.std.proofs.lemmas.List.{append-nil}
+use Rattle.std.proofs.lemmas.List.Concat.{flat_map-append}
+use Rattle.std.proofs.lemmas.List.Elements.{Contains-append_cases, Contains-append_left, Contains-append_right}
 use Rattle.std.proofs.lemmas.Option.{IfSome_then}
-use Rattle.std.proofs.lemmas.List.Elements.{Contains-append_left, Contains-push, Contains-push_cases}
-use Rattle.std.specs.List.{AllByRecursion}
+use Rattle.std.specs.List.{AllByRecursion, AllZip}
 use Rattle.semver.specs.Parse.{Parts}
-use Rattle.nextest_config.specs.NextestVersion.ExperimentalConfig.{Experimental}
-use Rattle.nextest_config.specs.NextestVersion.{Adds, AddsFeatures, AreEnabled, Ask, Asked, asked_from, AsksNoGreater, AsksNone, AsksOther, Configuration, entry_of, feature_cmp, is_below, IsBelow, IsEnabledBySome, IsGreatest, IsReadAs, join_kept, Kept, neutral, StandsFor, StandsIn}
+use Rattle.nextest_config.specs.Merge.{in_a_row, total}
+use Rattle.nextest_config.specs.NextestVersion.ExperimentalConfig.{SeenFeatures}
+use Rattle.nextest_config.specs.NextestVersion.{Adds, AreEnabled, AreRead, Ask, Asked, asked_from, AsksNoGreater, AsksNone, AsksOther, Configuration, configuration_from, entry_of, feature_cmp, is_below, IsBelow, IsEnabledBySome, IsGreatest, IsReadAs, IsSeenAs, join_configurations, join_kept, Kept, neutral, neutral_seen, Roles, seen_configuration, SeenConfiguration, StandsFor, StandsForAsks, StandsIn, Unknown}
+use Rattle.nextest_config.specs.NextestVersion.PrecedenceLaws.{below_trans, not_below_itself, not_below_trans}
 use Rattle.nextest_config.specs.NextestVersion.Source.{Source}
 use Rattle.nextest_config_values.proofs.Lists.{all_joined, all_weaker, zip_push}
 use Rattle.nextest_config.specs.declared.nextest_version.experimental.ConfigExperimental.{ConfigExperimental}
-use Rattle.nextest_config.proofs.Members.{contains_none, none_in_order}
-use Rattle.nextest_config.proofs.Precedences.{not_below_itself, not_below_both, not_below_trans}
+use Rattle.nextest_config.proofs.Members.{contains_cases, contains_first, contains_none, none_in_order}
+use Rattle.nextest_config.proofs.Orders.{has_feature_iff}
+
+-- ---- one role
 
 module _ (role : Ask → Option Parts) where
-  greatest_last : (asked : List Asked) (a : Asked) (v : Parts) → role a.ask ≡ Some v → AllByRecursion (AsksNoGreater role v) asked
-      → IsGreatest role (asked ++ (a ∷ [])) (record { version = v; place = a.place })
-  greatest_last asked a v asks before =
-      let none_greater = all_joined (AsksNoGreater role v) asked (a ∷ []) before (rw asks (not_below_itself v), tt) in
-      record { before = asked; last = a; after = []; whole = refl; version = asks; place = refl; others_later = tt; none_greater = none_greater }
-
-  greatest_stays : (asked : List Asked) (a : Asked) (kept : Kept) → IsGreatest role asked kept → AsksOther role kept.version a → AsksNoGreater role kept.version a
-      → IsGreatest role (asked ++ (a ∷ [])) kept
-  greatest_stays asked a kept h other no_greater = record {
+  greatest_stays : (xs ys : List Asked) (kept : Kept) → IsGreatest role xs kept → AllByRecursion (AsksOther role kept.version) ys → AllByRecursion (AsksNoGreater role kept.version) ys
+      → IsGreatest role (xs ++ ys) kept
+  greatest_stays xs ys kept h others no_greater = record {
     before = h.before;
     last = h.last;
-    after = h.after ++ (a ∷ []);
-    whole = rw h.whole (append_assoc h.before (h.last ∷ h.after) (a ∷ []));
+    after = h.after ++ ys;
+    whole = ap (λ zs. zs ++ ys) h.whole ∙ append_assoc h.before (h.last ∷ h.after) ys;
     version = h.version;
     place = h.place;
-    others_later = all_joined (AsksOther role kept.version) h.after (a ∷ []) h.others_later (other, tt);
-    none_greater = all_joined (AsksNoGreater role kept.version) asked (a ∷ []) h.none_greater (no_greater, tt);
+    others_later = all_joined (AsksOther role kept.version) h.after ys h.others_later others;
+    none_greater = all_joined (AsksNoGreater role kept.version) xs ys h.none_greater no_greater;
   }
 
-  stands_by : (asked : List Asked) (a : Asked) (kept : Option Kept) (more : Option Parts) → role a.ask ≡ more → StandsIn role asked kept
-      → StandsIn role (asked ++ (a ∷ [])) (join_kept kept (asked_from a.place more))
-  stands_by asked a None None asks h = all_joined (AsksNone role) asked (a ∷ []) h (asks, tt)
-  stands_by asked a None (Some v) asks h = greatest_last asked a v asks (all_weaker (AsksNone role) (AsksNoGreater role v) (λ x none. rw none tt) asked h)
-  stands_by asked a (Some kept) None asks h = greatest_stays asked a kept h (λ e. cc (asks, e)) (rw asks tt)
-  stands_by asked a (Some kept) (Some v) asks h = elim (cases_Bool (is_below v kept.version)) [
+  greatest_takes_over : (xs ys : List Asked) (kept : Kept) → AllByRecursion (AsksNoGreater role kept.version) xs → IsGreatest role ys kept → IsGreatest role (xs ++ ys) kept
+  greatest_takes_over xs ys kept no_greater h = record {
+    before = xs ++ h.before;
+    last = h.last;
+    after = h.after;
+    whole = ap (λ zs. xs ++ zs) h.whole ∙ sym (append_assoc xs h.before (h.last ∷ h.after));
+    version = h.version;
+    place = h.place;
+    others_later = h.others_later;
+    none_greater = all_joined (AsksNoGreater role kept.version) xs ys no_greater h.none_greater;
+  }
+
+  -- where none is asked, none greater is
+  none_greater_than : (v : Parts) (xs : List Asked) → AllByRecursion (AsksNone role) xs → AllByRecursion (AsksNoGreater role v) xs
+  none_greater_than v = all_weaker (AsksNone role) (AsksNoGreater role v) (λ x none. rw none tt)
+
+  stands_in_both : (xs ys : List Asked) (earlier later : Option Kept) → StandsIn role xs earlier → StandsIn role ys later → StandsIn role (xs ++ ys) (join_kept earlier later)
+  stands_in_both xs ys None None h k = all_joined (AsksNone role) xs ys h k
+  stands_in_both xs ys None (Some later) h k = greatest_takes_over xs ys later (none_greater_than later.version xs h) k
+  stands_in_both xs ys (Some earlier) None h k =
+      greatest_stays xs ys earlier h (all_weaker (AsksNone role) (AsksOther role earlier.version) (λ x none is. cc (none, is)) ys k) (none_greater_than earlier.version ys k)
+  stands_in_both xs ys (Some earlier) (Some later) h k = elim (cases_Bool (is_below later.version earlier.version)) [
     | inl below ↦
-        let other : AsksOther role kept.version a = λ e.
-        let same : v ≡ kept.version = cc (asks, e) in
-        not_below_itself kept.version (subst (λ (u : Parts). IsBelow u kept.version) same below) in
-        rw below (greatest_stays asked a kept h other (rw asks (not_below_both v kept.version below)))
+        let other = all_weaker (AsksNoGreater role later.version) (AsksOther role earlier.version)
+        (λ x none is. subst (λ found. IfSome found (λ greater. ¬ IsBelow later.version greater)) is none below) ys k.none_greater in
+        let no_greater = all_weaker (AsksNoGreater role later.version) (AsksNoGreater role earlier.version)
+        (λ x none. IfSome_then (role x.ask) none (λ u not_above above. not_above (below_trans later.version earlier.version u below above))) ys k.none_greater in
+        rw below (greatest_stays xs ys earlier h other no_greater)
     | inr above ↦
-        let not_below : ¬ IsBelow v kept.version = λ e. false≢true (sym above ∙ e) in
-        rw above (greatest_last asked a v asks
-        (all_weaker (AsksNoGreater role kept.version) (AsksNoGreater role v) (λ x none. IfSome_then (role x.ask) none (λ u. not_below_trans v kept.version u not_below)) asked h.none_greater))
+        let not_below : ¬ IsBelow later.version earlier.version = λ e. false≢true (sym above ∙ e) in
+        let no_greater = all_weaker (AsksNoGreater role earlier.version) (AsksNoGreater role later.version)
+        (λ x none. IfSome_then (role x.ask) none (λ u. not_below_trans later.version earlier.version u not_below)) xs h.none_greater in
+        rw above (greatest_takes_over xs ys later no_greater k)
   ]
 
--- ---- the features
+  stands_alone : (a : Asked) (found : Option Parts) → role a.ask ≡ found → StandsIn role (a ∷ []) (asked_from a.place found)
+  stands_alone a None asks = (asks, tt)
+  stands_alone a (Some v) asks = record { before = []; last = a; after = []; whole = refl; version = asks; place = refl; others_later = tt; none_greater = (rw asks (not_below_itself v), tt) }
 
-enabled_more : (asked : List Asked) (a : Asked) (feature : ConfigExperimental) → (IsEnabledBySome asked feature ⊎ Contains a.ask.features.known feature) ↔ IsEnabledBySome (asked ++ (a ∷ [])) feature
-enabled_more asked a feature = (
-  ⊎_elim (λ (one, there, known). (one, Contains-append_left asked (a ∷ []) one there, known)) (λ h. (a, Contains-push asked a, h)),
-  λ (one, there, known). ⊎_map (λ there. (one, there, known)) (λ same. subst (λ (b : Asked). Contains b.ask.features.known feature) (sym same) known) (Contains-push_cases asked a one there),
-)
+-- ---- what is seen of a configuration
 
-enabled_by : (asked : List Asked) (a : Asked) (before after : Experimental) → AreEnabled asked before.known → AddsFeatures a.place a.ask.features before after → AreEnabled (asked ++ (a ∷ [])) after.known
-enabled_by asked a before after enabled adds = record {
-  of_some = λ feature. (
-    λ h. (enabled_more asked a feature).0 (⊎_map (enabled.of_some feature).0 (λ h. h) ((adds.more_known feature).0 h)),
-    λ h. (adds.more_known feature).1 (⊎_map (enabled.of_some feature).1 (λ h. h) ((enabled_more asked a feature).1 h)),
-  );
-  in_order = adds.known_in_order;
+-- what is seen stands for the asks, whatever the order of the known features
+pub record StandsSeen (asked : List Asked) (seen : SeenConfiguration) : Type 0 where
+  pub required : StandsIn (λ ask. ask.versions.required) asked seen.roles.required
+  pub recommended : StandsIn (λ ask. ask.versions.recommended) asked seen.roles.recommended
+  pub enabled : (feature : ConfigExperimental) → IsTrue (seen.experimental.enables feature) ↔ IsEnabledBySome asked feature
+  pub unknown : seen.experimental.unknown ≡ flat_map entry_of asked
+
+pub seen_of : (asked : List Asked) (c : Configuration) → StandsForAsks asked c → StandsSeen asked (seen_configuration c)
+seen_of asked c h = record {
+  required = h.required;
+  recommended = h.recommended;
+  enabled = λ feature. iff.trans (has_feature_iff feature c.experimental.known) (h.known.of_some feature);
+  unknown = h.unknown;
 }
 
-entries_by : (asked : List Asked) (a : Asked) (before after : Experimental) → before.unknown ≡ flat_map entry_of asked → AddsFeatures a.place a.ask.features before after → after.unknown ≡ flat_map entry_of (asked ++ (a ∷ []))
-entries_by asked a before after all adds = adds.more_unknown ∙ ap (λ entries. entries ++ entry_of a) all ∙ flat_map_more entry_of [] asked a
+stands_as : (asked : List Asked) (seen : SeenConfiguration) (c : Configuration) → StandsSeen asked seen → IsSeenAs seen c → StandsForAsks asked c
+stands_as asked seen c h is = record {
+  required = subst (λ (roles : Roles). StandsIn (λ ask. ask.versions.required) asked roles.required) (sym is.roles) h.required;
+  recommended = subst (λ (roles : Roles). StandsIn (λ ask. ask.versions.recommended) asked roles.recommended) (sym is.roles) h.recommended;
+  known = record {
+    of_some = λ feature. iff.trans (iff.symm (has_feature_iff feature c.experimental.known))
+        (subst (λ (features : SeenFeatures). IsTrue (features.enables feature) ↔ IsEnabledBySome asked feature) (sym is.experimental.same) (h.enabled feature));
+    in_order = is.experimental.in_order;
+  };
+  unknown = ap (λ (features : SeenFeatures). features.unknown) is.experimental.same ∙ h.unknown;
+}
+
+seen_none : StandsSeen [] neutral_seen
+seen_none = record { required = tt; recommended = tt; enabled = λ feature. (λ never. absurd (false≢true never), λ (one, there, known). absurd (contains_none there)); unknown = refl }
+
+seen_alone : (a : Asked) → StandsSeen (a ∷ []) (seen_configuration (configuration_from a.place a.ask))
+seen_alone a = record {
+  required = stands_alone (λ ask. ask.versions.required) a a.ask.versions.required refl;
+  recommended = stands_alone (λ ask. ask.versions.recommended) a a.ask.versions.recommended refl;
+  enabled = λ feature. iff.trans (has_feature_iff feature a.ask.features.known) (
+    λ known. (a, contains_first [] refl, known),
+    λ (one, there, known). ⊎_elim (λ same. subst (λ (b : Asked). Contains b.ask.features.known feature) (sym same) known) (λ none. absurd (contains_none none)) (contains_cases a [] there),
+  );
+  unknown = sym (append-nil (entry_of a));
+}
+
+-- what stands for one list and what stands for another join to what stands for both in a row
+seen_both : (xs ys : List Asked) (a b : SeenConfiguration) → StandsSeen xs a → StandsSeen ys b → StandsSeen (xs ++ ys) (join_configurations a b)
+seen_both xs ys a b h k = record {
+  required = stands_in_both (λ ask. ask.versions.required) xs ys a.roles.required b.roles.required h.required k.required;
+  recommended = stands_in_both (λ ask. ask.versions.recommended) xs ys a.roles.recommended b.roles.recommended h.recommended k.recommended;
+  enabled = λ feature.
+      let by_a = a.experimental.enables feature in
+      let by_b = b.experimental.enables feature in (
+        λ enabled. ⊎_elim (λ e. let (one, there, known) = (h.enabled feature).0 e in (one, Contains-append_left xs ys one there, known))
+            (λ e. let (one, there, known) = (k.enabled feature).0 e in (one, Contains-append_right xs ys one there, known)) (or_cases by_a by_b enabled),
+        λ (one, there, known). ⊎_elim (λ in_xs. or_left by_a by_b ((h.enabled feature).1 (one, in_xs, known))) (λ in_ys. or_right by_a by_b ((k.enabled feature).1 (one, in_ys, known)))
+            (Contains-append_cases xs ys one there),
+      );
+  unknown = ap₂ (λ (us vs : List Unknown). us ++ vs) h.unknown k.unknown ∙ sym (flat_map-append entry_of xs ys);
+}
 
 -- ---- the configuration
 
-pub stands_more : (sources : List Source) (source : Source) (old new : Configuration) → StandsFor sources old → Adds source.place source.contents old new → StandsFor (sources ++ (source ∷ [])) new
-stands_more sources source old new stands adds =
-    let a : Asked = record { place = source.place; ask = adds.ask } in
-    let one : IsReadAs source a = record { place = refl; read = adds.read } in
-    let required = stands_by (λ ask. ask.versions.required) stands.0 a old.roles.required adds.ask.versions.required refl stands.2.required in
-    let recommended = stands_by (λ ask. ask.versions.recommended) stands.0 a old.roles.recommended adds.ask.versions.recommended refl stands.2.recommended in (
-      stands.0 ++ (a ∷ []),
-      zip_push IsReadAs sources stands.0 source a stands.1 one,
-      record {
-        required = rw adds.roles required;
-        recommended = rw adds.roles recommended;
-        known = enabled_by stands.0 a old.experimental new.experimental stands.2.known adds.experimental;
-        unknown = entries_by stands.0 a old.experimental new.experimental stands.2.unknown adds.experimental;
-      },
-    )
+pub stands_joined : (xs ys : List Asked) (a b c : Configuration) → StandsForAsks xs a → StandsForAsks ys b → IsSeenAs (join_configurations (seen_configuration a) (seen_configuration b)) c → StandsForAsks (xs ++ ys) c
+stands_joined xs ys a b c h k is = stands_as (xs ++ ys) (join_configurations (seen_configuration a) (seen_configuration b)) c (seen_both xs ys (seen_configuration a) (seen_configuration b) (seen_of xs a h) (seen_of ys b k)) is
 
-none_enabled : AreEnabled [] []
-none_enabled = record { of_some = λ feature. (λ h. absurd (contains_none h), λ (one, there, known). absurd (contains_none there)); in_order = none_in_order feature_cmp }
+pub stands_more : (sources : List Source) (source : Source) (old new : Configuration) → StandsFor sources old → Adds source.place source.contents old new → StandsFor (sources ++ (source ∷ [])) new
+stands_more sources source old new (asked, read, stands) adds =
+    let a : Asked = record { place = source.place; ask = adds.ask } in
+    let both = seen_both asked (a ∷ []) (seen_configuration old) (seen_configuration (configuration_from a.place a.ask)) (seen_of asked old stands) (seen_alone a) in
+    (asked ++ (a ∷ []), zip_push IsReadAs sources asked source a read (record { place = refl; read = adds.read }), stands_as (asked ++ (a ∷ [])) _ new both adds.joined)
 
 pub stands_none : (c : Configuration) → c ≡ neutral → StandsFor [] c
 stands_none c e = ([], tt, rw e (record { required = tt; recommended = tt; known = none_enabled; unknown = refl }))
+  where
+    none_enabled : AreEnabled [] []
+    none_enabled = record { of_some = λ feature. (λ h. absurd (contains_none h), λ (one, there, known). absurd (contains_none there)); in_order = none_in_order feature_cmp }
+
+-- ---- lists in a row
+
+pub zip_joined : {X Y : Type 0} (R : X → Y → Type 0) (xs : List X) (us : List Y) (ys : List X) (vs : List Y) → AllZip R xs us → AllZip R ys vs → AllZip R (xs ++ ys) (us ++ vs)
+zip_joined R [] [] ys vs h k = k
+zip_joined R [] (u ∷ us) ys vs h k = absurd h
+zip_joined R (x ∷ xs) [] ys vs h k = absurd h
+zip_joined R (x ∷ xs) (u ∷ us) ys vs h k = (h.0, zip_joined R xs us ys vs h.1 k)
+
+pub all_seen : (pieces : List (List Source)) (configurations : List Configuration) → AllZip StandsFor pieces configurations
+    → (asked : List Asked) × AreRead (in_a_row pieces) asked × StandsSeen asked (total join_configurations neutral_seen (map seen_configuration configurations))
+all_seen [] [] h = ([], tt, seen_none)
+all_seen [] (c ∷ configurations) h = absurd h
+all_seen (piece ∷ pieces) [] h = absurd h
+all_seen (piece ∷ pieces) (c ∷ configurations) h =
+    let (asked, read, stands) = h.0 in
+    let (more, more_read, rest) = all_seen pieces configurations h.1 in
+    (asked ++ more, zip_joined IsReadAs piece asked (in_a_row pieces) more read more_read, seen_both asked more (seen_configuration c) (total join_configurations neutral_seen (map seen_configuration configurations)) (seen_of asked c stands) rest)
+
+-- the join of what stands for the pieces stands for all of them in a row
+pub stands_in_a_row : (pieces : List (List Source)) (configurations : List Configuration) (c : Configuration) → AllZip StandsFor pieces configurations
+    → IsSeenAs (total join_configurations neutral_seen (map seen_configuration configurations)) c → StandsFor (in_a_row pieces) c
+stands_in_a_row pieces configurations c stand is =
+    let (asked, read, stands) = all_seen pieces configurations stand in
+    (asked, read, stands_as asked (total join_configurations neutral_seen (map seen_configuration configurations)) c stands is)

@@ -1,11 +1,12 @@
 //! Laws of the definitions, for every value. They call nothing.
 
-ghost use Rattle.std.specs.Prelude.{◌≡◌, ◌≢◌, ◌↔◌, ◌++◌, ◌∷◌, ℕ, List, Bool, true, false, map, Some};
-ghost use Rattle.std.specs.List.{AllByRecursion};
+ghost use Rattle.std.specs.Prelude.{◌≡◌, ◌≢◌, ◌↔◌, ◌++◌, ◌∷◌, ℕ, List, Bool, true, false, map, None, Some};
+ghost use Rattle.std.specs.List.{AllByRecursion, AllZip};
 ghost use Rattle.std.specs.Ordering.{nat_cmp};
 ghost use Rattle.semver.specs.Parse.{Parts};
+ghost use Rattle.nextest_config.specs.Merge.{IsCut, IsMonoid, IsReordering};
 ghost use Rattle.nextest_config.specs.NextestVersion.Verdict.{Verdict};
-ghost use Rattle.nextest_config.specs.NextestVersion.{alone, Asked, Configuration, IsBelow, IsEnough, IsEnoughByNumbers, IsFirstRefused, IsFromSource, IsNoGraver, IsOverriding, IsSatisfied, IsSelected, IsSelectedFor, IsVersionText, Kept, Numbers, plain, rank, Refusal, Roles, satisfied, Shortfall, StandsFor, verdict, warn};
+ghost use Rattle.nextest_config.specs.NextestVersion.{Agree, alone, Asked, Configuration, IsBelow, IsEnough, IsEnoughByNumbers, IsFirstRefused, IsFirstRefusedAmong, IsFromSource, IsJoinOf, IsNoGraver, IsOverriding, IsSatisfied, IsSelected, IsSelectedFor, IsVersionText, join_configurations, join_features, join_kept, join_roles, Kept, neutral_seen, no_features_seen, no_roles, Numbers, plain, rank, Reads, Refusal, Roles, satisfied, Shortfall, StandsFor, verdict, warn};
 ghost use Rattle.nextest_config.specs.NextestVersion.Source.{Source};
 ghost use Rattle.nextest_config.specs.declared.nextest_version.verdict.Severity.{Severity};
 
@@ -47,6 +48,42 @@ pub fn law_refusal_once()
 pub fn law_configuration_once()
     ensures { (sources : List Source) (configuration other : Configuration)
         → StandsFor sources configuration → StandsFor sources other → configuration ≡ other }
+{}
+
+/// The join is associative, and what asks nothing changes nothing on either side: of the versions that
+/// are kept in a role, of both roles, of features and of configurations, built by hand or not.
+pub fn law_join()
+    ensures role { IsMonoid join_kept None }
+    ensures roles { IsMonoid join_roles no_roles }
+    ensures features { IsMonoid join_features no_features_seen }
+    ensures configurations { IsMonoid join_configurations neutral_seen }
+{}
+
+/// Reading is the same however a list is cut. It reads exactly where each piece does; its first refused
+/// position is that of the first refused piece, counted from the list's beginning; and a configuration
+/// stands for it exactly where it is the join, in order, of those that stand for the pieces.
+pub fn law_cut()
+    ensures reads { (sources : List Source) (pieces : List (List Source)) → IsCut sources pieces
+        → Reads sources ↔ AllByRecursion Reads pieces }
+    ensures refused { (sources : List Source) (pieces : List (List Source)) (position : ℕ)
+        (refusal : Refusal) → IsCut sources pieces
+        → IsFirstRefused sources position refusal ↔ IsFirstRefusedAmong pieces position refusal }
+    ensures stands { (sources : List Source) (pieces : List (List Source))
+        (configurations : List Configuration) (whole : Configuration) → IsCut sources pieces
+        → AllZip StandsFor pieces configurations
+        → StandsFor sources whole ↔ IsJoinOf configurations whole }
+{}
+
+/// Of a list that reads, each reordering reads. What stands for the two keeps the same versions, knows
+/// the same features and has the same entries of unknown names, in some order; and on each current
+/// version, overridden or not, both verdicts are of one kind and name one version. Where several sources
+/// ask that version, the verdicts may name different ones of them.
+pub fn law_reorder()
+    ensures reads { (sources reordered : List Source) → IsReordering sources reordered
+        → Reads sources → Reads reordered }
+    ensures agree { (sources reordered : List Source) (configuration other : Configuration)
+        → IsReordering sources reordered → StandsFor sources configuration
+        → StandsFor reordered other → Agree configuration other }
 {}
 
 /// No list of sources has two selected verdicts.

@@ -3,4 +3,5 @@
 #![tactic(auto)]
 
 pub mod laws;
+pub mod merge;
 pub mod nextest_version;

@@ -1,8 +1,10 @@
 pub mod Durations
 pub mod GlobalTimeout
+pub mod Junit
 pub mod LeakTimeout
 pub mod MaxFail
 pub mod Priority
+pub mod ReportSkipPolicy
 pub mod RetryPolicy
 pub mod SlowTimeout
 pub mod ThreadsRequired

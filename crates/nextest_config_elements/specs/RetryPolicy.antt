@@ -1,7 +1,8 @@
 -- The setting `retries`: how often a failed test is tried again, and when.
-use Rattle.std.specs.Prelude.{◌≡◌, ◌<◌, ℕ, ℤ, pos, negsuc, Bool, true, false, List, [], ◌∷◌, codes, Option, Some, None, option_map}
+use Rattle.std.specs.Prelude.{◌≡◌, ◌<◌, ℕ, ℤ, pos, negsuc, Bool, true, false, List, [], ◌∷◌, ◌++◌, codes, Option, Some, None, option_map}
 use Rattle.std.proofs.Common.{refl, sym, ◌∙◌}
 use Rattle.std.specs.Duration.{as_nanos}
+use Rattle.std.specs.Fmt.{decimal}
 use Rattle.toml.specs.Data.{Data, integer, Members, as_integer, as_table}
 use Rattle.nextest_config_values.specs.Duration.{DurationFaults, MeansDuration, duration_meant}
 use Rattle.nextest_config_values.specs.Read.Fault.{Fault}
@@ -9,6 +10,8 @@ use Rattle.nextest_config_values.specs.Read.{at_key, behind_check, bool_reading,
 use Rattle.nextest_config_elements.specs.UnknownKeys.{HasOnlyKeys, keys_check, UnknownKeyFaults}
 use Rattle.nextest_config_elements.specs.declared.retry_policy.Backoff.{Backoff}
 use Rattle.nextest_config_elements.specs.declared.retry_policy.Backoff.TheVariants as backoffs
+use Rattle.nextest_config_elements.specs.declared.retry_policy.FlakyResult.{FlakyResult}
+use Rattle.nextest_config_elements.specs.declared.retry_policy.FlakyResult.TheVariants as results
 use Rattle.nextest_config_elements.specs.declared.retry_policy.RetryPolicy.{RetryPolicy}
 use Rattle.nextest_config_elements.specs.declared.retry_policy.RetryPolicy.TheVariants as policies
 
@@ -42,6 +45,12 @@ without_delay count = fixed (record { count = count; delay = 0; jitter = false }
 abbrev pub count_of : RetryPolicyRecord → ℕ
 count_of (fixed policy) = policy.count
 count_of (exponential policy) = policy.count
+
+-- what is said of a test that passed on this attempt of so many: nothing where it passes
+abbrev pub fail_message : FlakyResult → ℕ → ℕ → Option (List ℕ)
+fail_message results.Pass attempt total_attempts = None
+fail_message results.Fail attempt total_attempts =
+    Some (codes "test passed on attempt " ++ (decimal attempt ++ (codes "/" ++ (decimal total_attempts ++ codes " but is configured to fail when flaky"))))
 
 -- ---- the words of the kinds of backoff
 

@@ -1,8 +1,28 @@
 //! The JUnit report.
 
-ghost use Rattle.std.specs.Prelude.{◌≡◌, [], ◌∷◌, codes, refl};
+ghost use Rattle.std.specs.Prelude.{◌≡◌, None, true, IfErr, IfOk, IsOk, option_map};
+ghost use Rattle.toml.specs.View.{table_view};
+ghost use Rattle.nextest_config_values.specs.Read.{Refuses};
+ghost use Rattle.nextest_config_elements.specs.Junit.{default_of, empty_table, flaky_fail_reads_back, flaky_fail_statuses, flaky_fail_word, IsFirstMissing, junit_reading, JunitFaults, JunitTableFaults, MeansJunit, MeansJunitTable, report_in, report_of, SaysAll, settings_of, table_of};
 
-use nextest_config_values::read::Word;
+use crate::report_skip_policy::ReportSkipPolicy;
+use nextest_config_values::helpers::join_path;
+use nextest_config_values::read::{FromToml, ReadFault, Word, optional_field};
+use std::alloc::{AllocError, Global};
+use thiserror::Error;
+use toml::{Table, Value};
+
+const PATH_KEY: &str = "path";
+
+const REPORT_NAME_KEY: &str = "report-name";
+
+const STORE_SUCCESS_OUTPUT_KEY: &str = "store-success-output";
+
+const STORE_FAILURE_OUTPUT_KEY: &str = "store-failure-output";
+
+const REPORT_SKIPPED_KEY: &str = "report-skipped";
+
+const FLAKY_FAIL_STATUS_KEY: &str = "flaky-fail-status";
 
 /// How a flaky test that is to fail is reported.
 #[derive(Clone, Copy, Debug, PartialEq, Eq)]
@@ -24,13 +44,11 @@ impl Default for JunitFlakyFailStatus {
 }
 
 impl Word for JunitFlakyFailStatus {
-    ghost use Rattle.nextest_config_elements.specs.declared.junit.JunitFlakyFailStatus.TheVariants.{Failure, Success};
+    ghost all = { flaky_fail_statuses };
 
-    ghost all = { Failure ∷ Success ∷ [] };
+    ghost word = { flaky_fail_word };
 
-    ghost word = { elim [ Failure ↦ codes "failure" | Success ↦ codes "success" ] };
-
-    ghost reads_back = { elim [ Failure ↦ refl | Success ↦ refl ] };
+    ghost reads_back = { flaky_fail_reads_back };
 
     fn all() -> &'static [Self] {
         &[JunitFlakyFailStatus::Failure, JunitFlakyFailStatus::Success]
@@ -45,5 +63,284 @@ impl Word for JunitFlakyFailStatus {
 
     fn expected() -> &'static str {
         "`failure` or `success`"
+    }
+}
+
+/// The report that a profile writes.
+#[derive(Debug, Drop)]
+pub struct JunitConfig<'cfg> {
+    path: String,
+    report_name: &'cfg str,
+    store_success_output: bool,
+    store_failure_output: bool,
+    report_skipped: ReportSkipPolicy,
+    flaky_fail_status: JunitFlakyFailStatus,
+}
+
+impl<'cfg> JunitConfig<'cfg> {
+    /// The report of these settings below the folder `store_dir`; none where they have no path.
+    pub fn new(
+        alloc: Global,
+        store_dir: &str,
+        settings: JunitSettings<'cfg>,
+    ) -> Result<Option<Self>, AllocError>
+        ensures value { IfOk result (λ config.
+            option_map report_of config ≡ report_in store_dir.now (settings_of settings.entry)) }
+        ensures none { (settings_of settings.entry).path ≡ None → IsOk result }
+    {
+        let Some(path) = settings.path else {
+            return Ok(None);
+        };
+        let path = join_path(alloc, store_dir, path)?;
+        Ok(Some(JunitConfig {
+            path,
+            report_name: settings.report_name,
+            store_success_output: settings.store_success_output,
+            store_failure_output: settings.store_failure_output,
+            report_skipped: settings.report_skipped,
+            flaky_fail_status: settings.flaky_fail_status,
+        }))
+    }
+
+    /// A copy of the configuration.
+    pub fn clone(&self, _alloc: Global) -> Result<Self, AllocError>
+        ensures { IfOk result (λ config. report_of config ≡ report_of self.now) }
+    {
+        let path = self.path.clone()?;
+        Ok(JunitConfig {
+            path,
+            report_name: self.report_name,
+            store_success_output: self.store_success_output,
+            store_failure_output: self.store_failure_output,
+            report_skipped: self.report_skipped,
+            flaky_fail_status: self.flaky_fail_status,
+        })
+    }
+
+    /// The path of the report: absolute where the folder or the setting is.
+    pub fn path(&self) -> &str
+        ensures { result.now ≡ (report_of self.now).path }
+    {
+        self.path.as_str()
+    }
+
+    /// The name of the report.
+    pub fn report_name(&self) -> &'cfg str
+        ensures { result.now ≡ (report_of self.now).name }
+    {
+        self.report_name
+    }
+
+    /// Whether the output of tests that passed is stored.
+    pub fn store_success_output(&self) -> bool
+        ensures { result ≡ (report_of self.now).stores_success_output }
+    {
+        self.store_success_output
+    }
+
+    /// Whether the output of tests that failed is stored.
+    pub fn store_failure_output(&self) -> bool
+        ensures { result ≡ (report_of self.now).stores_failure_output }
+    {
+        self.store_failure_output
+    }
+
+    /// Which skipped tests are reported.
+    pub fn report_skipped(&self) -> ReportSkipPolicy
+        ensures { result ≡ (report_of self.now).skipped }
+    {
+        self.report_skipped
+    }
+
+    /// How a flaky test that is to fail is reported.
+    pub fn flaky_fail_status(&self) -> JunitFlakyFailStatus
+        ensures { result ≡ (report_of self.now).flaky_fail_status }
+    {
+        self.flaky_fail_status
+    }
+}
+
+/// What a profile and those that it inherits from say of the report.
+#[derive(Clone, Debug, Drop)]
+pub struct JunitSettings<'cfg> {
+    /// The path of the report; none, and there is no report.
+    pub path: Option<&'cfg str>,
+    /// The name of the report.
+    pub report_name: &'cfg str,
+    /// Whether the output of tests that passed is stored.
+    pub store_success_output: bool,
+    /// Whether the output of tests that failed is stored.
+    pub store_failure_output: bool,
+    /// Which skipped tests are reported.
+    pub report_skipped: ReportSkipPolicy,
+    /// How a flaky test that is to fail is reported.
+    pub flaky_fail_status: JunitFlakyFailStatus,
+}
+
+/// What the default profile says of the report.
+#[derive(Debug, Drop)]
+pub struct DefaultJunitImpl {
+    /// The path of the report; none, and there is no report.
+    pub path: Option<String>,
+    /// The name of the report.
+    pub report_name: String,
+    /// Whether the output of tests that passed is stored.
+    pub store_success_output: bool,
+    /// Whether the output of tests that failed is stored.
+    pub store_failure_output: bool,
+    /// Which skipped tests are reported.
+    pub report_skipped: ReportSkipPolicy,
+    /// How a flaky test that is to fail is reported.
+    pub flaky_fail_status: JunitFlakyFailStatus,
+}
+
+impl DefaultJunitImpl {
+    /// What the table of the default profile says, which has to say all but the path.
+    pub fn for_default_profile(junit: JunitImpl) -> Result<Self, MissingSetting>
+        ensures complete { IfOk result (λ d. SaysAll (table_of junit) (default_of d)) }
+        ensures missing { IfErr result (IsFirstMissing (table_of junit)) }
+    {
+        Ok(DefaultJunitImpl {
+            path: junit.path,
+            report_name: junit.report_name.ok_or(MissingSetting::ReportName)?,
+            store_success_output: junit
+                .store_success_output
+                .ok_or(MissingSetting::StoreSuccessOutput)?,
+            store_failure_output: junit
+                .store_failure_output
+                .ok_or(MissingSetting::StoreFailureOutput)?,
+            report_skipped: junit.report_skipped.ok_or(MissingSetting::ReportSkipped)?,
+            flaky_fail_status: junit
+                .flaky_fail_status
+                .ok_or(MissingSetting::FlakyFailStatus)?,
+        })
+    }
+
+    /// A copy of what is said.
+    pub fn clone(&self, _alloc: Global) -> Result<Self, AllocError>
+        ensures { IfOk result (λ d. default_of d ≡ default_of self.now) }
+    {
+        let path = self.path.clone()?;
+        let report_name = self.report_name.clone()?;
+        Ok(DefaultJunitImpl {
+            path,
+            report_name,
+            store_success_output: self.store_success_output,
+            store_failure_output: self.store_failure_output,
+            report_skipped: self.report_skipped,
+            flaky_fail_status: self.flaky_fail_status,
+        })
+    }
+}
+
+/// A setting of the report that the default profile has to have.
+#[derive(Clone, Copy, Debug, PartialEq, Eq, Error)]
+pub enum MissingSetting {
+    /// The name of the report.
+    #[error("the default profile doesn't set junit.report-name")]
+    ReportName,
+    /// Whether the output of tests that passed is stored.
+    #[error("the default profile doesn't set junit.store-success-output")]
+    StoreSuccessOutput,
+    /// Whether the output of tests that failed is stored.
+    #[error("the default profile doesn't set junit.store-failure-output")]
+    StoreFailureOutput,
+    /// Which skipped tests are reported.
+    #[error("the default profile doesn't set junit.report-skipped")]
+    ReportSkipped,
+    /// How a flaky test that is to fail is reported.
+    #[error("the default profile doesn't set junit.flaky-fail-status")]
+    FlakyFailStatus,
+}
+
+/// What the table of one profile says of the report.
+#[derive(Debug, Drop)]
+pub struct JunitImpl {
+    /// The path of the report.
+    pub path: Option<String>,
+    /// The name of the report.
+    pub report_name: Option<String>,
+    /// Whether the output of tests that passed is stored.
+    pub store_success_output: Option<bool>,
+    /// Whether the output of tests that failed is stored.
+    pub store_failure_output: Option<bool>,
+    /// Which skipped tests are reported.
+    pub report_skipped: Option<ReportSkipPolicy>,
+    /// How a flaky test that is to fail is reported.
+    pub flaky_fail_status: Option<JunitFlakyFailStatus>,
+}
+
+impl Default for JunitImpl {
+    ghost is_default = { λ junit. table_of junit ≡ empty_table };
+
+    fn default() -> Self {
+        JunitImpl {
+            path: None,
+            report_name: None,
+            store_success_output: None,
+            store_failure_output: None,
+            report_skipped: None,
+            flaky_fail_status: None,
+        }
+    }
+}
+
+impl JunitImpl {
+    /// A copy of what is said.
+    pub fn clone(&self, _alloc: Global) -> Result<Self, AllocError>
+        ensures { IfOk result (λ junit. table_of junit ≡ table_of self.now) }
+    {
+        let path = self.path.clone()?;
+        let report_name = self.report_name.clone()?;
+        Ok(JunitImpl {
+            path,
+            report_name,
+            store_success_output: self.store_success_output,
+            store_failure_output: self.store_failure_output,
+            report_skipped: self.report_skipped,
+            flaky_fail_status: self.flaky_fail_status,
+        })
+    }
+
+    // What a table says.
+    fn read_table(alloc: Global, table: &Table, at: &str) -> Result<Self, ReadFault>
+        ensures meant { IfOk result (λ junit.
+            MeansJunitTable (table_view table.now) (table_of junit)) }
+        ensures refused { IfErr result (Refuses (JunitTableFaults (table_view table.now) at.now)
+            (Unit {0})) }
+    {
+        let path: Option<String> = optional_field(alloc, table, PATH_KEY, at)?;
+        let report_name: Option<String> = optional_field(alloc, table, REPORT_NAME_KEY, at)?;
+        let store_success_output = optional_field(alloc, table, STORE_SUCCESS_OUTPUT_KEY, at)?;
+        let store_failure_output = optional_field(alloc, table, STORE_FAILURE_OUTPUT_KEY, at)?;
+        let report_skipped = optional_field(alloc, table, REPORT_SKIPPED_KEY, at)?;
+        let flaky_fail_status = optional_field(alloc, table, FLAKY_FAIL_STATUS_KEY, at)?;
+        Ok(JunitImpl {
+            path,
+            report_name,
+            store_success_output,
+            store_failure_output,
+            report_skipped,
+            flaky_fail_status,
+        })
+    }
+}
+
+impl FromToml for JunitImpl {
+    ghost means = { λ value junit. MeansJunit value (table_of junit) };
+
+    ghost faults = { JunitFaults };
+
+    ghost needs_memory = { true };
+
+    ghost alike = { λ a b. table_of a ≡ table_of b };
+
+    ghost laws = { junit_reading };
+
+    fn read(alloc: Global, value: &Value, at: &str) -> Result<Self, ReadFault> {
+        match value.as_table() {
+            Some(table) => JunitImpl::read_table(alloc, table, at),
+            None => Err(ReadFault::invalid_type(alloc, value, at, "a table")),
+        }
     }
 }

@@ -2,7 +2,12 @@
 
 ghost use Rattle.std.specs.Prelude.{◌≡◌, ◌↔◌, ℕ, ◌<◌, ◌≤◌, ◌^◌, ℤ, ◌<ℤ◌, IsTrue, List};
 ghost use Rattle.std.specs.Ordering.{MatchOrdering};
-ghost use Rattle.nextest_config_elements.specs.MaxFail.{IsLimitFault, IsLimitText, IsReached, limit_text, LimitFault};
+ghost use Rattle.nextest_config_values.specs.Helpers.{MeansPath, PathFaults};
+ghost use Rattle.nextest_config_values.specs.Read.{IsReading, SameText};
+ghost use Rattle.nextest_config_elements.specs.LeakTimeout.{LeakTimeoutFaults, MeansLeakTimeout};
+ghost use Rattle.nextest_config_elements.specs.MaxFail.{FailFastFaults, IsLimitFault, IsLimitText, IsReached, limit_text, LimitFault, MeansFailFast};
+ghost use Rattle.nextest_config_elements.specs.RetryPolicy.{MeansRetryPolicy, RetryPolicyFaults};
+ghost use Rattle.nextest_config_elements.specs.SlowTimeout.{MeansSlowTimeout, SlowTimeoutFaults};
 ghost use Rattle.nextest_config_elements.specs.declared.max_fail.MaxFail.{MaxFail};
 ghost use Rattle.nextest_config_elements.specs.declared.max_fail.MaxFail.TheVariants.{All, Count};
 ghost use Rattle.nextest_config_elements.specs.declared.max_fail.TerminateMode.{TerminateMode};
@@ -41,4 +46,14 @@ pub fn law_priority_order()
     ensures order { (a b : ℤ)
         → MatchOrdering (⟦<TestPriority as Ord>⟧.cmp a b) (b <ℤ a) (a ≡ b) (a <ℤ b) }
     ensures equality { (a b : ℤ) → IsTrue (⟦<TestPriority as PartialEq>⟧.eq a b) ↔ (a ≡ b) }
+{}
+
+/// No value of the settings that may set nothing, `slow-timeout`, `leak-timeout`, `retries` and
+/// `fail-fast`, and none of a relative path means two things, has two faults at one path, or both.
+pub fn law_setting_once()
+    ensures slow_timeout { IsReading MeansSlowTimeout SlowTimeoutFaults ◌≡◌ }
+    ensures leak_timeout { IsReading MeansLeakTimeout LeakTimeoutFaults ◌≡◌ }
+    ensures retries { IsReading MeansRetryPolicy RetryPolicyFaults ◌≡◌ }
+    ensures fail_fast { IsReading MeansFailFast FailFastFaults ◌≡◌ }
+    ensures relative_path { IsReading MeansPath PathFaults SameText }
 {}

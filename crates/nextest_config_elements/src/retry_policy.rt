@@ -1,17 +1,17 @@
 //! Retries.
 
-ghost use Rattle.std.specs.Prelude.{◌≡◌, ◌↔◌, [], ◌∷◌, codes, refl, false, IfOk, IfErr, IsTrue, OnOk, option_map};
+ghost use Rattle.std.specs.Prelude.{◌≡◌, ◌↔◌, [], ◌∷◌, codes, refl, false, IfOk, IfErr, IsOk, IsTrue, OnOk, option_map, string_bytes};
 ghost use Rattle.std.specs.Duration.{as_nanos};
 ghost use Rattle.toml.specs.Data.{integer};
 ghost use Rattle.toml.specs.View.{table_view, view};
 ghost use Rattle.nextest_config_values.specs.Read.{broken_rule, custom, fault_at, Refuses, RefusesAs, RefusesOne, WantsMemory, words_text};
-ghost use Rattle.nextest_config_elements.specs.RetryPolicy.{backoff_key, backoff_reads_back, backoff_word, BackoffFaults, backoffs_in_order, count_of, ExponentialRuleFaults, HasKeysOf, KeepsExponentialRules, keys_beside, MeansBackoff, MeansRetryNumber, MeansRetryPolicySetting, MeansRetryTable, OtherKeyFaults, retry_policy_of, RetryNumberFaults, RetryPolicyFaults, RetryTableFaults, without_delay};
+ghost use Rattle.nextest_config_elements.specs.RetryPolicy.{backoff_key, backoff_reads_back, backoff_word, BackoffFaults, backoffs_in_order, count_of, ExponentialRuleFaults, fail_message, HasKeysOf, KeepsExponentialRules, keys_beside, MeansBackoff, MeansRetryNumber, MeansRetryPolicySetting, MeansRetryTable, OtherKeyFaults, retry_policy_of, RetryNumberFaults, RetryPolicyFaults, RetryTableFaults, without_delay};
 ghost use Rattle.nextest_config_elements.specs.UnknownKeys.{IsOneOf};
 
 use nextest_config_values::read::{
     FaultKind, FromToml, ReadFault, Rule, Word, field_or, optional_field, required_field,
 };
-use std::alloc::Global;
+use std::alloc::{AllocError, Global};
 use std::time::Duration;
 use toml::{Table, Value};
 
@@ -298,6 +298,33 @@ pub enum FlakyResult {
     Fail,
     /// It passes.
     Pass,
+}
+
+impl FlakyResult {
+    ghost use Rattle.nextest_config_elements.specs.declared.retry_policy.FlakyResult.TheVariants.{Pass};
+
+    /// What a report says of a flaky test that fails although it passed on this attempt; none where flaky
+    /// tests pass.
+    pub fn fail_message(
+        self,
+        alloc: Global,
+        attempt: u32,
+        total_attempts: u32,
+    ) -> Result<Option<String>, AllocError>
+        ensures value { IfOk result (λ message.
+            option_map string_bytes message ≡ fail_message self attempt total_attempts) }
+        ensures pass { self ≡ Pass → IsOk result }
+    {
+        match self {
+            FlakyResult::Fail => {
+                let message = format!(in alloc;
+                    "test passed on attempt {attempt}/{total_attempts} but is configured to fail when flaky"
+                )?;
+                Ok(Some(message))
+            }
+            FlakyResult::Pass => Ok(None),
+        }
+    }
 }
 
 impl Default for FlakyResult {

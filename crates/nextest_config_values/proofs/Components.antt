@@ -1,25 +1,24 @@
 -- Identifiers that are kept: their forms by characters, and their parts by bytes.
 use Rattle.std.proofs.Common.{◌≡◌, ◌≢◌, ℕ, List, [], ◌∷◌, ◌++◌, Option, Some, None, sym, ap, ◌∙◌, subst, inl, inr}
-use Rattle.std.specs.Prelude.{MatchOption, IsUtf8, chars, encode_utf8_all, String, string_bytes}
+use Rattle.std.specs.Prelude.{MatchOption, IsUtf8, chars, encode_utf8_all}
 use Rattle.std.specs.Borrow.{Bor}
-use Rattle.std.specs.declared.alloc.Global.{Global}
-use Rattle.std.proofs.lemmas.Str.{IsUtf8-string_bytes, chars_from_encodes, encodes-chars}
+use Rattle.std.proofs.lemmas.Str.{chars_from_encodes, encodes-chars}
 use Rattle.std.proofs.lemmas.Str.Pattern.{IsSplitOnceResult}
 use Rattle.unicode_normalization.proofs.FormsLemmas.{nfc_idem}
 use Rattle.unicode_normalization.specs.Forms.{nfc}
 use Rattle.nextest_config_values.specs.Helpers.{IsPlainIdentifier}
-use Rattle.nextest_config_values.specs.Identifier.{AreComponents, behind_mark, HasNoColon, IsIdentifierForm, IsKeptText, IsMarked, no_colon_uncut, normal_chars, one_cut, plain_no_at_sign, plain_no_colon, tool_mark}
+use Rattle.nextest_config_values.specs.Identifier.{AreComponents, behind_mark, HasNoColon, IsIdentifierForm, IsKeptText, IsMarked, no_colon_uncut, normal_chars, normal_form, one_cut, plain_no_at_sign, plain_no_colon, tool_mark}
 use Rattle.nextest_config_values.proofs.Texts.{chars_behind, mark_plain, no_colon_bytes, no_colon_chars, not_behind, split_colon}
 
--- the text that `to_nfc` made has the characters of the normal form
-pub normal_decoded : (text : List ℕ) (kept : String Global) → string_bytes kept ≡ encode_utf8_all (nfc (chars text)) → normal_chars text ≡ chars (string_bytes kept)
-normal_decoded text kept e = chars_from_encodes (normal_chars text) (string_bytes kept) (IsUtf8-string_bytes kept) (sym e)
+-- a text in its normal form has the characters of that form
+pub normal_decoded : (text kept : List ℕ) → IsUtf8 kept → kept ≡ normal_form text → normal_chars text ≡ chars kept
+normal_decoded text kept u e = chars_from_encodes (normal_chars text) kept u (sym e)
 
-pub normal_kept : {IsInGrammar : List ℕ → Type 0} (text : List ℕ) (kept : String Global) → string_bytes kept ≡ encode_utf8_all (nfc (chars text)) → IsInGrammar (chars (string_bytes kept)) → IsKeptText IsInGrammar (string_bytes kept)
-normal_kept text kept e form = record { form = form; normal = subst (λ cs. nfc cs ≡ cs) (normal_decoded text kept e) (nfc_idem (chars text)) }
+pub normal_kept : {IsInGrammar : List ℕ → Type 0} (text kept : List ℕ) → IsUtf8 kept → kept ≡ normal_form text → IsInGrammar (chars kept) → IsKeptText IsInGrammar kept
+normal_kept text kept u e form = record { form = form; normal = subst (λ cs. nfc cs ≡ cs) (normal_decoded text kept u e) (nfc_idem (chars text)) }
 
-pub empty_decoded : (kept : String Global) → chars (string_bytes kept) ≡ [] → string_bytes kept ≡ []
-empty_decoded kept e = sym (encodes-chars (string_bytes kept) (IsUtf8-string_bytes kept)) ∙ ap encode_utf8_all e
+pub empty_decoded : (kept : List ℕ) → IsUtf8 kept → chars kept ≡ [] → kept ≡ []
+empty_decoded kept u e = sym (encodes-chars kept u) ∙ ap encode_utf8_all e
 
 pub unmarked_plain : (text : List ℕ) → IsUtf8 text → IsIdentifierForm (chars text) → ((rest : List ℕ) → text ≢ tool_mark ++ rest) → IsPlainIdentifier (chars text)
 unmarked_plain text u (inl h) none = h

@@ -1,10 +1,14 @@
--- The pieces of a path between slashes.
-use Rattle.std.proofs.Common.{◌≡◌, ◌≢◌, ◌⊎◌, ◌↔◌, ℕ, ◌<◌, eqb, Bool, List, [], ◌∷◌, ◌++◌, codes, length, refl, sym, ap, ◌∙◌, inl, inr, append_assoc, arith}
-use Rattle.std.proofs.lemmas.Bool.{cases_Bool}
+-- The pieces of a path between slashes, and the join of two paths.
+use Rattle.std.proofs.Common.{◌≡◌, ◌≢◌, ◌⊎◌, ◌↔◌, ℕ, ◌-◌, ◌<◌, eqb, Bool, false, List, [], ◌∷◌, ◌++◌, codes, length, reverse, slice_index, refl, sym, ap, ◌∙◌, inl, inr, append_assoc, append-nil, arith}
+use Rattle.std.proofs.lemmas.Bool.{cases_Bool, ne_eqb}
+use Rattle.std.proofs.lemmas.List.{get_or-reverse}
 use Rattle.std.proofs.lemmas.List.Splits.{join_with_byte-slice_split, length-slice_split, slice_split-cons_no, slice_split-cons_yes}
 use Rattle.std.specs.List.{AllByRecursion, join_with_byte, onto_first, slice_split}
+use Rattle.std.specs.Path.{path_join, with_separator}
+use Rattle.std.specs.Prelude.{◌==◌}
+use Rattle.nextest_config_values.specs.Characters.{slash}
 use Rattle.nextest_config_values.proofs.Lists.{all_middle}
-use Rattle.nextest_config_values.specs.Helpers.{BeginsWithSlash, EndsWithSlash, HasParentPiece}
+use Rattle.nextest_config_values.specs.Helpers.{begins_with_slash, BeginsWithSlash, EndsWithSlash, HasParentPiece, joined_path, separator}
 
 -- the pieces, as `split` gives them
 abbrev pub is_slash : ℕ → Bool
@@ -63,3 +67,29 @@ no_parent text names h =
 -- no piece is `..`, said of the pieces and of the text
 pub tells_no_parent : (text : List ℕ) → AreNames (pieces text) ↔ ¬ (HasParentPiece text)
 tells_no_parent text = (no_parent text, λ none. all_names (pieces text) [] (inl refl) (rw (join_with_byte-slice_split 47 text) none))
+
+-- ---- the join of two paths
+
+begins : (path : List ℕ) → (slice_index path 0 == slash) ≡ begins_with_slash path
+begins [] = refl
+begins (b ∷ rest) = refl
+
+separated : (first : List ℕ) → with_separator first ≡ first ++ separator first
+separated [] = refl
+separated (b ∷ rest) =
+    let path = b ∷ rest in
+    let at_end : length path - 1 - 0 ≡ length path - 1 = omega arith in
+    let last : begins_with_slash (reverse path) ≡ (slice_index path (length path - 1) == slash) = sym (begins (reverse path)) ∙ ap (λ x. x == slash) (get_or-reverse path 0 0 (omega arith) ∙ ap (slice_index path) at_end) in
+    let some : (length path == 0) ≡ false = ne_eqb (length path) 0 (λ e. omega (arith, e)) in
+    elim (cases_Bool (begins_with_slash (reverse path))) [
+      | inl slashed ↦ rw (some, sym last ∙ slashed, slashed) (sym (append-nil path))
+      | inr other ↦ rw (some, sym last ∙ other, other) refl
+    ]
+
+-- a path is joined by the toolchain's words as by ours
+pub joins : (first second : List ℕ) → path_join first second ≡ joined_path first second
+unfolding path_join
+joins first second = elim (cases_Bool (begins_with_slash second)) [
+  | inl slashed ↦ rw (begins second ∙ slashed, slashed) refl
+  | inr other ↦ rw (begins second ∙ other, other) (ap (λ front. front ++ second) (separated first) ∙ append_assoc first (separator first) second)
+]

@@ -10,7 +10,7 @@ pub use Fault.{broken_rule, BrokenRule, build_metadata, count_zero, custom, dela
 pub use Text.{escaped, FaultOrMemory, found_text, joined, quoted_texts, told_text, unnamed}
 unfoldable pub use Text.{quoted_text}
 pub use FromToml.{equality, FaultsAs, FaultsKind, IsReading, MeansAs, MeansKind, MeansNothing, reading_as, reading_on, text_expected, WantsMemory, WrongKind}
-pub use Plain.{bool_reading, BooleanFaults, count_expected, count_reading, CountFaults, HasNoFault, IsCount, IsOutside, IsU32, MeansBoolean, MeansCount, MeansNumber, MeansText, MeansTruth, MeansU32, number_reading, SameText, string_reading, u32_reading, U32Faults}
+pub use Plain.{bool_reading, BooleanFaults, count_expected, count_reading, CountFaults, HasNoFault, IsCount, IsOutside, IsU32, MeansBoolean, MeansCount, MeansNumber, MeansString, MeansText, MeansTruth, MeansU32, number_reading, SameText, string_reading, StringFaults, text_reading, u32_reading, U32Faults}
 pub use Word.{IsNoWord, MeansWord, MeansWordText, value_of, word_reading, words_text, WordTextFaults}
 pub use Field.{FaultsBehind, FaultsThen, KeyOr, MeansOptional, MeansOr, MeansRequired, MeansThen, OptionalFaults, OptionalKey, OptionalKeyFaults, RequiredFaults, RequiredKey, RequiredKeyFaults, RuleFaults, RuleThen, Then, WantsIfPresent, WantsIfRequired}
 pub use Readings.{at_key, behind_check, held, IsCheck, kind_reading, made_of, nothing_wrong, one_then, only_this, optional_reading, or_reading, reading_at, reading_each, required_reading, rule_reading, rule_then, said_as, then_reading, wrong_kind}

@@ -1,13 +1,14 @@
 //! Checks of texts that several settings share.
 
-ghost use Rattle.std.specs.Prelude.{◌↔◌, true, IfErr, IfOk, IsTrue, OnOk, chars};
+ghost use Rattle.std.specs.Prelude.{◌≡◌, ◌↔◌, true, IfErr, IfOk, IsTrue, OnOk, chars, string_bytes};
 ghost use Rattle.std.specs.List.{AllByRecursion};
 ghost use Rattle.toml.specs.View.{view};
-ghost use Rattle.nextest_config_values.specs.Helpers.{IsPlainFlaw, IsPlainIdentifier, IsRelativePath, MeansPath, PathFaults, GoesOn};
+ghost use Rattle.nextest_config_values.specs.Helpers.{IsPlainFlaw, IsPlainIdentifier, IsRelativePath, joined_path, MeansPath, PathFaults, GoesOn};
 ghost use Rattle.nextest_config_values.specs.Read.{Refuses, WantsMemory};
 
 use crate::read::{FromToml, ReadFault};
-use std::alloc::Global;
+use std::alloc::{AllocError, Global};
+use std::path::Path;
 use toml::Value;
 use unicode_ident::{is_xid_continue, is_xid_start};
 
@@ -69,4 +70,13 @@ fn is_relative_path(path: &str) -> bool
     ensures { IsTrue result ↔ IsRelativePath path.now }
 {
     !path.starts_with('/') && path.split('/').all(|piece| piece != "..")
+}
+
+/// The path that `path` names beside the folder `base`, by the rules of Unix: a path that begins with `/`
+/// stays as it is.
+pub fn join_path(alloc: Global, base: &str, path: &str) -> Result<String, AllocError>
+    ensures { IfOk result (λ joined. string_bytes joined ≡ joined_path base.now path.now) }
+{
+    let joined = Path::new(base).join(alloc, path)?;
+    Ok(joined.into_string())
 }

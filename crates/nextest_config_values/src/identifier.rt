@@ -2,6 +2,7 @@
 
 mod config_identifier;
 mod error;
+mod kept_text;
 mod tool_name;
 
 pub use config_identifier::ConfigIdentifier;

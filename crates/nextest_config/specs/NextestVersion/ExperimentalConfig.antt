@@ -1,9 +1,11 @@
 -- The experimental features of all sources.
-use Rattle.std.specs.Prelude.{◌≡◌, ◌↔◌, ◌⊎◌, ℕ, List, [], ◌∷◌, ◌++◌, map, Contains, String, string_bytes}
+use Rattle.std.specs.Prelude.{◌≡◌, ℕ, Bool, ◌||◌, List, [], ◌∷◌, ◌++◌, map, String, string_bytes}
 use Rattle.std.proofs.Common.{Bor}
 use Rattle.std.specs.BTreeSet.{BTreeSet}
+use Rattle.std.specs.Ordering.{eq_by_cmp}
+use Rattle.std.specs.Set.{is_member}
 use Rattle.std.specs.declared.alloc.Global.{Global}
-use Rattle.nextest_config.specs.NextestVersion.Experimental.{FeaturesInOrder}
+use Rattle.nextest_config.specs.NextestVersion.Experimental.{feature_cmp, FeaturesInOrder}
 use Rattle.nextest_config.specs.NextestVersion.ExperimentalDeserialize.{Features}
 use Rattle.nextest_config.specs.NextestVersion.Source.{Place, place_of}
 use Rattle.nextest_config.specs.declared.nextest_version.experimental.ConfigExperimental.{ConfigExperimental}
@@ -43,11 +45,44 @@ abbrev pub entry_at : Place → List (List ℕ) → List Unknown
 entry_at place [] = []
 entry_at place (name ∷ names) = record { place = place; names = name ∷ names } ∷ []
 
+-- what a source at this place names, on its own
+abbrev pub features_from : Place → Features → Experimental
+features_from place named = record { known = named.known; unknown = entry_at place named.unknown }
+
+-- ---- the join of features
+
+-- what is seen of features where they are joined: whether each is enabled, and the unknown names, in order
+pub record SeenFeatures : Type 0 where
+  pub enables : ConfigExperimental → Bool
+  pub unknown : List Unknown
+
+-- whether the feature is in the list
+abbrev pub has_feature : List ConfigExperimental → ConfigExperimental → Bool
+has_feature = is_member (eq_by_cmp feature_cmp)
+
+-- what is seen of these features
+abbrev pub seen_features : Experimental → SeenFeatures
+seen_features features = record { enables = has_feature features.known; unknown = features.unknown }
+
+-- what is seen of no features
+abbrev pub no_features_seen : SeenFeatures
+no_features_seen = seen_features no_experimental
+
+-- the join: a feature is enabled where either side enables it, and the later unknown names come behind the earlier ones
+abbrev pub join_features : SeenFeatures → SeenFeatures → SeenFeatures
+join_features earlier later = record {
+  enables = λ feature. earlier.enables feature || later.enables feature;
+  unknown = earlier.unknown ++ later.unknown;
+}
+
+-- this is seen of the features, and the known ones stand in their order
+pub record AreSeenAs (seen : SeenFeatures) (features : Experimental) : Type 0 where
+  pub same : seen_features features ≡ seen
+  pub in_order : FeaturesInOrder features.known
+
 -- the second is the first one joined with what a source at this place names
-pub record AddsFeatures (place : Place) (named : Features) (before after : Experimental) : Type 0 where
-  pub more_known : (feature : ConfigExperimental) → Contains after.known feature ↔ (Contains before.known feature ⊎ Contains named.known feature)
-  pub known_in_order : FeaturesInOrder after.known
-  pub more_unknown : after.unknown ≡ before.unknown ++ entry_at place named.unknown
+abbrev pub AddsFeatures : Place → Features → Experimental → Experimental → Type 0
+AddsFeatures place named before = AreSeenAs (join_features (seen_features before) (seen_features (features_from place named)))
 
 -- ---- the iterator over the unknown names
 

@@ -22,7 +22,7 @@ use Rattle.nextest_config.specs.declared.nextest_version.experimental.ConfigExpe
 
 -- ---- one set is written in order in one way
 
-same_truth : (a b : Bool) → IsTrue a ↔ IsTrue b → a ≡ b
+pub same_truth : (a b : Bool) → IsTrue a ↔ IsTrue b → a ≡ b
 same_truth true true h = refl
 same_truth false false h = refl
 same_truth true false h = sym (h.0 refl)

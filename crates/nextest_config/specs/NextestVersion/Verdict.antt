@@ -123,6 +123,12 @@ pub record IsGravest (verdicts : List Verdict) (v : Verdict) : Type 0 where
 abbrev pub IsSelected : List Verdict → Verdict → Type 0
 IsSelected verdicts v = (AllByRecursion IsSatisfied verdicts × (v ≡ satisfied)) ⊎ IsGravest verdicts v
 
+-- the second verdict is of the same kind, overridden or not, and names the same version; the place that it names may be another
+abbrev pub SaysTheSame : Verdict → Verdict → Type 0
+SaysTheSame satisfied v = v ≡ satisfied
+SaysTheSame (warn shortfall) v = (place : Place) × (v ≡ warn (record shortfall { place = place }))
+SaysTheSame (error shortfall) v = (place : Place) × (v ≡ error (record shortfall { place = place }))
+
 -- the shortfall, with the check overridden
 abbrev pub override_of : Shortfall → Shortfall
 override_of shortfall = record shortfall { overridden = true }

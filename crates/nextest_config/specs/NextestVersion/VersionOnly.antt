@@ -1,14 +1,15 @@
 -- Lists of sources: what each asks, the first that is refused, and what stands for them all.
-use Rattle.std.specs.Prelude.{◌≡◌, ◌≢◌, ◌↔◌, ℕ, List, ◌∷◌, ◌++◌, length, map, flat_map, Contains, Bool, Option, Some, None, IfSome}
+use Rattle.std.specs.Prelude.{◌≡◌, ◌≢◌, ◌↔◌, ◌+◌, ℕ, List, ◌∷◌, ◌++◌, length, map, flat_map, Contains, Bool, Option, Some, None, IfSome, option_map}
 use Rattle.std.specs.List.{AllByRecursion, AllZip}
 use Rattle.semver.specs.Parse.{Parts}
+use Rattle.nextest_config.specs.Merge.{in_a_row, IsReordering, total}
 use Rattle.nextest_config.specs.NextestVersion.Error.{Refusal, RefusesBy, refusal_of}
 use Rattle.nextest_config.specs.NextestVersion.Experimental.{FeaturesInOrder}
-use Rattle.nextest_config.specs.NextestVersion.ExperimentalConfig.{AddsFeatures, Experimental, Unknown, entry_at, experimental_of, no_experimental}
+use Rattle.nextest_config.specs.NextestVersion.ExperimentalConfig.{AreSeenAs, Experimental, SeenFeatures, Unknown, entry_at, experimental_of, features_from, join_features, no_experimental, seen_features}
 use Rattle.nextest_config.specs.NextestVersion.Precedence.{IsBelow}
-use Rattle.nextest_config.specs.NextestVersion.Requirement.{Kept, Roles, no_roles, roles_of, roles_from, join_roles}
+use Rattle.nextest_config.specs.NextestVersion.Requirement.{Kept, Roles, kept_version, no_roles, roles_of, roles_from, join_roles}
 use Rattle.nextest_config.specs.NextestVersion.Source.{Place, Source}
-use Rattle.nextest_config.specs.NextestVersion.Verdict.{Verdict, verdict, named_place, IsSelected}
+use Rattle.nextest_config.specs.NextestVersion.Verdict.{Verdict, verdict, named_place, IsSelected, SaysTheSame}
 use Rattle.nextest_config.specs.NextestVersion.VersionOnlyDeserialize.{Ask, IsWrong, TextAsks}
 use Rattle.nextest_config.specs.declared.nextest_version.error.ConfigParseError.{ConfigParseError}
 use Rattle.nextest_config.specs.declared.nextest_version.error.ListRefusal.{ListRefusal}
@@ -56,6 +57,17 @@ pub record IsFirstRefused (sources : List Source) (position : ℕ) (refusal : Re
   pub place : length before ≡ position
   pub read : Reads before
   pub refused : IsRefused source refusal
+
+-- the first refused position of the first refused piece, counted from the beginning of the first piece, and its error
+pub record IsFirstRefusedAmong (pieces : List (List Source)) (position : ℕ) (refusal : Refusal) : Type 0 where
+  pub before : List (List Source)
+  pub piece : List Source
+  pub after : List (List Source)
+  pub within : ℕ
+  pub whole : pieces ≡ before ++ (piece ∷ after)
+  pub place : length (in_a_row before) + within ≡ position
+  pub read : AllByRecursion Reads before
+  pub refused : IsFirstRefused piece within refusal
 
 -- ---- what stands for a list of asks
 
@@ -160,9 +172,51 @@ IsRefusalOf sources refusals.Memory = Unit {0}
 abbrev pub IsErrorOfList : List Source → ConfigParseError → Type 0
 IsErrorOfList sources = RefusesBy (λ refusal. (position : ℕ) × IsFirstRefused sources position refusal)
 
+-- the two keep the same versions, know the same features and have the same entries of unknown names in some order; and on each current version both verdicts say the same
+pub record Agree (configuration other : Configuration) : Type 0 where
+  pub required : option_map kept_version configuration.roles.required ≡ option_map kept_version other.roles.required
+  pub recommended : option_map kept_version configuration.roles.recommended ≡ option_map kept_version other.roles.recommended
+  pub known : configuration.experimental.known ≡ other.experimental.known
+  pub unknown : IsReordering configuration.experimental.unknown other.experimental.unknown
+  pub verdicts : (current : Parts) (overridden : Bool) → SaysTheSame (verdict configuration.roles current overridden) (verdict other.roles current overridden)
+
+-- ---- the join of configurations
+
+-- what a source at this place asks, on its own
+abbrev pub configuration_from : Place → Ask → Configuration
+configuration_from place ask = record { roles = roles_from place ask.versions; experimental = features_from place ask.features }
+
+-- what is seen of a configuration where it is joined
+pub record SeenConfiguration : Type 0 where
+  pub roles : Roles
+  pub experimental : SeenFeatures
+
+-- what is seen of this configuration
+abbrev pub seen_configuration : Configuration → SeenConfiguration
+seen_configuration configuration = record { roles = configuration.roles; experimental = seen_features configuration.experimental }
+
+-- what is seen of the configuration that asks nothing
+abbrev pub neutral_seen : SeenConfiguration
+neutral_seen = seen_configuration neutral
+
+-- the join of roles and of features
+abbrev pub join_configurations : SeenConfiguration → SeenConfiguration → SeenConfiguration
+join_configurations earlier later = record {
+  roles = join_roles earlier.roles later.roles;
+  experimental = join_features earlier.experimental later.experimental;
+}
+
+-- this is seen of the configuration, and its known features stand in their order
+pub record IsSeenAs (seen : SeenConfiguration) (configuration : Configuration) : Type 0 where
+  pub roles : configuration.roles ≡ seen.roles
+  pub experimental : AreSeenAs seen.experimental configuration.experimental
+
+-- the join of these configurations, in order, is seen of this one
+abbrev pub IsJoinOf : List Configuration → Configuration → Type 0
+IsJoinOf configurations = IsSeenAs (total join_configurations neutral_seen (map seen_configuration configurations))
+
 -- the new configuration is the old one joined with what the contents of the place ask
 pub record Adds (place : Place) (contents : Option (List ℕ)) (old new : Configuration) : Type 0 where
   pub ask : Ask
   pub read : TextAsks place.kind contents ask
-  pub roles : new.roles ≡ join_roles old.roles (roles_from place ask.versions)
-  pub experimental : AddsFeatures place ask.features old.experimental new.experimental
+  pub joined : IsSeenAs (join_configurations (seen_configuration old) (seen_configuration (configuration_from place ask))) new

@@ -1,12 +1,13 @@
 //! The experimental features that all sources name.
 
-ghost use Rattle.std.specs.Prelude.{◌≡◌, IfOk, OnOk};
+ghost use Rattle.std.specs.Prelude.{◌≡◌, IfOk, OnErr, OnOk};
 ghost use Rattle.std.specs.Iterator.{YieldsFirstBy, item_count};
 ghost use Rattle.nextest_config.specs.NextestVersion.{AddsFeatures, errors_left, experimental_of, features_of, no_experimental, place_of, told_by, unknown_of};
 
 use super::experimental::ConfigExperimental;
 use super::experimental_deserialize::ExperimentalDeserialize;
 use super::source::ConfigSource;
+use crate::merge::Merge;
 use std::alloc::{AllocError, Global};
 use std::collections::BTreeSet;
 use std::slice;
@@ -87,6 +88,31 @@ impl ExperimentalConfig {
         })?;
         Ok(())
     }
+}
+
+impl Merge for ExperimentalConfig {
+    ghost use Rattle.nextest_config.specs.NextestVersion.ExperimentalConfig.{experimental_of, join_features, no_features_seen, seen_features, SeenFeatures};
+    ghost use Rattle.nextest_config.specs.NextestVersion.ExperimentalConfigLaws.{features_join};
+
+    ghost Seen = { SeenFeatures };
+
+    ghost seen = { λ config. seen_features (experimental_of config) };
+
+    ghost join = { join_features };
+
+    ghost neutral = { no_features_seen };
+
+    /// Joins with the features that later sources name: those that either side enables, and the unknown
+    /// names of the later ones behind those of the earlier ones.
+    fn merge(&mut self, later: &mut Self) -> Result<(), AllocError> {
+        let known = (&self.known | &later.known)?;
+        self.unknown.append(&mut later.unknown)?;
+        self.known = known;
+        later.known.clear();
+        Ok(())
+    }
+
+    ghost laws = { features_join };
 }
 
 impl UnknownFeatures {

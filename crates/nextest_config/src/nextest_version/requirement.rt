@@ -1,14 +1,16 @@
 //! The versions that are kept of all sources read so far.
 
-ghost use Rattle.std.specs.Prelude.{◌≡◌, true, IfOk, IsOk, OnOk, OnErr, option_map, Some, None};
+ghost use Rattle.std.specs.Prelude.{◌≡◌, true, if◌then◌else◌, IfOk, IsOk, OnOk, OnErr, Option, option_map, Some, None};
 ghost use Rattle.semver.specs.Identifiers.{parts_of};
 
 use super::nextest_version_deserialize::NextestVersionDeserialize;
 use super::source::ConfigSource;
 use super::verdict::NextestVersionEval;
+use crate::merge::Merge;
 use semver::Version;
 use std::alloc::{AllocError, Global};
 use std::cmp::Ordering;
+use std::mem;
 
 /// The version that is kept in one role, and the source that asked for it.
 #[derive(Debug, PartialEq, Eq, Drop)]
@@ -104,6 +106,17 @@ impl NextestVersionReq {
         Ok(Some(NextestVersionReq::Version { version, source }))
     }
 
+    // Whether what a later part keeps takes the place of what is kept here.
+    fn is_replaced_by(&self, later: &NextestVersionReq) -> bool
+        ensures { join_kept (kept_of self.now) (kept_of later.now)
+            ≡ if result then kept_of later.now else kept_of self.now }
+    {
+        match later.version() {
+            Some(version) => self.unmet(version).is_none(),
+            None => false,
+        }
+    }
+
     // The kept version and its source, if the version isn't enough for it.
     fn unmet(&self, version: &Version) -> Option<(&Version, &ConfigSource)>
         ensures { option_map (λ kept. kept_from kept.0.now kept.1.now) result
@@ -123,6 +136,65 @@ impl NextestVersionReq {
             NextestVersionReq::None => None,
         }
     }
+}
+
+impl Merge for NextestVersionReq {
+    ghost use Rattle.nextest_config.specs.NextestVersion.Requirement.{join_kept, Kept, kept_of};
+    ghost use Rattle.nextest_config.specs.NextestVersion.RequirementLaws.{kept_join};
+
+    ghost Seen = { Option Kept };
+
+    ghost seen = { kept_of };
+
+    ghost join = { join_kept };
+
+    ghost neutral = { None };
+
+    /// Joins with what a later part keeps: the greater version stays, and of equal ones the later. It
+    /// takes no memory.
+    fn merge(&mut self, later: &mut Self) -> Result<(), AllocError>
+        ensures joined { OnOk result (kept_of self.new ≡ join_kept (kept_of self.old) (kept_of later.old)) }
+        ensures emptied { OnOk result (kept_of later.new ≡ None) }
+        ensures unchanged { OnErr result (kept_of self.new ≡ kept_of self.old) }
+        ensures later_unchanged { OnErr result (kept_of later.new ≡ kept_of later.old) }
+        ensures no_memory { IsOk result }
+    {
+        let later = mem::take(later);
+        if self.is_replaced_by(&later) {
+            *self = later;
+        }
+        Ok(())
+    }
+
+    ghost laws = { kept_join };
+}
+
+impl Merge for NextestVersionConfig {
+    ghost use Rattle.nextest_config.specs.NextestVersion.Requirement.{join_roles, no_roles, Roles, roles_of};
+    ghost use Rattle.nextest_config.specs.NextestVersion.RequirementLaws.{roles_join};
+
+    ghost Seen = { Roles };
+
+    ghost seen = { roles_of };
+
+    ghost join = { join_roles };
+
+    ghost neutral = { no_roles };
+
+    /// Joins each role. It takes no memory.
+    fn merge(&mut self, later: &mut Self) -> Result<(), AllocError>
+        ensures joined { OnOk result (roles_of self.new ≡ join_roles (roles_of self.old) (roles_of later.old)) }
+        ensures emptied { OnOk result (roles_of later.new ≡ no_roles) }
+        ensures unchanged { OnErr result (roles_of self.new ≡ roles_of self.old) }
+        ensures later_unchanged { OnErr result (roles_of later.new ≡ roles_of later.old) }
+        ensures no_memory { IsOk result }
+    {
+        self.required.merge(&mut later.required)?;
+        self.recommended.merge(&mut later.recommended)?;
+        Ok(())
+    }
+
+    ghost laws = { roles_join };
 }
 
 impl NextestVersionConfig {

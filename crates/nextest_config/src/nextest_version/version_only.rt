@@ -11,6 +11,7 @@ use super::experimental_config::ExperimentalConfig;
 use super::requirement::NextestVersionConfig;
 use super::source::{ConfigSource, RepositoryText, SourceText, ToolText};
 use super::version_only_deserialize::VersionOnlyDeserialize;
+use crate::merge::Merge;
 use std::alloc::{AllocError, Global};
 
 /// The part of the configuration that is read before any other: which nextest version it needs, and
@@ -140,4 +141,25 @@ impl VersionOnlyConfig {
         self.experimental.accumulate(alloc, experimental, source)?;
         Ok(())
     }
+}
+
+impl Merge for VersionOnlyConfig {
+    ghost use Rattle.nextest_config.specs.NextestVersion.VersionOnly.{configuration_of, join_configurations, neutral_seen, seen_configuration, SeenConfiguration};
+    ghost use Rattle.nextest_config.specs.NextestVersion.VersionOnlyLaws.{configurations_join};
+
+    ghost Seen = { SeenConfiguration };
+
+    ghost seen = { λ config. seen_configuration (configuration_of config) };
+
+    ghost join = { join_configurations };
+
+    ghost neutral = { neutral_seen };
+
+    /// Joins with the configuration of later sources: the versions and the features of both.
+    fn merge(&mut self, later: &mut Self) -> Result<(), AllocError> {
+        self.experimental.merge(&mut later.experimental)?;
+        self.nextest_version.merge(&mut later.nextest_version)
+    }
+
+    ghost laws = { configurations_join };
 }

@@ -1,6 +1,7 @@
 -- Texts that are judged and kept in Normalization Form C (UAX 15).
 use Rattle.std.specs.Prelude.{◌≡◌, ◌↔◌, ℕ, List, chars, encode_utf8_all}
-use Rattle.unicode_normalization.specs.Forms.{nfc}
+use Rattle.unicode_normalization.specs.Forms.{nfc, Nfc}
+use Rattle.unicode_normalization.specs.QuickCheck.{quick_check_text, Yes}
 use Rattle.toml.specs.Data.{Data}
 use Rattle.nextest_config_values.specs.Read.Fault.{Fault, Reason, fault_at}
 use Rattle.nextest_config_values.specs.Identifier.Error.{NameFault, flawed}
@@ -12,6 +13,10 @@ normal_chars text = nfc (chars text)
 -- the text's Normalization Form C
 abbrev pub normal_form : List ℕ → List ℕ
 normal_form text = encode_utf8_all (normal_chars text)
+
+-- the quick check (UAX 15, section 9) tells that the text is in Normalization Form C
+abbrev pub IsQuicklyNormal : List ℕ → Type 0
+IsQuicklyNormal text = quick_check_text Nfc (chars text) ≡ Yes
 
 -- a text that is kept: its characters are of this grammar, and in Normalization Form C
 pub record IsKeptText (IsInGrammar : List ℕ → Type 0) (kept : List ℕ) : Type 0 where

@@ -1,10 +1,10 @@
 -- What the plain readers mean by what a value holds.
 use Rattle.std.specs.Prelude.{◌≡◌, ◌≢◌, ℕ, ◌<◌, ◌^◌, ℤ, pos, Bool, List, codes, String, string_bytes}
-use Rattle.std.proofs.Common.{refl, sym, ◌∙◌}
+use Rattle.std.proofs.Common.{sym, ◌∙◌}
 use Rattle.std.specs.declared.alloc.Global.{Global}
 use Rattle.toml.specs.Data.{Data, as_bool, as_integer, as_str}
 use Rattle.nextest_config_values.specs.Read.Fault.{Fault, wrong_value}
-use Rattle.nextest_config_values.specs.Read.FromToml.{FaultsAs, IsHeldReading, IsReading, MeansAs, equality, reading_as, text_expected}
+use Rattle.nextest_config_values.specs.Read.FromToml.{FaultsAs, IsHeldReading, IsReading, MeansAs, equality, reading_as, reading_on, text_expected}
 
 -- what a value holds is all right
 abbrev pub HasNoFault : {K : Type 0} → K → Data → List ℕ → Fault → Type 0
@@ -15,8 +15,8 @@ abbrev pub MeansTruth : Bool → Bool → Type 0
 MeansTruth held truth = truth ≡ held
 
 -- the text is this one
-abbrev pub MeansText : List ℕ → String Global → Type 0
-MeansText held text = string_bytes text ≡ held
+abbrev pub MeansText : List ℕ → List ℕ → Type 0
+MeansText held text = text ≡ held
 
 -- the two have the same bytes
 abbrev pub SameText : String Global → String Global → Type 0
@@ -48,6 +48,14 @@ MeansBoolean = MeansAs as_bool MeansTruth
 abbrev pub BooleanFaults : Data → List ℕ → Fault → Type 0
 BooleanFaults = FaultsAs as_bool (codes "a boolean") HasNoFault
 
+-- the value is this text
+abbrev pub MeansString : Data → List ℕ → Type 0
+MeansString = MeansAs as_str MeansText
+
+-- the value is no text
+abbrev pub StringFaults : Data → List ℕ → Fault → Type 0
+StringFaults = FaultsAs as_str text_expected HasNoFault
+
 -- the value is this number, which fits a u32
 abbrev pub MeansU32 : Data → ℕ → Type 0
 MeansU32 = MeansAs as_integer (MeansNumber IsU32)
@@ -70,17 +78,9 @@ CountFaults = FaultsAs as_integer count_expected (IsOutside IsCount count_expect
 
 -- ---- their laws
 
-held_truth : IsHeldReading MeansTruth HasNoFault (λ x y. x ≡ y)
-held_truth = record {
+held_itself : {K : Type 0} → IsHeldReading {K = K} (λ held x. x ≡ held) HasNoFault (λ x y. x ≡ y)
+held_itself = record {
   equivalence = equality;
-  one_meaning = λ value x y a b. a ∙ sym b;
-  one_fault = λ value at f g a b. absurd a;
-  never_both = λ value at x f a b. b;
-}
-
-held_text : IsHeldReading MeansText HasNoFault SameText
-held_text = record {
-  equivalence = record { itself = λ x. refl; back = λ x y e. sym e; through = λ x y z e f. e ∙ f };
   one_meaning = λ value x y a b. a ∙ sym b;
   one_fault = λ value at f g a b. absurd a;
   never_both = λ value at x f a b. b;
@@ -94,11 +94,16 @@ held_number IsIn expected = record {
   never_both = λ value at x f a b. b.0 x a.1 a.0;
 }
 
-pub bool_reading : IsReading (MeansAs as_bool MeansTruth) (FaultsAs as_bool (codes "a boolean") HasNoFault) (λ x y. x ≡ y)
-bool_reading = reading_as as_bool (codes "a boolean") MeansTruth HasNoFault (λ x y. x ≡ y) held_truth
+-- the reading of a boolean
+pub bool_reading : IsReading MeansBoolean BooleanFaults (λ x y. x ≡ y)
+bool_reading = reading_as as_bool (codes "a boolean") MeansTruth HasNoFault (λ x y. x ≡ y) held_itself
 
-pub string_reading : IsReading (MeansAs as_str MeansText) (FaultsAs as_str text_expected HasNoFault) SameText
-string_reading = reading_as as_str text_expected MeansText HasNoFault SameText held_text
+-- the reading of a text
+pub text_reading : IsReading MeansString StringFaults (λ x y. x ≡ y)
+text_reading = reading_as as_str text_expected MeansText HasNoFault (λ x y. x ≡ y) held_itself
+
+pub string_reading : IsReading (λ value text. MeansString value (string_bytes text)) StringFaults SameText
+string_reading = reading_on string_bytes text_reading
 
 -- the reading of an integer of a range
 pub number_reading : (IsIn : ℕ → Type 0) (expected : List ℕ)

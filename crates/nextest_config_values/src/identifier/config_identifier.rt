@@ -1,49 +1,43 @@
 //! The names of profiles, test groups and scripts.
 
-ghost use Rattle.std.specs.Prelude.{◌≡◌, ◌↔◌, ◌++◌, IfErr, IfOk, IsTrue, MatchOption, OnOk, Some, chars, nat_eq, refl, true};
-ghost use Rattle.std.proofs.Common.{rules};
-ghost use Rattle.std.specs.Cmp.{partial_equiv_from_equiv};
-ghost use Rattle.std.specs.Cmp.Lexicographic.{nat_list_cmp_total, nat_list_eq_equiv, pointwise, slice_cmp, texts_po, texts_ties};
-ghost use Rattle.std.specs.Cmp.Rules.{hashing};
-ghost use Rattle.std.specs.Hash as fed;
-ghost use Rattle.std.specs.Ordering.{nat_cmp};
+ghost use Rattle.std.specs.Prelude.{◌≡◌, ◌↔◌, ◌++◌, ℕ, List, IfErr, IfOk, IsOk, IsTrue, MatchOption, OnOk, Some, chars, true};
 ghost use Rattle.toml.specs.Data.{as_str};
 ghost use Rattle.nextest_config_values.specs.Helpers.{IsPlainIdentifier};
-ghost use Rattle.nextest_config_values.specs.Identifier.{AreComponents, AreFlawed, identifier_fault, identifier_reading, IsIdentifier, IsIdentifierFault, IsIdentifierFlaw, IsIdentifierForm, IsKeptText, IsMarked, tool_mark};
+ghost use Rattle.nextest_config_values.specs.Identifier.{AreComponents, AreFlawed, FitsInline, identifier_fault, identifier_reading, IsIdentifier, IsIdentifierFault, IsIdentifierFlaw, IsIdentifierForm, IsKeptText, IsMarked, IsQuicklyNormal, tool_mark};
 ghost use Rattle.nextest_config_values.specs.Read.{FaultOrMemory, FaultsAs, MeansAs, text_expected};
 ghost use Rattle.nextest_config_values.specs.declared.identifier.error.InvalidIdentifier.TheVariants.{Memory};
 
 use super::error::{IdentifierFlaw, InvalidIdentifier};
+use super::kept_text::KeptText;
 use crate::helpers::{InvalidIdentifierKind, is_valid_identifier_unicode};
 use crate::read::{FaultKind, FromToml, ReadFault};
 use std::alloc::{AllocError, Global};
-use std::cmp::Ordering;
 use std::fmt;
-use std::hash::{Hash, Hasher};
 use std::marker::Model;
 use toml::Value;
-use unicode_normalization::to_nfc;
 
 // What a tool identifier begins with.
 const TOOL_MARK: &str = "@tool:";
 
 /// An identifier: a character of XID_Start, then characters of XID_Continue and `-` (UAX 31); or a
 /// tool identifier, `@tool:NAME:IDENTIFIER` with two of these. It is kept in Normalization Form C.
-#[derive(Debug, Drop)]
+#[derive(Debug, PartialEq, Eq, PartialOrd, Ord, Hash, Drop)]
 pub struct ConfigIdentifier {
-    text: String,
+    text: KeptText,
 }
 
 impl Model for ConfigIdentifier {
-    ghost use Rattle.std.specs.Prelude.{ℕ, List, string_bytes};
+    ghost use Rattle.std.specs.Prelude.{ℕ, List};
     ghost use Rattle.nextest_config_values.specs.Identifier.ConfigIdentifier.{IsIdentifierForm};
     ghost use Rattle.nextest_config_values.specs.Identifier.Normal.{IsKeptText};
 
     ghost Value = { List ℕ };
 
-    ghost view = { λ it. string_bytes it.text };
+    ghost view = { λ it. it.text };
 
-    ghost invariant = { λ it. IsKeptText IsIdentifierForm (string_bytes it.text) };
+    ghost invariant = { λ it. IsKeptText IsIdentifierForm it.text };
+
+    ghost inverse = { λ text. record { text = text } };
 }
 
 impl ConfigIdentifier {
@@ -52,11 +46,13 @@ impl ConfigIdentifier {
         ensures accepted { IfOk result (IsIdentifier identifier.now) }
         ensures refused { IfErr result (λ error. FaultOrMemory (identifier_fault error) (error ≡ Memory)
             (IsIdentifierFault identifier.now)) }
+        ensures inline { (kept : List ℕ) → IsIdentifier identifier.now kept → IsQuicklyNormal identifier.now
+            → FitsInline identifier.now → IsOk result }
     {
-        let text = to_nfc(alloc, identifier)?;
+        let text = KeptText::normal(alloc, identifier)?;
         match judge(text.as_str()) {
             Ok(()) => Ok(ConfigIdentifier { text }),
-            Err(flaw) => Err(flaw.of(text)),
+            Err(flaw) => Err(flaw.of(text.into_string(alloc)?)),
         }
     }
 
@@ -88,9 +84,10 @@ impl ConfigIdentifier {
 
     /// A copy of the identifier.
     pub fn clone(&self, alloc: Global) -> Result<Self, AllocError>
-        ensures { IfOk result (λ it. it ≡ self.now) }
+        ensures value { IfOk result (λ it. it ≡ self.now) }
+        ensures inline { FitsInline self.now → IsOk result }
     {
-        let text = String::from_str(alloc, self.text.as_str())?;
+        let text = self.text.clone(alloc)?;
         Ok(ConfigIdentifier { text })
     }
 }
@@ -162,54 +159,6 @@ impl fmt::Display for ConfigIdentifier {
     ghost styled_output = { λ identifier _. Some identifier };
 
     fn fmt<W: fmt::Write>(&self, f: &mut fmt::Formatter<W>) -> fmt::Result {
-        f.write_str(self.as_str())
-    }
-}
-
-impl PartialEq for ConfigIdentifier {
-    ghost eq = { pointwise nat_eq };
-
-    ghost laws = { partial_equiv_from_equiv nat_list_eq_equiv };
-
-    fn eq(&self, other: &ConfigIdentifier) -> bool {
-        self.as_str() == other.as_str()
-    }
-}
-
-impl Eq for ConfigIdentifier {
-    ghost laws = { nat_list_eq_equiv };
-}
-
-impl PartialOrd for ConfigIdentifier {
-    ghost partial_cmp = { λ x y. Some (slice_cmp nat_cmp x y) };
-
-    ghost laws = { texts_po };
-
-    fn partial_cmp(&self, other: &ConfigIdentifier) -> Option<Ordering> {
-        Some(self.cmp(other))
-    }
-}
-
-impl Ord for ConfigIdentifier {
-    ghost cmp = { slice_cmp nat_cmp };
-
-    ghost total = { nat_list_cmp_total };
-
-    ghost matches_partial_cmp = { λ x y. refl };
-
-    ghost matches_eq = { texts_ties };
-
-    fn cmp(&self, other: &ConfigIdentifier) -> Ordering {
-        self.as_str().cmp(other.as_str())
-    }
-}
-
-impl Hash for ConfigIdentifier {
-    ghost hash_input = { fed.str };
-
-    ghost respects_eq = { Prim.search (hashing, rules) };
-
-    fn hash<H: Hasher>(&self, state: &mut H) {
-        self.as_str().hash(state);
+        fmt::Display::fmt(&self.text, f)
     }
 }

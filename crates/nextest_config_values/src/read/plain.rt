@@ -1,8 +1,7 @@
 //! The plain readers.
 
-ghost use Rattle.std.specs.Prelude.{◌≡◌, ◌≢◌, ◌<◌, ◌↔◌, ℕ, pos, true, false, codes, IsSome, IfSome, MatchOption};
-ghost use Rattle.toml.specs.Data.{as_bool, as_integer, as_str};
-ghost use Rattle.nextest_config_values.specs.Read.{bool_reading, BooleanFaults, count_reading, CountFaults, FaultsAs, HasNoFault, IsCount, IsOutside, IsU32, MeansAs, MeansBoolean, MeansCount, MeansNumber, MeansText, MeansTruth, MeansU32, number_reading, SameText, string_reading, text_expected, u32_reading, U32Faults};
+ghost use Rattle.std.specs.Prelude.{◌≡◌, ◌≢◌, ◌<◌, ◌↔◌, ℕ, pos, true, false, codes, IsSome, IfSome, MatchOption, string_bytes};
+ghost use Rattle.nextest_config_values.specs.Read.{bool_reading, BooleanFaults, count_reading, CountFaults, IsCount, MeansBoolean, MeansCount, MeansNumber, MeansString, MeansU32, SameText, string_reading, StringFaults, u32_reading, U32Faults};
 
 use super::fault::ReadFault;
 use super::from_toml::FromToml;
@@ -52,9 +51,9 @@ impl FromToml for u32 {
 }
 
 impl FromToml for String {
-    ghost means = { MeansAs as_str MeansText };
+    ghost means = { λ value text. MeansString value (string_bytes text) };
 
-    ghost faults = { FaultsAs as_str text_expected HasNoFault };
+    ghost faults = { StringFaults };
 
     ghost needs_memory = { true };
 

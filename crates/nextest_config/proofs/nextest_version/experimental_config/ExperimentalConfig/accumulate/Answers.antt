@@ -1,7 +1,8 @@
 use Rattle.std.proofs.Common.{◌≡◌, ◌++◌, ℕ, List, [], ◌∷◌, length, map, refl, arith, string_bytes, sym, ap, ◌∙◌}
 use Rattle.std.proofs.lemmas.List.{append-nil, length-map, map_push}
 use Rattle.nextest_config.specs.NextestVersion.{entry_at, Place, place_of, unknown_of}
-use Rattle.nextest_config.proofs.Orders.{features_in_order, features_joined}
+use Rattle.nextest_config.proofs.Orders.{features_in_order}
+use Rattle.nextest_config.proofs.Joins.{seen_joined}
 use Rattle.nextest_config.proofs.nextest_version.experimental_config.ExperimentalConfig.accumulate.Goals as goal
 
 no_entry : (place : Place) (names : List (List ℕ)) → length names ≡ 0 → entry_at place names ≡ []
@@ -19,9 +20,8 @@ returns-then-is_empty c =
     let none = no_entry place names (length-map c.args.named.unknown.keys string_bytes ∙ c.is_empty.ensures.0 c.if-is_empty.true) in
     let before = map unknown_of c.args.self.now.unknown.items in
     record {
-      more_known = features_joined c.args.self.now.known.keys c.args.named.known.keys c.append.new.self.keys c.in_ok-append.ensures.inserts_all.0;
-      known_in_order = features_in_order c.append.new.self.keys c.append.ensures.ordered;
-      more_unknown = sym (append-nil before) ∙ ap (λ entries. before ++ entries) (sym none);
+      same = seen_joined c.args.self.now.known.keys c.args.named.known.keys c.append.new.self.keys before (entry_at place names) _ c.in_ok-append.ensures.inserts_all.0 (sym (append-nil before) ∙ ap (λ entries. before ++ entries) (sym none));
+      in_order = features_in_order c.append.new.self.keys c.append.ensures.ordered;
     }
 
 pub returns : goal.returns
@@ -32,7 +32,6 @@ returns c =
     let pushed = ap (map unknown_of) c.in_ok-push.ensures.items ∙ map_push unknown_of c.args.self.now.unknown.items _ in
     let entry = ap (λ (place : Place). before ++ (record { place = place; names = names } ∷ [])) c.in_ok-source.ensures in
     record {
-      more_known = features_joined c.args.self.now.known.keys c.args.named.known.keys c.append.new.self.keys c.in_ok-append.ensures.inserts_all.0;
-      known_in_order = features_in_order c.append.new.self.keys c.append.ensures.ordered;
-      more_unknown = pushed ∙ entry ∙ ap (λ entries. before ++ entries) (sym some);
+      same = seen_joined c.args.self.now.known.keys c.args.named.known.keys c.append.new.self.keys before (entry_at (place_of c.args.source.now) names) _ c.in_ok-append.ensures.inserts_all.0 (pushed ∙ entry ∙ ap (λ entries. before ++ entries) (sym some));
+      in_order = features_in_order c.append.new.self.keys c.append.ensures.ordered;
     }

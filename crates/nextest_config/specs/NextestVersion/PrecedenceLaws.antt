@@ -7,7 +7,7 @@ use Rattle.std.specs.declared.cmp.Ordering.{Ordering}
 use Rattle.std.specs.declared.cmp.Ordering.TheVariants.{Less, Equal, Greater}
 use Rattle.semver.specs.OrderLaws.{pre_total}
 use Rattle.semver.specs.Parse.{Parts}
-use Rattle.nextest_config.specs.NextestVersion.{IsBelow, precedence}
+use Rattle.nextest_config.specs.NextestVersion.Precedence.{IsBelow, precedence}
 
 pub precedence_total : IsTotalOrder precedence
 precedence_total = then_total (on_total (λ (v : Parts). v.0) nat_cmp_total)
@@ -24,9 +24,8 @@ not_below_itself v h =
     let less : precedence v v ≡ Less = below_less _ h in
     cc (rw less at (precedence_total.antisymm v v))
 
-pub not_below_both : (v w : Parts) → IsBelow v w → ¬ IsBelow w v
-not_below_both v w h k =
-    not_below_itself v (ap is_lt (precedence_total.trans v w v (below_less _ h) (below_less _ k)))
+pub below_trans : (u v w : Parts) → IsBelow u v → IsBelow v w → IsBelow u w
+below_trans u v w h k = ap is_lt (precedence_total.trans u v w (below_less _ h) (below_less _ k))
 
 not_below_by : (o : Ordering) (u v w : Parts) → precedence u v ≡ o → ¬ IsBelow u v → ¬ IsBelow v w → ¬ IsBelow u w
 not_below_by Less u v w e above more h = above (ap is_lt e)

@@ -1,0 +1,9 @@
+use Rattle.nextest_config_values.specs.Helpers.{path_reading}
+use Rattle.nextest_config_elements.specs.LeakTimeout.{leak_timeout_meant}
+use Rattle.nextest_config_elements.specs.MaxFail.{fail_fast_reading}
+use Rattle.nextest_config_elements.specs.RetryPolicy.{retry_policy_meant}
+use Rattle.nextest_config_elements.specs.SlowTimeout.{slow_timeout_meant}
+use Rattle.nextest_config_elements.proofs.laws.law_setting_once.Goals as goal
+
+pub returns : goal.returns
+returns c = record { slow_timeout = slow_timeout_meant; leak_timeout = leak_timeout_meant; retries = retry_policy_meant; fail_fast = fail_fast_reading; relative_path = path_reading }

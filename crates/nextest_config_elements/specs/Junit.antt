@@ -1,0 +1,233 @@
+-- The setting `junit`, and the report that a profile writes by it.
+use Rattle.std.specs.Prelude.{◌≡◌, ℕ, Bool, List, [], ◌∷◌, codes, Option, Some, None, IsSome, option_map, string_bytes}
+use Rattle.std.proofs.Common.{refl}
+use Rattle.toml.specs.Data.{Data, Members, as_table}
+use Rattle.nextest_config_values.specs.Helpers.{joined_path}
+use Rattle.nextest_config_values.specs.Read.Fault.{Fault}
+use Rattle.nextest_config_values.specs.Read.{at_key, bool_reading, BooleanFaults, FaultsKind, FaultsThen, IsReading, kind_reading, made_of, MeansBoolean, MeansKind, MeansNothing, MeansString, MeansWordText, optional_reading, OptionalKey, OptionalKeyFaults, reading_on, said_as, StringFaults, text_reading, then_reading, value_of, word_reading, WordTextFaults, wrong_kind, WrongKind}
+use Rattle.nextest_config_elements.specs.ReportSkipPolicy.{report_skip_policies, report_skip_reads_back, report_skip_word}
+use Rattle.nextest_config_elements.specs.declared.junit.DefaultJunitImpl.{DefaultJunitImpl}
+use Rattle.nextest_config_elements.specs.declared.junit.JunitConfig.{JunitConfig}
+use Rattle.nextest_config_elements.specs.declared.junit.JunitFlakyFailStatus.{JunitFlakyFailStatus}
+use Rattle.nextest_config_elements.specs.declared.junit.JunitFlakyFailStatus.TheVariants.{Failure, Success}
+use Rattle.nextest_config_elements.specs.declared.junit.JunitImpl.{JunitImpl}
+use Rattle.nextest_config_elements.specs.declared.junit.JunitSettings.{JunitSettings}
+use Rattle.nextest_config_elements.specs.declared.junit.MissingSetting.{MissingSetting}
+use Rattle.nextest_config_elements.specs.declared.junit.MissingSetting.TheVariants as missing
+use Rattle.nextest_config_elements.specs.declared.report_skip_policy.ReportSkipPolicy.{ReportSkipPolicy}
+
+-- ---- the report
+
+-- what is written in a report, and where to: a path, or one that may be missing
+pub record Report (P : Type 0) : Type 0 where
+  pub path : P
+  pub name : List ℕ
+  pub stores_success_output : Bool
+  pub stores_failure_output : Bool
+  pub skipped : ReportSkipPolicy
+  pub flaky_fail_status : JunitFlakyFailStatus
+
+-- what settings say
+abbrev pub settings_of : JunitSettings → Report (Option (List ℕ))
+settings_of s = record {
+  path = option_map (λ path. path.now) s.path;
+  name = s.report_name.now;
+  stores_success_output = s.store_success_output;
+  stores_failure_output = s.store_failure_output;
+  skipped = s.report_skipped;
+  flaky_fail_status = s.flaky_fail_status;
+}
+
+-- what a configuration says
+abbrev pub report_of : JunitConfig → Report (List ℕ)
+report_of config = record {
+  path = string_bytes config.path;
+  name = config.report_name.now;
+  stores_success_output = config.store_success_output;
+  stores_failure_output = config.store_failure_output;
+  skipped = config.report_skipped;
+  flaky_fail_status = config.flaky_fail_status;
+}
+
+-- the same report, at this path
+abbrev pub at_path : {P : Type 0} → Report P → List ℕ → Report (List ℕ)
+at_path report path = record {
+  path = path;
+  name = report.name;
+  stores_success_output = report.stores_success_output;
+  stores_failure_output = report.stores_failure_output;
+  skipped = report.skipped;
+  flaky_fail_status = report.flaky_fail_status;
+}
+
+-- the report in a folder: none where its settings have no path
+abbrev pub report_in : List ℕ → Report (Option (List ℕ)) → Option (Report (List ℕ))
+report_in folder settings = option_map (λ path. at_path settings (joined_path folder path)) settings.path
+
+-- ---- the words of the status
+
+abbrev pub flaky_fail_statuses : List JunitFlakyFailStatus
+flaky_fail_statuses = Failure ∷ Success ∷ []
+
+abbrev pub flaky_fail_word : JunitFlakyFailStatus → List ℕ
+flaky_fail_word Failure = codes "failure"
+flaky_fail_word Success = codes "success"
+
+pub flaky_fail_reads_back : (status : JunitFlakyFailStatus) → value_of flaky_fail_word flaky_fail_statuses (flaky_fail_word status) ≡ Some status
+flaky_fail_reads_back Failure = refl
+flaky_fail_reads_back Success = refl
+
+-- ---- the table
+
+-- what a table says of a report; all of it may be missing
+pub record JunitTable : Type 0 where
+  pub path : Option (List ℕ)
+  pub report_name : Option (List ℕ)
+  pub store_success_output : Option Bool
+  pub store_failure_output : Option Bool
+  pub report_skipped : Option ReportSkipPolicy
+  pub flaky_fail_status : Option JunitFlakyFailStatus
+
+-- what is kept of a table
+abbrev pub table_of : JunitImpl → JunitTable
+table_of junit = record {
+  path = option_map string_bytes junit.path;
+  report_name = option_map string_bytes junit.report_name;
+  store_success_output = junit.store_success_output;
+  store_failure_output = junit.store_failure_output;
+  report_skipped = junit.report_skipped;
+  flaky_fail_status = junit.flaky_fail_status;
+}
+
+-- the table that says nothing
+abbrev pub empty_table : JunitTable
+empty_table = record { path = None; report_name = None; store_success_output = None; store_failure_output = None; report_skipped = None; flaky_fail_status = None }
+
+abbrev pub path_key : List ℕ
+path_key = codes "path"
+
+abbrev pub report_name_key : List ℕ
+report_name_key = codes "report-name"
+
+abbrev pub store_success_output_key : List ℕ
+store_success_output_key = codes "store-success-output"
+
+abbrev pub store_failure_output_key : List ℕ
+store_failure_output_key = codes "store-failure-output"
+
+abbrev pub report_skipped_key : List ℕ
+report_skipped_key = codes "report-skipped"
+
+abbrev pub flaky_fail_status_key : List ℕ
+flaky_fail_status_key = codes "flaky-fail-status"
+
+-- the value is the word of a policy
+abbrev pub MeansReportSkipped : Data → ReportSkipPolicy → Type 0
+MeansReportSkipped = MeansWordText report_skip_word
+
+-- the value is the word of a status
+abbrev pub MeansFlakyFailStatus : Data → JunitFlakyFailStatus → Type 0
+MeansFlakyFailStatus = MeansWordText flaky_fail_word
+
+-- the table says this; other keys don't count
+pub record MeansJunitTable (members : Members) (said : JunitTable) : Type 0 where
+  pub of_path : OptionalKey path_key MeansString members said.path
+  pub of_report_name : OptionalKey report_name_key MeansString members said.report_name
+  pub of_store_success_output : OptionalKey store_success_output_key MeansBoolean members said.store_success_output
+  pub of_store_failure_output : OptionalKey store_failure_output_key MeansBoolean members said.store_failure_output
+  pub of_report_skipped : OptionalKey report_skipped_key MeansReportSkipped members said.report_skipped
+  pub of_flaky_fail_status : OptionalKey flaky_fail_status_key MeansFlakyFailStatus members said.flaky_fail_status
+
+-- what is wrong with the table, key by key
+abbrev pub JunitTableFaults : Members → List ℕ → Fault → Type 0
+JunitTableFaults =
+    FaultsThen (OptionalKey path_key MeansString) (OptionalKeyFaults path_key StringFaults) (λ path.
+    FaultsThen (OptionalKey report_name_key MeansString) (OptionalKeyFaults report_name_key StringFaults) (λ report_name.
+    FaultsThen (OptionalKey store_success_output_key MeansBoolean) (OptionalKeyFaults store_success_output_key BooleanFaults) (λ store_success_output.
+    FaultsThen (OptionalKey store_failure_output_key MeansBoolean) (OptionalKeyFaults store_failure_output_key BooleanFaults) (λ store_failure_output.
+    FaultsThen (OptionalKey report_skipped_key MeansReportSkipped) (OptionalKeyFaults report_skipped_key (WordTextFaults report_skip_word report_skip_policies)) (λ report_skipped.
+    OptionalKeyFaults flaky_fail_status_key (WordTextFaults flaky_fail_word flaky_fail_statuses))))))
+
+-- what the setting takes
+abbrev pub junit_expected : List ℕ
+junit_expected = codes "a table"
+
+-- the value is a table that says this
+abbrev pub MeansJunit : Data → JunitTable → Type 0
+MeansJunit value = MeansKind MeansJunitTable MeansNothing (as_table value) value
+
+-- what is wrong with the value at a path
+abbrev pub JunitFaults : Data → List ℕ → Fault → Type 0
+JunitFaults value = FaultsKind JunitTableFaults (WrongKind junit_expected) (as_table value) value
+
+-- ---- the default profile
+
+-- what the default profile says of a report
+abbrev pub default_of : DefaultJunitImpl → Report (Option (List ℕ))
+default_of d = record {
+  path = option_map string_bytes d.path;
+  name = string_bytes d.report_name;
+  stores_success_output = d.store_success_output;
+  stores_failure_output = d.store_failure_output;
+  skipped = d.report_skipped;
+  flaky_fail_status = d.flaky_fail_status;
+}
+
+-- the table says all of the report, but its path may be missing
+pub record SaysAll (said : JunitTable) (report : Report (Option (List ℕ))) : Type 0 where
+  pub of_path : report.path ≡ said.path
+  pub of_name : said.report_name ≡ Some report.name
+  pub of_success_output : said.store_success_output ≡ Some report.stores_success_output
+  pub of_failure_output : said.store_failure_output ≡ Some report.stores_failure_output
+  pub of_skipped : said.report_skipped ≡ Some report.skipped
+  pub of_flaky_fail_status : said.flaky_fail_status ≡ Some report.flaky_fail_status
+
+-- the table lacks the setting, and none that is written before it
+abbrev pub IsFirstMissing : JunitTable → MissingSetting → Type 0
+IsFirstMissing said missing.ReportName = said.report_name ≡ None
+IsFirstMissing said missing.StoreSuccessOutput = IsSome said.report_name × (said.store_success_output ≡ None)
+IsFirstMissing said missing.StoreFailureOutput = IsSome said.report_name × IsSome said.store_success_output × (said.store_failure_output ≡ None)
+IsFirstMissing said missing.ReportSkipped = IsSome said.report_name × IsSome said.store_success_output × IsSome said.store_failure_output × (said.report_skipped ≡ None)
+IsFirstMissing said missing.FlakyFailStatus =
+    IsSome said.report_name × IsSome said.store_success_output × IsSome said.store_failure_output × IsSome said.report_skipped × (said.flaky_fail_status ≡ None)
+
+-- ---- the setting's law
+
+table : IsReading MeansJunitTable JunitTableFaults (λ a b. a ≡ b)
+table = said_as (λ members said meant. (
+  said.path,
+  meant.of_path,
+  (
+    said.report_name,
+    meant.of_report_name,
+    (
+      said.store_success_output,
+      meant.of_store_success_output,
+      (
+        said.store_failure_output,
+        meant.of_store_failure_output,
+        (said.report_skipped, meant.of_report_skipped, (said.flaky_fail_status, meant.of_flaky_fail_status, refl)),
+      ),
+    ),
+  ),
+))
+    (then_reading (at_key path_key (optional_reading text_reading)) (λ path.
+    then_reading (at_key report_name_key (optional_reading text_reading)) (λ report_name.
+    then_reading (at_key store_success_output_key (optional_reading bool_reading)) (λ store_success_output.
+    then_reading (at_key store_failure_output_key (optional_reading bool_reading)) (λ store_failure_output.
+    then_reading (at_key report_skipped_key (optional_reading (word_reading report_skip_policies report_skip_word report_skip_reads_back))) (λ report_skipped.
+    made_of (λ flaky_fail_status. record {
+      path = path;
+      report_name = report_name;
+      store_success_output = store_success_output;
+      store_failure_output = store_failure_output;
+      report_skipped = report_skipped;
+      flaky_fail_status = flaky_fail_status;
+    }) (at_key flaky_fail_status_key (optional_reading (word_reading flaky_fail_statuses flaky_fail_word flaky_fail_reads_back)))))))))
+
+junit_meant : IsReading MeansJunit JunitFaults (λ a b. a ≡ b)
+junit_meant = kind_reading table (wrong_kind junit_expected) as_table
+
+-- a value says one thing of a report or has one fault, and not both
+pub junit_reading : IsReading (λ value junit. MeansJunit value (table_of junit)) JunitFaults (λ a b. table_of a ≡ table_of b)
+junit_reading = reading_on table_of junit_meant
