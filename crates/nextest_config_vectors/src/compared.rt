@@ -107,7 +107,7 @@ impl Subject for Copies {
 }
 
 // A value with a copy of its own.
-trait Copied: Sized {
+pub(crate) trait Copied: Sized {
     fn copied(&self, alloc: Global) -> Result<Self, AllocError>;
 }
 
@@ -194,6 +194,12 @@ fn copy<T: FromRow + Copied + PartialEq + Debug + Drop>(rt: &impl Runner, input:
     let value = T::from_row(rt, input);
     let copy = done(rt, value.copied(rt.alloc()));
     likeness(rt, &copy, &value)
+}
+
+/// Whether a copy is written as the value is.
+pub(crate) fn alike<T: Copied + Debug + Drop>(rt: &impl Runner, value: T) -> String {
+    let copy = done(rt, value.copied(rt.alloc()));
+    sameness(rt, written(rt, &copy) == written(rt, &value))
 }
 
 /// How the two values of a row compare, or whether their hashes do.

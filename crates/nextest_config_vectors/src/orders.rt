@@ -6,7 +6,7 @@ use nextest_config::nextest_version::{
     ExperimentalConfig, ExperimentalDeserialize, NextestVersionConfig, NextestVersionReq,
     VersionOnlyConfig,
 };
-use nextest_config_elements::junit::JunitFlakyFailStatus;
+use nextest_config_elements::junit::{JunitFlakyFailStatus, JunitImpl};
 use nextest_config_elements::leak_timeout::LeakTimeoutResult;
 use nextest_config_elements::max_fail::TerminateMode;
 use nextest_config_elements::report_skip_policy::ReportSkipPolicy;
@@ -77,6 +77,7 @@ LeakTimeoutResult |  | Pass
 SlowTimeoutResult |  | Fail
 ReportSkipPolicy |  | None
 JunitFlakyFailStatus |  | Failure
+JunitImpl |  | JunitImpl { path: None, report_name: None, store_success_output: None, store_failure_output: None, report_skipped: None, flaky_fail_status: None }
 
 # a default isn't read
 TrackDefault u32 |  | TrackDefault { value: 0, is_deserialized: false }
@@ -102,6 +103,7 @@ impl Subject for Defaults {
             "SlowTimeoutResult" => default::<SlowTimeoutResult>(rt),
             "ReportSkipPolicy" => default::<ReportSkipPolicy>(rt),
             "JunitFlakyFailStatus" => default::<JunitFlakyFailStatus>(rt),
+            "JunitImpl" => default::<JunitImpl>(rt),
             "TrackDefault u32" => default::<TrackDefault<u32>>(rt),
             "TrackDefault bool" => default::<TrackDefault<bool>>(rt),
             "NextestVersionReq" => default::<NextestVersionReq>(rt),
