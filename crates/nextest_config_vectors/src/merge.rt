@@ -2,7 +2,6 @@
 
 ghost use Rattle.std.specs.Prelude.{List, ℕ, [], ◌++◌, refl};
 ghost use Rattle.std.proofs.lemmas.List.{append_assoc, append-nil};
-ghost use Rattle.nextest_config.specs.Merge.{IsMonoid};
 
 use crate::rows::{Escaped, Runner, Subject, check, done, tell};
 use crate::values::FromRow;
