@@ -1,9 +1,7 @@
 //! Tool arguments.
 
-use crate::rows::{Escaped, Subject, Told, answered, check, done, shown, written};
+use crate::rows::{Escaped, Runner, Subject, Told, answered, check, done, shown, written};
 use nextest_config_values::tool_config::{ToolConfigFile, ToolConfigFileParseError};
-use std::alloc::Global;
-use std::test::Fail;
 
 const ROWS: &str = r#"
 # arguments are cut at their first colon
@@ -39,46 +37,49 @@ argument | a«-»: | EmptyConfigFile a«-»:
 struct Arguments;
 
 impl Subject for Arguments {
-    fn answer(alloc: Global, call: &str, input: &str) -> Result<String, Fail> {
-        answered(alloc, call, ToolConfigFile::from_str(alloc, input))
+    fn answer(rt: &impl Runner, call: &str, input: &str) -> String {
+        answered(rt, call, ToolConfigFile::from_str(rt.alloc(), input))
     }
 }
 
 impl Told for ToolConfigFile {
-    fn told(&self, alloc: Global, _call: &str) -> Result<String, Fail> {
-        done(format!(in alloc; "{} {}", self.tool, self.config_file))
+    fn told(&self, rt: &impl Runner, _call: &str) -> String {
+        done(
+            rt,
+            format!(in rt.alloc(); "{} {}", self.tool, self.config_file),
+        )
     }
 }
 
 impl Told for ToolConfigFileParseError {
-    fn told(&self, alloc: Global, call: &str) -> Result<String, Fail> {
+    fn told(&self, rt: &impl Runner, call: &str) -> String {
         match call {
-            "argument" => refusal(alloc, self),
-            "refusal" => written(alloc, self),
-            _ => shown(alloc, self),
+            "argument" => refusal(rt, self),
+            "refusal" => written(rt, self),
+            _ => shown(rt, self),
         }
     }
 }
 
-fn refusal(alloc: Global, error: &ToolConfigFileParseError) -> Result<String, Fail> {
-    match error {
-        ToolConfigFileParseError::InvalidFormat { input } => {
-            done(format!(in alloc; "InvalidFormat {input}"))
-        }
+fn refusal(rt: &impl Runner, error: &ToolConfigFileParseError) -> String {
+    let (name, text) = match error {
+        ToolConfigFileParseError::InvalidFormat { input } => ("InvalidFormat", input),
         ToolConfigFileParseError::InvalidToolName { input, error } => {
-            done(format!(in alloc; "InvalidToolName {input}: {error}"))
+            return done(
+                rt,
+                format!(in rt.alloc(); "InvalidToolName {input}: {error}"),
+            );
         }
-        ToolConfigFileParseError::EmptyConfigFile { input } => {
-            done(format!(in alloc; "EmptyConfigFile {input}"))
-        }
+        ToolConfigFileParseError::EmptyConfigFile { input } => ("EmptyConfigFile", input),
         ToolConfigFileParseError::ConfigFileNotAbsolute { config_file } => {
-            done(format!(in alloc; "ConfigFileNotAbsolute {config_file}"))
+            ("ConfigFileNotAbsolute", config_file)
         }
-        ToolConfigFileParseError::Memory => shown(alloc, error),
-    }
+        ToolConfigFileParseError::Memory => return shown(rt, error),
+    };
+    done(rt, format!(in rt.alloc(); "{name} {text}"))
 }
 
 #[test]
-fn arguments_are_cut_at_their_first_colon(rt: HostRuntime) -> Result<(), Fail> {
-    check::<Escaped<Arguments>>(&rt, ROWS)
+fn arguments_are_cut_at_their_first_colon(rt: HostRuntime) {
+    check::<Escaped<Arguments>>(&rt, ROWS);
 }

@@ -1,7 +1,7 @@
 //! What sources ask together, and what a current version is told.
 
 use crate::features::{joined, words};
-use crate::rows::{Subject, Told, answered, done, no_such_call, shown, tell, written};
+use crate::rows::{Runner, Subject, Told, answered, copied, done, push, shown, tell, written};
 use crate::sources::listed;
 use crate::values::{FromRow, both, word};
 use nextest_config::nextest_version::{
@@ -9,17 +9,15 @@ use nextest_config::nextest_version::{
     NextestVersionEval, NextestVersionReq, RepositoryText, SourceText, ToolText, VersionOnlyConfig,
 };
 use semver::Version;
-use std::alloc::{AllocError, Global};
 use std::collections::BTreeSet;
-use std::test::Fail;
 
 /// What a list of sources asks, or why it is refused.
 pub(crate) struct Lists;
 
 impl Subject for Lists {
-    fn answer(alloc: Global, call: &str, input: &str) -> Result<String, Fail> {
-        let sources: Vec<SourceText> = listed(alloc, input)?;
-        answered(alloc, call, VersionOnlyConfig::from_list(alloc, &sources))
+    fn answer(rt: &impl Runner, call: &str, input: &str) -> String {
+        let sources: Vec<SourceText> = listed(rt, input);
+        answered(rt, call, VersionOnlyConfig::from_list(rt.alloc(), &sources))
     }
 }
 
@@ -27,15 +25,12 @@ impl Subject for Lists {
 pub(crate) struct Files;
 
 impl Subject for Files {
-    fn answer(alloc: Global, call: &str, input: &str) -> Result<String, Fail> {
+    fn answer(rt: &impl Runner, call: &str, input: &str) -> String {
         let (tools, repository) = input.rsplit_once(" && ").unwrap_or(("", input));
-        let tools: Vec<ToolText> = listed(alloc, tools)?;
-        let repository = RepositoryText::from_row(alloc, repository)?;
-        answered(
-            alloc,
-            call,
-            VersionOnlyConfig::from_sources(alloc, &repository, &tools),
-        )
+        let tools: Vec<ToolText> = listed(rt, tools);
+        let repository = RepositoryText::from_row(rt, repository);
+        let config = VersionOnlyConfig::from_sources(rt.alloc(), &repository, &tools);
+        answered(rt, call, config)
     }
 }
 
@@ -43,122 +38,112 @@ impl Subject for Files {
 pub(crate) struct Asks;
 
 impl Subject for Asks {
-    fn answer(alloc: Global, call: &str, input: &str) -> Result<String, Fail> {
-        let mut config = NextestVersionConfig::default();
-        for ask in input.split(" && ") {
-            take_in(alloc, &mut config, ask)?;
-        }
-        tell(alloc, call, config)
+    fn answer(rt: &impl Runner, call: &str, input: &str) -> String {
+        tell(rt, call, asked(rt, input))
     }
 }
 
-fn take_in(alloc: Global, config: &mut NextestVersionConfig, ask: &str) -> Result<(), Fail> {
-    let (source, versions): (ConfigSource, _) = both(alloc, ask, " => ")?;
-    done(config.accumulate(alloc, versions, &source))
+fn asked(rt: &impl Runner, input: &str) -> NextestVersionConfig {
+    let mut config = NextestVersionConfig::default();
+    for ask in input.split(" && ") {
+        take_in(rt, &mut config, ask);
+    }
+    config
+}
+
+fn take_in(rt: &impl Runner, config: &mut NextestVersionConfig, ask: &str) {
+    let (source, versions): (ConfigSource, _) = both(rt, ask, " => ");
+    done(rt, config.accumulate(rt.alloc(), versions, &source));
 }
 
 impl Told for ListRefusal {
-    fn told(&self, alloc: Global, call: &str) -> Result<String, Fail> {
+    fn told(&self, rt: &impl Runner, call: &str) -> String {
         match self {
-            ListRefusal::Refused { position: _, error } if call == "error" => error.told(
-                alloc, call,
-            ),
-            _ => shown(alloc, self),
+            ListRefusal::Refused { position: _, error } if call == "error" => error.told(rt, call),
+            _ => shown(rt, self),
         }
     }
 }
 
 impl Told for ConfigParseError {
-    fn told(&self, alloc: Global, call: &str) -> Result<String, Fail> {
+    fn told(&self, rt: &impl Runner, call: &str) -> String {
         match self.source() {
-            Some(source) if call == "error" => done(format!(in alloc;
-                "{:?}, {source}",
-                self.kind()
-            )),
-            _ => shown(alloc, self),
+            Some(source) if call == "error" => {
+                done(rt, format!(in rt.alloc(); "{:?}, {source}", self.kind()))
+            }
+            _ => shown(rt, self),
         }
     }
 }
 
 impl Told for VersionOnlyConfig {
-    fn told(&self, alloc: Global, call: &str) -> Result<String, Fail> {
+    fn told(&self, rt: &impl Runner, call: &str) -> String {
         match call {
-            "features" => features(alloc, self.experimental()),
-            _ => self.nextest_version().told(alloc, call),
+            "features" => features(rt, self.experimental()),
+            _ => self.nextest_version().told(rt, call),
         }
     }
 }
 
 // The known features, and each source with its unknown ones.
-fn features(alloc: Global, experimental: &ExperimentalConfig) -> Result<String, Fail> {
-    let known = words(alloc, experimental.known())?;
-    let unknown = unknown(alloc, experimental)?;
-    done(format!(in alloc; "known{known}{unknown}"))
-}
-
-fn unknown(alloc: Global, experimental: &ExperimentalConfig) -> Result<String, Fail> {
-    let mut line = String::new(alloc);
+fn features(rt: &impl Runner, experimental: &ExperimentalConfig) -> String {
+    let mut line = copied(rt, "known");
+    push(rt, &mut line, words(rt, experimental.known()).as_str());
     for (source, names) in experimental.source_errors() {
-        push_entry(alloc, &mut line, source, names)?;
+        push_entry(rt, &mut line, source, names);
     }
-    Ok(line)
+    line
 }
 
 fn push_entry(
-    alloc: Global,
+    rt: &impl Runner,
     line: &mut String,
     source: &ConfigSource,
     names: &BTreeSet<String>,
-) -> Result<(), Fail> {
-    let names = joined(alloc, names)?;
-    let entry = format!(in alloc; "; {source}:{names}")?;
-    done(line.push_str(entry.as_str()))
+) {
+    let names = joined(rt, names);
+    done(rt, write!(line, "; {source}:{names}"));
 }
 
 // The versions that are kept, or what they tell a current version.
 impl Told for NextestVersionConfig {
-    fn told(&self, alloc: Global, call: &str) -> Result<String, Fail> {
+    fn told(&self, rt: &impl Runner, call: &str) -> String {
         if call == "versions" {
-            return versions(alloc, self);
+            versions(rt, self)
+        } else {
+            tell(rt, call, verdict(rt, self, call))
         }
-        let (current, flag) = word(call);
-        let current = Version::parse(alloc, current)?;
-        answered(
-            alloc,
-            call,
-            self.eval(alloc, &current, flag == "--override"),
-        )
     }
 }
 
-fn versions(alloc: Global, config: &NextestVersionConfig) -> Result<String, Fail> {
-    let required = kept(alloc, &config.required)?;
-    let recommended = kept(alloc, &config.recommended)?;
-    done(format!(in alloc; "{required}, {recommended}"))
+fn verdict(rt: &impl Runner, config: &NextestVersionConfig, call: &str) -> NextestVersionEval {
+    let (current, flag) = word(call);
+    let current = Version::from_row(rt, current);
+    done(rt, config.eval(rt.alloc(), &current, flag == "--override"))
 }
 
-impl Told for AllocError {
-    fn told(&self, alloc: Global, _call: &str) -> Result<String, Fail> {
-        written(alloc, self)
-    }
+fn versions(rt: &impl Runner, config: &NextestVersionConfig) -> String {
+    let required = kept(rt, &config.required);
+    let recommended = kept(rt, &config.recommended);
+    done(rt, format!(in rt.alloc(); "{required}, {recommended}"))
 }
 
-fn kept(alloc: Global, req: &NextestVersionReq) -> Result<String, Fail> {
+fn kept(rt: &impl Runner, req: &NextestVersionReq) -> String {
     match (req.version(), req) {
         (Some(version), NextestVersionReq::Version { version: _, source }) => {
-            done(format!(in alloc; "{version} from {source}"))
+            done(rt, format!(in rt.alloc(); "{version} from {source}"))
         }
-        (None, NextestVersionReq::None) => done(String::from_str(alloc, "none")),
-        _ => no_such_call(),
+        (None, NextestVersionReq::None) => copied(rt, "none"),
+        _ => copied(rt, "a version on one side alone"),
     }
 }
 
 // A verdict, with its severity.
 impl Told for NextestVersionEval {
-    fn told(&self, alloc: Global, _call: &str) -> Result<String, Fail> {
+    fn told(&self, rt: &impl Runner, _call: &str) -> String {
         let severity = self.severity();
         let (mark, asked, current, source) = match self {
-            NextestVersionEval::Satisfied => return written(alloc, &severity),
+            NextestVersionEval::Satisfied => return written(rt, severity),
             NextestVersionEval::Error {
                 required,
                 current,
@@ -180,6 +165,7 @@ impl Told for NextestVersionEval {
                 source,
             } => ("overridden ", recommended, current, source),
         };
-        done(format!(in alloc; "{mark}{severity:?}: {asked}, {source}, {current}"))
+        let line = format!(in rt.alloc(); "{mark}{severity:?}: {asked}, {source}, {current}");
+        done(rt, line)
     }
 }

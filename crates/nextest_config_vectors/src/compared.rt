@@ -1,6 +1,6 @@
 //! Values beside one another: equality, copies, order and hashes.
 
-use crate::rows::{Subject, done, no_such_call, written};
+use crate::rows::{Runner, Subject, copied, done, unknown, written};
 use crate::values::{FromRow, both};
 use nextest_config::nextest_version::{
     ConfigExperimental, ConfigParseError, ConfigParseErrorKind, ConfigSource, ConfigSourceKind,
@@ -19,105 +19,95 @@ use std::cmp::Ordering;
 use std::collections::HashSet;
 use std::fmt::Debug;
 use std::hash::{DefaultHasher, Hash, Hasher};
-use std::test::Fail;
 
 /// Whether the two values of a row are equal.
 pub(crate) struct Equality;
 
 impl Subject for Equality {
-    fn answer(alloc: Global, call: &str, input: &str) -> Result<String, Fail> {
+    fn answer(rt: &impl Runner, call: &str, input: &str) -> String {
         match call {
-            "ConfigIdentifier" => pair::<ConfigIdentifier>(alloc, input),
-            "InvalidIdentifier" => pair::<InvalidIdentifier>(alloc, input),
-            "InvalidToolName" => pair::<InvalidToolName>(alloc, input),
-            "FaultKind" => pair::<FaultKind>(alloc, input),
-            "ReadFault" => pair::<ReadFault>(alloc, input),
-            "Rule" => pair::<Rule>(alloc, input),
-            "ToolConfigFile" => pair::<ToolConfigFile>(alloc, input),
-            "ToolConfigFileParseError" => pair::<ToolConfigFileParseError>(alloc, input),
-            "ToolName" => pair::<ToolName>(alloc, input),
-            "TrackDefault" => pair::<TrackDefault<u32>>(alloc, input),
-            call => equal_sources(alloc, call, input),
+            "ConfigIdentifier" => pair::<ConfigIdentifier>(rt, input),
+            "InvalidIdentifier" => pair::<InvalidIdentifier>(rt, input),
+            "InvalidToolName" => pair::<InvalidToolName>(rt, input),
+            "FaultKind" => pair::<FaultKind>(rt, input),
+            "ReadFault" => pair::<ReadFault>(rt, input),
+            "Rule" => pair::<Rule>(rt, input),
+            "ToolConfigFile" => pair::<ToolConfigFile>(rt, input),
+            "ToolConfigFileParseError" => pair::<ToolConfigFileParseError>(rt, input),
+            "ToolName" => pair::<ToolName>(rt, input),
+            "TrackDefault" => pair::<TrackDefault<u32>>(rt, input),
+            call => equal_sources(rt, call, input),
         }
     }
 }
 
-fn equal_sources(alloc: Global, call: &str, input: &str) -> Result<String, Fail> {
+fn equal_sources(rt: &impl Runner, call: &str, input: &str) -> String {
     match call {
-        "ConfigParseError" => pair::<ConfigParseError>(alloc, input),
-        "ConfigParseErrorKind" => pair::<ConfigParseErrorKind>(alloc, input),
-        "ConfigSource" => pair::<ConfigSource>(alloc, input),
-        "ConfigSourceKind" => pair::<ConfigSourceKind>(alloc, input),
-        "ExperimentalConfig" => pair::<ExperimentalConfig>(alloc, input),
-        "ExperimentalDeserialize" => pair::<ExperimentalDeserialize>(alloc, input),
-        "ListRefusal" => pair::<ListRefusal>(alloc, input),
-        "NextestVersionConfig" => pair::<NextestVersionConfig>(alloc, input),
-        "NextestVersionDeserialize" => pair::<NextestVersionDeserialize>(alloc, input),
-        "NextestVersionEval" => pair::<NextestVersionEval>(alloc, input),
-        "NextestVersionReq" => pair::<NextestVersionReq>(alloc, input),
-        "RepositoryText" => pair::<RepositoryText>(alloc, input),
-        "SourceText" => pair::<SourceText>(alloc, input),
-        "ToolText" => pair::<ToolText>(alloc, input),
-        "VersionOnlyConfig" => pair::<VersionOnlyConfig>(alloc, input),
-        _ => no_such_call(),
+        "ConfigParseError" => pair::<ConfigParseError>(rt, input),
+        "ConfigParseErrorKind" => pair::<ConfigParseErrorKind>(rt, input),
+        "ConfigSource" => pair::<ConfigSource>(rt, input),
+        "ConfigSourceKind" => pair::<ConfigSourceKind>(rt, input),
+        "ExperimentalConfig" => pair::<ExperimentalConfig>(rt, input),
+        "ExperimentalDeserialize" => pair::<ExperimentalDeserialize>(rt, input),
+        "ListRefusal" => pair::<ListRefusal>(rt, input),
+        "NextestVersionConfig" => pair::<NextestVersionConfig>(rt, input),
+        "NextestVersionDeserialize" => pair::<NextestVersionDeserialize>(rt, input),
+        "NextestVersionEval" => pair::<NextestVersionEval>(rt, input),
+        "NextestVersionReq" => pair::<NextestVersionReq>(rt, input),
+        "RepositoryText" => pair::<RepositoryText>(rt, input),
+        "SourceText" => pair::<SourceText>(rt, input),
+        "ToolText" => pair::<ToolText>(rt, input),
+        "VersionOnlyConfig" => pair::<VersionOnlyConfig>(rt, input),
+        _ => unknown(rt, call),
     }
 }
 
-// The two values that a text writes.
-fn two<T: FromRow + Drop>(alloc: Global, input: &str) -> Result<(T, T), Fail> {
-    both(alloc, input, " ~ ")
-}
-
-fn pair<T: FromRow + PartialEq + Debug + Drop>(alloc: Global, input: &str) -> Result<String, Fail> {
-    let (left, right) = two::<T>(alloc, input)?;
-    likeness(alloc, &left, &right)
+fn pair<T: FromRow + PartialEq + Debug + Drop>(rt: &impl Runner, input: &str) -> String {
+    let (left, right): (T, T) = both(rt, input, " ~ ");
+    likeness(rt, &left, &right)
 }
 
 // Values are the same exactly where a source would write them alike.
-fn likeness<T: PartialEq + Debug>(alloc: Global, left: &T, right: &T) -> Result<String, Fail> {
+fn likeness<T: PartialEq + Debug>(rt: &impl Runner, left: &T, right: &T) -> String {
     let same = left == right;
-    if same != (right == left) || same != written_alike(alloc, left, right)? {
-        return done(String::from_str(alloc, "same in one way alone"));
+    let alike = written(rt, left) == written(rt, right);
+    if same == (right == left) && same == alike {
+        sameness(rt, same)
+    } else {
+        copied(rt, "same in one way alone")
     }
-    sameness(alloc, same)
 }
 
-fn written_alike<T: Debug>(alloc: Global, left: &T, right: &T) -> Result<bool, Fail> {
-    let left = written(alloc, left)?;
-    let right = written(alloc, right)?;
-    Ok(left == right)
-}
-
-fn sameness(alloc: Global, same: bool) -> Result<String, Fail> {
-    done(String::from_str(alloc, if same { "same" } else { "differ" }))
+fn sameness(rt: &impl Runner, same: bool) -> String {
+    copied(rt, if same { "same" } else { "differ" })
 }
 
 /// Whether a copy of the row's value is the same.
 pub(crate) struct Copies;
 
 impl Subject for Copies {
-    fn answer(alloc: Global, call: &str, input: &str) -> Result<String, Fail> {
+    fn answer(rt: &impl Runner, call: &str, input: &str) -> String {
         match call {
-            "ConfigIdentifier" => copy::<ConfigIdentifier>(alloc, input),
-            "ConfigSource" => copy::<ConfigSource>(alloc, input),
-            "ConfigSourceKind" => copy::<ConfigSourceKind>(alloc, input),
-            "ExperimentalConfig" => copy::<ExperimentalConfig>(alloc, input),
-            "ExperimentalDeserialize" => copy::<ExperimentalDeserialize>(alloc, input),
-            "NextestVersionConfig" => copy::<NextestVersionConfig>(alloc, input),
-            "NextestVersionDeserialize" => copy::<NextestVersionDeserialize>(alloc, input),
-            "NextestVersionEval" => copy::<NextestVersionEval>(alloc, input),
-            "NextestVersionReq" => copy::<NextestVersionReq>(alloc, input),
-            "ToolConfigFile" => copy::<ToolConfigFile>(alloc, input),
-            "ToolName" => copy::<ToolName>(alloc, input),
-            "VersionOnlyConfig" => copy::<VersionOnlyConfig>(alloc, input),
-            "TrackDefault" => copy::<TrackDefault<u32>>(alloc, input),
-            _ => no_such_call(),
+            "ConfigIdentifier" => copy::<ConfigIdentifier>(rt, input),
+            "ConfigSource" => copy::<ConfigSource>(rt, input),
+            "ConfigSourceKind" => copy::<ConfigSourceKind>(rt, input),
+            "ExperimentalConfig" => copy::<ExperimentalConfig>(rt, input),
+            "ExperimentalDeserialize" => copy::<ExperimentalDeserialize>(rt, input),
+            "NextestVersionConfig" => copy::<NextestVersionConfig>(rt, input),
+            "NextestVersionDeserialize" => copy::<NextestVersionDeserialize>(rt, input),
+            "NextestVersionEval" => copy::<NextestVersionEval>(rt, input),
+            "NextestVersionReq" => copy::<NextestVersionReq>(rt, input),
+            "ToolConfigFile" => copy::<ToolConfigFile>(rt, input),
+            "ToolName" => copy::<ToolName>(rt, input),
+            "VersionOnlyConfig" => copy::<VersionOnlyConfig>(rt, input),
+            "TrackDefault" => copy::<TrackDefault<u32>>(rt, input),
+            _ => unknown(rt, call),
         }
     }
 }
 
 // A value with a copy of its own.
-trait Copied: Sized {
+pub(crate) trait Copied: Sized {
     fn copied(&self, alloc: Global) -> Result<Self, AllocError>;
 }
 
@@ -200,41 +190,44 @@ impl Copied for TrackDefault<u32> {
     }
 }
 
-fn copy<T: FromRow + Copied + PartialEq + Debug + Drop>(
-    alloc: Global,
-    input: &str,
-) -> Result<String, Fail> {
-    let value = T::from_row(alloc, input)?;
-    let copy = value.copied(alloc)?;
-    likeness(alloc, &copy, &value)
+fn copy<T: FromRow + Copied + PartialEq + Debug + Drop>(rt: &impl Runner, input: &str) -> String {
+    let value = T::from_row(rt, input);
+    let copy = done(rt, value.copied(rt.alloc()));
+    likeness(rt, &copy, &value)
+}
+
+/// Whether a copy is written as the value is.
+pub(crate) fn alike<T: Copied + Debug + Drop>(rt: &impl Runner, value: T) -> String {
+    let copy = done(rt, value.copied(rt.alloc()));
+    sameness(rt, written(rt, &copy) == written(rt, &value))
 }
 
 /// How the two values of a row compare, or whether their hashes do.
 pub(crate) struct Orders;
 
 impl Subject for Orders {
-    fn answer(alloc: Global, call: &str, input: &str) -> Result<String, Fail> {
+    fn answer(rt: &impl Runner, call: &str, input: &str) -> String {
         match call {
-            "ConfigExperimental" => order::<ConfigExperimental>(alloc, input),
-            "ConfigIdentifier" => order::<ConfigIdentifier>(alloc, input),
-            "Severity" => order::<Severity>(alloc, input),
-            "ToolName" => order::<ToolName>(alloc, input),
-            "set of ConfigExperimental" => distinct::<ConfigExperimental>(alloc, input),
-            "set of ConfigIdentifier" => distinct::<ConfigIdentifier>(alloc, input),
-            "set of Severity" => distinct::<Severity>(alloc, input),
-            "set of ToolName" => distinct::<ToolName>(alloc, input),
-            "hash of ConfigIdentifier" => hashed::<ConfigIdentifier>(alloc, input),
-            "hash of ToolName" => hashed::<ToolName>(alloc, input),
-            _ => no_such_call(),
+            "ConfigExperimental" => order::<ConfigExperimental>(rt, input),
+            "ConfigIdentifier" => order::<ConfigIdentifier>(rt, input),
+            "Severity" => order::<Severity>(rt, input),
+            "ToolName" => order::<ToolName>(rt, input),
+            "set of ConfigExperimental" => distinct::<ConfigExperimental>(rt, input),
+            "set of ConfigIdentifier" => distinct::<ConfigIdentifier>(rt, input),
+            "set of Severity" => distinct::<Severity>(rt, input),
+            "set of ToolName" => distinct::<ToolName>(rt, input),
+            "hash of ConfigIdentifier" => hashed::<ConfigIdentifier>(rt, input),
+            "hash of ToolName" => hashed::<ToolName>(rt, input),
+            _ => unknown(rt, call),
         }
     }
 }
 
-fn order<T: FromRow + Ord + Drop>(alloc: Global, input: &str) -> Result<String, Fail> {
-    let (left, right) = two::<T>(alloc, input)?;
+fn order<T: FromRow + Ord + Drop>(rt: &impl Runner, input: &str) -> String {
+    let (left, right): (T, T) = both(rt, input, " ~ ");
     match order_of(&left, &right) {
-        Some(order) => written(alloc, &order),
-        None => done(String::from_str(alloc, "the comparisons disagree")),
+        Some(order) => written(rt, order),
+        None => copied(rt, "the comparisons disagree"),
     }
 }
 
@@ -251,26 +244,17 @@ fn order_of<T: Ord>(left: &T, right: &T) -> Option<Ordering> {
 }
 
 // How many values of a list differ, once a set holds them all.
-fn distinct<T: FromRow + Eq + Hash + Drop>(alloc: Global, input: &str) -> Result<String, Fail> {
-    let mut set: HashSet<T> = HashSet::new(alloc);
+fn distinct<T: FromRow + Eq + Hash + Drop>(rt: &impl Runner, input: &str) -> String {
+    let mut set: HashSet<T> = HashSet::new(rt.alloc());
     for word in input.split(" ~ ") {
-        add(alloc, &mut set, word)?;
+        done(rt, set.insert(T::from_row(rt, word)));
     }
-    done(set.len().to_string(alloc))
+    written(rt, set.len())
 }
 
-fn add<T: FromRow + Eq + Hash + Drop>(
-    alloc: Global,
-    set: &mut HashSet<T>,
-    word: &str,
-) -> Result<(), Fail> {
-    set.insert(T::from_row(alloc, word)?)?;
-    Ok(())
-}
-
-fn hashed<T: FromRow + Hash + Drop>(alloc: Global, input: &str) -> Result<String, Fail> {
-    let (left, right) = two::<T>(alloc, input)?;
-    sameness(alloc, hash_of(&left) == hash_of(&right))
+fn hashed<T: FromRow + Hash + Drop>(rt: &impl Runner, input: &str) -> String {
+    let (left, right): (T, T) = both(rt, input, " ~ ");
+    sameness(rt, hash_of(&left) == hash_of(&right))
 }
 
 fn hash_of<T: Hash>(value: &T) -> u64 {

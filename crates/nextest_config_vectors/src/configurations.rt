@@ -1,144 +1,128 @@
 //! Values that rows write: configurations, verdicts and refusals of sources.
 
-use crate::rows::{cut, done};
+use crate::rows::{Runner, done, unknown};
 use crate::sources::listed;
 use crate::values::{FromRow, both, names, part, word};
 use nextest_config::nextest_version::{
-    ConfigParseError, ConfigParseErrorKind, ConfigSource, ExperimentalConfig, ListRefusal,
-    NextestVersionEval, Severity, SourceText, VersionOnlyConfig,
+    ConfigParseError, ConfigParseErrorKind, ExperimentalConfig, ListRefusal, NextestVersionConfig,
+    NextestVersionEval, NextestVersionReq, Severity, SourceText, VersionOnlyConfig,
 };
 use nextest_config_values::read::ReadFault;
 use semver::Version;
-use std::alloc::{AllocError, Global};
-use std::test::Fail;
+use std::alloc::AllocError;
 
 /// Writes a list of sources.
 impl FromRow for VersionOnlyConfig {
-    fn from_row(alloc: Global, text: &str) -> Result<Self, Fail> {
-        let sources: Vec<SourceText> = listed(alloc, text)?;
-        done(VersionOnlyConfig::from_list(alloc, &sources))
+    fn from_row(rt: &impl Runner, text: &str) -> Self {
+        done(rt, config_of(rt, text))
     }
+}
+
+// What is read from a list of sources.
+fn config_of(rt: &impl Runner, text: &str) -> Result<VersionOnlyConfig, ListRefusal> {
+    let sources: Vec<SourceText> = listed(rt, text);
+    VersionOnlyConfig::from_list(rt.alloc(), &sources)
 }
 
 /// Writes a list of sources.
 impl FromRow for ExperimentalConfig {
-    fn from_row(alloc: Global, text: &str) -> Result<Self, Fail> {
-        part(VersionOnlyConfig::from_row(alloc, text)?, |config| {
+    fn from_row(rt: &impl Runner, text: &str) -> Self {
+        let alloc = rt.alloc();
+        let copy = part(VersionOnlyConfig::from_row(rt, text), |config| {
             config.experimental().clone(alloc)
-        })
+        });
+        done(rt, copy)
     }
 }
 
-/// Writes `Satisfied`, or `NAME VERSION CURRENT SOURCE`.
+/// Writes `Satisfied`, or `NAME VERSION CURRENT SOURCE`, where the current version isn't enough.
 impl FromRow for NextestVersionEval {
-    fn from_row(alloc: Global, text: &str) -> Result<Self, Fail> {
-        let (name, rest) = word(text);
-        if name == "Satisfied" {
-            return Ok(NextestVersionEval::Satisfied);
+    fn from_row(rt: &impl Runner, text: &str) -> Self {
+        if text == "Satisfied" {
+            NextestVersionEval::Satisfied
+        } else {
+            verdict(rt, text)
         }
-        let (asked, rest) = cut(rest, " ")?;
-        let asked = Version::from_row(alloc, asked)?;
-        let (current, source) = both(alloc, rest, " ")?;
-        short(name, asked, current, source)
     }
 }
 
-// The verdict that a current version isn't enough.
-fn short(
-    name: &str,
-    asked: Version,
-    current: Version,
-    source: ConfigSource,
-) -> Result<NextestVersionEval, Fail> {
-    match name {
-        "Error" => Ok(NextestVersionEval::Error {
+fn verdict(rt: &impl Runner, text: &str) -> NextestVersionEval {
+    let (name, rest) = word(text);
+    let (version, rest) = word(rest);
+    let (current, source) = both::<Version, _>(rt, rest, " ");
+    let version = Version::from_row(rt, version);
+    let config = config_for(name, NextestVersionReq::Version { version, source });
+    let alloc = rt.alloc();
+    let overridden = name.ends_with("Override");
+    let verdict = part(config, |config| config.eval(alloc, &current, overridden));
+    done(rt, verdict)
+}
+
+// What asks for a version, so that a lower one is an error or a warning.
+fn config_for(name: &str, asked: NextestVersionReq) -> NextestVersionConfig {
+    if name.starts_with("Error") {
+        NextestVersionConfig {
             required: asked,
-            current,
-            source,
-        }),
-        "Warn" => Ok(NextestVersionEval::Warn {
+            recommended: NextestVersionReq::None,
+        }
+    } else {
+        NextestVersionConfig {
+            required: NextestVersionReq::None,
             recommended: asked,
-            current,
-            source,
-        }),
-        "ErrorOverride" => Ok(NextestVersionEval::ErrorOverride {
-            required: asked,
-            current,
-            source,
-        }),
-        "WarnOverride" => Ok(NextestVersionEval::WarnOverride {
-            recommended: asked,
-            current,
-            source,
-        }),
-        _ => Err(Fail::new("no such verdict")),
+        }
     }
 }
 
 impl FromRow for Severity {
-    fn from_row(_alloc: Global, text: &str) -> Result<Self, Fail> {
+    fn from_row(rt: &impl Runner, text: &str) -> Self {
         match text {
-            "Satisfied" => Ok(Severity::Satisfied),
-            "Warn" => Ok(Severity::Warn),
-            "Error" => Ok(Severity::Error),
-            _ => Err(Fail::new("no such severity")),
+            "Satisfied" => Severity::Satisfied,
+            "Warn" => Severity::Warn,
+            "Error" => Severity::Error,
+            _ => unknown(rt, text),
         }
     }
 }
 
 impl FromRow for ConfigParseErrorKind {
-    fn from_row(alloc: Global, text: &str) -> Result<Self, Fail> {
+    fn from_row(rt: &impl Runner, text: &str) -> Self {
         let (name, rest) = word(text);
         match name {
-            "TomlParseError" => Ok(ConfigParseErrorKind::TomlParseError),
+            "TomlParseError" => ConfigParseErrorKind::TomlParseError,
             "VersionOnlyDeserializeError" => {
-                ReadFault::from_row(alloc, rest).map(
-                    ConfigParseErrorKind::VersionOnlyDeserializeError,
-                )
+                ConfigParseErrorKind::VersionOnlyDeserializeError(ReadFault::from_row(rt, rest))
             }
             "ExperimentalFeaturesInToolConfig" => {
-                let features = names(alloc, rest)?;
-                Ok(ConfigParseErrorKind::ExperimentalFeaturesInToolConfig { features })
+                ConfigParseErrorKind::ExperimentalFeaturesInToolConfig {
+                    features: names(rt, rest),
+                }
             }
-            "Memory" => Ok(ConfigParseErrorKind::Memory),
-            _ => Err(Fail::new("no such kind of an error")),
+            "Memory" => ConfigParseErrorKind::Memory,
+            _ => unknown(rt, name),
         }
     }
 }
 
 /// Writes a list of sources that is refused, or `Memory`.
 impl FromRow for ConfigParseError {
-    fn from_row(alloc: Global, text: &str) -> Result<Self, Fail> {
+    fn from_row(rt: &impl Runner, text: &str) -> Self {
         if text == "Memory" {
-            return Ok(ConfigParseError::from(AllocError));
+            return ConfigParseError::from(AllocError);
         }
-        let sources: Vec<SourceText> = listed(alloc, text)?;
-        error_of(refusal(VersionOnlyConfig::from_list(alloc, &sources))?)
-    }
-}
-
-// Why a call refused.
-fn refusal<T: Drop, E>(answer: Result<T, E>) -> Result<E, Fail> {
-    match answer {
-        Ok(_value) => Err(Fail::new("the sources are read")),
-        Err(error) => Ok(error),
-    }
-}
-
-fn error_of(refusal: ListRefusal) -> Result<ConfigParseError, Fail> {
-    match refusal {
-        ListRefusal::Refused { position: _, error } => Ok(error),
-        ListRefusal::Memory => Err(Fail::new("no source is refused")),
+        match config_of(rt, text).expect_err(rt, "the sources are read") {
+            ListRefusal::Refused { position: _, error } => error,
+            ListRefusal::Memory => unknown(rt, text),
+        }
     }
 }
 
 /// Writes a position and the error there, or `Memory`.
 impl FromRow for ListRefusal {
-    fn from_row(alloc: Global, text: &str) -> Result<Self, Fail> {
+    fn from_row(rt: &impl Runner, text: &str) -> Self {
         if text == "Memory" {
-            return Ok(ListRefusal::Memory);
+            return ListRefusal::Memory;
         }
-        let (position, error) = both(alloc, text, " ")?;
-        Ok(ListRefusal::Refused { position, error })
+        let (position, error) = both(rt, text, " ");
+        ListRefusal::Refused { position, error }
     }
 }

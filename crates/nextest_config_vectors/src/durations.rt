@@ -1,13 +1,10 @@
 //! Durations as texts.
 
-use crate::rows::{Escaped, Subject, check, made, no_such_call, shown, written};
+use crate::readers::read;
+use crate::rows::{Escaped, Runner, Subject, check, made, unknown, written};
 use nextest_config_values::duration::parse_duration;
-use nextest_config_values::read::FromToml;
 use nextest_config_values::track_default::TrackDefault;
-use std::alloc::Global;
-use std::test::Fail;
 use std::time::Duration;
-use toml::Value;
 
 const ROWS: &str = r#"
 # numbers with their units are read
@@ -122,32 +119,18 @@ parse | 1x«x» | Err(UnitUnknown { at: 1 })
 struct Durations;
 
 impl Subject for Durations {
-    fn answer(alloc: Global, call: &str, input: &str) -> Result<String, Fail> {
+    fn answer(rt: &impl Runner, call: &str, input: &str) -> String {
         match call {
-            "parse" => written(alloc, &parse_duration(input)),
-            "printed" => printed(alloc, input),
-            _ => value(alloc, call, input),
+            "parse" => written(rt, parse_duration(input)),
+            "printed" => made(rt, parse_duration(input)),
+            "read" => read::<Duration>(rt, input),
+            "tracked" => read::<TrackDefault<Duration>>(rt, input),
+            _ => unknown(rt, call),
         }
     }
 }
 
-fn printed(alloc: Global, input: &str) -> Result<String, Fail> {
-    match parse_duration(input) {
-        Ok(duration) => written(alloc, &duration),
-        Err(fault) => shown(alloc, &fault),
-    }
-}
-
-fn value(alloc: Global, call: &str, input: &str) -> Result<String, Fail> {
-    let value = Value::from_str(alloc, input)?;
-    match call {
-        "read" => made(alloc, Duration::read(alloc, &value, "p")),
-        "tracked" => made(alloc, TrackDefault::<Duration>::read(alloc, &value, "p")),
-        _ => no_such_call(),
-    }
-}
-
 #[test]
-fn durations_are_read_or_refused(rt: HostRuntime) -> Result<(), Fail> {
-    check::<Escaped<Durations>>(&rt, ROWS)
+fn durations_are_read_or_refused(rt: HostRuntime) {
+    check::<Escaped<Durations>>(&rt, ROWS);
 }

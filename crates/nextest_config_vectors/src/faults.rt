@@ -1,10 +1,8 @@
 //! The texts of faults.
 
-use crate::rows::{Subject, Told, check, cut, done, shown, tell};
+use crate::rows::{Runner, Subject, Told, check, cut, done, shown, tell, unknown};
 use crate::values::{FromRow, expected, word};
 use nextest_config_values::read::{FaultKind, ReadFault};
-use std::alloc::Global;
-use std::test::Fail;
 use toml::Value;
 
 const ROWS: &str = r#"
@@ -47,71 +45,52 @@ missing_field | p«p», k«k» | p«p»: missing configuration field "p«p».k«
 struct Faults;
 
 impl Subject for Faults {
-    fn answer(alloc: Global, call: &str, input: &str) -> Result<String, Fail> {
-        let (at, given) = cut(input, ", ")?;
-        let (maker, wanted) = word(call.strip_prefix("kept ").unwrap_or(call));
-        match maker {
-            "new" => made_of(alloc, call, at, given),
-            "unknown_variant" => {
-                let fault = ReadFault::unknown_variant(alloc, given, at, expected(wanted));
-                tell(alloc, call, fault)
-            }
-            "missing_field" => tell(alloc, call, ReadFault::missing_field(alloc, given, at)),
-            "memory" => tell(alloc, call, ReadFault::memory(alloc)),
-            _ => unexpected(alloc, call, given, at, expected(wanted)),
-        }
+    fn answer(rt: &impl Runner, call: &str, input: &str) -> String {
+        let maker = call.strip_prefix("kept ").unwrap_or(call);
+        tell(rt, call, fault(rt, maker, input))
     }
 }
 
-fn made_of(alloc: Global, call: &str, at: &str, kind: &str) -> Result<String, Fail> {
-    let kind = FaultKind::from_row(alloc, kind)?;
-    tell(alloc, call, ReadFault::new(alloc, at, kind))
-}
-
-fn unexpected(
-    alloc: Global,
-    call: &str,
-    value: &str,
-    at: &str,
-    expected: &'static str,
-) -> Result<String, Fail> {
-    let value = Value::from_str(alloc, value)?;
-    mismatch(alloc, call, &value, at, expected)
+// The fault that a maker makes at a path of what is given there.
+fn fault(rt: &impl Runner, call: &str, input: &str) -> ReadFault {
+    let (at, given) = cut(rt, input, ", ");
+    let (maker, wanted) = word(call);
+    let wanted = expected(wanted);
+    match maker {
+        "new" => ReadFault::new(rt.alloc(), at, FaultKind::from_row(rt, given)),
+        "unknown_variant" => ReadFault::unknown_variant(rt.alloc(), given, at, wanted),
+        "missing_field" => ReadFault::missing_field(rt.alloc(), given, at),
+        "memory" => ReadFault::memory(rt.alloc()),
+        _ => mismatch(rt, maker, given, at, wanted),
+    }
 }
 
 fn mismatch(
-    alloc: Global,
-    call: &str,
-    value: &Value,
+    rt: &impl Runner,
+    maker: &str,
+    given: &str,
     at: &str,
-    expected: &'static str,
-) -> Result<String, Fail> {
-    if call.contains("invalid_type") {
-        tell(
-            alloc,
-            call,
-            ReadFault::invalid_type(alloc, value, at, expected),
-        )
-    } else {
-        tell(
-            alloc,
-            call,
-            ReadFault::invalid_value(alloc, value, at, expected),
-        )
+    wanted: &'static str,
+) -> ReadFault {
+    let value = Value::from_row(rt, given);
+    match maker {
+        "invalid_type" => ReadFault::invalid_type(rt.alloc(), &value, at, wanted),
+        "invalid_value" => ReadFault::invalid_value(rt.alloc(), &value, at, wanted),
+        _ => unknown(rt, maker),
     }
 }
 
 impl Told for ReadFault {
-    fn told(&self, alloc: Global, call: &str) -> Result<String, Fail> {
+    fn told(&self, rt: &impl Runner, call: &str) -> String {
         if call.starts_with("kept ") {
-            done(format!(in alloc; "{self:?}, {}", self.is_memory()))
+            done(rt, format!(in rt.alloc(); "{self:?}, {}", self.is_memory()))
         } else {
-            shown(alloc, self)
+            shown(rt, self)
         }
     }
 }
 
 #[test]
-fn faults_print_their_path_and_reason(rt: HostRuntime) -> Result<(), Fail> {
-    check::<Faults>(&rt, ROWS)
+fn faults_print_their_path_and_reason(rt: HostRuntime) {
+    check::<Faults>(&rt, ROWS);
 }

@@ -1,13 +1,11 @@
 //! Experimental features.
 
 use crate::asked::Lists;
-use crate::rows::{Escaped, Subject, Told, answered, check, done, no_such_call, written};
-use crate::values::both;
+use crate::rows::{Escaped, Runner, Subject, Told, answered, check, done, push, unknown, written};
+use crate::values::{FromRow, both};
 use nextest_config::nextest_version::{ConfigExperimental, ExperimentalDeserialize};
 use nextest_config_values::read::FromToml;
-use std::alloc::Global;
 use std::collections::{BTreeMap, BTreeSet};
-use std::test::Fail;
 use toml::Value;
 
 const ROWS: &str = r#"
@@ -78,95 +76,81 @@ features | repository: r.toml => experimental = ['a', «'x@',» 'benchmarks'] | 
 struct Features;
 
 impl Subject for Features {
-    fn answer(alloc: Global, call: &str, input: &str) -> Result<String, Fail> {
+    fn answer(rt: &impl Runner, call: &str, input: &str) -> String {
         match call {
-            "all" => all(alloc),
-            "word" => written(alloc, &ConfigExperimental::from_str(input)),
-            "variables" => variables(alloc, input),
-            "setting" => setting(alloc, input),
-            _ => no_such_call(),
+            "all" => all(rt),
+            "word" => written(rt, ConfigExperimental::from_str(input)),
+            "variables" => variables(rt, input),
+            "setting" => setting(rt, input),
+            _ => unknown(rt, call),
         }
     }
 }
 
-fn all(alloc: Global) -> Result<String, Fail> {
-    let mut line = String::new(alloc);
+fn all(rt: &impl Runner) -> String {
+    let mut line = String::new(rt.alloc());
     for feature in ConfigExperimental::known_features() {
-        push_feature(alloc, &mut line, feature)?;
+        let variable = feature.env_var().unwrap_or("-");
+        done(rt, write!(line, "{feature} {variable};"));
     }
-    Ok(line)
+    line
 }
 
-fn push_feature(alloc: Global, line: &mut String, feature: ConfigExperimental) -> Result<(), Fail> {
-    let variable = feature.env_var().unwrap_or("-");
-    let entry = format!(in alloc; "{feature} {variable};")?;
-    done(line.push_str(entry.as_str()))
-}
-
-fn variables(alloc: Global, input: &str) -> Result<String, Fail> {
-    let mut variables = BTreeMap::new(alloc);
+fn variables(rt: &impl Runner, input: &str) -> String {
+    let mut variables = BTreeMap::new(rt.alloc());
     for variable in input.split_whitespace() {
-        set(alloc, &mut variables, variable)?;
+        let (name, value): (String, String) = both(rt, variable, "=");
+        done(rt, variables.insert(name, value));
     }
-    words(alloc, &ConfigExperimental::from_env(alloc, &variables)?)
-}
-
-fn set(
-    alloc: Global,
-    variables: &mut BTreeMap<String, String>,
-    variable: &str,
-) -> Result<(), Fail> {
-    let (name, value) = both(alloc, variable, "=")?;
-    variables.insert(name, value)?;
-    Ok(())
-}
-
-fn setting(alloc: Global, text: &str) -> Result<String, Fail> {
-    let value = Value::from_str(alloc, text)?;
-    answered(
-        alloc,
-        "setting",
-        ExperimentalDeserialize::read(alloc, &value, "experimental"),
+    words(
+        rt,
+        &done(rt, ConfigExperimental::from_env(rt.alloc(), &variables)),
     )
 }
 
-impl Told for ExperimentalDeserialize {
-    fn told(&self, alloc: Global, _call: &str) -> Result<String, Fail> {
-        let known = words(alloc, &self.known)?;
-        let unknown = joined(alloc, &self.unknown)?;
-        done(format!(in alloc; "known{known}; unknown{unknown}"))
-    }
+fn setting(rt: &impl Runner, text: &str) -> String {
+    let value = Value::from_row(rt, text);
+    let setting = ExperimentalDeserialize::read(rt.alloc(), &value, "experimental");
+    answered(rt, "setting", setting)
 }
 
-fn push_word(line: &mut String, word: &str) -> Result<(), Fail> {
-    line.push(' ')?;
-    done(line.push_str(word))
+impl Told for ExperimentalDeserialize {
+    fn told(&self, rt: &impl Runner, _call: &str) -> String {
+        let known = words(rt, &self.known);
+        let unknown = joined(rt, &self.unknown);
+        done(rt, format!(in rt.alloc(); "known{known}; unknown{unknown}"))
+    }
 }
 
 /// The words of features, each behind a space.
-pub(crate) fn words(alloc: Global, known: &BTreeSet<ConfigExperimental>) -> Result<String, Fail> {
-    let mut line = String::new(alloc);
+pub(crate) fn words(rt: &impl Runner, known: &BTreeSet<ConfigExperimental>) -> String {
+    let mut line = String::new(rt.alloc());
     for feature in known {
-        push_word(&mut line, feature.as_word())?;
+        push_word(rt, &mut line, feature.as_word());
     }
-    Ok(line)
+    line
 }
 
 /// Names, each behind a space.
-pub(crate) fn joined(alloc: Global, names: &BTreeSet<String>) -> Result<String, Fail> {
-    let mut line = String::new(alloc);
+pub(crate) fn joined(rt: &impl Runner, names: &BTreeSet<String>) -> String {
+    let mut line = String::new(rt.alloc());
     for name in names {
-        push_word(&mut line, name.as_str())?;
+        push_word(rt, &mut line, name.as_str());
     }
-    Ok(line)
+    line
+}
+
+fn push_word(rt: &impl Runner, line: &mut String, word: &str) {
+    push(rt, line, " ");
+    push(rt, line, word);
 }
 
 #[test]
-fn features_are_read_and_told(rt: HostRuntime) -> Result<(), Fail> {
-    check::<Features>(&rt, ROWS)
+fn features_are_read_and_told(rt: HostRuntime) {
+    check::<Features>(&rt, ROWS);
 }
 
 #[test]
-fn sources_name_features_or_are_refused(rt: HostRuntime) -> Result<(), Fail> {
-    check::<Escaped<Lists>>(&rt, LISTS)
+fn sources_name_features_or_are_refused(rt: HostRuntime) {
+    check::<Escaped<Lists>>(&rt, LISTS);
 }

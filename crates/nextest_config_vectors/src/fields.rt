@@ -5,11 +5,11 @@ ghost use Rattle.toml.specs.Data.{as_integer};
 ghost use Rattle.nextest_config_values.specs.Read.FromToml.{FaultsAs, MeansAs, reading_on};
 ghost use Rattle.nextest_config_values.specs.Read.Plain.{IsOutside, MeansNumber, number_reading};
 
-use crate::rows::{Subject, check, cut, made, no_such_call};
+use crate::rows::{Runner, Subject, check, cut, made, unknown};
+use crate::values::FromRow;
 use nextest_config_values::read::{FromToml, ReadFault, field_or, optional_field, required_field};
 use nextest_config_values::track_default::TrackDefault;
 use std::alloc::Global;
-use std::test::Fail;
 use toml::{Table, Value};
 
 #[derive(Clone, Copy, Debug, PartialEq, Eq)]
@@ -70,42 +70,34 @@ optional share at p | {«k@ = 1,» share = 40 } | Some(Percent { percent: 40 })
 struct Fields;
 
 impl Subject for Fields {
-    fn answer(alloc: Global, call: &str, input: &str) -> Result<String, Fail> {
-        let value = Value::from_str(alloc, input)?;
-        match value.as_table() {
-            Some(table) => keyed(alloc, call, table),
-            None => Err(Fail::new("no table")),
-        }
+    fn answer(rt: &impl Runner, call: &str, input: &str) -> String {
+        let value = Value::from_row(rt, input);
+        let table = value.as_table().expect(rt, "a row has no table");
+        let (call, at) = cut(rt, call, " at ");
+        let (call, key) = call.rsplit_once(' ').expect(rt, "a row has no key");
+        field(rt, call, table, key, at)
     }
 }
 
-fn keyed(alloc: Global, call: &str, table: &Table) -> Result<String, Fail> {
-    let (call, at) = cut(call, " at ")?;
-    match call.rsplit_once(' ') {
-        Some((call, key)) => field(alloc, call, table, key, at),
-        None => Err(Fail::new("no key")),
-    }
-}
-
-fn field(alloc: Global, call: &str, table: &Table, key: &str, at: &str) -> Result<String, Fail> {
+fn field(rt: &impl Runner, call: &str, table: &Table, key: &str, at: &str) -> String {
+    let alloc = rt.alloc();
     match call {
-        "tracked" => made(
-            alloc,
-            required_field::<TrackDefault<Percent>>(alloc, table, key, at),
-        ),
-        "optional" => made(alloc, optional_field::<Percent>(alloc, table, key, at)),
-        "or 50" => made(
-            alloc,
-            field_or(alloc, table, key, at, Percent { percent: 50 }),
-        ),
-        "u32" => made(alloc, required_field::<u32>(alloc, table, key, at)),
-        "optional u32" => made(alloc, optional_field::<u32>(alloc, table, key, at)),
-        "or 7" => made(alloc, field_or::<u32>(alloc, table, key, at, 7)),
-        _ => no_such_call(),
+        "tracked" => {
+            made(
+                rt,
+                required_field::<TrackDefault<Percent>>(alloc, table, key, at),
+            )
+        }
+        "optional" => made(rt, optional_field::<Percent>(alloc, table, key, at)),
+        "or 50" => made(rt, field_or(alloc, table, key, at, Percent { percent: 50 })),
+        "u32" => made(rt, required_field::<u32>(alloc, table, key, at)),
+        "optional u32" => made(rt, optional_field::<u32>(alloc, table, key, at)),
+        "or 7" => made(rt, field_or::<u32>(alloc, table, key, at, 7)),
+        _ => unknown(rt, call),
     }
 }
 
 #[test]
-fn fields_are_read_at_their_paths(rt: HostRuntime) -> Result<(), Fail> {
-    check::<Fields>(&rt, ROWS)
+fn fields_are_read_at_their_paths(rt: HostRuntime) {
+    check::<Fields>(&rt, ROWS);
 }

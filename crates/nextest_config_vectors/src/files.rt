@@ -2,7 +2,6 @@
 
 use crate::asked::Files;
 use crate::rows::{Escaped, check};
-use std::test::Fail;
 
 const ROWS: &str = r#"
 # tools are read in reverse and then the repository
@@ -50,6 +49,6 @@ features | tool a«a»: /a«a».toml => experimental = ["x«x»"] && repository:
 "#;
 
 #[test]
-fn tools_are_read_in_reverse_and_then_the_repository(rt: HostRuntime) -> Result<(), Fail> {
-    check::<Escaped<Files>>(&rt, ROWS)
+fn tools_are_read_in_reverse_and_then_the_repository(rt: HostRuntime) {
+    check::<Escaped<Files>>(&rt, ROWS);
 }

@@ -1,14 +1,13 @@
 //! Identifiers and tool names.
 
 use crate::rows::{
-    Escaped, Subject, Told, answered, check, check_at, done, no_such_call, shown, variant, written,
+    Escaped, Runner, Subject, Told, answered, check, check_at, copied, done, shown, unknown,
+    variant, written,
 };
 use nextest_config_values::helpers::is_valid_identifier_unicode;
 use nextest_config_values::identifier::{
     ConfigIdentifier, InvalidIdentifier, InvalidToolName, ToolName,
 };
-use std::alloc::Global;
-use std::test::Fail;
 
 const ROWS: &str = r#"
 # identifiers are kept
@@ -87,71 +86,66 @@ identifier | «e\u{301}»\u{20} | InvalidXid «é»  |
 struct Identifiers;
 
 impl Subject for Identifiers {
-    fn answer(alloc: Global, call: &str, input: &str) -> Result<String, Fail> {
+    fn answer(rt: &impl Runner, call: &str, input: &str) -> String {
         match call {
-            "tool name" => answered(alloc, call, ToolName::new(alloc, input)),
-            "plain" => written(alloc, &is_valid_identifier_unicode(input)),
-            _ => answered(alloc, call, ConfigIdentifier::new(alloc, input)),
+            "tool name" => answered(rt, call, ToolName::new(rt.alloc(), input)),
+            "plain" => written(rt, is_valid_identifier_unicode(input)),
+            _ => answered(rt, call, ConfigIdentifier::new(rt.alloc(), input)),
         }
     }
 }
 
 impl Told for ConfigIdentifier {
-    fn told(&self, alloc: Global, call: &str) -> Result<String, Fail> {
+    fn told(&self, rt: &impl Runner, call: &str) -> String {
         match call {
-            "identifier" => shown(alloc, self),
-            "components" => components(alloc, self),
-            "bytes" => bytes(alloc, self),
-            "is a tool's" => done(self.is_tool_identifier().to_string(alloc)),
-            _ => no_such_call(),
+            "identifier" => shown(rt, self),
+            "components" => components(rt, self),
+            "bytes" => bytes(rt, self),
+            "is a tool's" => written(rt, self.is_tool_identifier()),
+            _ => unknown(rt, call),
         }
     }
 }
 
-fn components(alloc: Global, identifier: &ConfigIdentifier) -> Result<String, Fail> {
+fn components(rt: &impl Runner, identifier: &ConfigIdentifier) -> String {
     match identifier.tool_components() {
-        Some((tool, name)) => done(format!(in alloc; "{tool} and {name}")),
-        None => done(String::from_str(alloc, "none")),
+        Some((tool, name)) => done(rt, format!(in rt.alloc(); "{tool} and {name}")),
+        None => copied(rt, "none"),
     }
 }
 
-fn bytes(alloc: Global, identifier: &ConfigIdentifier) -> Result<String, Fail> {
-    let mut line = String::new(alloc);
+fn bytes(rt: &impl Runner, identifier: &ConfigIdentifier) -> String {
+    let mut line = String::new(rt.alloc());
     for byte in identifier.as_str().as_bytes() {
-        push_byte(alloc, &mut line, *byte)?;
+        done(rt, write!(line, "{byte:02x} "));
     }
-    done(String::from_str(alloc, line.trim_end()))
-}
-
-fn push_byte(alloc: Global, line: &mut String, byte: u8) -> Result<(), Fail> {
-    let digits = format!(in alloc; "{byte:02x} ")?;
-    done(line.push_str(digits.as_str()))
+    copied(rt, line.trim_end())
 }
 
 impl Told for InvalidIdentifier {
-    fn told(&self, alloc: Global, _call: &str) -> Result<String, Fail> {
-        variant(alloc, self)
+    fn told(&self, rt: &impl Runner, _call: &str) -> String {
+        variant(rt, self)
     }
 }
 
 impl Told for ToolName {
-    fn told(&self, alloc: Global, _call: &str) -> Result<String, Fail> {
-        shown(alloc, self)
+    fn told(&self, rt: &impl Runner, _call: &str) -> String {
+        shown(rt, self)
     }
 }
 
 impl Told for InvalidToolName {
-    fn told(&self, alloc: Global, _call: &str) -> Result<String, Fail> {
-        variant(alloc, self)
+    fn told(&self, rt: &impl Runner, _call: &str) -> String {
+        variant(rt, self)
     }
 }
 
 #[test]
-fn names_are_kept_or_break_one_rule(rt: HostRuntime) -> Result<(), Fail> {
-    check::<Escaped<Identifiers>>(&rt, ROWS)
+fn names_are_kept_or_break_one_rule(rt: HostRuntime) {
+    check::<Escaped<Identifiers>>(&rt, ROWS);
 }
 
 #[test]
-fn a_long_text_is_judged(rt: HostRuntime) -> Result<(), Fail> {
-    check_at::<Escaped<Identifiers>>(&rt, MEGABYTE, &[349525])
+fn a_long_text_is_judged(rt: HostRuntime) {
+    check_at::<Escaped<Identifiers>>(&rt, MEGABYTE, &[349525]);
 }

@@ -24,7 +24,11 @@ mod files;
 #[cfg(test)]
 mod identifiers;
 #[cfg(test)]
+mod junit;
+#[cfg(test)]
 mod limits;
+#[cfg(test)]
+mod merge;
 #[cfg(test)]
 mod orders;
 #[cfg(test)]

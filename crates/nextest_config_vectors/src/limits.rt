@@ -1,16 +1,13 @@
 //! Fail limits, threads and priorities, beside their settings.
 
-use crate::rows::{Subject, check, done, no_such_call, shown, written};
-use crate::values::word;
+use crate::rows::{Runner, Subject, check, done, shown, unknown, written};
+use crate::values::{FromRow, word};
 use nextest_config_elements::leak_timeout::LeakTimeout;
 use nextest_config_elements::max_fail::{MaxFail, TerminateMode};
 use nextest_config_elements::priority::TestPriority;
 use nextest_config_elements::retry_policy::RetryPolicy;
 use nextest_config_elements::slow_timeout::SlowTimeout;
 use nextest_config_elements::threads_required::ThreadsRequired;
-use std::alloc::Global;
-use std::cmp::Ordering;
-use std::test::Fail;
 
 const ROWS: &str = r#"
 # the texts of fail limits
@@ -107,104 +104,104 @@ printed | 1:x«x» | invalid terminate mode 'x«x»', expected 'wait' or 'immedi
 struct Limits;
 
 impl Subject for Limits {
-    fn answer(alloc: Global, call: &str, input: &str) -> Result<String, Fail> {
+    fn answer(rt: &impl Runner, call: &str, input: &str) -> String {
         let (call, given) = word(call);
         match call {
-            "max-fail" => written(alloc, &MaxFail::from_str(alloc, input)),
-            "mode" => written(alloc, &TerminateMode::from_str(alloc, input)),
-            "printed" => printed(alloc, given, input),
-            "reached" => reached(alloc, given, input),
-            "fail-fast" => written(alloc, &MaxFail::from_fail_fast(input == "true")),
-            "compute" => compute(alloc, input),
-            "priority" => priority(alloc, input.parse()?),
-            "order" => order(alloc, given.parse()?, input.parse()?),
-            "sorted" => sorted(alloc, input),
-            _ => value(alloc, input),
+            "max-fail" => written(rt, MaxFail::from_str(rt.alloc(), input)),
+            "mode" => written(rt, TerminateMode::from_str(rt.alloc(), input)),
+            "printed" => printed(rt, given, input),
+            "reached" => reached(rt, given, input),
+            "fail-fast" => written(rt, MaxFail::from_fail_fast(input == "true")),
+            "compute" => compute(rt, input),
+            "priority" => priority(rt, i8::from_row(rt, input)),
+            "order" => order(rt, given, input),
+            "sorted" => sorted(rt, input),
+            _ => value(rt, input),
         }
     }
 }
 
-// The limit of a text, or of no failure with this mode.
-fn limit(alloc: Global, given: &str, input: &str) -> Result<MaxFail, Fail> {
-    if given != "none" {
-        return done(MaxFail::from_str(alloc, input).map_err(|_| Fail::new("a row has no limit")));
-    }
-    let terminate = if input == "wait" {
-        TerminateMode::Wait
-    } else {
-        TerminateMode::Immediate
-    };
-    Ok(MaxFail::Count {
+// The limit of no failure with this mode, which no text gives.
+fn no_failure(rt: &impl Runner, mode: &str) -> MaxFail {
+    MaxFail::Count {
         max_fail: 0,
-        terminate,
-    })
+        terminate: TerminateMode::from_row(rt, mode),
+    }
 }
 
-fn printed(alloc: Global, given: &str, input: &str) -> Result<String, Fail> {
+fn printed(rt: &impl Runner, given: &str, input: &str) -> String {
     if given == "none" {
-        return shown(alloc, &limit(alloc, given, input)?);
+        return shown(rt, &no_failure(rt, input));
     }
-    match MaxFail::from_str(alloc, input) {
-        Ok(limit) => shown(alloc, &limit),
-        Err(error) => shown(alloc, &error),
+    match MaxFail::from_str(rt.alloc(), input) {
+        Ok(limit) => shown(rt, &limit),
+        Err(error) => shown(rt, &error),
     }
 }
 
-fn reached(alloc: Global, given: &str, input: &str) -> Result<String, Fail> {
-    let failed = given.parse().unwrap_or(0);
-    written(alloc, &limit(alloc, given, input)?.is_exceeded(failed))
+fn reached(rt: &impl Runner, given: &str, input: &str) -> String {
+    let limit = if given == "none" {
+        no_failure(rt, input)
+    } else {
+        done(rt, MaxFail::from_str(rt.alloc(), input))
+    };
+    written(rt, limit.is_exceeded(given.parse().unwrap_or(0)))
 }
 
-fn compute(alloc: Global, input: &str) -> Result<String, Fail> {
+fn compute(rt: &impl Runner, input: &str) -> String {
     let threads = match input {
         "num-cpus" => ThreadsRequired::NumCpus,
         "num-test-threads" => ThreadsRequired::NumTestThreads,
-        count => ThreadsRequired::Count(count.parse()?),
+        count => ThreadsRequired::Count(usize::from_row(rt, count)),
     };
-    written(alloc, &threads.compute(1, 8))
+    written(rt, threads.compute(1, 8))
 }
 
-fn priority(alloc: Global, number: i8) -> Result<String, Fail> {
+fn priority(rt: &impl Runner, number: i8) -> String {
     let answer = TestPriority::new(number);
-    match answer {
-        Ok(priority) => done(format!(in alloc; "{answer:?} {}", priority.to_i8())),
-        Err(error) => done(format!(in alloc; "{answer:?} {error}")),
-    }
-}
-
-fn order(alloc: Global, number: i8, other: i8) -> Result<String, Fail> {
-    let ordering = match (TestPriority::new(number), TestPriority::new(other)) {
-        (Ok(priority), Ok(other)) => priority.cmp(&other),
-        _ => Ordering::Equal,
+    let line = match answer {
+        Ok(priority) => format!(in rt.alloc(); "{answer:?} {}", priority.to_i8()),
+        Err(error) => format!(in rt.alloc(); "{answer:?} {error}"),
     };
-    written(alloc, &ordering)
+    done(rt, line)
 }
 
-fn sorted(alloc: Global, input: &str) -> Result<String, Fail> {
-    let mut priorities = Vec::new(alloc);
+impl FromRow for TestPriority {
+    fn from_row(rt: &impl Runner, text: &str) -> Self {
+        done(rt, TestPriority::new(i8::from_row(rt, text)))
+    }
+}
+
+fn order(rt: &impl Runner, left: &str, right: &str) -> String {
+    let left = TestPriority::from_row(rt, left);
+    written(rt, left.cmp(&TestPriority::from_row(rt, right)))
+}
+
+fn sorted(rt: &impl Runner, input: &str) -> String {
+    let mut priorities = Vec::new(rt.alloc());
     for number in input.split_whitespace() {
-        priorities.push(TestPriority::new(number.parse()?)?)?;
+        done(rt, priorities.push(TestPriority::from_row(rt, number)));
     }
-    priorities.sort()?;
-    written(alloc, &priorities)
+    done(rt, priorities.sort());
+    written(rt, priorities)
 }
 
-fn value(alloc: Global, name: &str) -> Result<String, Fail> {
+fn value(rt: &impl Runner, name: &str) -> String {
     match name {
-        "SlowTimeout::very_large" => written(alloc, &SlowTimeout::very_large()),
-        "LeakTimeout::default" => written(alloc, &LeakTimeout::default()),
-        "RetryPolicy::default" => policy(alloc, RetryPolicy::default()),
-        "RetryPolicy::new_without_delay" => policy(alloc, RetryPolicy::new_without_delay(3)),
-        "TestPriority::default" => written(alloc, &TestPriority::default()),
-        _ => no_such_call(),
+        "SlowTimeout::very_large" => written(rt, SlowTimeout::very_large()),
+        "LeakTimeout::default" => written(rt, LeakTimeout::default()),
+        "RetryPolicy::default" => policy(rt, RetryPolicy::default()),
+        "RetryPolicy::new_without_delay" => policy(rt, RetryPolicy::new_without_delay(3)),
+        "TestPriority::default" => written(rt, TestPriority::default()),
+        _ => unknown(rt, name),
     }
 }
 
-fn policy(alloc: Global, policy: RetryPolicy) -> Result<String, Fail> {
-    done(format!(in alloc; "{policy:?} {}", policy.count()))
+fn policy(rt: &impl Runner, policy: RetryPolicy) -> String {
+    done(rt, format!(in rt.alloc(); "{policy:?} {}", policy.count()))
 }
 
 #[test]
-fn limits_threads_and_priorities(rt: HostRuntime) -> Result<(), Fail> {
-    check::<Limits>(&rt, ROWS)
+fn limits_threads_and_priorities(rt: HostRuntime) {
+    check::<Limits>(&rt, ROWS);
 }

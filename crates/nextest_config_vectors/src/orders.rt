@@ -1,21 +1,19 @@
 //! Orders, hashes and defaults.
 
 use crate::compared::Orders;
-use crate::rows::{Escaped, Subject, check, no_such_call, written};
+use crate::rows::{Escaped, Runner, Subject, check, unknown, written};
 use nextest_config::nextest_version::{
     ExperimentalConfig, ExperimentalDeserialize, NextestVersionConfig, NextestVersionReq,
     VersionOnlyConfig,
 };
-use nextest_config_elements::junit::JunitFlakyFailStatus;
+use nextest_config_elements::junit::{JunitFlakyFailStatus, JunitImpl};
 use nextest_config_elements::leak_timeout::LeakTimeoutResult;
 use nextest_config_elements::max_fail::TerminateMode;
 use nextest_config_elements::report_skip_policy::ReportSkipPolicy;
 use nextest_config_elements::retry_policy::FlakyResult;
 use nextest_config_elements::slow_timeout::SlowTimeoutResult;
 use nextest_config_values::track_default::TrackDefault;
-use std::alloc::Global;
 use std::fmt::Debug;
-use std::test::Fail;
 
 const ORDERS: &str = r#"
 Severity | Satisfied ~ Satisfied | Equal
@@ -79,6 +77,7 @@ LeakTimeoutResult |  | Pass
 SlowTimeoutResult |  | Fail
 ReportSkipPolicy |  | None
 JunitFlakyFailStatus |  | Failure
+JunitImpl |  | JunitImpl { path: None, report_name: None, store_success_output: None, store_failure_output: None, report_skipped: None, flaky_fail_status: None }
 
 # a default isn't read
 TrackDefault u32 |  | TrackDefault { value: 0, is_deserialized: false }
@@ -96,40 +95,37 @@ VersionOnlyConfig |  | VersionOnlyConfig { nextest_version: NextestVersionConfig
 struct Defaults;
 
 impl Subject for Defaults {
-    fn answer(alloc: Global, call: &str, _input: &str) -> Result<String, Fail> {
+    fn answer(rt: &impl Runner, call: &str, _input: &str) -> String {
         match call {
-            "TerminateMode" => default::<TerminateMode>(alloc),
-            "FlakyResult" => default::<FlakyResult>(alloc),
-            "LeakTimeoutResult" => default::<LeakTimeoutResult>(alloc),
-            "SlowTimeoutResult" => default::<SlowTimeoutResult>(alloc),
-            "ReportSkipPolicy" => default::<ReportSkipPolicy>(alloc),
-            "JunitFlakyFailStatus" => default::<JunitFlakyFailStatus>(alloc),
-            "TrackDefault u32" => default::<TrackDefault<u32>>(alloc),
-            "TrackDefault bool" => default::<TrackDefault<bool>>(alloc),
-            "NextestVersionReq" => default::<NextestVersionReq>(alloc),
-            "NextestVersionConfig" => default::<NextestVersionConfig>(alloc),
-            "ExperimentalDeserialize" => initial(alloc, ExperimentalDeserialize::new(alloc)),
-            "ExperimentalConfig" => initial(alloc, ExperimentalConfig::new(alloc)),
-            "VersionOnlyConfig" => initial(alloc, VersionOnlyConfig::new(alloc)),
-            _ => no_such_call(),
+            "TerminateMode" => default::<TerminateMode>(rt),
+            "FlakyResult" => default::<FlakyResult>(rt),
+            "LeakTimeoutResult" => default::<LeakTimeoutResult>(rt),
+            "SlowTimeoutResult" => default::<SlowTimeoutResult>(rt),
+            "ReportSkipPolicy" => default::<ReportSkipPolicy>(rt),
+            "JunitFlakyFailStatus" => default::<JunitFlakyFailStatus>(rt),
+            "JunitImpl" => default::<JunitImpl>(rt),
+            "TrackDefault u32" => default::<TrackDefault<u32>>(rt),
+            "TrackDefault bool" => default::<TrackDefault<bool>>(rt),
+            "NextestVersionReq" => default::<NextestVersionReq>(rt),
+            "NextestVersionConfig" => default::<NextestVersionConfig>(rt),
+            "ExperimentalDeserialize" => written(rt, ExperimentalDeserialize::new(rt.alloc())),
+            "ExperimentalConfig" => written(rt, ExperimentalConfig::new(rt.alloc())),
+            "VersionOnlyConfig" => written(rt, VersionOnlyConfig::new(rt.alloc())),
+            _ => unknown(rt, call),
         }
     }
 }
 
-fn default<T: Default + Debug + Drop>(alloc: Global) -> Result<String, Fail> {
-    initial(alloc, T::default())
-}
-
-fn initial<T: Debug + Drop>(alloc: Global, value: T) -> Result<String, Fail> {
-    written(alloc, &value)
+fn default<T: Default + Debug + Drop>(rt: &impl Runner) -> String {
+    written(rt, T::default())
 }
 
 #[test]
-fn values_are_in_order(rt: HostRuntime) -> Result<(), Fail> {
-    check::<Escaped<Orders>>(&rt, ORDERS)
+fn values_are_in_order(rt: HostRuntime) {
+    check::<Escaped<Orders>>(&rt, ORDERS);
 }
 
 #[test]
-fn defaults_are_as_documented(rt: HostRuntime) -> Result<(), Fail> {
-    check::<Defaults>(&rt, DEFAULTS)
+fn defaults_are_as_documented(rt: HostRuntime) {
+    check::<Defaults>(&rt, DEFAULTS);
 }

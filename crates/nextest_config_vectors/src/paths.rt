@@ -1,9 +1,8 @@
 //! Relative paths.
 
-use crate::rows::{Subject, Told, answered, check, done};
+use crate::rows::{Runner, Subject, Told, answered, check, copied};
+use crate::values::FromRow;
 use nextest_config_values::helpers::deserialize_relative_path;
-use std::alloc::Global;
-use std::test::Fail;
 use toml::Value;
 
 const ROWS: &str = r#"
@@ -34,20 +33,20 @@ at p«p» | 'a«/b»/..' | p«p»: invalid value: string "a«/b»/..", expected 
 struct Paths;
 
 impl Subject for Paths {
-    fn answer(alloc: Global, call: &str, input: &str) -> Result<String, Fail> {
+    fn answer(rt: &impl Runner, call: &str, input: &str) -> String {
         let at = call.strip_prefix("at ").unwrap_or("?");
-        let value = Value::from_str(alloc, input)?;
-        answered(alloc, call, deserialize_relative_path(alloc, &value, at))
+        let value = Value::from_row(rt, input);
+        answered(rt, "", deserialize_relative_path(rt.alloc(), &value, at))
     }
 }
 
 impl Told for String {
-    fn told(&self, alloc: Global, _call: &str) -> Result<String, Fail> {
-        done(String::from_str(alloc, self.as_str()))
+    fn told(&self, rt: &impl Runner, _call: &str) -> String {
+        copied(rt, self.as_str())
     }
 }
 
 #[test]
-fn relative_paths_are_kept_as_written_and_others_refused(rt: HostRuntime) -> Result<(), Fail> {
-    check::<Paths>(&rt, ROWS)
+fn relative_paths_are_kept_as_written_and_others_refused(rt: HostRuntime) {
+    check::<Paths>(&rt, ROWS);
 }

@@ -1,6 +1,6 @@
 //! Values that print, each as its text alone.
 
-use crate::rows::{Escaped, Subject, check, no_such_call, shown, written};
+use crate::rows::{Escaped, Runner, Subject, check, shown, unknown, written};
 use crate::values::FromRow;
 use nextest_config::nextest_version::{
     ConfigExperimental, ConfigParseError, ConfigParseErrorKind, ConfigSource, ListRefusal,
@@ -11,9 +11,7 @@ use nextest_config_values::identifier::{
 };
 use nextest_config_values::read::{FaultKind, ReadFault, Rule};
 use nextest_config_values::tool_config::ToolConfigFileParseError;
-use std::alloc::Global;
 use std::fmt::Display;
-use std::test::Fail;
 
 const ROWS: &str = r#"
 ConfigIdentifier | a | a
@@ -174,40 +172,39 @@ ListRefusal | «#» explicit: a«x» => x = | source «#»: explicit a«x»: not
 struct Printed;
 
 impl Subject for Printed {
-    fn answer(alloc: Global, call: &str, input: &str) -> Result<String, Fail> {
+    fn answer(rt: &impl Runner, call: &str, input: &str) -> String {
         match call.strip_prefix("written ") {
-            Some(call) => written(alloc, &text_of(alloc, call, input)?),
-            None => text_of(alloc, call, input),
+            Some(call) => written(rt, text_of(rt, call, input)),
+            None => text_of(rt, call, input),
         }
     }
 }
 
-fn text_of(alloc: Global, call: &str, input: &str) -> Result<String, Fail> {
+fn text_of(rt: &impl Runner, call: &str, input: &str) -> String {
     match call {
-        "ConfigExperimental" => text::<ConfigExperimental>(alloc, input),
-        "ConfigIdentifier" => text::<ConfigIdentifier>(alloc, input),
-        "ConfigParseError" => text::<ConfigParseError>(alloc, input),
-        "ConfigParseErrorKind" => text::<ConfigParseErrorKind>(alloc, input),
-        "ConfigSource" => text::<ConfigSource>(alloc, input),
-        "FaultKind" => text::<FaultKind>(alloc, input),
-        "InvalidIdentifier" => text::<InvalidIdentifier>(alloc, input),
-        "InvalidToolName" => text::<InvalidToolName>(alloc, input),
-        "ListRefusal" => text::<ListRefusal>(alloc, input),
-        "ReadFault" => text::<ReadFault>(alloc, input),
-        "Rule" => text::<Rule>(alloc, input),
-        "TerminateMode" => text::<TerminateMode>(alloc, input),
-        "ToolConfigFileParseError" => text::<ToolConfigFileParseError>(alloc, input),
-        "ToolName" => text::<ToolName>(alloc, input),
-        _ => no_such_call(),
+        "ConfigExperimental" => text::<ConfigExperimental>(rt, input),
+        "ConfigIdentifier" => text::<ConfigIdentifier>(rt, input),
+        "ConfigParseError" => text::<ConfigParseError>(rt, input),
+        "ConfigParseErrorKind" => text::<ConfigParseErrorKind>(rt, input),
+        "ConfigSource" => text::<ConfigSource>(rt, input),
+        "FaultKind" => text::<FaultKind>(rt, input),
+        "InvalidIdentifier" => text::<InvalidIdentifier>(rt, input),
+        "InvalidToolName" => text::<InvalidToolName>(rt, input),
+        "ListRefusal" => text::<ListRefusal>(rt, input),
+        "ReadFault" => text::<ReadFault>(rt, input),
+        "Rule" => text::<Rule>(rt, input),
+        "TerminateMode" => text::<TerminateMode>(rt, input),
+        "ToolConfigFileParseError" => text::<ToolConfigFileParseError>(rt, input),
+        "ToolName" => text::<ToolName>(rt, input),
+        _ => unknown(rt, call),
     }
 }
 
-fn text<T: FromRow + Display + Drop>(alloc: Global, input: &str) -> Result<String, Fail> {
-    let value = T::from_row(alloc, input)?;
-    shown(alloc, &value)
+fn text<T: FromRow + Display + Drop>(rt: &impl Runner, input: &str) -> String {
+    shown(rt, &T::from_row(rt, input))
 }
 
 #[test]
-fn each_value_prints_its_text_alone(rt: HostRuntime) -> Result<(), Fail> {
-    check::<Escaped<Printed>>(&rt, ROWS)
+fn each_value_prints_its_text_alone(rt: HostRuntime) {
+    check::<Escaped<Printed>>(&rt, ROWS);
 }

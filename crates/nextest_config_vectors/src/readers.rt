@@ -1,6 +1,7 @@
 //! The plain readers, words and marks.
 
-use crate::rows::{Subject, Told, answered, check, done, made, no_such_call, written};
+use crate::rows::{Runner, Subject, Told, answered, check, done, made, unknown, written};
+use crate::values::FromRow;
 use nextest_config_elements::junit::JunitFlakyFailStatus;
 use nextest_config_elements::leak_timeout::LeakTimeoutResult;
 use nextest_config_elements::max_fail::TerminateMode;
@@ -10,9 +11,7 @@ use nextest_config_elements::slow_timeout::SlowTimeoutResult;
 use nextest_config_values::identifier::{ConfigIdentifier, ToolName};
 use nextest_config_values::read::{FromToml, NonZeroCount, Word};
 use nextest_config_values::track_default::TrackDefault;
-use std::alloc::Global;
 use std::fmt::Debug;
-use std::test::Fail;
 use toml::Value;
 
 const ROWS: &str = r#"
@@ -88,47 +87,42 @@ ToolName | 'a«é»' | ToolName { text: "a«é»" }
 struct Readers;
 
 impl Subject for Readers {
-    fn answer(alloc: Global, call: &str, input: &str) -> Result<String, Fail> {
-        if call == "NonZeroCount::new" {
-            return counted(alloc, input.parse()?);
+    fn answer(rt: &impl Runner, call: &str, input: &str) -> String {
+        match call {
+            "bool" => read::<bool>(rt, input),
+            "u32" => read::<u32>(rt, input),
+            "String" => read::<String>(rt, input),
+            "NonZeroCount" => read::<NonZeroCount>(rt, input),
+            "NonZeroCount::new" => counted(rt, usize::from_row(rt, input)),
+            "TrackDefault u32" => read::<TrackDefault<u32>>(rt, input),
+            "TrackDefault bool" => read::<TrackDefault<bool>>(rt, input),
+            "ConfigIdentifier" => read::<ConfigIdentifier>(rt, input),
+            "ToolName" => read::<ToolName>(rt, input),
+            _ => word(rt, call, input),
         }
-        let value = Value::from_str(alloc, input)?;
-        answer(alloc, call, &value)
     }
 }
 
-fn counted(alloc: Global, count: usize) -> Result<String, Fail> {
-    written(alloc, &NonZeroCount::new(count).map(NonZeroCount::get))
+fn counted(rt: &impl Runner, count: usize) -> String {
+    written(rt, NonZeroCount::new(count).map(NonZeroCount::get))
 }
 
-fn answer(alloc: Global, call: &str, value: &Value) -> Result<String, Fail> {
+fn word(rt: &impl Runner, call: &str, input: &str) -> String {
     match call {
-        "bool" => read::<bool>(alloc, value),
-        "u32" => read::<u32>(alloc, value),
-        "String" => read::<String>(alloc, value),
-        "NonZeroCount" => read::<NonZeroCount>(alloc, value),
-        "TrackDefault u32" => read::<TrackDefault<u32>>(alloc, value),
-        "TrackDefault bool" => read::<TrackDefault<bool>>(alloc, value),
-        "ConfigIdentifier" => read::<ConfigIdentifier>(alloc, value),
-        "ToolName" => read::<ToolName>(alloc, value),
-        _ => word(alloc, call, value),
+        "FlakyResult" => read_word::<FlakyResult>(rt, input),
+        "JunitFlakyFailStatus" => read_word::<JunitFlakyFailStatus>(rt, input),
+        "LeakTimeoutResult" => read_word::<LeakTimeoutResult>(rt, input),
+        "ReportSkipPolicy" => read_word::<ReportSkipPolicy>(rt, input),
+        "SlowTimeoutResult" => read_word::<SlowTimeoutResult>(rt, input),
+        "TerminateMode" => read_word::<TerminateMode>(rt, input),
+        _ => unknown(rt, call),
     }
 }
 
-fn word(alloc: Global, call: &str, value: &Value) -> Result<String, Fail> {
-    match call {
-        "FlakyResult" => read_word::<FlakyResult>(alloc, value),
-        "JunitFlakyFailStatus" => read_word::<JunitFlakyFailStatus>(alloc, value),
-        "LeakTimeoutResult" => read_word::<LeakTimeoutResult>(alloc, value),
-        "ReportSkipPolicy" => read_word::<ReportSkipPolicy>(alloc, value),
-        "SlowTimeoutResult" => read_word::<SlowTimeoutResult>(alloc, value),
-        "TerminateMode" => read_word::<TerminateMode>(alloc, value),
-        _ => no_such_call(),
-    }
-}
-
-fn read<T: FromToml + Debug + Drop>(alloc: Global, value: &Value) -> Result<String, Fail> {
-    made(alloc, T::read(alloc, value, "p"))
+/// What a type reads from the value that a row writes, at the path `p`.
+pub(crate) fn read<T: FromToml + Debug + Drop>(rt: &impl Runner, input: &str) -> String {
+    let value = Value::from_row(rt, input);
+    made(rt, T::read(rt.alloc(), &value, "p"))
 }
 
 // A word, which is told beside its value.
@@ -136,16 +130,20 @@ fn read<T: FromToml + Debug + Drop>(alloc: Global, value: &Value) -> Result<Stri
 struct Named<T>(T);
 
 impl<T: Word + Debug> Told for Named<T> {
-    fn told(&self, alloc: Global, _call: &str) -> Result<String, Fail> {
-        done(format!(in alloc; "{:?} {}", self.0, self.0.as_word()))
+    fn told(&self, rt: &impl Runner, _call: &str) -> String {
+        done(
+            rt,
+            format!(in rt.alloc(); "{:?} {}", self.0, self.0.as_word()),
+        )
     }
 }
 
-fn read_word<T: Word + Debug>(alloc: Global, value: &Value) -> Result<String, Fail> {
-    answered(alloc, "", T::read(alloc, value, "p").map(Named))
+fn read_word<T: Word + Debug>(rt: &impl Runner, input: &str) -> String {
+    let value = Value::from_row(rt, input);
+    answered(rt, "", T::read(rt.alloc(), &value, "p").map(Named))
 }
 
 #[test]
-fn values_are_read_or_refused(rt: HostRuntime) -> Result<(), Fail> {
-    check::<Readers>(&rt, ROWS)
+fn values_are_read_or_refused(rt: HostRuntime) {
+    check::<Readers>(&rt, ROWS);
 }

@@ -1,12 +1,10 @@
 //! Tables of rows, each a line `CALL | INPUT | ANSWER`.
 //!
 //! A blank line is no row, nor is one that begins with `#`. An answer that is empty or ends in a space
-//! is followed by ` |`.
+//! is followed by ` |`. What a row can't ask for ends its test.
 
-use std::alloc::Global;
 use std::fmt::{Debug, Display};
 use std::process::Abort;
-use std::test::Fail;
 
 // Sizes around the powers of two, and some thousands.
 const SIZES: [usize; 37] = [
@@ -14,10 +12,15 @@ const SIZES: [usize; 37] = [
     511, 512, 513, 1023, 1024, 1025, 2047, 2048, 2049, 4095, 4096, 4097, 5000,
 ];
 
+/// What runs a test: it has memory, and can end the test.
+pub(crate) trait Runner: Abort + AllocGlobal {}
+
+impl<R: Abort + AllocGlobal> Runner for R {}
+
 /// What tables of rows are about.
 pub(crate) trait Subject {
     /// What a call answers for an input.
-    fn answer(alloc: Global, call: &str, input: &str) -> Result<String, Fail>;
+    fn answer(rt: &impl Runner, call: &str, input: &str) -> String;
 }
 
 /// A subject whose inputs write some characters as `\n` or `\u{..}`.
@@ -26,133 +29,123 @@ pub(crate) struct Escaped<S> {
 }
 
 impl<S: Subject> Subject for Escaped<S> {
-    fn answer(alloc: Global, call: &str, input: &str) -> Result<String, Fail> {
-        let input = unescaped(alloc, input)?;
-        S::answer(alloc, call, input.as_str())
+    fn answer(rt: &impl Runner, call: &str, input: &str) -> String {
+        let input = unescaped(rt, input);
+        S::answer(rt, call, input.as_str())
     }
 }
 
 /// Asks for the answer of each row, and compares it. A row with `«PIECE»` is asked for at each size, that is
 /// with each piece that many times. A `@` in a piece is its number, in five digits. `«#»` is the size.
-pub(crate) fn check<S: Subject>(rt: &(impl Abort + AllocGlobal), rows: &str) -> Result<(), Fail> {
-    check_at::<S>(rt, rows, &SIZES)
+pub(crate) fn check<S: Subject>(rt: &impl Runner, rows: &str) {
+    check_at::<S>(rt, rows, &SIZES);
 }
 
 /// Does the same at sizes of its own.
-pub(crate) fn check_at<S: Subject>(
-    rt: &(impl Abort + AllocGlobal),
-    rows: &str,
-    sizes: &[usize],
-) -> Result<(), Fail> {
+pub(crate) fn check_at<S: Subject>(rt: &impl Runner, rows: &str, sizes: &[usize]) {
     for line in rows.lines() {
         if is_row(line) {
-            check_sizes::<S>(rt, line, sizes)?;
+            check_sizes::<S>(rt, line, sizes);
         }
     }
-    Ok(())
 }
 
-fn is_row(line: &str) -> bool {
+pub(crate) fn is_row(line: &str) -> bool {
     !line.is_empty() && !line.starts_with('#')
 }
 
-fn check_sizes<S: Subject>(
-    rt: &(impl Abort + AllocGlobal),
-    row: &str,
-    sizes: &[usize],
-) -> Result<(), Fail> {
+fn check_sizes<S: Subject>(rt: &impl Runner, row: &str, sizes: &[usize]) {
     if !row.contains('«') {
         return check_row::<S>(rt, row);
     }
     for size in sizes {
-        check_grown::<S>(rt, row, *size)?;
+        check_grown::<S>(rt, row, *size);
     }
-    Ok(())
 }
 
-fn check_grown<S: Subject>(
-    rt: &(impl Abort + AllocGlobal),
-    row: &str,
-    size: usize,
-) -> Result<(), Fail> {
-    let row = grown(rt.alloc(), row, size)?;
-    check_row::<S>(rt, row.as_str())
+fn check_grown<S: Subject>(rt: &impl Runner, row: &str, size: usize) {
+    let row = grown(rt, row, size);
+    check_row::<S>(rt, row.as_str());
 }
 
-fn check_row<S: Subject>(rt: &(impl Abort + AllocGlobal), row: &str) -> Result<(), Fail> {
-    let (call, rest) = cut(row, " | ")?;
-    let (input, wanted) = cut(rest, " | ")?;
-    let line = S::answer(rt.alloc(), call, input)?;
-    compare(rt, row, line.as_str(), wanted);
-    Ok(())
+fn check_row<S: Subject>(rt: &impl Runner, row: &str) {
+    let (call, input, wanted) = parts(rt, row);
+    let answer = S::answer(rt, call, input);
+    compare(rt, row, answer.as_str(), wanted);
 }
 
-fn compare(rt: &impl Abort, row: &str, line: &str, wanted: &str) {
+/// The call, the input and the wanted answer of a row.
+pub(crate) fn parts<'t>(rt: &impl Runner, row: &'t str) -> (&'t str, &'t str, &'t str) {
+    let (call, rest) = cut(rt, row, " | ");
+    let (input, wanted) = cut(rt, rest, " | ");
+    (call, input, wanted)
+}
+
+/// Ends the test where the answer isn't the wanted one.
+pub(crate) fn compare(rt: &impl Runner, row: &str, answer: &str, wanted: &str) {
     let wanted = wanted.strip_suffix(" |").unwrap_or(wanted);
-    assert_eq!(rt; line, wanted, "in {row}");
+    assert_eq!(rt; answer, wanted, "in {row}");
 }
 
-fn grown(alloc: Global, row: &str, size: usize) -> Result<String, Fail> {
-    let mut text = String::new(alloc);
+fn grown(rt: &impl Runner, row: &str, size: usize) -> String {
+    let mut text = String::new(rt.alloc());
     for part in row.split('«') {
-        grow(alloc, &mut text, part, size)?;
+        grow(rt, &mut text, part, size);
     }
-    Ok(text)
+    text
 }
 
-fn grow(alloc: Global, text: &mut String, part: &str, size: usize) -> Result<(), Fail> {
-    let Some((piece, rest)) = part.split_once('»') else {
-        return done(text.push_str(part));
-    };
-    repeat(alloc, text, piece, size)?;
-    done(text.push_str(rest))
+fn grow(rt: &impl Runner, text: &mut String, part: &str, size: usize) {
+    match part.split_once('»') {
+        Some((piece, rest)) => {
+            repeat(rt, text, piece, size);
+            push(rt, text, rest);
+        }
+        None => push(rt, text, part),
+    }
 }
 
-fn repeat(alloc: Global, text: &mut String, piece: &str, size: usize) -> Result<(), Fail> {
+fn repeat(rt: &impl Runner, text: &mut String, piece: &str, size: usize) {
     if piece == "#" {
-        return numbered(alloc, text, ("", ""), size);
+        return done(rt, write!(text, "{size}"));
     }
     for number in 10000..size.saturating_add(10000) {
-        match piece.split_once('@') {
-            Some(sides) => numbered(alloc, text, sides, number)?,
-            None => text.push_str(piece)?,
-        }
+        push_piece(rt, text, piece, number);
     }
-    Ok(())
 }
 
-fn numbered(
-    alloc: Global,
-    text: &mut String,
-    sides: (&str, &str),
-    number: usize,
-) -> Result<(), Fail> {
-    let piece = format!(in alloc; "{}{number}{}", sides.0, sides.1)?;
-    done(text.push_str(piece.as_str()))
+fn push_piece(rt: &impl Runner, text: &mut String, piece: &str, number: usize) {
+    match piece.split_once('@') {
+        Some((left, right)) => done(rt, write!(text, "{left}{number}{right}")),
+        None => push(rt, text, piece),
+    }
+}
+
+/// Adds to a text.
+pub(crate) fn push(rt: &impl Runner, text: &mut String, more: &str) {
+    done(rt, text.push_str(more));
 }
 
 /// The two sides of the first of these marks.
-pub(crate) fn cut<'t>(text: &'t str, mark: &str) -> Result<(&'t str, &'t str), Fail> {
-    match text.split_once(mark) {
-        Some(sides) => Ok(sides),
-        None => Err(Fail::new("a row lacks a part")),
-    }
+pub(crate) fn cut<'t>(rt: &impl Runner, text: &'t str, mark: &str) -> (&'t str, &'t str) {
+    text.split_once(mark).expect(rt, "a row lacks a part")
 }
 
 // The text with the characters that its escapes name.
-fn unescaped(alloc: Global, text: &str) -> Result<String, Fail> {
+fn unescaped(rt: &impl Runner, text: &str) -> String {
     let mut parts = text.split('\\');
-    let mut made = String::from_str(alloc, parts.next().unwrap_or(""))?;
+    let mut made = String::new(rt.alloc());
+    push(rt, &mut made, parts.next().unwrap_or(""));
     for part in parts {
-        unescape(&mut made, part)?;
+        unescape(rt, &mut made, part);
     }
-    Ok(made)
+    made
 }
 
-fn unescape(text: &mut String, part: &str) -> Result<(), Fail> {
+fn unescape(rt: &impl Runner, text: &mut String, part: &str) {
     let (character, rest) = named_by(part);
-    text.push(character)?;
-    done(text.push_str(rest))
+    done(rt, text.push(character));
+    push(rt, text, rest);
 }
 
 // What a backslash in front of a text names, and what stands behind that.
@@ -174,70 +167,76 @@ fn character(code: &str) -> char {
     char::from_u32(code).unwrap_or('?')
 }
 
-/// An answer whose want, if any, fails the test.
-pub(crate) fn done<T, E>(answer: Result<T, E>) -> Result<T, Fail>
-where
-    Fail: From<E>,
-{
-    Ok(answer?)
+/// What a call answered, which may not be a refusal.
+pub(crate) fn done<T, E: Debug + Drop>(rt: &impl Runner, answer: Result<T, E>) -> T {
+    answer.expect(rt, "a row is refused")
+}
+
+/// Ends the test at a word that nothing has.
+pub(crate) fn unknown<T>(rt: &impl Runner, word: &str) -> T {
+    panic!(rt; "a row has the unknown word {word}")
+}
+
+/// A copy of a text.
+pub(crate) fn copied(rt: &impl Runner, text: &str) -> String {
+    done(rt, String::from_str(rt.alloc(), text))
 }
 
 /// The text of a value, which is the same whatever a format asks for.
-pub(crate) fn shown<T: Display>(alloc: Global, value: &T) -> Result<String, Fail> {
-    let text = format!(in alloc; "{value}")?;
-    let formatted = format!(in alloc; "{value:>40}{value:*^60}{value:#}")?;
-    if formatted == text.repeat(alloc, 3)? {
-        Ok(text)
+pub(crate) fn shown<T: Display>(rt: &impl Runner, value: &T) -> String {
+    let text = done(rt, format!(in rt.alloc(); "{value}"));
+    let formatted = done(
+        rt,
+        format!(in rt.alloc(); "{value:>40}{value:*^60}{value:#}"),
+    );
+    if formatted == done(rt, text.repeat(rt.alloc(), 3)) {
+        text
     } else {
-        Ok(formatted)
+        formatted
     }
 }
 
 /// A value of which a call tells something.
 pub(crate) trait Told {
-    fn told(&self, alloc: Global, call: &str) -> Result<String, Fail>;
+    fn told(&self, rt: &impl Runner, call: &str) -> String;
 }
 
 /// What the call tells of a value.
-pub(crate) fn tell<T: Told + Drop>(alloc: Global, call: &str, value: T) -> Result<String, Fail> {
-    value.told(alloc, call)
+pub(crate) fn tell<T: Told + Drop>(rt: &impl Runner, call: &str, value: T) -> String {
+    value.told(rt, call)
 }
 
 /// What the call tells of what was answered.
 pub(crate) fn answered<T: Told + Drop, E: Told + Drop>(
-    alloc: Global,
+    rt: &impl Runner,
     call: &str,
     answer: Result<T, E>,
-) -> Result<String, Fail> {
+) -> String {
     match answer {
-        Ok(value) => value.told(alloc, call),
-        Err(error) => error.told(alloc, call),
+        Ok(value) => value.told(rt, call),
+        Err(error) => error.told(rt, call),
     }
 }
 
 /// What was answered: a value as a source would write it, or a refusal as it prints.
 pub(crate) fn made<T: Debug + Drop, E: Display + Drop>(
-    alloc: Global,
+    rt: &impl Runner,
     answer: Result<T, E>,
-) -> Result<String, Fail> {
+) -> String {
     match answer {
-        Ok(value) => written(alloc, &value),
-        Err(error) => shown(alloc, &error),
+        Ok(value) => written(rt, value),
+        Err(error) => shown(rt, &error),
     }
 }
 
 /// A value as a source would write it.
-pub(crate) fn written<T: Debug>(alloc: Global, value: &T) -> Result<String, Fail> {
-    done(format!(in alloc; "{value:?}"))
+pub(crate) fn written<T: Debug + Drop>(rt: &impl Runner, value: T) -> String {
+    done(rt, format!(in rt.alloc(); "{value:?}"))
 }
 
 /// A variant that has no more than a text, and the text.
-pub(crate) fn variant<T: Debug>(alloc: Global, value: &T) -> Result<String, Fail> {
-    let text = written(alloc, value)?;
-    let text = text.replace(alloc, "(\"", " ")?;
-    done(text.replace(alloc, "\")", ""))
-}
-
-pub(crate) fn no_such_call() -> Result<String, Fail> {
-    Err(Fail::new("a row asks for no known call"))
+pub(crate) fn variant<T: Debug>(rt: &impl Runner, value: &T) -> String {
+    let text = written(rt, value);
+    let text = done(rt, text.replace(rt.alloc(), "(\"", " "));
+    done(rt, text.replace(rt.alloc(), "\")", ""))
 }

@@ -1,7 +1,7 @@
 //! The settings of profiles, read at the path that a call names.
 
-use crate::rows::{Subject, check, made, no_such_call};
-use crate::values::word;
+use crate::rows::{Runner, Subject, check, made, unknown};
+use crate::values::{FromRow, word};
 use nextest_config_elements::global_timeout::GlobalTimeout;
 use nextest_config_elements::leak_timeout::deserialize_leak_timeout;
 use nextest_config_elements::max_fail::deserialize_fail_fast;
@@ -10,8 +10,6 @@ use nextest_config_elements::retry_policy::deserialize_retry_policy;
 use nextest_config_elements::slow_timeout::deserialize_slow_timeout;
 use nextest_config_elements::threads_required::ThreadsRequired;
 use nextest_config_values::read::FromToml;
-use std::alloc::Global;
-use std::test::Fail;
 use toml::Value;
 
 const TIMEOUTS: &str = r#"
@@ -172,37 +170,37 @@ priority r | 1979-05-27 | r: invalid type: datetime, expected i8
 struct Settings;
 
 impl Subject for Settings {
-    fn answer(alloc: Global, call: &str, input: &str) -> Result<String, Fail> {
-        let value = Value::from_str(alloc, input)?;
+    fn answer(rt: &impl Runner, call: &str, input: &str) -> String {
+        let value = Value::from_row(rt, input);
         let (setting, at) = word(call);
-        read(alloc, setting, &value, at)
+        read(rt, setting, &value, at)
     }
 }
 
-fn read(alloc: Global, setting: &str, value: &Value, at: &str) -> Result<String, Fail> {
+fn read(rt: &impl Runner, setting: &str, value: &Value, at: &str) -> String {
     match setting {
-        "fail-fast" => made(alloc, deserialize_fail_fast(alloc, value, at)),
-        "global" => made(alloc, GlobalTimeout::read(alloc, value, at)),
-        "leak" => made(alloc, deserialize_leak_timeout(alloc, value, at)),
-        "priority" => made(alloc, TestPriority::read(alloc, value, at)),
-        "retries" => made(alloc, deserialize_retry_policy(alloc, value, at)),
-        "slow" => made(alloc, deserialize_slow_timeout(alloc, value, at)),
-        "threads" => made(alloc, ThreadsRequired::read(alloc, value, at)),
-        _ => no_such_call(),
+        "fail-fast" => made(rt, deserialize_fail_fast(rt.alloc(), value, at)),
+        "global" => made(rt, GlobalTimeout::read(rt.alloc(), value, at)),
+        "leak" => made(rt, deserialize_leak_timeout(rt.alloc(), value, at)),
+        "priority" => made(rt, TestPriority::read(rt.alloc(), value, at)),
+        "retries" => made(rt, deserialize_retry_policy(rt.alloc(), value, at)),
+        "slow" => made(rt, deserialize_slow_timeout(rt.alloc(), value, at)),
+        "threads" => made(rt, ThreadsRequired::read(rt.alloc(), value, at)),
+        _ => unknown(rt, setting),
     }
 }
 
 #[test]
-fn timeouts_are_read_or_refused(rt: HostRuntime) -> Result<(), Fail> {
-    check::<Settings>(&rt, TIMEOUTS)
+fn timeouts_are_read_or_refused(rt: HostRuntime) {
+    check::<Settings>(&rt, TIMEOUTS);
 }
 
 #[test]
-fn retries_are_read_or_refused(rt: HostRuntime) -> Result<(), Fail> {
-    check::<Settings>(&rt, RETRIES)
+fn retries_are_read_or_refused(rt: HostRuntime) {
+    check::<Settings>(&rt, RETRIES);
 }
 
 #[test]
-fn limits_threads_and_priorities_are_read_or_refused(rt: HostRuntime) -> Result<(), Fail> {
-    check::<Settings>(&rt, LIMITS)
+fn limits_threads_and_priorities_are_read_or_refused(rt: HostRuntime) {
+    check::<Settings>(&rt, LIMITS);
 }

@@ -1,6 +1,6 @@
 //! Values that rows write: sources, versions and what is kept of them.
 
-use crate::rows::{cut, done};
+use crate::rows::{Runner, copied, cut, done, unknown};
 use crate::values::{FromRow, both, word};
 use nextest_config::nextest_version::{
     ConfigExperimental, ConfigSource, ConfigSourceKind, ExperimentalDeserialize,
@@ -10,155 +10,148 @@ use nextest_config::nextest_version::{
 use nextest_config_values::identifier::ToolName;
 use nextest_config_values::read::FromToml;
 use nextest_config_values::tool_config::ToolConfigFile;
-use std::alloc::Global;
-use std::test::Fail;
 use toml::Value;
 
 /// Writes `tool NAME`, `explicit` or `repository`.
 impl FromRow for ConfigSourceKind {
-    fn from_row(alloc: Global, text: &str) -> Result<Self, Fail> {
+    fn from_row(rt: &impl Runner, text: &str) -> Self {
         match word(text) {
-            ("tool", name) => ToolName::from_row(alloc, name).map(ConfigSourceKind::Tool),
-            ("explicit", _) => Ok(ConfigSourceKind::ExplicitRepository),
-            ("repository", _) => Ok(ConfigSourceKind::DiscoveredRepository),
-            _ => Err(Fail::new("no kind of a source")),
+            ("tool", name) => ConfigSourceKind::Tool(ToolName::from_row(rt, name)),
+            ("explicit", _) => ConfigSourceKind::ExplicitRepository,
+            ("repository", _) => ConfigSourceKind::DiscoveredRepository,
+            _ => unknown(rt, text),
         }
     }
 }
 
 /// Writes `KIND: PATH`.
 impl FromRow for ConfigSource {
-    fn from_row(alloc: Global, text: &str) -> Result<Self, Fail> {
-        let (kind, path) = both(alloc, text, ": ")?;
-        Ok(ConfigSource { kind, path })
+    fn from_row(rt: &impl Runner, text: &str) -> Self {
+        let (kind, path) = both(rt, text, ": ");
+        ConfigSource { kind, path }
     }
 }
 
-// A source, and its contents where an arrow stands before them.
-fn parts<T: FromRow + Drop>(alloc: Global, text: &str) -> Result<(T, Option<String>), Fail> {
+// What stands in front of an arrow, and the contents behind it where there is one.
+fn parts<'t>(rt: &impl Runner, text: &'t str) -> (&'t str, Option<String>) {
     match text.split_once(" => ") {
-        Some((source, contents)) => {
-            let source = T::from_row(alloc, source)?;
-            let contents = String::from_str(alloc, contents)?;
-            Ok((source, Some(contents)))
-        }
-        None => Ok((T::from_row(alloc, text)?, None)),
+        Some((source, contents)) => (source, Some(copied(rt, contents))),
+        None => (text, None),
     }
 }
 
 /// Writes `SOURCE => CONTENTS`, or the source alone.
 impl FromRow for SourceText {
-    fn from_row(alloc: Global, text: &str) -> Result<Self, Fail> {
-        let (source, contents) = parts(alloc, text)?;
-        Ok(SourceText { source, contents })
+    fn from_row(rt: &impl Runner, text: &str) -> Self {
+        let (source, contents) = parts(rt, text);
+        SourceText {
+            source: ConfigSource::from_row(rt, source),
+            contents,
+        }
     }
 }
 
 /// Writes a tool's source and its contents.
 impl FromRow for ToolText {
-    fn from_row(alloc: Global, text: &str) -> Result<Self, Fail> {
-        let (file, contents): (ToolSource, _) = parts(alloc, text)?;
-        Ok(ToolText {
-            file: file.file,
-            contents,
-        })
-    }
-}
-
-// A tool's file, as a source is written.
-#[derive(Drop)]
-struct ToolSource {
-    file: ToolConfigFile,
-}
-
-impl FromRow for ToolSource {
-    fn from_row(alloc: Global, text: &str) -> Result<Self, Fail> {
-        let (tool, config_file) = both(alloc, word(text).1, ": ")?;
-        Ok(ToolSource {
+    fn from_row(rt: &impl Runner, text: &str) -> Self {
+        let (source, contents) = parts(rt, text);
+        let (tool, config_file) = both(rt, word(source).1, ": ");
+        ToolText {
             file: ToolConfigFile { tool, config_file },
-        })
+            contents,
+        }
     }
 }
 
 /// Writes a repository's source and its contents.
 impl FromRow for RepositoryText {
-    fn from_row(alloc: Global, text: &str) -> Result<Self, Fail> {
-        let (kind, text) = cut(text, ": ")?;
-        let (path, contents) = parts(alloc, text)?;
-        Ok(RepositoryText {
+    fn from_row(rt: &impl Runner, text: &str) -> Self {
+        let (source, contents) = parts(rt, text);
+        let (kind, path) = cut(rt, source, ": ");
+        RepositoryText {
             explicit: kind == "explicit",
-            path,
+            path: copied(rt, path),
             contents,
-        })
+        }
     }
 }
 
 /// What a text lists, with ` && ` behind each but the last.
-pub(crate) fn listed<T: FromRow + Drop>(alloc: Global, text: &str) -> Result<Vec<T>, Fail> {
-    let mut values = Vec::new(alloc);
+pub(crate) fn listed<T: FromRow + Drop>(rt: &impl Runner, text: &str) -> Vec<T> {
+    let mut values = Vec::new(rt.alloc());
     for part in text.split(" && ") {
         if !part.is_empty() {
-            values.push(T::from_row(alloc, part)?)?;
+            done(rt, values.push(T::from_row(rt, part)));
         }
     }
-    Ok(values)
+    values
 }
 
 /// Writes a value, or `none`.
 impl<T: FromRow> FromRow for Option<T> {
-    fn from_row(alloc: Global, text: &str) -> Result<Self, Fail> {
+    fn from_row(rt: &impl Runner, text: &str) -> Self {
         if text == "none" {
-            Ok(None)
+            None
         } else {
-            Ok(Some(T::from_row(alloc, text)?))
+            Some(T::from_row(rt, text))
         }
     }
 }
 
 /// Writes the required and the recommended version.
 impl FromRow for NextestVersionDeserialize {
-    fn from_row(alloc: Global, text: &str) -> Result<Self, Fail> {
-        let (required, recommended) = both(alloc, text, " ")?;
-        Ok(NextestVersionDeserialize {
+    fn from_row(rt: &impl Runner, text: &str) -> Self {
+        let (required, recommended) = both(rt, text, " ");
+        NextestVersionDeserialize {
             required,
             recommended,
-        })
+        }
     }
 }
 
 /// Writes `VERSION SOURCE`, or `none`.
 impl FromRow for NextestVersionReq {
-    fn from_row(alloc: Global, text: &str) -> Result<Self, Fail> {
+    fn from_row(rt: &impl Runner, text: &str) -> Self {
         if text == "none" {
-            return Ok(NextestVersionReq::None);
+            return NextestVersionReq::None;
         }
-        let (version, source) = both(alloc, text, " ")?;
-        Ok(NextestVersionReq::Version { version, source })
+        let (version, source) = both(rt, text, " ");
+        NextestVersionReq::Version { version, source }
     }
 }
 
 /// Writes what is kept in the two roles.
 impl FromRow for NextestVersionConfig {
-    fn from_row(alloc: Global, text: &str) -> Result<Self, Fail> {
-        let (required, recommended) = both(alloc, text, " & ")?;
-        Ok(NextestVersionConfig {
+    fn from_row(rt: &impl Runner, text: &str) -> Self {
+        let (required, recommended) = both(rt, text, " & ");
+        NextestVersionConfig {
             required,
             recommended,
-        })
+        }
+    }
+}
+
+/// Writes a TOML value.
+impl FromRow for Value {
+    fn from_row(rt: &impl Runner, text: &str) -> Self {
+        done(rt, Value::from_str(rt.alloc(), text))
     }
 }
 
 /// Writes the setting's TOML value.
 impl FromRow for ExperimentalDeserialize {
-    fn from_row(alloc: Global, text: &str) -> Result<Self, Fail> {
-        let value = Value::from_str(alloc, text)?;
-        done(ExperimentalDeserialize::read(alloc, &value, "experimental"))
+    fn from_row(rt: &impl Runner, text: &str) -> Self {
+        let value = Value::from_row(rt, text);
+        done(
+            rt,
+            ExperimentalDeserialize::read(rt.alloc(), &value, "experimental"),
+        )
     }
 }
 
 /// Writes the feature's word.
 impl FromRow for ConfigExperimental {
-    fn from_row(_alloc: Global, text: &str) -> Result<Self, Fail> {
-        done(ConfigExperimental::from_str(text))
+    fn from_row(rt: &impl Runner, text: &str) -> Self {
+        done(rt, ConfigExperimental::from_str(text))
     }
 }

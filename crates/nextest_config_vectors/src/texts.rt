@@ -1,10 +1,8 @@
 //! The texts of values.
 
-use crate::rows::{Escaped, Subject, check, done, no_such_call, shown, written};
-use crate::values::names;
+use crate::rows::{Escaped, Runner, Subject, check, done, shown, unknown, written};
+use crate::values::{FromRow, names};
 use nextest_config_values::read::{QuotedText, QuotedTexts, found_text, quoted};
-use std::alloc::Global;
-use std::test::Fail;
 use toml::Value;
 
 const ROWS: &str = r#"
@@ -52,39 +50,39 @@ found | '«x»' | string "«x»"
 struct Texts;
 
 impl Subject for Texts {
-    fn answer(alloc: Global, call: &str, input: &str) -> Result<String, Fail> {
+    fn answer(rt: &impl Runner, call: &str, input: &str) -> String {
         match call {
-            "quoted" => quoted_text(alloc, input),
-            "written out" => written(alloc, &quoted_text(alloc, input)?),
-            "texts" => quoted_texts(alloc, input),
-            "found" => found(alloc, input),
-            _ => no_such_call(),
+            "quoted" => quoted_text(rt, input),
+            "written out" => written(rt, quoted_text(rt, input)),
+            "texts" => quoted_texts(rt, input),
+            "found" => found(rt, input),
+            _ => unknown(rt, call),
         }
     }
 }
 
-fn quoted_texts(alloc: Global, input: &str) -> Result<String, Fail> {
-    let names = names(alloc, input)?;
-    shown(alloc, &QuotedTexts(&names))
+fn quoted_texts(rt: &impl Runner, input: &str) -> String {
+    let names = names(rt, input);
+    shown(rt, &QuotedTexts(&names))
 }
 
-fn found(alloc: Global, input: &str) -> Result<String, Fail> {
-    let value = Value::from_str(alloc, input)?;
-    done(found_text(alloc, &value))
+fn found(rt: &impl Runner, input: &str) -> String {
+    let value = Value::from_row(rt, input);
+    done(rt, found_text(rt.alloc(), &value))
 }
 
 // A text that is printed as it is quoted.
-fn quoted_text(alloc: Global, input: &str) -> Result<String, Fail> {
-    let printed = shown(alloc, &QuotedText(input))?;
-    let quoted = quoted(alloc, input)?;
+fn quoted_text(rt: &impl Runner, input: &str) -> String {
+    let printed = shown(rt, &QuotedText(input));
+    let quoted = done(rt, quoted(rt.alloc(), input));
     if quoted == printed {
-        Ok(quoted)
+        quoted
     } else {
-        done(format!(in alloc; "{quoted}, but also {printed}"))
+        done(rt, format!(in rt.alloc(); "{quoted}, but also {printed}"))
     }
 }
 
 #[test]
-fn texts_of_values(rt: HostRuntime) -> Result<(), Fail> {
-    check::<Escaped<Texts>>(&rt, ROWS)
+fn texts_of_values(rt: HostRuntime) {
+    check::<Escaped<Texts>>(&rt, ROWS);
 }

@@ -2,7 +2,6 @@
 
 use crate::asked::{Asks, Lists};
 use crate::rows::{Escaped, check};
-use std::test::Fail;
 
 const ROWS: &str = r#"
 # an empty list asks nothing
@@ -81,11 +80,11 @@ versions | «repository: @.toml => 0.9.50 none && »repository: r.toml => 0.9.50
 "#;
 
 #[test]
-fn the_greatest_version_of_a_list_is_told_with_its_source(rt: HostRuntime) -> Result<(), Fail> {
-    check::<Escaped<Lists>>(&rt, ROWS)
+fn the_greatest_version_of_a_list_is_told_with_its_source(rt: HostRuntime) {
+    check::<Escaped<Lists>>(&rt, ROWS);
 }
 
 #[test]
-fn versions_are_taken_in_one_by_one(rt: HostRuntime) -> Result<(), Fail> {
-    check::<Asks>(&rt, ASKS)
+fn versions_are_taken_in_one_by_one(rt: HostRuntime) {
+    check::<Asks>(&rt, ASKS);
 }

@@ -1,11 +1,10 @@
 //! Values of `nextest-version`, as the reader of the setting reads them.
 
-use crate::rows::{Subject, Told, answered, check, done};
+use crate::rows::{Runner, Subject, Told, answered, check, copied, done};
+use crate::values::FromRow;
 use nextest_config::nextest_version::NextestVersionDeserialize;
 use nextest_config_values::read::FromToml;
 use semver::Version;
-use std::alloc::Global;
-use std::test::Fail;
 use toml::Value;
 
 const ROWS: &str = r#"
@@ -50,32 +49,32 @@ p | {«k@ = 1,» required = '0.9', recommended = '0.9.60' } | 0.9.0 0.9.60
 struct VersionValues;
 
 impl Subject for VersionValues {
-    fn answer(alloc: Global, at: &str, input: &str) -> Result<String, Fail> {
-        let value = Value::from_str(alloc, input)?;
+    fn answer(rt: &impl Runner, at: &str, input: &str) -> String {
+        let value = Value::from_row(rt, input);
         answered(
-            alloc,
+            rt,
             at,
-            NextestVersionDeserialize::read(alloc, &value, at),
+            NextestVersionDeserialize::read(rt.alloc(), &value, at),
         )
     }
 }
 
 impl Told for NextestVersionDeserialize {
-    fn told(&self, alloc: Global, _call: &str) -> Result<String, Fail> {
-        let required = version(alloc, &self.required)?;
-        let recommended = version(alloc, &self.recommended)?;
-        done(format!(in alloc; "{required} {recommended}"))
+    fn told(&self, rt: &impl Runner, _call: &str) -> String {
+        let required = version(rt, &self.required);
+        let recommended = version(rt, &self.recommended);
+        done(rt, format!(in rt.alloc(); "{required} {recommended}"))
     }
 }
 
-fn version(alloc: Global, version: &Option<Version>) -> Result<String, Fail> {
+fn version(rt: &impl Runner, version: &Option<Version>) -> String {
     match version {
-        Some(version) => done(version.to_string(alloc)),
-        None => done(String::from_str(alloc, "none")),
+        Some(version) => done(rt, version.to_string(rt.alloc())),
+        None => copied(rt, "none"),
     }
 }
 
 #[test]
-fn versions_of_a_text_or_a_table_are_read(rt: HostRuntime) -> Result<(), Fail> {
-    check::<VersionValues>(&rt, ROWS)
+fn versions_of_a_text_or_a_table_are_read(rt: HostRuntime) {
+    check::<VersionValues>(&rt, ROWS);
 }
