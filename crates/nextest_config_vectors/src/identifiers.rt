@@ -47,6 +47,21 @@ bytes | e\u{301}x | c3 a9 78
 identifier | e\u{301}\u{20} | InvalidXid é  |
 tool name | \u{212b} | Å
 
+# up to 23 bytes are kept within the value, more in a String
+identifier | aaaaaaaaaaaaaaaaaaaaaaa | aaaaaaaaaaaaaaaaaaaaaaa
+identifier | aaaaaaaaaaaaaaaaaaaaaaaa | aaaaaaaaaaaaaaaaaaaaaaaa
+components | @tool:abcdefgh:ijklmnop | abcdefgh and ijklmnop
+components | @tool:abcdefgh:ijklmnopq | abcdefgh and ijklmnopq
+identifier | e\u{301}e\u{301}e\u{301}e\u{301}e\u{301}e\u{301}e\u{301}e\u{301}e\u{301}e\u{301}e\u{301}a | éééééééééééa
+bytes | e\u{301}e\u{301}e\u{301}e\u{301}e\u{301}e\u{301}e\u{301}e\u{301}e\u{301}e\u{301}e\u{301}a | c3 a9 c3 a9 c3 a9 c3 a9 c3 a9 c3 a9 c3 a9 c3 a9 c3 a9 c3 a9 c3 a9 61
+identifier | e\u{301}e\u{301}e\u{301}e\u{301}e\u{301}e\u{301}e\u{301}e\u{301}e\u{301}e\u{301}e\u{301}e\u{301} | éééééééééééé
+bytes | e\u{301}e\u{301}e\u{301}e\u{301}e\u{301}e\u{301}e\u{301}e\u{301}e\u{301}e\u{301}e\u{301}e\u{301} | c3 a9 c3 a9 c3 a9 c3 a9 c3 a9 c3 a9 c3 a9 c3 a9 c3 a9 c3 a9 c3 a9 c3 a9
+identifier | aaaaaaaaaaaaaaaaaaaaaaa! | InvalidXid aaaaaaaaaaaaaaaaaaaaaaa!
+tool name | aaaaaaaaaaaaaaaaaaaaaaa | aaaaaaaaaaaaaaaaaaaaaaa
+tool name | aaaaaaaaaaaaaaaaaaaaaaaa | aaaaaaaaaaaaaaaaaaaaaaaa
+tool name | e\u{301}e\u{301}e\u{301}e\u{301}e\u{301}e\u{301}e\u{301}e\u{301}e\u{301}e\u{301}e\u{301}a | éééééééééééa
+tool name | e\u{301}e\u{301}e\u{301}e\u{301}e\u{301}e\u{301}e\u{301}e\u{301}e\u{301}e\u{301}e\u{301}e\u{301} | éééééééééééé
+
 # tool names are kept or break one rule
 tool name | foo | foo
 tool name | foo-bar | foo-bar

@@ -47,7 +47,14 @@ ConfigIdentifier | Z ~ a | Less
 ConfigIdentifier | @tool:z:z ~ a | Less
 ConfigIdentifier | @tool:a:c ~ @tool:a:b | Greater
 ConfigIdentifier | z ~ \u{e9} | Less
+ConfigIdentifier | aaaaaaaaaaaaaaaaaaaaaaa ~ aaaaaaaaaaaaaaaaaaaaaaaa | Less
+ConfigIdentifier | aaaaaaaaaaaaaaaaaaaaaaaa ~ aaaaaaaaaaaaaaaaaaaaaaa | Greater
+ConfigIdentifier | aaaaaaaaaaaaaaaaaaaaaaaa ~ b | Less
+ConfigIdentifier | b ~ aaaaaaaaaaaaaaaaaaaaaaaa | Greater
+ConfigIdentifier | e\u{301}e\u{301}e\u{301}e\u{301}e\u{301}e\u{301}e\u{301}e\u{301}e\u{301}e\u{301}e\u{301}e\u{301} ~ \u{e9}\u{e9}\u{e9}\u{e9}\u{e9}\u{e9}\u{e9}\u{e9}\u{e9}\u{e9}\u{e9}\u{e9} | Equal
 ToolName | a-b ~ aa | Less
+ToolName | aaaaaaaaaaaaaaaaaaaaaaa ~ aaaaaaaaaaaaaaaaaaaaaaaa | Less
+ToolName | aaaaaaaaaaaaaaaaaaaaaaaa ~ b | Less
 ToolName | aa ~ a-b | Greater
 ToolName | \u{212b} ~ \u{c5} | Equal
 ToolName | a ~ aa | Less
@@ -56,7 +63,11 @@ ToolName | z ~ \u{e9} | Less
 
 hash of ConfigIdentifier | e\u{301} ~ \u{e9} | same
 hash of ConfigIdentifier | a ~ b | differ
+hash of ConfigIdentifier | e\u{301}e\u{301}e\u{301}e\u{301}e\u{301}e\u{301}e\u{301}e\u{301}e\u{301}e\u{301}e\u{301}e\u{301} ~ \u{e9}\u{e9}\u{e9}\u{e9}\u{e9}\u{e9}\u{e9}\u{e9}\u{e9}\u{e9}\u{e9}\u{e9} | same
+hash of ConfigIdentifier | e\u{301}e\u{301}e\u{301}e\u{301}e\u{301}e\u{301}e\u{301}e\u{301}e\u{301}e\u{301}e\u{301}a ~ \u{e9}\u{e9}\u{e9}\u{e9}\u{e9}\u{e9}\u{e9}\u{e9}\u{e9}\u{e9}\u{e9}a | same
+hash of ConfigIdentifier | aaaaaaaaaaaaaaaaaaaaaaa ~ aaaaaaaaaaaaaaaaaaaaaaaa | differ
 hash of ToolName | a-b ~ a-b | same
+hash of ToolName | aaaaaaaaaaaaaaaaaaaaaaaa ~ aaaaaaaaaaaaaaaaaaaaaaaa | same
 hash of ToolName | \u{212b} ~ \u{c5} | same
 hash of ToolName | a-b ~ aa | differ
 
