@@ -126,7 +126,7 @@ seen_once sources asked s t read h k =
 -- what stands for the pieces in a row is the join of what stands for each
 join_of_pieces : (pieces : List (List Source)) (configurations : List Configuration) (whole : Configuration) → AllZip StandsFor pieces configurations → StandsFor (in_a_row pieces) whole → IsJoinOf configurations whole
 join_of_pieces pieces configurations whole stand (asked, read, stands) =
-    let (others, other_read, joined) = all_seen pieces configurations stand in
+    let (others, other_read, joined) = all_seen (λ list. list) (λ c. c) pieces configurations stand in
     let join = total join_configurations neutral_seen (map seen_configuration configurations) in
     let same = all_read_once (in_a_row pieces) others asked other_read read in
     let seen = seen_once (in_a_row pieces) asked (seen_configuration whole) join read (seen_of asked whole stands) (subst (λ xs. StandsSeen xs join) same joined) in
@@ -139,5 +139,5 @@ pub stands_by_pieces : (sources : List Source) (pieces : List (List Source)) (co
     → StandsFor sources whole ↔ IsJoinOf configurations whole
 stands_by_pieces sources pieces configurations whole cut stand = (
   λ stands. join_of_pieces pieces configurations whole stand (subst (λ xs. StandsFor xs whole) (sym cut) stands),
-  λ is. subst (λ xs. StandsFor xs whole) cut (stands_in_a_row pieces configurations whole stand is),
+  λ is. subst (λ xs. StandsFor xs whole) cut (stands_in_a_row (λ list. list) (λ c. c) pieces configurations whole stand is),
 )

@@ -1,4 +1,5 @@
 pub mod Cuts
+pub mod Halves
 pub mod Enough
 pub mod Readings
 pub mod Refusals

@@ -1,34 +1,19 @@
 -- A list of sources has one selected verdict.
-use Rattle.std.proofs.Common.{◌≡◌, ℕ, ◌<◌, ◌≤◌, Bool, List, [], ◌∷◌, map, Option, Some, None, IfSome, ◌⊎◌, refl, sym, ap, ◌∙◌, inl, inr, subst, ap₂, arith}
+use Rattle.std.proofs.Common.{◌≡◌, ℕ, ◌<◌, ◌≤◌, Bool, List, [], ◌∷◌, map, Option, Some, None, IfSome, ◌⊎◌, refl, sym, ap, ◌∙◌, inl, inr, subst, arith}
 use Rattle.std.specs.List.{AllByRecursion}
 use Rattle.semver.specs.Parse.{Parts}
 use Rattle.toml.specs.Data.{Data, Members, as_str, as_table, get_member}
 use Rattle.nextest_config_values.specs.Read.{MeansKind, MeansNothing, MeansOptional}
 use Rattle.nextest_config.specs.NextestVersion.Source.{Source}
 use Rattle.nextest_config.specs.NextestVersion.Verdict.{Verdict}
-use Rattle.nextest_config.specs.NextestVersion.{alone, AreRead, Ask, Asked, asked_from, Asks, AsksVersions, error, experimental_key, Features, gravity, IsBelow, IsEnoughByNumbers, IsGravest, IsNoGraver, IsNoGreaterOfItsKind, IsOtherOfItsKind, IsReadAs, IsSatisfied, IsSelected, IsSelectedFor, judged, Kept, MeansVersion, MeansVersionTable, MeansVersionText, named_version, NamesNoGreater, Numbers, Place, plain, satisfied, TextAsks, unmet, version_key, Versions, warn}
+use Rattle.nextest_config.specs.NextestVersion.{alone, AreRead, Ask, Asked, asked_from, AsksVersions, error, gravity, IsBelow, IsEnoughByNumbers, IsGravest, IsNoGraver, IsNoGreaterOfItsKind, IsOtherOfItsKind, IsSatisfied, IsSelected, IsSelectedFor, judged, Kept, MeansVersion, MeansVersionTable, MeansVersionText, named_version, NamesNoGreater, Numbers, plain, satisfied, TextAsks, unmet, version_key, Versions, warn}
+use Rattle.nextest_config.specs.NextestVersion.VersionOnlyLaws.{read_once}
 use Rattle.nextest_config_values.proofs.Lists.{all_middle, one_last}
 use Rattle.nextest_config.specs.declared.nextest_version.source.ConfigSourceKind.{ConfigSourceKind}
 use Rattle.nextest_config.proofs.Enough.{not_below_by_numbers}
-use Rattle.nextest_config.proofs.Readings.{features_asked, versions_asked}
 use Rattle.nextest_config.proofs.Verdicts.{image_at, unmet_alone}
 
 -- ---- sources ask one thing
-
-asks_once : (kind : ConfigSourceKind) (table : Members) (a b : Ask) → Asks kind table a → Asks kind table b → a ≡ b
-asks_once kind table a b h k = ap₂ (λ (versions : Versions) (features : Features). record { versions = versions; features = features })
-    (versions_asked.one_meaning (get_member version_key table) a.versions b.versions h.of_versions k.of_versions)
-    (features_asked.one_meaning (get_member experimental_key table) a.features b.features h.of_features k.of_features)
-
-text_asks_once : (kind : ConfigSourceKind) (contents : Option (List ℕ)) (a b : Ask) → TextAsks kind contents a → TextAsks kind contents b → a ≡ b
-text_asks_once kind None a b h k = h ∙ sym k
-text_asks_once kind (Some text) a b h k =
-    let same : k.0 ≡ h.0 = cc (h.1, k.1) in
-    asks_once kind h.0 a b h.2 (subst (λ (table : Members). Asks kind table b) same k.2)
-
-read_once : (source : Source) (a b : Asked) → IsReadAs source a → IsReadAs source b → a ≡ b
-read_once source a b h k = ap₂ (λ (place : Place) (ask : Ask). record { place = place; ask = ask })
-    (h.place ∙ sym k.place) (text_asks_once source.place.kind source.contents a.ask b.ask h.read k.read)
 
 pub all_read_once : (sources : List Source) (a b : List Asked) → AreRead sources a → AreRead sources b → a ≡ b
 all_read_once [] [] [] h k = refl

@@ -3,14 +3,14 @@ use Rattle.std.proofs.Common.{◌≡◌, ◌↔◌, List, [], ◌∷◌, ◌++�
 use mathlib.Core.Logic.Iff as iff
 use Rattle.std.proofs.lemmas.Bool.{cases_Bool, false≢true, or_cases, or_left, or_right}
 use Rattle.std.proofs.lemmas.List.{append-nil}
-use Rattle.std.proofs.lemmas.List.Concat.{flat_map-append}
+use Rattle.std.proofs.lemmas.List.Concat.{flat_map-append, flat_map_single}
 use Rattle.std.proofs.lemmas.List.Elements.{Contains-append_cases, Contains-append_left, Contains-append_right}
 use Rattle.std.proofs.lemmas.Option.{IfSome_then}
 use Rattle.std.specs.List.{AllByRecursion, AllZip}
 use Rattle.semver.specs.Parse.{Parts}
-use Rattle.nextest_config.specs.Merge.{in_a_row, total}
+use Rattle.nextest_config.specs.Merge.{HavePieces, IsJoinOfPieces, total}
 use Rattle.nextest_config.specs.NextestVersion.ExperimentalConfig.{SeenFeatures}
-use Rattle.nextest_config.specs.NextestVersion.{Adds, AreEnabled, AreRead, Ask, Asked, asked_from, AsksNoGreater, AsksNone, AsksOther, Configuration, configuration_from, entry_of, feature_cmp, is_below, IsBelow, IsEnabledBySome, IsGreatest, IsReadAs, IsSeenAs, join_configurations, join_kept, Kept, neutral, neutral_seen, Roles, seen_configuration, SeenConfiguration, StandsFor, StandsForAsks, StandsIn, Unknown}
+use Rattle.nextest_config.specs.NextestVersion.{Adds, AreEnabled, AreRead, Ask, Asked, asked_from, AsksNoGreater, AsksNone, AsksOther, Configuration, configuration_from, entry_of, feature_cmp, FeaturesInOrder, is_below, IsBelow, IsEnabledBySome, IsGreatest, IsReadAs, IsSeenAs, join_configurations, join_kept, Kept, neutral, neutral_seen, Reads, Roles, seen_configuration, SeenConfiguration, StandsFor, StandsForAsks, StandsForOne, StandsIn, Unknown}
 use Rattle.nextest_config.specs.NextestVersion.PrecedenceLaws.{below_trans, not_below_itself, not_below_trans}
 use Rattle.nextest_config.specs.NextestVersion.Source.{Source}
 use Rattle.nextest_config_values.proofs.Lists.{all_joined, all_weaker, zip_push}
@@ -137,7 +137,7 @@ seen_both xs ys a b h k = record {
 pub stands_joined : (xs ys : List Asked) (a b c : Configuration) → StandsForAsks xs a → StandsForAsks ys b → IsSeenAs (join_configurations (seen_configuration a) (seen_configuration b)) c → StandsForAsks (xs ++ ys) c
 stands_joined xs ys a b c h k is = stands_as (xs ++ ys) (join_configurations (seen_configuration a) (seen_configuration b)) c (seen_both xs ys (seen_configuration a) (seen_configuration b) (seen_of xs a h) (seen_of ys b k)) is
 
-pub stands_more : (sources : List Source) (source : Source) (old new : Configuration) → StandsFor sources old → Adds source.place source.contents old new → StandsFor (sources ++ (source ∷ [])) new
+pub stands_more : (sources : List Source) (source : Source) (old new : Configuration) → StandsFor sources old → Adds source old new → StandsFor (sources ++ (source ∷ [])) new
 stands_more sources source old new (asked, read, stands) adds =
     let a : Asked = record { place = source.place; ask = adds.ask } in
     let both = seen_both asked (a ∷ []) (seen_configuration old) (seen_configuration (configuration_from a.place a.ask)) (seen_of asked old stands) (seen_alone a) in
@@ -157,19 +157,42 @@ zip_joined R [] (u ∷ us) ys vs h k = absurd h
 zip_joined R (x ∷ xs) [] ys vs h k = absurd h
 zip_joined R (x ∷ xs) (u ∷ us) ys vs h k = (h.0, zip_joined R xs us ys vs h.1 k)
 
-pub all_seen : (pieces : List (List Source)) (configurations : List Configuration) → AllZip StandsFor pieces configurations
-    → (asked : List Asked) × AreRead (in_a_row pieces) asked × StandsSeen asked (total join_configurations neutral_seen (map seen_configuration configurations))
-all_seen [] [] h = ([], tt, seen_none)
-all_seen [] (c ∷ configurations) h = absurd h
-all_seen (piece ∷ pieces) [] h = absurd h
-all_seen (piece ∷ pieces) (c ∷ configurations) h =
-    let (asked, read, stands) = h.0 in
-    let (more, more_read, rest) = all_seen pieces configurations h.1 in
-    (asked ++ more, zip_joined IsReadAs piece asked (in_a_row pieces) more read more_read, seen_both asked more (seen_configuration c) (total join_configurations neutral_seen (map seen_configuration configurations)) (seen_of asked c stands) rest)
+-- what is seen of all that stands for lists stands for the lists in a row
+module _ {X Y : Type 0} (sources_of : X → List Source) (configuration_of : Y → Configuration) where
+  abbrev pub total_of : List Y → SeenConfiguration
+  total_of ys = total join_configurations neutral_seen (map (λ y. seen_configuration (configuration_of y)) ys)
 
--- the join of what stands for the pieces stands for all of them in a row
-pub stands_in_a_row : (pieces : List (List Source)) (configurations : List Configuration) (c : Configuration) → AllZip StandsFor pieces configurations
-    → IsSeenAs (total join_configurations neutral_seen (map seen_configuration configurations)) c → StandsFor (in_a_row pieces) c
-stands_in_a_row pieces configurations c stand is =
-    let (asked, read, stands) = all_seen pieces configurations stand in
-    (asked, read, stands_as asked (total join_configurations neutral_seen (map seen_configuration configurations)) c stands is)
+  pub all_seen : (xs : List X) (ys : List Y) → AllZip (λ x y. StandsFor (sources_of x) (configuration_of y)) xs ys → (asked : List Asked) × AreRead (flat_map sources_of xs) asked × StandsSeen asked (total_of ys)
+  all_seen [] [] h = ([], tt, seen_none)
+  all_seen [] (y ∷ ys) h = absurd h
+  all_seen (x ∷ xs) [] h = absurd h
+  all_seen (x ∷ xs) (y ∷ ys) h =
+      let (asked, read, stands) = h.0 in
+      let (more, more_read, rest) = all_seen xs ys h.1 in
+      (asked ++ more, zip_joined IsReadAs (sources_of x) asked (flat_map sources_of xs) more read more_read, seen_both asked more (seen_configuration (configuration_of y)) (total_of ys) (seen_of asked (configuration_of y) stands) rest)
+
+  -- the join of what stands for lists stands for the lists in a row
+  pub stands_in_a_row : (xs : List X) (ys : List Y) (c : Configuration) → AllZip (λ x y. StandsFor (sources_of x) (configuration_of y)) xs ys → IsSeenAs (total_of ys) c → StandsFor (flat_map sources_of xs) c
+  stands_in_a_row xs ys c stand is =
+      let (asked, read, stands) = all_seen xs ys stand in
+      (asked, read, stands_as asked (total_of ys) c stands is)
+
+-- ---- a list that is read one by one
+
+module _ {X Y : Type 0} (source_of : X → Source) (configuration_of : Y → Configuration) where
+  abbrev StandForOne : X → Y → Type 0
+  StandForOne x y = StandsForOne (source_of x) (configuration_of y)
+
+  -- what is joined of configurations that stand for one source each stands for the list
+  pub stands_for_all : (xs : List X) (c : Configuration) → FeaturesInOrder c.experimental.known
+      → IsJoinOfPieces join_configurations neutral_seen (λ y. seen_configuration (configuration_of y)) StandForOne xs (seen_configuration c) → StandsFor (map source_of xs) c
+  stands_for_all xs c in_order (ys, stand, joined) = subst (λ sources. StandsFor sources c) (flat_map_single source_of xs)
+      (stands_in_a_row (λ x. source_of x ∷ []) configuration_of xs ys c stand (record {
+        roles = ap (λ (seen : SeenConfiguration). seen.roles) joined;
+        experimental = record { same = ap (λ (seen : SeenConfiguration). seen.experimental) joined; in_order = in_order };
+      }))
+
+  pub reads_all : (xs : List X) → HavePieces StandForOne xs → Reads (map source_of xs)
+  reads_all xs (ys, stand) =
+      let (asked, read, stands) = all_seen (λ x. source_of x ∷ []) configuration_of xs ys stand in
+      subst Reads (flat_map_single source_of xs) (asked, read)

@@ -1,10 +1,13 @@
 //! What was read of parts of a list, joined in the order of the parts.
 
-ghost use Rattle.std.specs.Prelude.{◌≡◌, map, OnErr, OnOk};
+ghost use Rattle.std.specs.Prelude.{◌≡◌, ◌++◌, ◌^◌, ◌<◌, IfErr, IfOk, length, map, OnErr, OnOk};
 ghost use Rattle.std.specs.List.{AllByRecursion};
-ghost use Rattle.nextest_config.specs.Merge.{IsMonoid, total};
+ghost use Rattle.std.specs.Mem.{FitsInMemory};
+ghost use Rattle.nextest_config.specs.Merge.{behind, FitsBehind, HavePieces, IsJoinOfPieces, IsMonoid, IsReadingOne, IsRefusalOfOne, IsRefusalOfPieces, total};
+ghost use Rattle.nextest_config.specs.declared.merge.PieceRefusal.TheVariants.{Memory};
 
-use std::alloc::AllocError;
+use std::alloc::{AllocError, Global};
+use std::slice;
 
 /// Values of which two in a row can be joined into one.
 pub trait Merge {
@@ -47,4 +50,126 @@ pub fn merge_all<T: Merge>(into: &mut T, pieces: &mut [T]) -> Result<(), AllocEr
         into.merge(piece)?;
     }
     Ok(())
+}
+
+/// Why the pieces of sources weren't read.
+#[derive(Debug, PartialEq, Eq, Drop)]
+pub enum PieceRefusal<E> {
+    /// The source at this position, counted from 0, is the first one that is refused.
+    Refused { position: usize, error: E },
+    /// A request for memory was refused.
+    Memory,
+}
+
+impl<E> From<AllocError> for PieceRefusal<E> {
+    ghost from_gives = { λ _ refusal. refusal ≡ Memory };
+
+    fn from(_error: AllocError) -> PieceRefusal<E> {
+        PieceRefusal::Memory
+    }
+}
+
+impl<E> PieceRefusal<E> {
+    // The same refusal, where so many sources stand in front.
+    fn behind(self, front: usize) -> Self
+        requires { FitsBehind front self }
+        ensures { result ≡ behind front self }
+    {
+        match self {
+            PieceRefusal::Refused { position, error } => PieceRefusal::Refused {
+                position: front + position,
+                error,
+            },
+            PieceRefusal::Memory => PieceRefusal::Memory,
+        }
+    }
+}
+
+/// Values that are read as pieces, one of each source, and joined in the order of the sources.
+pub trait ReadPiece: Merge {
+    /// What a piece is read of.
+    type Source;
+
+    /// What is wrong with a source that has no piece.
+    type Error;
+
+    ghost Told: { Type 0 };
+
+    ghost told: { Self.Error → Told };
+
+    ghost piece: { Self.Source → Self → Type 0 };
+
+    ghost wrong: { Self.Source → Told → Type 0 };
+
+    /// The piece of no source. It takes no memory.
+    fn neutral(alloc: Global) -> Self
+        ensures { Self.seen result ≡ Self.Merge.neutral };
+
+    /// The piece of a source.
+    ///
+    /// # Errors
+    ///
+    /// The source has none, and is refused at position 0; or a request for memory was refused.
+    fn read_one(
+        alloc: Global,
+        source: &Self::Source,
+    ) -> Result<Self, PieceRefusal<Self::Error>>
+        ensures read { IfOk result (λ it. piece source.now it) }
+        ensures refused { IfErr result (IsRefusalOfOne told wrong source.now) };
+
+    ghost reads_one: { IsReadingOne Self.seen piece wrong };
+
+    // So does every type's, but nothing says it of a parameter.
+    ghost size_in_range: { FitsInMemory Self.row };
+}
+
+/// Reads the sources, each half for itself, and joins what was read.
+///
+/// # Errors
+///
+/// The first source that has no piece is refused; or a request for memory was refused.
+#[cycle(read_halves)]
+pub fn read_halves<T: ReadPiece + Drop>(
+    alloc: Global,
+    sources: &[T::Source],
+) -> Result<T, PieceRefusal<T::Error>>
+    ensures joined { IfOk result (λ it.
+        IsJoinOfPieces T.join T.Merge.neutral T.seen T.piece sources.now (T.seen it)) }
+    ensures only { HavePieces T.piece sources.now → IfErr result (λ refusal. refusal ≡ Memory) }
+    ensures refused { IfErr result (IsRefusalOfPieces T.told T.piece T.wrong sources.now) }
+{
+    match sources {
+        [] => Ok(T::neutral(alloc)),
+        [source] => T::read_one(alloc, source),
+        _ => {
+            let (first, second) = sources.split_at(sources.len() / 2);
+            read_both(alloc, first, second)
+        }
+    }
+}
+
+// Reads both halves, and joins what was read.
+#[cycle(read_halves)]
+fn read_both<T: ReadPiece + Drop>(
+    alloc: Global,
+    first: &[T::Source],
+    second: &[T::Source],
+) -> Result<T, PieceRefusal<T::Error>>
+    requires shorter { (0 < length first.now) × (0 < length second.now) }
+    requires small { length (first.now ++ second.now) < 2 ^ 64 }
+    ensures joined { IfOk result (λ it.
+        IsJoinOfPieces T.join T.Merge.neutral T.seen T.piece (first.now ++ second.now) (T.seen it)) }
+    ensures refused { IfErr result (IsRefusalOfPieces T.told T.piece T.wrong (first.now ++ second.now)) }
+{
+    let mut piece = match read_halves::<T>(alloc, first) {
+        Ok(piece) => piece,
+        Err(refusal) => return Err(refusal),
+    };
+    match read_halves::<T>(alloc, second) {
+        Ok(mut later) => {
+            merge_all(&mut piece, slice::from_mut(&mut later))?;
+            Ok(piece)
+        }
+        Err(refusal) => Err(refusal.behind(first.len())),
+    }
 }

@@ -6,7 +6,7 @@ mod error_kind;
 mod experimental;
 mod experimental_config;
 mod experimental_deserialize;
-mod listed;
+mod file;
 mod nextest_version_deserialize;
 mod requirement;
 mod source;

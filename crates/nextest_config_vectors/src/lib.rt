@@ -22,6 +22,8 @@ mod fields;
 #[cfg(test)]
 mod files;
 #[cfg(test)]
+mod halves;
+#[cfg(test)]
 mod identifiers;
 #[cfg(test)]
 mod junit;

@@ -108,7 +108,7 @@ fn refused_at(rt: &impl Runner, refused: usize, input: &str) -> Vec<Numbers> {
     pieces
 }
 
-fn numbers_of(rt: &impl Runner, text: &str) -> Vec<usize> {
+pub(crate) fn numbers_of(rt: &impl Runner, text: &str) -> Vec<usize> {
     let mut numbers = Vec::new(rt.alloc());
     for number in text.split_whitespace() {
         done(rt, numbers.push(usize::from_row(rt, number)));

@@ -3,6 +3,8 @@ use Rattle.std.specs.Prelude.{◌≡◌, ℕ, List, [], ◌++◌, codes, Option,
 use Rattle.nextest_config_values.specs.Read.{FaultOrMemory}
 use Rattle.nextest_config.specs.NextestVersion.ErrorKind.{Wrong, error_kind_text, wrong_of, wrong_text}
 use Rattle.nextest_config.specs.NextestVersion.Source.{Place, place_of, place_text}
+use Rattle.nextest_config.specs.declared.merge.PieceRefusal.{PieceRefusal}
+use Rattle.nextest_config.specs.declared.merge.PieceRefusal.TheVariants as pieces
 use Rattle.nextest_config.specs.declared.nextest_version.error.ConfigParseError.{ConfigParseError}
 use Rattle.nextest_config.specs.declared.nextest_version.error.ListRefusal.{ListRefusal}
 use Rattle.nextest_config.specs.declared.nextest_version.error.ListRefusal.TheVariants as refusals
@@ -38,14 +40,19 @@ refusal_of error = told_refusal (source_place error) (wrong_of error.kind)
 abbrev pub RefusesBy : (Refusal → Type 0) → ConfigParseError → Type 0
 RefusesBy IsSuch error = FaultOrMemory (refusal_of error) (kind_of error ≡ kinds.Memory) IsSuch
 
--- the refusal of a list at this position; or there was no memory
-abbrev pub IsRefusalAt : ℕ → Refusal → ListRefusal → Type 0
-IsRefusalAt position refusal (refusals.Refused at error) = (at ≡ position) × (refusal_of error ≡ Some refusal)
-IsRefusalAt position refusal refusals.Memory = Unit {0}
+-- the one source is refused so, at position 0; or there was no memory
+abbrev pub IsRefusedSo : Refusal → PieceRefusal ConfigParseError → Type 0
+IsRefusedSo refusal (pieces.Refused position error) = (position ≡ 0) × (refusal_of error ≡ Some refusal)
+IsRefusedSo refusal pieces.Memory = Unit {0}
 
 -- the same for this kind of error of the source of that place
-abbrev pub IsKindAt : ℕ → Place → ConfigParseErrorKind → ListRefusal → Type 0
-IsKindAt position place kind refusal = FaultOrMemory (wrong_of kind) (kind ≡ kinds.Memory → refusal ≡ refusals.Memory) (λ wrong. IsRefusalAt position (refusal_at place wrong) refusal)
+abbrev pub IsKindOf : Place → ConfigParseErrorKind → PieceRefusal ConfigParseError → Type 0
+IsKindOf place kind refusal = FaultOrMemory (wrong_of kind) (kind ≡ kinds.Memory → refusal ≡ pieces.Memory) (λ wrong. IsRefusedSo (refusal_at place wrong) refusal)
+
+-- the same refusal, of a list
+abbrev pub list_refusal : PieceRefusal ConfigParseError → ListRefusal
+list_refusal (pieces.Refused position error) = refusals.Refused position error
+list_refusal pieces.Memory = refusals.Memory
 
 -- ---- how they print
 

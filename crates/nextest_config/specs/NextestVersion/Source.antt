@@ -1,7 +1,8 @@
 -- Configuration sources without where they lie in memory.
-use Rattle.std.specs.Prelude.{ℕ, List, [], ◌∷◌, ◌++◌, map, reverse, codes, Option, string_bytes, option_map, if◌then◌else◌}
-use Rattle.nextest_config.specs.declared.nextest_version.listed.File.{File}
-use Rattle.nextest_config.specs.declared.nextest_version.listed.File.TheVariants as files
+use Rattle.std.specs.Prelude.{ℕ, List, [], ◌∷◌, ◌++◌, map, reverse, codes, Option, String, string_bytes, option_map, if◌then◌else◌}
+use Rattle.std.specs.declared.alloc.Global.{Global}
+use Rattle.nextest_config.specs.declared.nextest_version.file.File.{File}
+use Rattle.nextest_config.specs.declared.nextest_version.file.File.TheVariants as files
 use Rattle.nextest_config.specs.declared.nextest_version.source.ConfigSource.{ConfigSource}
 use Rattle.nextest_config.specs.declared.nextest_version.source.ConfigSourceKind.{ConfigSourceKind}
 use Rattle.nextest_config.specs.declared.nextest_version.source.ConfigSourceKind.TheVariants.{Tool, ExplicitRepository, DiscoveredRepository}
@@ -23,9 +24,13 @@ pub record Source : Type 0 where
 abbrev pub place_of : ConfigSource → Place
 place_of source = record { kind = source.kind; path = string_bytes source.path }
 
+-- these contents, as a source
+abbrev pub source_at : ConfigSource → Option (String Global) → Source
+source_at source contents = record { place = place_of source; contents = option_map string_bytes contents }
+
 -- a source and its contents
 abbrev pub source_of : SourceText → Source
-source_of text = record { place = place_of text.source; contents = option_map string_bytes text.contents }
+source_of text = source_at text.source text.contents
 
 -- a tool's file, as a source
 abbrev pub tool_source : ToolText → Source

@@ -1,8 +1,8 @@
 -- Lists of sources: what each asks, the first that is refused, and what stands for them all.
-use Rattle.std.specs.Prelude.{◌≡◌, ◌≢◌, ◌↔◌, ◌+◌, ℕ, List, ◌∷◌, ◌++◌, length, map, flat_map, Contains, Bool, Option, Some, None, IfSome, option_map}
+use Rattle.std.specs.Prelude.{◌≡◌, ◌≢◌, ◌↔◌, ◌+◌, ℕ, List, [], ◌∷◌, ◌++◌, length, map, flat_map, Contains, Bool, Option, Some, None, IfSome, option_map}
 use Rattle.std.specs.List.{AllByRecursion, AllZip}
 use Rattle.semver.specs.Parse.{Parts}
-use Rattle.nextest_config.specs.Merge.{in_a_row, IsReordering, total}
+use Rattle.nextest_config.specs.Merge.{in_a_row, IsFirstWrong, IsReordering, total}
 use Rattle.nextest_config.specs.NextestVersion.Error.{Refusal, RefusesBy, refusal_of}
 use Rattle.nextest_config.specs.NextestVersion.Experimental.{FeaturesInOrder}
 use Rattle.nextest_config.specs.NextestVersion.ExperimentalConfig.{AreSeenAs, Experimental, SeenFeatures, Unknown, entry_at, experimental_of, features_from, join_features, no_experimental, seen_features}
@@ -28,6 +28,11 @@ pub record IsRefused (source : Source) (refusal : Refusal) : Type 0 where
   pub named : refusal.place ≡ source.place
   pub wrong : IsWrong source.place.kind source.contents refusal.wrong
 
+-- the error tells what is wrong with the source
+abbrev pub IsErrorOf : Source → Option Refusal → Type 0
+IsErrorOf source (Some refusal) = IsRefused source refusal
+IsErrorOf source None = ⊥
+
 -- ---- a list of sources, lowest priority first
 
 -- what a source asks, with its place
@@ -49,14 +54,8 @@ abbrev pub Reads : List Source → Type 0
 Reads sources = (asked : List Asked) × AreRead sources asked
 
 -- the first position outside the grammar, and its error
-pub record IsFirstRefused (sources : List Source) (position : ℕ) (refusal : Refusal) : Type 0 where
-  pub before : List Source
-  pub source : Source
-  pub after : List Source
-  pub whole : sources ≡ before ++ (source ∷ after)
-  pub place : length before ≡ position
-  pub read : Reads before
-  pub refused : IsRefused source refusal
+abbrev pub IsFirstRefused : List Source → ℕ → Refusal → Type 0
+IsFirstRefused = IsFirstWrong IsReadAs IsRefused
 
 -- the first refused position of the first refused piece, counted from the beginning of the first piece, and its error
 pub record IsFirstRefusedAmong (pieces : List (List Source)) (position : ℕ) (refusal : Refusal) : Type 0 where
@@ -135,6 +134,10 @@ pub record StandsForAsks (asked : List Asked) (configuration : Configuration) : 
 -- the configuration stands for the sources
 abbrev pub StandsFor : List Source → Configuration → Type 0
 StandsFor sources configuration = (asked : List Asked) × AreRead sources asked × StandsForAsks asked configuration
+
+-- the configuration stands for the one source
+abbrev pub StandsForOne : Source → Configuration → Type 0
+StandsForOne source = StandsFor (source ∷ [])
 
 -- ---- selection
 
@@ -215,8 +218,8 @@ pub record IsSeenAs (seen : SeenConfiguration) (configuration : Configuration) :
 abbrev pub IsJoinOf : List Configuration → Configuration → Type 0
 IsJoinOf configurations = IsSeenAs (total join_configurations neutral_seen (map seen_configuration configurations))
 
--- the new configuration is the old one joined with what the contents of the place ask
-pub record Adds (place : Place) (contents : Option (List ℕ)) (old new : Configuration) : Type 0 where
+-- the new configuration is the old one joined with what the source asks
+pub record Adds (source : Source) (old new : Configuration) : Type 0 where
   pub ask : Ask
-  pub read : TextAsks place.kind contents ask
-  pub joined : IsSeenAs (join_configurations (seen_configuration old) (seen_configuration (configuration_from place ask))) new
+  pub read : IsRead source ask
+  pub joined : IsSeenAs (join_configurations (seen_configuration old) (seen_configuration (configuration_from source.place ask))) new

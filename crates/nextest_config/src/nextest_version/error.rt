@@ -6,6 +6,7 @@ ghost use Rattle.nextest_config.specs.declared.nextest_version.error_kind.Config
 
 use super::error_kind::ConfigParseErrorKind;
 use super::source::ConfigSource;
+use crate::merge::PieceRefusal;
 use std::alloc::{AllocError, Global};
 use std::fmt;
 use thiserror::Error;
@@ -19,7 +20,7 @@ pub struct ConfigParseError {
 }
 
 impl ConfigParseError {
-    ghost use Rattle.nextest_config.specs.NextestVersion.Error.{kind_of, refusal_at, refusal_of, source_place};
+    ghost use Rattle.nextest_config.specs.NextestVersion.Error.{IsKindOf, kind_of, refusal_at, refusal_of, source_place};
     ghost use Rattle.nextest_config.specs.NextestVersion.Source.{place_of};
 
     // The error that says nothing of any source.
@@ -40,6 +41,26 @@ impl ConfigParseError {
         ConfigParseError {
             kind,
             source: Some(source),
+        }
+    }
+
+    // The refusal of the one source with which this is wrong.
+    pub(crate) fn of_source(
+        alloc: Global,
+        source: &ConfigSource,
+        kind: ConfigParseErrorKind,
+    ) -> PieceRefusal<Self>
+        ensures { IsKindOf (place_of source.now) kind result }
+    {
+        if kind.is_memory() {
+            return PieceRefusal::Memory;
+        }
+        match source.clone(alloc) {
+            Ok(source) => PieceRefusal::Refused {
+                position: 0,
+                error: ConfigParseError::new(source, kind),
+            },
+            Err(AllocError) => PieceRefusal::Memory,
         }
     }
 
@@ -96,32 +117,23 @@ pub enum ListRefusal {
     Memory,
 }
 
-impl ListRefusal {
-    ghost use Rattle.std.specs.Prelude.{List};
-    ghost use Rattle.nextest_config.specs.NextestVersion.Error.{IsKindAt};
-    ghost use Rattle.nextest_config.specs.NextestVersion.Source.{place_of, Source};
-    ghost use Rattle.nextest_config.specs.NextestVersion.VersionOnly.{IsErrorOfList, IsRefusalOf};
+impl From<PieceRefusal<ConfigParseError>> for ListRefusal {
+    ghost use Rattle.nextest_config.specs.NextestVersion.Error.{list_refusal};
 
-    // The refusal of the source at this position.
-    pub(crate) fn at(
-        alloc: Global,
-        position: usize,
-        source: &ConfigSource,
-        kind: ConfigParseErrorKind,
-    ) -> Self
-        ensures { IsKindAt position (place_of source.now) kind result }
-    {
-        if kind.is_memory() {
-            return ListRefusal::Memory;
-        }
-        match source.clone(alloc) {
-            Ok(source) => ListRefusal::Refused {
-                position,
-                error: ConfigParseError::new(source, kind),
-            },
-            Err(AllocError) => ListRefusal::Memory,
+    ghost from_gives = { λ refusal list. list ≡ list_refusal refusal };
+
+    fn from(refusal: PieceRefusal<ConfigParseError>) -> ListRefusal {
+        match refusal {
+            PieceRefusal::Refused { position, error } => ListRefusal::Refused { position, error },
+            PieceRefusal::Memory => ListRefusal::Memory,
         }
     }
+}
+
+impl ListRefusal {
+    ghost use Rattle.std.specs.Prelude.{List};
+    ghost use Rattle.nextest_config.specs.NextestVersion.Source.{Source};
+    ghost use Rattle.nextest_config.specs.NextestVersion.VersionOnly.{IsErrorOfList, IsRefusalOf};
 
     // The error of the source that is refused, without its position.
     pub(crate) fn into_error(self) -> ConfigParseError

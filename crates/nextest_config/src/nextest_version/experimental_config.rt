@@ -1,8 +1,9 @@
 //! The experimental features that all sources name.
 
 ghost use Rattle.std.specs.Prelude.{◌≡◌, IfOk, OnErr, OnOk};
+ghost use Rattle.std.proofs.Props.{props};
 ghost use Rattle.std.specs.Iterator.{YieldsFirstBy, item_count};
-ghost use Rattle.nextest_config.specs.NextestVersion.{AddsFeatures, errors_left, experimental_of, features_of, no_experimental, place_of, told_by, unknown_of};
+ghost use Rattle.nextest_config.specs.NextestVersion.Experimental.{FeaturesInOrder};
 
 use super::experimental::ConfigExperimental;
 use super::experimental_deserialize::ExperimentalDeserialize;
@@ -18,6 +19,7 @@ use std::slice;
 pub struct ExperimentalConfig {
     known: BTreeSet<ConfigExperimental>,
     unknown: Vec<UnknownFeatures>,
+    ghost known_in_order: { FeaturesInOrder known.keys } by { Prim.hlevel props },
 }
 
 // The names in a source that are those of no feature.
@@ -28,6 +30,10 @@ struct UnknownFeatures {
 }
 
 impl ExperimentalConfig {
+    ghost use Rattle.nextest_config.specs.NextestVersion.ExperimentalConfig.{AddsFeatures, errors_left, experimental_of, no_experimental};
+    ghost use Rattle.nextest_config.specs.NextestVersion.ExperimentalDeserialize.{features_of};
+    ghost use Rattle.nextest_config.specs.NextestVersion.Source.{place_of};
+
     /// The features of no source.
     pub fn new(alloc: Global) -> Self
         ensures { experimental_of result ≡ no_experimental }
@@ -116,6 +122,8 @@ impl Merge for ExperimentalConfig {
 }
 
 impl UnknownFeatures {
+    ghost use Rattle.nextest_config.specs.NextestVersion.ExperimentalConfig.{unknown_of};
+
     // A copy of the names and of their source.
     fn clone(&self, alloc: Global) -> Result<Self, AllocError>
         ensures { IfOk result (λ entry. unknown_of entry ≡ unknown_of self.now) }
@@ -134,6 +142,8 @@ pub struct SourceErrors<'a> {
 }
 
 impl<'a> Iterator for SourceErrors<'a> {
+    ghost use Rattle.nextest_config.specs.NextestVersion.ExperimentalConfig.{errors_left, told_by};
+
     type Item = (&'a ConfigSource, &'a BTreeSet<String>);
 
     ghost next_gives = { YieldsFirstBy told_by errors_left };

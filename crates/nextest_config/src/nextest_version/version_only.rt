@@ -1,18 +1,19 @@
 //! The configuration of a list of sources.
 
 ghost use Rattle.std.specs.Prelude.{◌≡◌, IfOk, IfErr, OnOk, map, option_map, reverse, string_bytes};
-ghost use Rattle.nextest_config.specs.NextestVersion.{Adds, configuration_of, experimental_of, IsErrorOfList, IsRefusalOf, IsWrong, kind_of, neutral, place_of, Reads, RefusesSource, roles_of, SelectsFor, source_of, sources_of, StandsFor, tool_source};
+ghost use Rattle.nextest_config.specs.Merge.{IsRefusalOfOne};
+ghost use Rattle.nextest_config.specs.NextestVersion.{Adds, configuration_of, experimental_of, IsErrorOf, IsErrorOfList, IsRefusalOf, IsWrong, kind_of, neutral, Reads, refusal_of, RefusesSource, roles_of, SelectsFor, source_at, source_of, sources_of, StandsFor, StandsForOne, tool_source};
 ghost use Rattle.nextest_config.specs.declared.nextest_version.error.ListRefusal.TheVariants.{Memory};
 ghost use Rattle.nextest_config.specs.declared.nextest_version.error_kind.ConfigParseErrorKind.TheVariants as kinds;
 
 use super::error::{ConfigParseError, ListRefusal};
-use super::error_kind::ConfigParseErrorKind;
 use super::experimental_config::ExperimentalConfig;
-use super::listed::{File, Listed};
+use super::error_kind::ConfigParseErrorKind;
+use super::file::{File, FileConfig};
 use super::requirement::NextestVersionConfig;
 use super::source::{ConfigSource, RepositoryText, SourceText, ToolText};
 use super::version_only_deserialize::VersionOnlyDeserialize;
-use crate::merge::Merge;
+use crate::merge::{Merge, PieceRefusal, ReadPiece, read_halves};
 use std::alloc::{AllocError, Global};
 
 /// The part of the configuration that is read before any other: which nextest version it needs, and
@@ -56,7 +57,7 @@ impl VersionOnlyConfig {
         ensures only { Reads (map source_of sources.now) → IfErr result (λ refusal. refusal ≡ Memory) }
         ensures refused { IfErr result (IsRefusalOf (map source_of sources.now)) }
     {
-        VersionOnlyConfig::read_all(alloc, sources)
+        Ok(read_halves::<VersionOnlyConfig>(alloc, sources)?)
     }
 
     /// Reads the tools' files, the last one first, and then the repository's, up to the first one that
@@ -77,29 +78,10 @@ impl VersionOnlyConfig {
         ensures refused { IfErr result (IsErrorOfList (sources_of repository.now tools.now)) }
     {
         let files = File::in_order(alloc, repository, tools)?;
-        match VersionOnlyConfig::read_all(alloc, files.as_slice()) {
-            Ok(config) => Ok(config),
-            Err(refusal) => Err(refusal.into_error()),
+        match read_halves::<FileConfig>(alloc, files.as_slice()) {
+            Ok(files) => Ok(files.into_config()),
+            Err(refusal) => Err(ListRefusal::from(refusal).into_error()),
         }
-    }
-
-    // Reads what is listed, lowest priority first, up to the first one that is refused.
-    fn read_all<T: Listed>(alloc: Global, listed: &[T]) -> Result<Self, ListRefusal>
-        ensures reads { OnOk result (Reads (map T.read_as listed.now)) }
-        ensures stands { IfOk result (λ config.
-            StandsFor (map T.read_as listed.now) (configuration_of config)) }
-        ensures selected { IfOk result (λ config.
-            SelectsFor (map T.read_as listed.now) (configuration_of config).roles) }
-        ensures only { Reads (map T.read_as listed.now) → IfErr result (λ refusal. refusal ≡ Memory) }
-        ensures refused { IfErr result (IsRefusalOf (map T.read_as listed.now)) }
-    {
-        let mut so_far = VersionOnlyConfig::new(alloc);
-        for (position, source) in listed.iter().enumerate() {
-            if let Err(kind) = source.add_to(alloc, &mut so_far) {
-                return Err(source.refusal(alloc, position, kind));
-            }
-        }
-        Ok(so_far)
     }
 
     /// The versions that are kept.
@@ -116,14 +98,32 @@ impl VersionOnlyConfig {
         &self.experimental
     }
 
-    // Takes in one more source.
-    pub(super) fn add(
+    // The configuration of one source with these contents.
+    pub(super) fn of_source(
+        alloc: Global,
+        source: &ConfigSource,
+        contents: &Option<String>,
+    ) -> Result<Self, PieceRefusal<ConfigParseError>>
+        ensures stands { IfOk result (λ config.
+            StandsForOne (source_at source.now contents.now) (configuration_of config)) }
+        ensures refused { IfErr result
+            (IsRefusalOfOne refusal_of IsErrorOf (source_at source.now contents.now)) }
+    {
+        let mut config = VersionOnlyConfig::new(alloc);
+        match config.add(alloc, source, contents) {
+            Ok(()) => Ok(config),
+            Err(kind) => Err(ConfigParseError::of_source(alloc, source, kind)),
+        }
+    }
+
+    // Takes in what the contents of a later source ask.
+    fn add(
         &mut self,
         alloc: Global,
         source: &ConfigSource,
         contents: &Option<String>,
     ) -> Result<(), ConfigParseErrorKind>
-        ensures added { OnOk result (Adds (place_of source.now) (option_map string_bytes contents.now)
+        ensures added { OnOk result (Adds (source_at source.now contents.now)
             (configuration_of self.old) (configuration_of self.new)) }
         ensures refused { IfErr result (RefusesSource
             (IsWrong source.now.kind (option_map string_bytes contents.now))) }
@@ -159,4 +159,41 @@ impl Merge for VersionOnlyConfig {
     }
 
     ghost laws = { configurations_join };
+}
+
+impl ReadPiece for VersionOnlyConfig {
+    ghost use Rattle.std.specs.Prelude.{Option};
+    ghost use Rattle.std.proofs.Common.{arith};
+    ghost use Rattle.nextest_config.specs.NextestVersion.Error.{Refusal, refusal_of};
+    ghost use Rattle.nextest_config.specs.NextestVersion.Source.{source_of};
+    ghost use Rattle.nextest_config.specs.NextestVersion.VersionOnly.{configuration_of, IsErrorOf, StandsForOne};
+    ghost use Rattle.nextest_config.specs.NextestVersion.VersionOnlyLaws.{one_read};
+
+    type Source = SourceText;
+
+    type Error = ConfigParseError;
+
+    ghost Told = { Option Refusal };
+
+    ghost told = { refusal_of };
+
+    ghost piece = { λ source config. StandsForOne (source_of source) (configuration_of config) };
+
+    ghost wrong = { λ source told. IsErrorOf (source_of source) told };
+
+    fn neutral(alloc: Global) -> Self {
+        VersionOnlyConfig::new(alloc)
+    }
+
+    /// What one source asks, or what is wrong with it.
+    fn read_one(
+        alloc: Global,
+        source: &SourceText,
+    ) -> Result<Self, PieceRefusal<ConfigParseError>> {
+        VersionOnlyConfig::of_source(alloc, &source.source, &source.contents)
+    }
+
+    ghost reads_one = { one_read source_of configuration_of };
+
+    ghost size_in_range = { Prim.omega arith };
 }

@@ -1,0 +1,87 @@
+-- A source asks one thing, or one thing is wrong with it, and never both.
+use Rattle.std.proofs.Common.{◌≡◌, ℕ, List, Option, Some, None, sym, ap, ap₂, subst, ◌∙◌, inl, inr}
+use mathlib.Core.Logic.Iff as iff
+use Rattle.toml.specs.Data.{Data, Members, get_member}
+use Rattle.toml.specs.Parse.{parse_document}
+use Rattle.nextest_config_values.specs.Read.Fault.{Fault}
+use Rattle.nextest_config_values.specs.Read.{IsReading, one_then, OptionalFaults, or_reading, Then}
+use Rattle.nextest_config.specs.NextestVersion.ErrorKind.{setting, tool_features, Wrong}
+use Rattle.nextest_config.specs.NextestVersion.ExperimentalDeserialize.{Features, FeaturesFaults, no_features}
+use Rattle.nextest_config.specs.NextestVersion.ExperimentalLaws.{features_meant, texts_in_one_order}
+use Rattle.nextest_config.specs.NextestVersion.NextestVersionDeserialize.{no_versions, Versions, versions_meant, VersionsFaults}
+use Rattle.nextest_config.specs.NextestVersion.VersionOnlyDeserialize.{Ask, Asks, AsksFeatures, AsksVersions, BreaksToolRule, experimental_key, IsWrong, IsWrongDocument, IsWrongSetting, IsWrongTable, KeepsToolRule, TextAsks, version_key}
+use Rattle.nextest_config.specs.declared.nextest_version.source.ConfigSourceKind.{ConfigSourceKind}
+use Rattle.nextest_config.specs.declared.nextest_version.source.ConfigSourceKind.TheVariants.{Tool, ExplicitRepository, DiscoveredRepository}
+
+-- what stands at the key of each setting, or that it is missing
+pub versions_asked : IsReading AsksVersions (OptionalFaults VersionsFaults) (λ a b. a ≡ b)
+versions_asked = or_reading versions_meant no_versions
+
+pub features_asked : IsReading AsksFeatures (OptionalFaults FeaturesFaults) (λ a b. a ≡ b)
+features_asked = or_reading features_meant no_features
+
+-- ---- one ask
+
+asks_once : (kind : ConfigSourceKind) (table : Members) (a b : Ask) → Asks kind table a → Asks kind table b → a ≡ b
+asks_once kind table a b h k = ap₂ (λ (versions : Versions) (features : Features). record { versions = versions; features = features })
+    (versions_asked.one_meaning (get_member version_key table) a.versions b.versions h.of_versions k.of_versions)
+    (features_asked.one_meaning (get_member experimental_key table) a.features b.features h.of_features k.of_features)
+
+pub text_asks_once : (kind : ConfigSourceKind) (contents : Option (List ℕ)) (a b : Ask) → TextAsks kind contents a → TextAsks kind contents b → a ≡ b
+text_asks_once kind None a b h k = h ∙ sym k
+text_asks_once kind (Some text) a b h k =
+    let same : k.0 ≡ h.0 = cc (h.1, k.1) in
+    asks_once kind h.0 a b h.2 (subst (λ (table : Members). Asks kind table b) same k.2)
+
+-- ---- one thing that is wrong
+
+module _ {X : Type 0} {means : Option Data → X → Type 0} {faults : Data → List ℕ → Fault → Type 0} (reading : IsReading means (OptionalFaults faults) (λ a b. a ≡ b)) (key : List ℕ) (members : Members) where
+  one_setting : (a b : Wrong) → IsWrongSetting faults key members a → IsWrongSetting faults key members b → a ≡ b
+  one_setting a b (f, faulty, is) (g, also, other) = is ∙ ap setting (reading.one_fault (get_member key members) key f g faulty also) ∙ sym other
+
+  never_both_setting : (x : X) (a : Wrong) → means (get_member key members) x → IsWrongSetting faults key members a → ⊥
+  never_both_setting x a meant (f, faulty, is) = reading.never_both (get_member key members) key x f meant faulty
+
+  -- what is wrong at the key, or behind it
+  one_in_turn : {behind : X → Wrong → Type 0} → ((x : X) (a b : Wrong) → behind x a → behind x b → a ≡ b) → (a b : Wrong)
+      → Then (IsWrongSetting faults key members) (means (get_member key members)) behind a → Then (IsWrongSetting faults key members) (means (get_member key members)) behind b → a ≡ b
+  one_in_turn = one_then one_setting never_both_setting (reading.one_meaning (get_member key members))
+
+one_tool_error : (kind : ConfigSourceKind) (features : Features) (a b : Wrong) → BreaksToolRule kind features a → BreaksToolRule kind features b → a ≡ b
+one_tool_error (Tool name) features a b (some, (names, are, is)) (also, (others, are_too, other)) =
+    let same : names ≡ others = texts_in_one_order names others are.in_order are_too.in_order (λ text. iff.trans (are.of_both text) (iff.symm (are_too.of_both text))) in
+    is ∙ ap tool_features same ∙ sym other
+one_tool_error ExplicitRepository features a b h k = absurd h
+one_tool_error DiscoveredRepository features a b h k = absurd h
+
+one_table_error : (kind : ConfigSourceKind) (members : Members) (a b : Wrong) → IsWrongTable kind members a → IsWrongTable kind members b → a ≡ b
+one_table_error kind members = one_in_turn versions_asked version_key members (λ versions. one_in_turn features_asked experimental_key members (one_tool_error kind))
+
+pub one_wrong : (kind : ConfigSourceKind) (contents : Option (List ℕ)) (a b : Wrong) → IsWrong kind contents a → IsWrong kind contents b → a ≡ b
+one_wrong kind None a b h k = absurd h
+one_wrong kind (Some text) a b h k = by_document (parse_document text) h k
+  where
+    by_document : (document : Option Members) → IsWrongDocument kind document a → IsWrongDocument kind document b → a ≡ b
+    by_document None h k = h ∙ sym k
+    by_document (Some members) h k = one_table_error kind members a b h k
+
+-- ---- never both
+
+kept_not_broken : (kind : ConfigSourceKind) (features : Features) (wrong : Wrong) → KeepsToolRule kind features → BreaksToolRule kind features wrong → ⊥
+kept_not_broken (Tool name) features wrong kept broken = broken.0 kept
+kept_not_broken ExplicitRepository features wrong kept broken = broken
+kept_not_broken DiscoveredRepository features wrong kept broken = broken
+
+asks_not_wrong : (kind : ConfigSourceKind) (table : Members) (ask : Ask) (wrong : Wrong) → Asks kind table ask → IsWrongTable kind table wrong → ⊥
+asks_not_wrong kind table ask wrong asks (inl refused) =
+    versions_asked.never_both (get_member version_key table) version_key ask.versions refused.0 asks.of_versions refused.1
+asks_not_wrong kind table ask wrong asks (inr (versions, asked, inl refused)) =
+    features_asked.never_both (get_member experimental_key table) experimental_key ask.features refused.0 asks.of_features refused.1
+asks_not_wrong kind table ask wrong asks (inr (versions, asked, inr (features, named, broken))) =
+    let same : ask.features ≡ features = features_asked.one_meaning (get_member experimental_key table) ask.features features asks.of_features named in
+    kept_not_broken kind features wrong (subst (KeepsToolRule kind) same asks.of_tool) broken
+
+pub text_not_wrong : (kind : ConfigSourceKind) (contents : Option (List ℕ)) (ask : Ask) (wrong : Wrong) → TextAsks kind contents ask → IsWrong kind contents wrong → ⊥
+text_not_wrong kind None ask wrong read refused = refused
+text_not_wrong kind (Some text) ask wrong read refused =
+    asks_not_wrong kind read.0 ask wrong read.2 (subst (λ (d : Option Members). IsWrongDocument kind d wrong) read.1 refused)

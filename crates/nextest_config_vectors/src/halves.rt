@@ -1,0 +1,174 @@
+//! Pieces that are read half by half, and the first source that is refused.
+
+ghost use Rattle.std.specs.Prelude.{◌≡◌, IfOk, List, ℕ, [], ◌∷◌, ◌++◌, refl};
+ghost use Rattle.std.proofs.lemmas.List.{append_assoc, append-nil};
+ghost use Rattle.nextest_config_vectors.specs.Halves.{IsNumber, IsTooLarge, reads_numbers};
+
+use crate::merge::numbers_of;
+use crate::rows::{Runner, Subject, check_at, copied, done, unknown};
+use crate::values::FromRow;
+use nextest_config::merge::{Merge, PieceRefusal, ReadPiece, read_halves};
+use nextest_config::nextest_version::{ListRefusal, SourceText, VersionOnlyConfig};
+use std::alloc::{AllocError, Global};
+
+// A number below 100 is a source that is read, any other one is refused.
+const ROWS: &str = "
+# each position of short lists is refused in turn
+read_halves | «1 »100 | refused at «#»: 100
+read_halves | «1 »100 2 | refused at «#»: 100
+read_halves | «1 »100 2 3 | refused at «#»: 100
+read_halves | «1 »100 2 3 4 | refused at «#»: 100
+read_halves | «1 »100 2 3 4 5 | refused at «#»: 100
+read_halves | «1 »100 2 3 4 5 6 | refused at «#»: 100
+read_halves | «1 »100 2 3 4 5 6 7 | refused at «#»: 100
+read_halves | «1 »100 2 3 4 5 6 7 8 | refused at «#»: 100
+read_halves | «1 »100 2 3 4 5 6 7 8 9 | refused at «#»: 100
+from_list | «1 »100 | refused at «#»
+from_list | «1 »100 2 | refused at «#»
+from_list | «1 »100 2 3 | refused at «#»
+from_list | «1 »100 2 3 4 | refused at «#»
+from_list | «1 »100 2 3 4 5 | refused at «#»
+from_list | «1 »100 2 3 4 5 6 | refused at «#»
+from_list | «1 »100 2 3 4 5 6 7 | refused at «#»
+from_list | «1 »100 2 3 4 5 6 7 8 | refused at «#»
+from_list | «1 »100 2 3 4 5 6 7 8 9 | refused at «#»
+
+# of several the first is named
+read_halves | 1 2 3 100 5 101 7 | refused at 3: 100
+from_list | 1 2 3 100 5 101 7 | refused at 3
+read_halves | 1 2 3 4 100 | refused at 4: 100
+from_list | 1 2 3 4 100 | refused at 4
+read_halves | 100 «101 »102 | refused at 0: 100
+from_list | 100 «101 »102 | refused at 0
+
+# what is read is joined in order
+read_halves |  | []
+read_halves | 1 | [1]
+read_halves | 1 2 | [1, 2]
+read_halves | 1 2 3 4 5 6 7 8 9 | [1, 2, 3, 4, 5, 6, 7, 8, 9]
+read_halves | «7 »99 | [«7, »99]
+from_list | «1 » | read
+";
+
+const SIZES: [usize; 11] = [0, 1, 2, 3, 4, 5, 6, 7, 8, 9, 1000];
+
+// Numbers in the order of their sources.
+#[derive(Drop)]
+struct Numbers {
+    numbers: Vec<usize>,
+}
+
+impl Merge for Numbers {
+    ghost Seen = { List ℕ };
+
+    ghost seen = { λ it. it.numbers.items };
+
+    ghost join = { λ first later. first ++ later };
+
+    ghost neutral = { [] };
+
+    fn merge(&mut self, later: &mut Self) -> Result<(), AllocError> {
+        self.numbers.append(&mut later.numbers)
+    }
+
+    ghost laws = { record { associative = append_assoc; neutral_first = λ _. refl; neutral_last = append-nil } };
+}
+
+impl ReadPiece for Numbers {
+    type Source = usize;
+
+    type Error = usize;
+
+    ghost Told = { ℕ };
+
+    ghost told = { λ error. error };
+
+    ghost piece = { λ source it. IsNumber source it.numbers.items };
+
+    ghost wrong = { IsTooLarge };
+
+    fn neutral(alloc: Global) -> Self {
+        Numbers {
+            numbers: Vec::new(alloc),
+        }
+    }
+
+    fn read_one(alloc: Global, source: &usize) -> Result<Self, PieceRefusal<usize>> {
+        if *source >= 100 {
+            return Err(PieceRefusal::Refused {
+                position: 0,
+                error: *source,
+            });
+        }
+        Ok(one(alloc, *source)?)
+    }
+
+    ghost reads_one = { reads_numbers (λ it. it.numbers.items) };
+}
+
+fn one(alloc: Global, number: usize) -> Result<Numbers, AllocError>
+    ensures { IfOk result (λ it. it.numbers.items ≡ number ∷ []) }
+{
+    let mut numbers = Vec::new(alloc);
+    numbers.push(number)?;
+    Ok(Numbers { numbers })
+}
+
+struct Halves;
+
+impl Subject for Halves {
+    fn answer(rt: &impl Runner, call: &str, input: &str) -> String {
+        let numbers = numbers_of(rt, input);
+        match call {
+            "read_halves" => joined(rt, &numbers),
+            "from_list" => listed_at(rt, &numbers),
+            _ => unknown(rt, call),
+        }
+    }
+}
+
+fn joined(rt: &impl Runner, sources: &[usize]) -> String {
+    let answer = match read_halves::<Numbers>(rt.alloc(), sources) {
+        Ok(read) => format!(in rt.alloc(); "{:?}", read.numbers),
+        Err(PieceRefusal::Refused { position, error }) => {
+            format!(in rt.alloc(); "refused at {position}: {error}")
+        }
+        Err(PieceRefusal::Memory) => format!(in rt.alloc(); "out of memory"),
+    };
+    done(rt, answer)
+}
+
+fn listed_at(rt: &impl Runner, numbers: &[usize]) -> String {
+    let sources = sources_of(rt, numbers);
+    match VersionOnlyConfig::from_list(rt.alloc(), &sources) {
+        Ok(_) => copied(rt, "read"),
+        Err(refusal) => refused_at(rt, refusal),
+    }
+}
+
+fn refused_at(rt: &impl Runner, refusal: ListRefusal) -> String {
+    match refusal {
+        ListRefusal::Refused { position, error: _ } => {
+            done(rt, format!(in rt.alloc(); "refused at {position}"))
+        }
+        ListRefusal::Memory => copied(rt, "out of memory"),
+    }
+}
+
+fn sources_of(rt: &impl Runner, numbers: &[usize]) -> Vec<SourceText> {
+    let mut sources = Vec::new(rt.alloc());
+    for number in numbers {
+        let row = if *number < 100 {
+            "repository: a.toml"
+        } else {
+            "repository: a.toml => x ="
+        };
+        done(rt, sources.push(SourceText::from_row(rt, row)));
+    }
+    sources
+}
+
+#[test]
+fn halves_are_read_in_order(rt: HostRuntime) {
+    check_at::<Halves>(&rt, ROWS, &SIZES);
+}
