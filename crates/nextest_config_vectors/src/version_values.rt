@@ -46,7 +46,7 @@ p | '00«0».1' | p: invalid version "00«0».1"
 p | {«k@ = 1,» required = '0.9', recommended = '0.9.60' } | 0.9.0 0.9.60
 "#;
 
-struct VersionValues;
+pub(crate) struct VersionValues;
 
 impl Subject for VersionValues {
     fn answer(rt: &impl Runner, at: &str, input: &str) -> String {
