@@ -12,6 +12,7 @@ CRATE := crates/$(PROGRAM)
 test: toolchain
 	rt ci
 	tests/run $(CRATE)/out/$(PROGRAM)
+	tests/random $(CRATE)/out/$(PROGRAM)
 
 run: toolchain
 	@cd $(CRATE) && rt try -- 0.9.55 --override < ../../examples/sources.txt

@@ -116,7 +116,7 @@ parse | «0»1s | Ok(1s)
 parse | 1x«x» | Err(UnitUnknown { at: 1 })
 "#;
 
-struct Durations;
+pub(crate) struct Durations;
 
 impl Subject for Durations {
     fn answer(rt: &impl Runner, call: &str, input: &str) -> String {

@@ -73,7 +73,7 @@ features | «repository: @.toml => experimental = ["x"] && » | known«; reposit
 features | repository: r.toml => experimental = ['a', «'x@',» 'benchmarks'] | known benchmarks; repository r.toml: a« x@»
 "#;
 
-struct Features;
+pub(crate) struct Features;
 
 impl Subject for Features {
     fn answer(rt: &impl Runner, call: &str, input: &str) -> String {

@@ -67,7 +67,7 @@ optional share at p«p» | { share = 101 } | p«p».share: invalid value: intege
 optional share at p | {«k@ = 1,» share = 40 } | Some(Percent { percent: 40 })
 "#;
 
-struct Fields;
+pub(crate) struct Fields;
 
 impl Subject for Fields {
     fn answer(rt: &impl Runner, call: &str, input: &str) -> String {

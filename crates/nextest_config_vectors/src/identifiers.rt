@@ -46,6 +46,10 @@ is a tool's | foo-bar | false
 bytes | e\u{301}x | c3 a9 78
 identifier | e\u{301}\u{20} | InvalidXid é  |
 tool name | \u{212b} | Å
+identifier | \u{212b} | Å
+bytes | \u{212b} | c3 85
+identifier | \u{301} | InvalidXid \u{301}
+printed | a\u{0} | invalid identifier "a\0"
 
 # up to 23 bytes are kept within the value, more in a String
 identifier | aaaaaaaaaaaaaaaaaaaaaaa | aaaaaaaaaaaaaaaaaaaaaaa
@@ -138,8 +142,12 @@ fn bytes(rt: &impl Runner, identifier: &ConfigIdentifier) -> String {
 }
 
 impl Told for InvalidIdentifier {
-    fn told(&self, rt: &impl Runner, _call: &str) -> String {
-        variant(rt, self)
+    fn told(&self, rt: &impl Runner, call: &str) -> String {
+        if call == "printed" {
+            shown(rt, self)
+        } else {
+            variant(rt, self)
+        }
     }
 }
 

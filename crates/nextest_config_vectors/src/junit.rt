@@ -103,7 +103,7 @@ flaky fail | 4294967295/0 | Some("test passed on attempt 4294967295/0 but is con
 flaky pass | 2/3 | None
 "#;
 
-struct Reports;
+pub(crate) struct Reports;
 
 impl Subject for Reports {
     fn answer(rt: &impl Runner, call: &str, input: &str) -> String {

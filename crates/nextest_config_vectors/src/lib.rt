@@ -28,6 +28,8 @@ mod identifiers;
 #[cfg(test)]
 mod junit;
 #[cfg(test)]
+mod kinds;
+#[cfg(test)]
 mod limits;
 #[cfg(test)]
 mod merge;

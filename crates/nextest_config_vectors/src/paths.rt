@@ -30,7 +30,7 @@ at p | 'a«/b»' | a«/b»
 at p«p» | 'a«/b»/..' | p«p»: invalid value: string "a«/b»/..", expected a relative path with no parent components
 "#;
 
-struct Paths;
+pub(crate) struct Paths;
 
 impl Subject for Paths {
     fn answer(rt: &impl Runner, call: &str, input: &str) -> String {

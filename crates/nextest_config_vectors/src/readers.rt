@@ -84,7 +84,7 @@ ConfigIdentifier | '@tool:a«a»' | p: tool identifier isn't @tool:name:identifi
 ToolName | 'a«é»' | ToolName { text: "a«é»" }
 "#;
 
-struct Readers;
+pub(crate) struct Readers;
 
 impl Subject for Readers {
     fn answer(rt: &impl Runner, call: &str, input: &str) -> String {

@@ -167,7 +167,7 @@ priority r | 1.5 | r: invalid type: floating point, expected i8
 priority r | 1979-05-27 | r: invalid type: datetime, expected i8
 "#;
 
-struct Settings;
+pub(crate) struct Settings;
 
 impl Subject for Settings {
     fn answer(rt: &impl Runner, call: &str, input: &str) -> String {

@@ -12,6 +12,14 @@ versions |  | none, none
 0.9.49 | repository: 0.toml => nextest-version = "0.9.50" && repository: 1.toml => nextest-version = "0.9.50" | Error: 0.9.50, repository 1.toml, 0.9.49
 0.9.49 --override | repository: 0.toml => nextest-version = "0.9.50" && repository: 1.toml => nextest-version = "0.9.50" | overridden Error: 0.9.50, repository 1.toml, 0.9.49
 
+# in each order
+0.9.49 | repository: a.toml => nextest-version = "0.9.50" && repository: b.toml => nextest-version = { required = "0.9.50", recommended = "0.9.50" } && repository: c.toml => nextest-version = "0.9.50" | Error: 0.9.50, repository c.toml, 0.9.49
+0.9.49 | repository: a.toml => nextest-version = "0.9.50" && repository: c.toml => nextest-version = "0.9.50" && repository: b.toml => nextest-version = { required = "0.9.50", recommended = "0.9.50" } | Error: 0.9.50, repository b.toml, 0.9.49
+0.9.49 | repository: b.toml => nextest-version = { required = "0.9.50", recommended = "0.9.50" } && repository: a.toml => nextest-version = "0.9.50" && repository: c.toml => nextest-version = "0.9.50" | Error: 0.9.50, repository c.toml, 0.9.49
+0.9.49 | repository: b.toml => nextest-version = { required = "0.9.50", recommended = "0.9.50" } && repository: c.toml => nextest-version = "0.9.50" && repository: a.toml => nextest-version = "0.9.50" | Error: 0.9.50, repository a.toml, 0.9.49
+0.9.49 | repository: c.toml => nextest-version = "0.9.50" && repository: a.toml => nextest-version = "0.9.50" && repository: b.toml => nextest-version = { required = "0.9.50", recommended = "0.9.50" } | Error: 0.9.50, repository b.toml, 0.9.49
+0.9.49 | repository: c.toml => nextest-version = "0.9.50" && repository: b.toml => nextest-version = { required = "0.9.50", recommended = "0.9.50" } && repository: a.toml => nextest-version = "0.9.50" | Error: 0.9.50, repository a.toml, 0.9.49
+
 # the greatest version names its source
 0.9.99 | repository: 0.toml => nextest-version = "0.9.50" && repository: 1.toml => nextest-version = "0.10" && repository: 2.toml => nextest-version = "0.9.99" && repository: 3.toml => x = 1 | Error: 0.10.0, repository 1.toml, 0.9.99
 

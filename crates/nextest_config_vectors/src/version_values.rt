@@ -16,6 +16,12 @@ nextest-version | '1.' | nextest-version: invalid version "1."
 nextest-version | '01.2' | nextest-version: invalid version "01.2"
 nextest-version | '' | nextest-version: invalid version ""
 nextest-version | '18446744073709551616.0' | nextest-version: invalid version "18446744073709551616.0"
+nextest-version | '.' | nextest-version: invalid version "."
+nextest-version | '1.0.0.0' | nextest-version: invalid version "1.0.0.0"
+nextest-version | '00.1' | nextest-version: invalid version "00.1"
+nextest-version | ' 1.0.0' | nextest-version: invalid version " 1.0.0"
+nextest-version | '1.0-' | nextest-version: pre-release identifiers are not supported in nextest-version
+nextest-version | '+-' | nextest-version: build metadata is not supported in nextest-version
 nextest-version | '1+b-c' | nextest-version: build metadata is not supported in nextest-version
 nextest-version | '1-b+c' | nextest-version: pre-release identifiers are not supported in nextest-version
 
@@ -46,7 +52,7 @@ p | '00«0».1' | p: invalid version "00«0».1"
 p | {«k@ = 1,» required = '0.9', recommended = '0.9.60' } | 0.9.0 0.9.60
 "#;
 
-struct VersionValues;
+pub(crate) struct VersionValues;
 
 impl Subject for VersionValues {
     fn answer(rt: &impl Runner, at: &str, input: &str) -> String {

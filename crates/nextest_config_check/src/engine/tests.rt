@@ -7,7 +7,7 @@ use std::io::{self, ErrorKind, Read, Write};
 use std::test::Fail;
 
 // Runs of the program: its words, its input, its status, its output and its complaint. A line feed is
-// `¶`, a carriage return `←`.
+// `¶`, a carriage return `←`, a byte order mark `§`.
 const RUNS: &str = r#"
 0.9.49 | === repository .config/nextest.toml¶nextest-version = "0.9.50"¶ | 1 | error: 0.9.50 required by repository .config/nextest.toml, current 0.9.49¶known: none¶ | (nothing)
 0.9.49 --override | === repository .config/nextest.toml¶nextest-version = "0.9.50"¶ | 0 | error (overridden): 0.9.50 required by repository .config/nextest.toml, current 0.9.49¶known: none¶ | (nothing)
@@ -18,18 +18,23 @@ const RUNS: &str = r#"
 0.9.49 | === tool my-tool:/etc/t.toml¶nextest-version = "0.9.50"¶=== repository .config/nextest.toml¶nextest-version = { recommended = "0.9.60" }¶experimental = ["benchmarks", "future"]¶ | 1 | error: 0.9.50 required by tool my-tool (/etc/t.toml), current 0.9.49¶known: benchmarks¶unknown in repository .config/nextest.toml: "future"¶ | (nothing)
 0.9.49 --override | === tool my-tool:/etc/t.toml¶nextest-version = "0.9.50"¶=== repository .config/nextest.toml¶nextest-version = { recommended = "0.9.60" }¶experimental = ["benchmarks", "future"]¶ | 0 | error (overridden): 0.9.50 required by tool my-tool (/etc/t.toml), current 0.9.49¶known: benchmarks¶unknown in repository .config/nextest.toml: "future"¶ | (nothing)
 1.0.0 | === explicit a.toml¶experimental = ["y", "benchmarks", "x\n"]¶=== explicit a.toml¶experimental = { z = 1, wrapper-scripts = true, setup-scripts = true }¶ | 0 | satisfied: 1.0.0¶known: setup-scripts, wrapper-scripts, benchmarks¶unknown in explicit a.toml: "x\n", "y"¶unknown in explicit a.toml: "z"¶ | (nothing)
+1.0.0 | === explicit a.toml¶experimental = ["a\u0085b"]¶ | 0 | satisfied: 1.0.0¶known: none¶unknown in explicit a.toml: "a\u{85}b"¶ | (nothing)
 1.0.0 | === tool my-tool:/etc/t.toml¶experimental = ["x", "benchmarks"]¶ | 2 | refused at 0: tool my-tool (/etc/t.toml): experimental features in a tool configuration: "benchmarks", "x"¶ | (nothing)
 0.9.50 | === explicit a.toml¶nextest-version = "1-b+c"¶ | 2 | refused at 0: explicit a.toml: nextest-version: pre-release identifiers are not supported in nextest-version¶ | (nothing)
 0.9.50 | === explicit a.toml¶nextest-version = "1"¶ | 2 | refused at 0: explicit a.toml: nextest-version: invalid version "1"¶ | (nothing)
 1.0.0 | === explicit a.toml¶nextest-version = 1¶ | 2 | refused at 0: explicit a.toml: nextest-version: invalid type: integer `1`, expected a table ({ required = "0.9.20", recommended = "0.9.30" }) or a string ("0.9.50")¶ | (nothing)
 1.0.0 | === explicit a.toml¶=== repository b.toml¶x = ¶=== explicit c.toml¶y = ¶ | 2 | refused at 1: repository b.toml: not a TOML document¶ | (nothing)
+1.0.0 | === repository a.toml¶nextest-version = "0.9 | 2 | refused at 0: repository a.toml: not a TOML document¶ | (nothing)
 1.0.0 |  | 0 | satisfied: 1.0.0¶known: none¶ | (nothing)
+0.9.50 | === explicit a.toml←¶nextest-version = "0.9.50"←¶ | 0 | satisfied: 0.9.50¶known: none¶ | (nothing)
 0.9.49 | === explicit a.toml←¶nextest-version = "0.9.50"←¶ | 1 | error: 0.9.50 required by explicit a.toml, current 0.9.49¶known: none¶ | (nothing)
 0.9.49 | === explicit café.toml¶nextest-version = "0.9.50"¶ | 1 | error: 0.9.50 required by explicit café.toml, current 0.9.49¶known: none¶ | (nothing)
 1.0.0 | x = 1¶ | 2 | refused: line 1 isn't a source line¶ | (nothing)
+1.0.0 | §=== repository a¶ | 2 | refused: line 1 isn't a source line¶ | (nothing)
 1.0.0 | ¶=== explicit a.toml¶ | 2 | refused: line 1 isn't a source line¶ | (nothing)
 1.0.0 | === tool _a:/x¶ | 2 | refused: line 1 isn't a source line¶ | (nothing)
 1.0.0 | === explicit ¶ | 2 | refused: line 1 isn't a source line¶ | (nothing)
+1.0.0 | === repository ¶ | 2 | refused: line 1 isn't a source line¶ | (nothing)
 1.0.0 | === repository ←¶ | 2 | refused: line 1 isn't a source line¶ | (nothing)
 1.0.0 | === Explicit a.toml¶ | 2 | refused: line 1 isn't a source line¶ | (nothing)
 1.0.0 | ===  explicit a.toml¶ | 2 | refused: line 1 isn't a source line¶ | (nothing)
@@ -149,9 +154,11 @@ fn words_of(alloc: Global, words: &str) -> Result<Vec<String>, AllocError> {
     Ok(owned)
 }
 
-// The text with line feeds and carriage returns for the signs that stand for them.
-fn with_line_ends(alloc: Global, text: &str) -> Result<String, AllocError> {
-    text.replace(alloc, "¶", "\n")?.replace(alloc, "←", "\r")
+// The text with the characters for the signs that stand for them.
+fn without_signs(alloc: Global, text: &str) -> Result<String, AllocError> {
+    let text = text.replace(alloc, "¶", "\n")?;
+    text.replace(alloc, "←", "\r")?
+        .replace(alloc, "§", "\u{feff}")
 }
 
 // Runs the program: its status, what it writes and what it complains of.
@@ -191,8 +198,8 @@ fn reports_and_complains(rt: HostRuntime) -> Result<(), Fail> {
         let Some((input, want)) = rest.split_once(" | ") else {
             return Err(Fail::from("a row without its parts"));
         };
-        let input = with_line_ends(alloc, input)?;
-        let want = with_line_ends(alloc, want)?;
+        let input = without_signs(alloc, input)?;
+        let want = without_signs(alloc, want)?;
         for step in [1, 3, 4096] {
             let line = run_in_pieces(alloc, words, input.as_str(), step)?;
             assert_eq!(rt; line, want, "{row}");
@@ -204,7 +211,11 @@ fn reports_and_complains(rt: HostRuntime) -> Result<(), Fail> {
 #[test]
 fn refuses_input_that_is_no_text(rt: HostRuntime) -> Result<(), Fail> {
     let alloc = rt.alloc();
-    for mut input in [&b"\xff"[..], &b"x = 1\n\xc3"[..]] {
+    for mut input in [
+        &b"\xff"[..],
+        &b"=== repository a\n\xff"[..],
+        &b"x = 1\n\xc3"[..],
+    ] {
         let writer = Watched::new(alloc, 4096, None);
         let faults = Watched::new(alloc, 4096, None);
         let line = served(alloc, "1.0.0", &mut input, writer, faults)?;
