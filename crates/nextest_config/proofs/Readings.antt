@@ -35,15 +35,19 @@ module _ {X Y : Type 0} (source_of : X → Source) (configuration_of : Y → Con
   first_refused : (xs : List X) (position : ℕ) (told : Option Refusal) → IsFirstWrong (λ x y. StandsForOne (source_of x) (configuration_of y)) (λ x error. IsErrorOf (source_of x) error) xs position told
       → (refusal : Refusal) × (told ≡ Some refusal) × IsFirstRefused (map source_of xs) position refusal
   first_refused xs position None first = absurd first.refused
-  first_refused xs position (Some refusal) first = (refusal, refl, record {
-    before = map source_of first.before;
-    source = source_of first.source;
-    after = map source_of first.after;
-    whole = ap (map source_of) first.whole ∙ map-append source_of first.before (first.source ∷ first.after);
-    place = length-map first.before source_of ∙ first.place;
-    read = reads_all source_of configuration_of first.before first.read;
-    refused = first.refused;
-  })
+  first_refused xs position (Some refusal) first = (
+    refusal,
+    refl,
+    record {
+      before = map source_of first.before;
+      source = source_of first.source;
+      after = map source_of first.after;
+      whole = ap (map source_of) first.whole ∙ map-append source_of first.before (first.source ∷ first.after);
+      place = length-map first.before source_of ∙ first.place;
+      read = reads_all source_of configuration_of first.before first.read;
+      refused = first.refused;
+    },
+  )
 
   pub refusal_of_list : (xs : List X) (r : PieceRefusal ConfigParseError) → IsRefusalOfPieces refusal_of (λ x y. StandsForOne (source_of x) (configuration_of y)) (λ x error. IsErrorOf (source_of x) error) xs r
       → IsRefusalOf (map source_of xs) (list_refusal r)

@@ -110,16 +110,13 @@ pub trait ReadPiece: Merge {
     /// # Errors
     ///
     /// The source has none, and is refused at position 0; or a request for memory was refused.
-    fn read_one(
-        alloc: Global,
-        source: &Self::Source,
-    ) -> Result<Self, PieceRefusal<Self::Error>>
+    fn read_one(alloc: Global, source: &Self::Source) -> Result<Self, PieceRefusal<Self::Error>>
         ensures read { IfOk result (λ it. piece source.now it) }
         ensures refused { IfErr result (IsRefusalOfOne told wrong source.now) };
 
     ghost reads_one: { IsReadingOne Self.seen piece wrong };
 
-    // So does every type's, but nothing says it of a parameter.
+    // As every type's is; but nothing says so of a type parameter.
     ghost size_in_range: { FitsInMemory Self.row };
 }
 

@@ -1,14 +1,15 @@
 //! Pieces that are read half by half, and the first source that is refused.
 
 ghost use Rattle.std.specs.Prelude.{◌≡◌, IfOk, List, ℕ, [], ◌∷◌, ◌++◌, refl};
+ghost use Rattle.std.proofs.Common.{arith};
 ghost use Rattle.std.proofs.lemmas.List.{append_assoc, append-nil};
 ghost use Rattle.nextest_config_vectors.specs.Halves.{IsNumber, IsTooLarge, reads_numbers};
 
 use crate::merge::numbers_of;
-use crate::rows::{Runner, Subject, check_at, copied, done, unknown};
+use crate::rows::{Runner, Subject, answered, check_at, done, unknown};
 use crate::values::FromRow;
 use nextest_config::merge::{Merge, PieceRefusal, ReadPiece, read_halves};
-use nextest_config::nextest_version::{ListRefusal, SourceText, VersionOnlyConfig};
+use nextest_config::nextest_version::{SourceText, VersionOnlyConfig};
 use std::alloc::{AllocError, Global};
 
 // A number below 100 is a source that is read, any other one is refused.
@@ -23,23 +24,23 @@ read_halves | «1 »100 2 3 4 5 6 | refused at «#»: 100
 read_halves | «1 »100 2 3 4 5 6 7 | refused at «#»: 100
 read_halves | «1 »100 2 3 4 5 6 7 8 | refused at «#»: 100
 read_halves | «1 »100 2 3 4 5 6 7 8 9 | refused at «#»: 100
-from_list | «1 »100 | refused at «#»
-from_list | «1 »100 2 | refused at «#»
-from_list | «1 »100 2 3 | refused at «#»
-from_list | «1 »100 2 3 4 | refused at «#»
-from_list | «1 »100 2 3 4 5 | refused at «#»
-from_list | «1 »100 2 3 4 5 6 | refused at «#»
-from_list | «1 »100 2 3 4 5 6 7 | refused at «#»
-from_list | «1 »100 2 3 4 5 6 7 8 | refused at «#»
-from_list | «1 »100 2 3 4 5 6 7 8 9 | refused at «#»
+from_list | «1 »100 | source «#»: repository a.toml: not a TOML document
+from_list | «1 »100 2 | source «#»: repository a.toml: not a TOML document
+from_list | «1 »100 2 3 | source «#»: repository a.toml: not a TOML document
+from_list | «1 »100 2 3 4 | source «#»: repository a.toml: not a TOML document
+from_list | «1 »100 2 3 4 5 | source «#»: repository a.toml: not a TOML document
+from_list | «1 »100 2 3 4 5 6 | source «#»: repository a.toml: not a TOML document
+from_list | «1 »100 2 3 4 5 6 7 | source «#»: repository a.toml: not a TOML document
+from_list | «1 »100 2 3 4 5 6 7 8 | source «#»: repository a.toml: not a TOML document
+from_list | «1 »100 2 3 4 5 6 7 8 9 | source «#»: repository a.toml: not a TOML document
 
 # of several the first is named
 read_halves | 1 2 3 100 5 101 7 | refused at 3: 100
-from_list | 1 2 3 100 5 101 7 | refused at 3
+from_list | 1 2 3 100 5 101 7 | source 3: repository a.toml: not a TOML document
 read_halves | 1 2 3 4 100 | refused at 4: 100
-from_list | 1 2 3 4 100 | refused at 4
+from_list | 1 2 3 4 100 | source 4: repository a.toml: not a TOML document
 read_halves | 100 «101 »102 | refused at 0: 100
-from_list | 100 «101 »102 | refused at 0
+from_list | 100 «101 »102 | source 0: repository a.toml: not a TOML document
 
 # what is read is joined in order
 read_halves |  | []
@@ -47,7 +48,7 @@ read_halves | 1 | [1]
 read_halves | 1 2 | [1, 2]
 read_halves | 1 2 3 4 5 6 7 8 9 | [1, 2, 3, 4, 5, 6, 7, 8, 9]
 read_halves | «7 »99 | [«7, »99]
-from_list | «1 » | read
+from_list | «1 » | none, none
 ";
 
 const SIZES: [usize; 11] = [0, 1, 2, 3, 4, 5, 6, 7, 8, 9, 1000];
@@ -104,6 +105,8 @@ impl ReadPiece for Numbers {
     }
 
     ghost reads_one = { reads_numbers (λ it. it.numbers.items) };
+
+    ghost size_in_range = { Prim.omega arith };
 }
 
 fn one(alloc: Global, number: usize) -> Result<Numbers, AllocError>
@@ -121,7 +124,7 @@ impl Subject for Halves {
         let numbers = numbers_of(rt, input);
         match call {
             "read_halves" => joined(rt, &numbers),
-            "from_list" => listed_at(rt, &numbers),
+            "from_list" => listed(rt, &numbers),
             _ => unknown(rt, call),
         }
     }
@@ -138,21 +141,13 @@ fn joined(rt: &impl Runner, sources: &[usize]) -> String {
     done(rt, answer)
 }
 
-fn listed_at(rt: &impl Runner, numbers: &[usize]) -> String {
+fn listed(rt: &impl Runner, numbers: &[usize]) -> String {
     let sources = sources_of(rt, numbers);
-    match VersionOnlyConfig::from_list(rt.alloc(), &sources) {
-        Ok(_) => copied(rt, "read"),
-        Err(refusal) => refused_at(rt, refusal),
-    }
-}
-
-fn refused_at(rt: &impl Runner, refusal: ListRefusal) -> String {
-    match refusal {
-        ListRefusal::Refused { position, error: _ } => {
-            done(rt, format!(in rt.alloc(); "refused at {position}"))
-        }
-        ListRefusal::Memory => copied(rt, "out of memory"),
-    }
+    answered(
+        rt,
+        "versions",
+        VersionOnlyConfig::from_list(rt.alloc(), &sources),
+    )
 }
 
 fn sources_of(rt: &impl Runner, numbers: &[usize]) -> Vec<SourceText> {

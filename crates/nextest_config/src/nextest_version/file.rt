@@ -125,10 +125,7 @@ impl<'a> ReadPiece for FileConfig<'a> {
         FileConfig::new(VersionOnlyConfig::new(alloc))
     }
 
-    fn read_one(
-        alloc: Global,
-        file: &File<'a>,
-    ) -> Result<Self, PieceRefusal<ConfigParseError>> {
+    fn read_one(alloc: Global, file: &File<'a>) -> Result<Self, PieceRefusal<ConfigParseError>> {
         let source = file.source(alloc)?;
         let config = VersionOnlyConfig::of_source(alloc, &source, file.contents())?;
         Ok(FileConfig::new(config))

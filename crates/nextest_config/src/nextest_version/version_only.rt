@@ -7,8 +7,8 @@ ghost use Rattle.nextest_config.specs.declared.nextest_version.error.ListRefusal
 ghost use Rattle.nextest_config.specs.declared.nextest_version.error_kind.ConfigParseErrorKind.TheVariants as kinds;
 
 use super::error::{ConfigParseError, ListRefusal};
-use super::experimental_config::ExperimentalConfig;
 use super::error_kind::ConfigParseErrorKind;
+use super::experimental_config::ExperimentalConfig;
 use super::file::{File, FileConfig};
 use super::requirement::NextestVersionConfig;
 use super::source::{ConfigSource, RepositoryText, SourceText, ToolText};
