@@ -3,7 +3,7 @@
 import collections
 import unicodedata
 
-from reports import GREATEST, WORDS, Ask, Current, dotted, source_of_line, word_of
+from reports import FLAGS, GREATEST, WORDS, Ask, Current, dotted, source_of_line, word_of
 
 # An input, and whether its documents are made by the rules of TOML.
 Input = collections.namedtuple("Input", "text is_toml")
@@ -16,6 +16,7 @@ TOKENS = [
     *[b"=== explicit ", b"=== tool e\xcc\x81:/t.toml\n", b"=== tool _a:/x\n", b"=== tool t:t\n", b"=== other\n"],
     *[b"nextest-version", b'nextest-version = "0.9.50"\n', b"{ required = ", b"recommended = ", b'"0.9.51"'],
     *[b"experimental", b'experimental = ["benchmarks", "x"]\n', b"setup-scripts = true", b"[profile.default]\n"],
+    *[b"experimental = []\n", b"experimental = [1]\n"],
 ]
 KEYS = ["a", "b", "x", "required", "recommended", "period", "count", "backoff", *WORDS, '"é\\u0085"', "''"]
 SETTINGS = [
@@ -134,7 +135,7 @@ def some_source_line(random):
 
 def source_of_nothing(random):
     """A source that reads, and asks nothing."""
-    asks = ["", "# nothing\n", "nextest-version = {}\n", "experimental = []\n"]
+    asks = ["", "# nothing\n", "nextest-version = {}\n", "experimental = {}\n"]
     asks += ["experimental = { benchmarks = false }\n", f"x = {some_value(random)}\n", some_profile(random)]
     return (some_source_line(random) + random.choice(asks)).encode()
 
@@ -147,13 +148,23 @@ def source_that_reads(random):
     required, recommended, value = random.choice([*alone, (low, high, table(both))])
     pairs = [("nextest-version", value)]
     line = some_source_line(random)
-    names = []
-    if not line.startswith("=== tool ") and chance(random, 0.6):
-        names = some_names(random)
+    names = [] if line.startswith("=== tool ") else some_names(random)
+    is_array = chance(random, 0.3)
+    if is_array:
         pairs.append(("experimental", array(map(quoted, names))))
+    elif names:
+        pairs.append(("experimental", table((quoted(name), "true") for name in dict.fromkeys(names))))
     random.shuffle(pairs)
     text = line + "".join(f"{key} = {value}\n" for key, value in pairs)
-    return Ask(text.encode(), source_of_line(line[:-1]), required, recommended, set(names))
+    return Ask(text.encode(), source_of_line(line[:-1]), required, recommended, set(names), is_array)
+
+
+def source_of_array(random):
+    """A source whose features stand in an array, which may be refused for its elements or as a tool's."""
+    line = some_source_line(random)
+    elements = [*map(quoted, some_names(random)), *(some_value(random) for _ in range(random.randrange(2)))]
+    text = f"{line}experimental = {array(elements)}\n"
+    return Ask(text.encode(), source_of_line(line[:-1]), None, None, set(), True)
 
 
 def some_source(random):
@@ -218,9 +229,9 @@ def greater(random, current):
 def some_word(random):
     pieces = ["1", "0", "0", ".", ".", "-", "+", "a", "01", "é", "\n", " ", str(GREATEST), str(GREATEST + 1)]
     word = "".join(random.choice(pieces) for _ in range(random.randrange(8)))
-    return random.choice([word, f"0.9.50{word}", word_of(some_current(random)), "--override"])
+    return random.choice([word, f"0.9.50{word}", word_of(some_current(random)), *FLAGS])
 
 
 def some_words(random):
-    words = [some_word(random) for _ in range(random.choice([0, 1, 1, 1, 2, 2, 3]))]
-    return [words[0], "--override"] if len(words) == 2 and chance(random, 0.5) else words
+    words = [some_word(random) for _ in range(random.choice([0, 1, 1, 1, 1, 2, 3]))]
+    return words + [random.choice(FLAGS) for _ in range(random.choice([0, 1, 2, 2, 3]))]

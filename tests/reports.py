@@ -11,8 +11,9 @@ WORDS = ["setup-scripts", "wrapper-scripts", "benchmarks"]
 Answer = collections.namedtuple("Answer", "status report complaint")
 # A current version: its three numbers, its pre-release with the sign, its build metadata with the sign.
 Current = collections.namedtuple("Current", "numbers release build")
-# A source that reads: what reports call it, the versions that it asks for, and the features that it names.
-Ask = collections.namedtuple("Ask", "text source required recommended names")
+# A source that reads: what reports call it, the versions that it asks for, the features that it names, and
+# whether it names them in an array.
+Ask = collections.namedtuple("Ask", "text source required recommended names is_array")
 
 
 def dotted(numbers):
@@ -42,6 +43,7 @@ FOUND = {
 }
 VERSION = 'a table ({ required = "0.9.20", recommended = "0.9.30" }) or a string ("0.9.50")'
 FEATURES = 'a table ({ setup-scripts = true, benchmarks = true }) or an array (["setup-scripts", "benchmarks"])'
+ARRAY_FORM = "experimental: the array form of `experimental` isn't supported, use a table"
 
 
 def either(*patterns):
@@ -66,11 +68,12 @@ FAULT = either(
     rf"nextest-version(?:\.(?:required|recommended))?: {VERSION_FAULT}",
     rf"nextest-version: required version \({THREE}\) must not be greater than recommended version \({THREE}\)",
     wrong_kind("experimental", FEATURES, "sequence", "map"),
-    wrong_kind(rf"experimental\[{NUMBER}\]", "a string", "string"),
+    wrong_kind(rf"(?P<element>experimental\[{NUMBER}\])", "a string", "string"),
     wrong_kind(rf"experimental\.{either(*WORDS)}", "a boolean", "boolean"),
     f"experimental features in a tool configuration: (?P<names>{NAMES})",
+    f"(?P<array>{ARRAY_FORM})",
 )
-REFUSED = re.compile(f"refused at (?P<position>{NUMBER}): {SOURCE}: {FAULT}\n")
+REFUSED = re.compile(f"refused at (?P<position>{NUMBER}): (?P<source>{SOURCE}): {FAULT}\n")
 REFUSED_LAYOUT = re.compile("refused: (?:input isn't UTF-8|line [1-9][0-9]* isn't a source line)\n")
 FIRST = re.compile(
     rf"(?:satisfied: |(?P<kind>error|warning)(?P<mark> \(overridden\))?: {THREE} (?P<role>required|recommended)"
@@ -81,6 +84,7 @@ KNOWN = {
     f"known: {', '.join(words) or 'none'}" for count in range(4) for words in itertools.combinations(WORDS, count)
 }
 UNKNOWN = re.compile(f"unknown in {SOURCE}: (?P<names>{NAMES})")
+ARRAY = re.compile(f"^deprecated array form in ({SOURCE})$", re.MULTILINE)
 
 
 def unquoted(name):
@@ -98,32 +102,40 @@ def are_in_order(names):
     return names == sorted(set(names))
 
 
-def is_refusal(report):
+def is_refusal(report, flags):
     match = REFUSED.fullmatch(report)
-    if match and match["names"]:
-        return are_in_order(match["names"])
-    return bool(match or REFUSED_LAYOUT.fullmatch(report))
+    if not match:
+        return bool(REFUSED_LAYOUT.fullmatch(report))
+    return not match["element" if "--table-only" in flags else "array"] and are_in_order(match["names"] or "")
 
 
-def is_report(answer, current, overridden):
+def lines_of_report(report):
+    """The lines of a report on a list that reads, of the last ones only the sources, which use an array."""
+    arrays = ARRAY.findall(report)
+    lines = report.split("\n")[:-1]
+    return lines[: len(lines) - len(arrays)], arrays
+
+
+def is_report(answer, current, flags):
     """Whether an answer has the shape of one on a list that reads."""
-    first, *lines = answer.report.split("\n")
-    match = FIRST.fullmatch(first)
-    if not match or match["current"] != current or match["role"] != ROLES[match["kind"]] or len(lines) < 2:
+    lines, arrays = lines_of_report(answer.report)
+    match = FIRST.fullmatch(lines[0]) if len(lines) > 1 else None
+    if not match or match["current"] != current or match["role"] != ROLES[match["kind"]]:
         return False
-    known, *unknown, last = lines
+    _, known, *unknown = lines
     names = [UNKNOWN.fullmatch(line) for line in unknown]
-    marked = bool(match["mark"]) == (overridden and match["kind"] is not None)
-    ended = answer.status == int(match["kind"] == "error" and not overridden)
+    marked = bool(match["mark"]) == ("--override" in flags and match["kind"] is not None)
+    ended = answer.status == int(match["kind"] == "error" and not match["mark"])
     ordered = all(line and are_in_order(line["names"]) for line in names)
-    return marked and ended and ordered and known in KNOWN and last == ""
+    taken = not arrays or "--table-only" not in flags
+    return marked and ended and ordered and taken and known in KNOWN and answer.report.endswith("\n")
 
 
-def has_shape(answer, current, overridden):
-    """Whether an answer to a current version has the status and the report of some input."""
+def has_shape(answer, current, flags):
+    """Whether an answer to a current version and flags has the status and the report of some input."""
     if answer.complaint:
         return False
-    return is_refusal(answer.report) if answer.status == 2 else is_report(answer, current, overridden)
+    return is_refusal(answer.report, flags) if answer.status == 2 else is_report(answer, current, flags)
 
 
 def severity(answer):
@@ -131,13 +143,20 @@ def severity(answer):
     return ["satisfied", "warning", "error"].index(re.match("[a-z]*", answer.report)[0])
 
 
+def with_override(answer):
+    """The answer where the check is overridden."""
+    if answer.status == 2:
+        return answer
+    return Answer(0, re.sub(r"\A(error|warning):", r"\1 (overridden):", answer.report), "")
+
+
 def are_named(report, sources):
-    """Whether a report on a list that reads names sources that are written, those of unknown names in order."""
-    first, _, *unknown, _ = report.split("\n")
+    """Whether a report on a list that reads names sources that are written, those of its last lines in order."""
+    (first, _, *unknown), arrays = lines_of_report(report)
     source = FIRST.fullmatch(first)["source"]
-    rest = iter(sources)
+    rest, others = iter(sources), iter(sources)
     in_turn = all(any(line.startswith(f"unknown in {source}: ") for source in rest) for line in unknown)
-    return in_turn and (source is None or source in sources)
+    return in_turn and all(array in others for array in arrays) and (source is None or source in sources)
 
 
 # Inputs.
@@ -226,6 +245,14 @@ def unmet(asks, role, current):
     return (version, source) if is_below else None
 
 
+def refused_array(asks):
+    """The refusal of the first array, where tables only are taken; None where there is none."""
+    for position, ask in enumerate(asks):
+        if ask.is_array:
+            return Answer(2, f"refused at {position}: {ask.source}: {ARRAY_FORM}\n", "")
+    return None
+
+
 def answer_of(asks, current):
     """The answer on sources that read, of which it is known what they ask."""
     first, status = f"satisfied: {word_of(current)}", 0
@@ -239,12 +266,14 @@ def answer_of(asks, current):
     for ask in asks:
         names = sorted(ask.names - set(WORDS))
         lines += [f"unknown in {ask.source}: {', '.join(map(printed, names))}"] if names else []
+    lines += [f"deprecated array form in {ask.source}" for ask in asks if ask.is_array]
     return Answer(status, "".join(f"{line}\n" for line in lines), "")
 
 
 # Words of the command line.
 
-USAGE = "usage: nextest_config_check CURRENT [--override]\n"
+USAGE = "usage: nextest_config_check CURRENT [--override] [--table-only]\n"
+FLAGS = ["--override", "--table-only"]
 IDENTIFIER = "(?:0|[1-9][0-9]*|[0-9]*[A-Za-z-][0-9A-Za-z-]*)"
 BUILD = "[0-9A-Za-z-]+"
 SEMVER = re.compile(
@@ -260,7 +289,7 @@ def is_version(word):
 
 def answer_to_words(words):
     """The answer to words, where the input is empty."""
-    if len(words) not in (1, 2) or words[1:] not in ([], ["--override"]):
+    if not words or words[1:] not in ([], FLAGS[:1], FLAGS[1:], FLAGS):
         return Answer(2, "", USAGE)
     if is_version(words[0]):
         return Answer(0, f"satisfied: {words[0]}\nknown: none\n", "")

@@ -121,7 +121,8 @@ seen_once sources asked s t read h k =
     let recommended = one_kept (λ ask. ask.versions.recommended) asked s.roles.recommended t.roles.recommended (all_weaker IsPlainAsked _ (λ a p. p.of_recommended) asked plain) h.recommended k.recommended in
     let enables : (feature : ConfigExperimental) → s.experimental.enables feature ≡ t.experimental.enables feature = λ feature. same_truth _ _ (iff.trans (h.enabled feature) (iff.symm (k.enabled feature))) in
     let unknown = h.unknown ∙ sym k.unknown in
-    λ i. record { roles = record { required = required i; recommended = recommended i }; experimental = record { enables = λ feature. enables feature i; unknown = unknown i } }
+    let arrays = h.arrays ∙ sym k.arrays in
+    λ i. record { roles = record { required = required i; recommended = recommended i }; experimental = record { enables = λ feature. enables feature i; unknown = unknown i; arrays = arrays i } }
 
 -- what stands for the pieces in a row is the join of what stands for each
 join_of_pieces : (pieces : List (List Source)) (configurations : List Configuration) (whole : Configuration) → AllZip StandsFor pieces configurations → StandsFor (in_a_row pieces) whole → IsJoinOf configurations whole

@@ -1,6 +1,6 @@
 -- What is read of two lists, as what is read of both in a row.
-use Rattle.std.proofs.Common.{◌≡◌, ℕ, ◌+◌, ◌^◌, ◌<◌, List, [], ◌∷◌, ◌++◌, length, length-append, map, refl, sym, ap, ap₂, ◌∙◌, subst, append_assoc, arith, get_or, take, drop, Result, Ok, Err, IfErr}
-use Rattle.std.proofs.lemmas.List.{map-append, take-append-drop}
+use Rattle.std.proofs.Common.{◌≡◌, ℕ, ◌+◌, ◌^◌, ◌<◌, List, [], ◌∷◌, ◌++◌, length, length-append, map, refl, sym, ap, ap₂, ◌∙◌, subst, append_assoc, arith, get_or, Result, Ok, Err, IfErr}
+use Rattle.std.proofs.lemmas.List.{map-append}
 use Rattle.std.specs.List.{AllZip}
 use Rattle.nextest_config.specs.Merge.{behind, FitsBehind, HavePieces, IsFirstWrong, IsJoinOfPieces, IsMonoid, IsReadingOne, IsRefusalOfOne, IsRefusalOfPieces, total}
 use Rattle.nextest_config.specs.declared.merge.PieceRefusal.{PieceRefusal}
@@ -9,7 +9,7 @@ use Rattle.nextest_config_values.proofs.Lists.{zip_middle}
 use Rattle.nextest_config.proofs.Standing.{zip_joined}
 
 -- the join of lists in a row
-total_joined : {X : Type 0} (join : X → X → X) (neutral : X) → IsMonoid join neutral → (xs ys : List X) → total join neutral (xs ++ ys) ≡ join (total join neutral xs) (total join neutral ys)
+pub total_joined : {X : Type 0} (join : X → X → X) (neutral : X) → IsMonoid join neutral → (xs ys : List X) → total join neutral (xs ++ ys) ≡ join (total join neutral xs) (total join neutral ys)
 total_joined join neutral laws [] ys = sym (laws.neutral_first (total join neutral ys))
 total_joined join neutral laws (x ∷ xs) ys = ap (join x) (total_joined join neutral laws xs ys) ∙ sym (laws.associative x (total join neutral xs) (total join neutral ys))
 

@@ -5,8 +5,7 @@ use Rattle.std.specs.List.{AllByRecursion}
 use Rattle.semver.specs.Parse.{Parts}
 use Rattle.nextest_config.specs.NextestVersion.ExperimentalConfig.{Experimental}
 use Rattle.nextest_config.specs.NextestVersion.Source.{Source}
-use Rattle.nextest_config.specs.NextestVersion.{Ask, Asked, AsksNoGreater, AsksNone, AsksOther, Configuration, features_in_one_order, IsBelow, IsGreatest, Kept, Place, Roles, StandsFor, StandsForAsks, StandsIn, Unknown}
-use Rattle.nextest_config.specs.declared.nextest_version.experimental.ConfigExperimental.{ConfigExperimental}
+use Rattle.nextest_config.specs.NextestVersion.{Ask, Asked, AsksNoGreater, AsksNone, AsksOther, Configuration, features_in_one_order, IsBelow, IsGreatest, Kept, Place, Roles, StandsFor, StandsForAsks, StandsIn}
 use Rattle.nextest_config_values.proofs.Lists.{all_middle, all_weaker, one_last}
 use Rattle.nextest_config.proofs.OneVerdict.{IsPlainAsked, IsPlainVersion, all_plain, all_read_once, same_version}
 
@@ -49,5 +48,5 @@ configuration_once sources c d (asked, read, h) (more, more_read, k) =
     let recommended = one_kept (λ ask. ask.versions.recommended) asked _ _ (all_weaker IsPlainAsked _ (λ a p. p.of_recommended) asked plain) h.recommended other.recommended in
     let known = features_in_one_order c.experimental.known d.experimental.known h.known.in_order other.known.in_order (λ f. iff.trans (h.known.of_some f) (iff.symm (other.known.of_some f))) in
     let roles : c.roles ≡ d.roles = ap₂ (λ (r m : Option Kept). record { required = r; recommended = m }) required recommended in
-    let experimental : c.experimental ≡ d.experimental = ap₂ (λ (fs : List ConfigExperimental) (us : List Unknown). record { known = fs; unknown = us }) known (h.unknown ∙ sym other.unknown) in
+    let experimental : c.experimental ≡ d.experimental = λ i. record { known = known i; unknown = (h.unknown ∙ sym other.unknown) i; arrays = (h.arrays ∙ sym other.arrays) i } in
     ap₂ (λ (r : Roles) (e : Experimental). record { roles = r; experimental = e }) roles experimental

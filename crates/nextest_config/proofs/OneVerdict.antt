@@ -9,6 +9,7 @@ use Rattle.nextest_config.specs.NextestVersion.Verdict.{Verdict}
 use Rattle.nextest_config.specs.NextestVersion.{alone, AreRead, Ask, Asked, asked_from, AsksVersions, error, gravity, IsBelow, IsEnoughByNumbers, IsGravest, IsNoGraver, IsNoGreaterOfItsKind, IsOtherOfItsKind, IsSatisfied, IsSelected, IsSelectedFor, judged, Kept, MeansVersion, MeansVersionTable, MeansVersionText, named_version, NamesNoGreater, Numbers, plain, satisfied, TextAsks, unmet, version_key, Versions, warn}
 use Rattle.nextest_config.specs.NextestVersion.VersionOnlyLaws.{read_once}
 use Rattle.nextest_config_values.proofs.Lists.{all_middle, one_last}
+use Rattle.nextest_config.specs.declared.nextest_version.edition.Edition.{Edition}
 use Rattle.nextest_config.specs.declared.nextest_version.source.ConfigSourceKind.{ConfigSourceKind}
 use Rattle.nextest_config.proofs.Enough.{not_below_by_numbers}
 use Rattle.nextest_config.proofs.Verdicts.{image_at, unmet_alone}
@@ -48,9 +49,9 @@ value_plain : (found : Option Data) (versions : Versions) → AsksVersions found
 value_plain None versions h = rw h (record { of_required = tt; of_recommended = tt })
 value_plain (Some value) versions h = form_plain (as_str value) value versions h
 
-text_plain : (kind : ConfigSourceKind) (contents : Option (List ℕ)) (ask : Ask) → TextAsks kind contents ask → AsksPlain ask.versions
-text_plain kind None ask h = rw h (record { of_required = tt; of_recommended = tt })
-text_plain kind (Some text) ask h = value_plain (get_member version_key h.0) ask.versions h.2.of_versions
+pub text_plain : (edition : Edition) (kind : ConfigSourceKind) (contents : Option (List ℕ)) (ask : Ask) → TextAsks edition kind contents ask → AsksPlain ask.versions
+text_plain edition kind None ask h = rw h (record { of_required = tt; of_recommended = tt })
+text_plain edition kind (Some text) ask h = value_plain (get_member version_key h.0) ask.versions h.2.of_versions
 
 abbrev pub IsPlainAsked : Asked → Type 0
 IsPlainAsked asked = AsksPlain asked.ask.versions
@@ -59,7 +60,7 @@ pub all_plain : (sources : List Source) (asked : List Asked) → AreRead sources
 all_plain [] [] h = tt
 all_plain [] (a ∷ asked) h = absurd h
 all_plain (source ∷ sources) [] h = absurd h
-all_plain (source ∷ sources) (a ∷ asked) h = (text_plain source.place.kind source.contents a.ask h.0.read, all_plain sources asked h.1)
+all_plain (source ∷ sources) (a ∷ asked) h = (text_plain source.edition source.place.kind source.contents a.ask h.0.read, all_plain sources asked h.1)
 
 -- ---- and so do their verdicts
 

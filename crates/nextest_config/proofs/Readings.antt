@@ -22,11 +22,11 @@ reads_not_refused sources position refusal reads first =
     read_not_refused first.source found.0.ask refusal found.1.read first.refused
 
 -- what is wrong with a source is its refusal
-pub refusal_of_one : (source : Source) (kind : ConfigParseErrorKind) (r : PieceRefusal ConfigParseError) → RefusesSource (IsWrong source.place.kind source.contents) kind → IsKindOf source.place kind r → IsRefusalOfOne refusal_of IsErrorOf source r
+pub refusal_of_one : (source : Source) (kind : ConfigParseErrorKind) (r : PieceRefusal ConfigParseError) → RefusesSource (IsWrong source.edition source.place.kind source.contents) kind → IsKindOf source.place kind r → IsRefusalOfOne refusal_of IsErrorOf source r
 refusal_of_one source kind r is_wrong refused =
     told_twice (wrong_of kind) is_wrong refused (λ memory of_memory. rw (of_memory memory) tt) (λ wrong wrong_so so. by_refusal wrong wrong_so r so)
   where
-    by_refusal : (wrong : Wrong) → IsWrong source.place.kind source.contents wrong → (refusal : PieceRefusal ConfigParseError) → IsRefusedSo (refusal_at source.place wrong) refusal → IsRefusalOfOne refusal_of IsErrorOf source refusal
+    by_refusal : (wrong : Wrong) → IsWrong source.edition source.place.kind source.contents wrong → (refusal : PieceRefusal ConfigParseError) → IsRefusedSo (refusal_at source.place wrong) refusal → IsRefusalOfOne refusal_of IsErrorOf source refusal
     by_refusal wrong wrong_so (pieces.Refused position error) (first, told) = (first, rw told (record { named = refl; wrong = wrong_so }))
     by_refusal wrong wrong_so pieces.Memory so = tt
 

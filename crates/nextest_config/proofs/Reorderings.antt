@@ -7,7 +7,7 @@ use Rattle.std.proofs.lemmas.Slice.Zip.{AllZip-long}
 use Rattle.std.specs.List.{AllByRecursion, AllZip, swap}
 use Rattle.semver.specs.Parse.{Parts}
 use Rattle.nextest_config.specs.Merge.{IsReordering}
-use Rattle.nextest_config.specs.NextestVersion.{Agree, Ask, Asked, AsksNoGreater, AsksNone, Configuration, entry_of, error, features_in_one_order, IsEnabledBySome, IsReadAs, judged, Kept, kept_version, Reads, SaysTheSame, StandsFor, StandsForAsks, StandsIn, Unknown, unmet, warn}
+use Rattle.nextest_config.specs.NextestVersion.{Agree, array_of, Ask, Asked, AsksNoGreater, AsksNone, Configuration, entry_of, error, features_in_one_order, IsEnabledBySome, IsReadAs, judged, Kept, kept_version, Place, Reads, SaysTheSame, StandsFor, StandsForAsks, StandsIn, Unknown, unmet, warn}
 use Rattle.nextest_config.specs.NextestVersion.Precedence.{is_enough}
 use Rattle.nextest_config.specs.NextestVersion.Source.{Source}
 use Rattle.nextest_config.specs.declared.nextest_version.experimental.ConfigExperimental.{ConfigExperimental}
@@ -144,6 +144,7 @@ asks_agree asked others c d order plain h k =
         λ known. (h.known.of_some feature).1 (enabled_reordered others asked feature (IsPermutation-sym asked others order) ((k.known.of_some feature).0 known)),
       ));
       unknown = subst (λ (us : List Unknown). IsReordering us d.experimental.unknown) (sym h.unknown) (subst (IsReordering (flat_map entry_of asked)) (sym k.unknown) (flat_map_reordered entry_of asked others order));
+      arrays = subst (λ (ps : List Place). IsReordering ps d.experimental.arrays) (sym h.arrays) (subst (IsReordering (flat_map array_of asked)) (sym k.arrays) (flat_map_reordered array_of asked others order));
       verdicts = λ current overridden. judged_alike (unmet c.roles.required current) (unmet c.roles.recommended current) (unmet d.roles.required current) (unmet d.roles.recommended current) current overridden
           (unmet_alike c.roles.required d.roles.required current required) (unmet_alike c.roles.recommended d.roles.recommended current recommended);
     }

@@ -157,7 +157,7 @@ selects_satisfied asked current overridden met also =
     all_mapped (λ a. IsMetAlone required current a × IsMetAlone recommended current a) IsSatisfied (alone current overridden)
     (λ a both. rw (both.0, both.1) refl) asked (all_both (IsMetAlone required current) (IsMetAlone recommended current) asked met also)
 
-selects_by : (asked : List Asked) (roles : Roles) (current : Parts) (overridden : Bool) (r m : Option Kept)
+pub selects_by : (asked : List Asked) (roles : Roles) (current : Parts) (overridden : Bool) (r m : Option Kept)
     → StandsIn required asked roles.required → StandsIn recommended asked roles.recommended → unmet roles.required current ≡ r → unmet roles.recommended current ≡ m
     → IsSelected (map (alone current overridden) asked) (judged r m current overridden)
 selects_by asked roles current overridden (Some kept) m h k r_is m_is =

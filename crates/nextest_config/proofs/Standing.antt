@@ -10,7 +10,7 @@ use Rattle.std.specs.List.{AllByRecursion, AllZip}
 use Rattle.semver.specs.Parse.{Parts}
 use Rattle.nextest_config.specs.Merge.{HavePieces, IsJoinOfPieces, total}
 use Rattle.nextest_config.specs.NextestVersion.ExperimentalConfig.{SeenFeatures}
-use Rattle.nextest_config.specs.NextestVersion.{Adds, AreEnabled, AreRead, Ask, Asked, asked_from, AsksNoGreater, AsksNone, AsksOther, Configuration, configuration_from, entry_of, feature_cmp, FeaturesInOrder, is_below, IsBelow, IsEnabledBySome, IsGreatest, IsReadAs, IsSeenAs, join_configurations, join_kept, Kept, neutral, neutral_seen, Reads, Roles, seen_configuration, SeenConfiguration, StandsFor, StandsForAsks, StandsForOne, StandsIn, Unknown}
+use Rattle.nextest_config.specs.NextestVersion.{Adds, AreEnabled, AreRead, array_of, Ask, Asked, asked_from, AsksNoGreater, AsksNone, AsksOther, Configuration, configuration_from, entry_of, feature_cmp, FeaturesInOrder, is_below, IsBelow, IsEnabledBySome, IsGreatest, IsReadAs, IsSeenAs, join_configurations, join_kept, Kept, neutral, neutral_seen, Place, Reads, Roles, seen_configuration, SeenConfiguration, StandsFor, StandsForAsks, StandsForOne, StandsIn, Unknown}
 use Rattle.nextest_config.specs.NextestVersion.PrecedenceLaws.{below_trans, not_below_itself, not_below_trans}
 use Rattle.nextest_config.specs.NextestVersion.Source.{Source}
 use Rattle.nextest_config_values.proofs.Lists.{all_joined, all_weaker, zip_push}
@@ -50,7 +50,7 @@ module _ (role : Ask → Option Parts) where
   none_greater_than : (v : Parts) (xs : List Asked) → AllByRecursion (AsksNone role) xs → AllByRecursion (AsksNoGreater role v) xs
   none_greater_than v = all_weaker (AsksNone role) (AsksNoGreater role v) (λ x none. rw none tt)
 
-  stands_in_both : (xs ys : List Asked) (earlier later : Option Kept) → StandsIn role xs earlier → StandsIn role ys later → StandsIn role (xs ++ ys) (join_kept earlier later)
+  pub stands_in_both : (xs ys : List Asked) (earlier later : Option Kept) → StandsIn role xs earlier → StandsIn role ys later → StandsIn role (xs ++ ys) (join_kept earlier later)
   stands_in_both xs ys None None h k = all_joined (AsksNone role) xs ys h k
   stands_in_both xs ys None (Some later) h k = greatest_takes_over xs ys later (none_greater_than later.version xs h) k
   stands_in_both xs ys (Some earlier) None h k =
@@ -69,7 +69,7 @@ module _ (role : Ask → Option Parts) where
         rw above (greatest_takes_over xs ys later no_greater k)
   ]
 
-  stands_alone : (a : Asked) (found : Option Parts) → role a.ask ≡ found → StandsIn role (a ∷ []) (asked_from a.place found)
+  pub stands_alone : (a : Asked) (found : Option Parts) → role a.ask ≡ found → StandsIn role (a ∷ []) (asked_from a.place found)
   stands_alone a None asks = (asks, tt)
   stands_alone a (Some v) asks = record { before = []; last = a; after = []; whole = refl; version = asks; place = refl; others_later = tt; none_greater = (rw asks (not_below_itself v), tt) }
 
@@ -81,6 +81,7 @@ pub record StandsSeen (asked : List Asked) (seen : SeenConfiguration) : Type 0 w
   pub recommended : StandsIn (λ ask. ask.versions.recommended) asked seen.roles.recommended
   pub enabled : (feature : ConfigExperimental) → IsTrue (seen.experimental.enables feature) ↔ IsEnabledBySome asked feature
   pub unknown : seen.experimental.unknown ≡ flat_map entry_of asked
+  pub arrays : seen.experimental.arrays ≡ flat_map array_of asked
 
 pub seen_of : (asked : List Asked) (c : Configuration) → StandsForAsks asked c → StandsSeen asked (seen_configuration c)
 seen_of asked c h = record {
@@ -88,6 +89,7 @@ seen_of asked c h = record {
   recommended = h.recommended;
   enabled = λ feature. iff.trans (has_feature_iff feature c.experimental.known) (h.known.of_some feature);
   unknown = h.unknown;
+  arrays = h.arrays;
 }
 
 stands_as : (asked : List Asked) (seen : SeenConfiguration) (c : Configuration) → StandsSeen asked seen → IsSeenAs seen c → StandsForAsks asked c
@@ -100,10 +102,11 @@ stands_as asked seen c h is = record {
     in_order = is.experimental.in_order;
   };
   unknown = ap (λ (features : SeenFeatures). features.unknown) is.experimental.same ∙ h.unknown;
+  arrays = ap (λ (features : SeenFeatures). features.arrays) is.experimental.same ∙ h.arrays;
 }
 
 seen_none : StandsSeen [] neutral_seen
-seen_none = record { required = tt; recommended = tt; enabled = λ feature. (λ never. absurd (false≢true never), λ (one, there, known). absurd (contains_none there)); unknown = refl }
+seen_none = record { required = tt; recommended = tt; enabled = λ feature. (λ never. absurd (false≢true never), λ (one, there, known). absurd (contains_none there)); unknown = refl; arrays = refl }
 
 seen_alone : (a : Asked) → StandsSeen (a ∷ []) (seen_configuration (configuration_from a.place a.ask))
 seen_alone a = record {
@@ -114,6 +117,7 @@ seen_alone a = record {
     λ (one, there, known). ⊎_elim (λ same. subst (λ (b : Asked). Contains b.ask.features.known feature) (sym same) known) (λ none. absurd (contains_none none)) (contains_cases a [] there),
   );
   unknown = sym (append-nil (entry_of a));
+  arrays = sym (append-nil (array_of a));
 }
 
 -- what stands for one list and what stands for another join to what stands for both in a row
@@ -130,6 +134,7 @@ seen_both xs ys a b h k = record {
             (Contains-append_cases xs ys one there),
       );
   unknown = ap₂ (λ (us vs : List Unknown). us ++ vs) h.unknown k.unknown ∙ sym (flat_map-append entry_of xs ys);
+  arrays = ap₂ (λ (ps qs : List Place). ps ++ qs) h.arrays k.arrays ∙ sym (flat_map-append array_of xs ys);
 }
 
 -- ---- the configuration
@@ -144,7 +149,7 @@ stands_more sources source old new (asked, read, stands) adds =
     (asked ++ (a ∷ []), zip_push IsReadAs sources asked source a read (record { place = refl; read = adds.read }), stands_as (asked ++ (a ∷ [])) _ new both adds.joined)
 
 pub stands_none : (c : Configuration) → c ≡ neutral → StandsFor [] c
-stands_none c e = ([], tt, rw e (record { required = tt; recommended = tt; known = none_enabled; unknown = refl }))
+stands_none c e = ([], tt, rw e (record { required = tt; recommended = tt; known = none_enabled; unknown = refl; arrays = refl }))
   where
     none_enabled : AreEnabled [] []
     none_enabled = record { of_some = λ feature. (λ h. absurd (contains_none h), λ (one, there, known). absurd (contains_none there)); in_order = none_in_order feature_cmp }

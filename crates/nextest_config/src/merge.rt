@@ -93,13 +93,16 @@ pub trait ReadPiece: Merge {
     /// What is wrong with a source that has no piece.
     type Error;
 
+    /// What all sources are read under.
+    type Context;
+
     ghost Told: { Type 0 };
 
     ghost told: { Self.Error → Told };
 
-    ghost piece: { Self.Source → Self → Type 0 };
+    ghost piece: { Self.Context → Self.Source → Self → Type 0 };
 
-    ghost wrong: { Self.Source → Told → Type 0 };
+    ghost wrong: { Self.Context → Self.Source → Told → Type 0 };
 
     /// The piece of no source. It takes no memory.
     fn neutral(alloc: Global) -> Self
@@ -110,11 +113,15 @@ pub trait ReadPiece: Merge {
     /// # Errors
     ///
     /// The source has none, and is refused at position 0; or a request for memory was refused.
-    fn read_one(alloc: Global, source: &Self::Source) -> Result<Self, PieceRefusal<Self::Error>>
-        ensures read { IfOk result (λ it. piece source.now it) }
-        ensures refused { IfErr result (IsRefusalOfOne told wrong source.now) };
+    fn read_one(
+        alloc: Global,
+        context: &Self::Context,
+        source: &Self::Source,
+    ) -> Result<Self, PieceRefusal<Self::Error>>
+        ensures read { IfOk result (λ it. piece context.now source.now it) }
+        ensures refused { IfErr result (IsRefusalOfOne told (wrong context.now) source.now) };
 
-    ghost reads_one: { IsReadingOne Self.seen piece wrong };
+    ghost reads_one: { (context : Self.Context) → IsReadingOne Self.seen (piece context) (wrong context) };
 
     // As every type's is; but nothing says so of a type parameter.
     ghost size_in_range: { FitsInMemory Self.row };
@@ -128,19 +135,22 @@ pub trait ReadPiece: Merge {
 #[cycle(read_halves)]
 pub fn read_halves<T: ReadPiece + Drop>(
     alloc: Global,
+    context: &T::Context,
     sources: &[T::Source],
 ) -> Result<T, PieceRefusal<T::Error>>
-    ensures joined { IfOk result (λ it.
-        IsJoinOfPieces T.join T.Merge.neutral T.seen T.piece sources.now (T.seen it)) }
-    ensures only { HavePieces T.piece sources.now → IfErr result (λ refusal. refusal ≡ Memory) }
-    ensures refused { IfErr result (IsRefusalOfPieces T.told T.piece T.wrong sources.now) }
+    ensures joined { IfOk result (λ it. IsJoinOfPieces
+        T.join T.Merge.neutral T.seen (T.piece context.now) sources.now (T.seen it)) }
+    ensures only { HavePieces (T.piece context.now) sources.now
+        → IfErr result (λ refusal. refusal ≡ Memory) }
+    ensures refused { IfErr result (IsRefusalOfPieces
+        T.told (T.piece context.now) (T.wrong context.now) sources.now) }
 {
     match sources {
         [] => Ok(T::neutral(alloc)),
-        [source] => T::read_one(alloc, source),
+        [source] => T::read_one(alloc, context, source),
         _ => {
             let (first, second) = sources.split_at(sources.len() / 2);
-            read_both(alloc, first, second)
+            read_both(alloc, context, first, second)
         }
     }
 }
@@ -149,20 +159,22 @@ pub fn read_halves<T: ReadPiece + Drop>(
 #[cycle(read_halves)]
 fn read_both<T: ReadPiece + Drop>(
     alloc: Global,
+    context: &T::Context,
     first: &[T::Source],
     second: &[T::Source],
 ) -> Result<T, PieceRefusal<T::Error>>
     requires shorter { (0 < length first.now) × (0 < length second.now) }
     requires small { length (first.now ++ second.now) < 2 ^ 64 }
-    ensures joined { IfOk result (λ it.
-        IsJoinOfPieces T.join T.Merge.neutral T.seen T.piece (first.now ++ second.now) (T.seen it)) }
-    ensures refused { IfErr result (IsRefusalOfPieces T.told T.piece T.wrong (first.now ++ second.now)) }
+    ensures joined { IfOk result (λ it. IsJoinOfPieces
+        T.join T.Merge.neutral T.seen (T.piece context.now) (first.now ++ second.now) (T.seen it)) }
+    ensures refused { IfErr result (IsRefusalOfPieces
+        T.told (T.piece context.now) (T.wrong context.now) (first.now ++ second.now)) }
 {
-    let mut piece = match read_halves::<T>(alloc, first) {
+    let mut piece = match read_halves::<T>(alloc, context, first) {
         Ok(piece) => piece,
         Err(refusal) => return Err(refusal),
     };
-    match read_halves::<T>(alloc, second) {
+    match read_halves::<T>(alloc, context, second) {
         Ok(mut later) => {
             merge_all(&mut piece, slice::from_mut(&mut later))?;
             Ok(piece)

@@ -27,8 +27,8 @@ front_of_both old new text more (rest, h) = (rest ++ more, record { front = h.fr
 
 -- words that are refused end with status 3 only for want of memory
 pub words_cut_short : (command : Command) (fault : WordsFault) (left old said says : Option (List ℕ)) (status : ℕ) → IsWordsFault command fault → status ≡ words_status fault
-    → AddsFront said says (words_fault_text fault ++ codes "\n") → status ≡ 3 → IfCheck command (λ current overridden. IsCutShort left old old said says)
+    → AddsFront said says (words_fault_text fault ++ codes "\n") → status ≡ 3 → IfCheck command (λ current overridden edition. IsCutShort left old old said says)
 words_cut_short command words.Usage left old said says status h is told three = cc (is, three)
 words_cut_short command (words.NotVersion word) left old said says status h is told three = cc (is, three)
-words_cut_short (check current overridden) words.Memory left old said says status h is told three = (faults.Memory, Keeps-refl old, told)
+words_cut_short (check current overridden edition) words.Memory left old said says status h is told three = (faults.Memory, Keeps-refl old, told)
 words_cut_short (complain text) words.Memory left old said says status h is told three = tt

@@ -3,7 +3,7 @@ use Rattle.std.proofs.Common.{◌≡◌, ℕ, ◌<◌, ◌==◌, true, false, if
 use Rattle.std.specs.List.{AllByRecursion}
 use Rattle.std.proofs.Math.Logic.{⊎_elim, ⊎_map}
 use Rattle.std.proofs.lemmas.List.{append_cancel_right}
-use Rattle.nextest_config.specs.NextestVersion.Source.{Source}
+use Rattle.nextest_config.specs.NextestVersion.Source.{Given}
 use Rattle.nextest_config.specs.NextestVersion.{Place}
 use Rattle.nextest_config_check.specs.Layout.{line_feed, carriage_return, line_number, mark, trimmed, AreBlocks, AreSourcesBefore, EndsLine, IsBlock, IsCut, IsFaultyBlock, IsFaultyLine, IsFirstLine, IsInLine, HasNoMarkedLine, HasNoMarkedLineBelow}
 use Rattle.nextest_config_check.proofs.Lines.{first_line_of_cut, not_in_line}
@@ -31,10 +31,10 @@ first_line_once text line rest other after (inr first) (inr second) = (first.lin
 
 -- ---- the source of a block
 
-block_once : (text : List ℕ) (source other : Source) → IsBlock text source → IsBlock text other → source ≡ other
+block_once : (text : List ℕ) (source other : Given) → IsBlock text source → IsBlock text other → source ≡ other
 block_once text source other block another =
     let same = first_line_once text block.line block.contents another.line another.contents block.first another.first in
-    let made : Place → Option (List ℕ) → Source = λ (p : Place) (c : Option (List ℕ)). record { place = p; contents = c } in
+    let made : Place → Option (List ℕ) → Given = λ (p : Place) (c : Option (List ℕ)). record { place = p; contents = c } in
     ap₂ made (place_once another.line source.place other.place (rw (← same.0) block.names) another.names) (block.holds ∙ ap Some same.1 ∙ sym another.holds)
 
 abbrev IsMarked : List ℕ → Type 0
@@ -54,12 +54,12 @@ first_line_front text line rest (inl ended) =
     (front.0 ++ (line_feed ∷ rest), cc (ended.whole, front.1, ended.line_is, append_assoc line front.0 (line_feed ∷ rest)))
 first_line_front text line rest (inr last) = ([], sym last.line_is ∙ sym (append-nil line))
 
-block_marked : (text : List ℕ) (source : Source) → IsBlock text source → IsMarked text
+block_marked : (text : List ℕ) (source : Given) → IsBlock text source → IsMarked text
 block_marked text source block =
     let front = first_line_front text block.line block.contents block.first in
     (block.names.named ++ front.0, cc (front.1, block.names.whole, append_assoc mark block.names.named front.0))
 
-block_some : (text : List ℕ) (source : Source) → IsBlock text source → 0 < length text
+block_some : (text : List ℕ) (source : Given) → IsBlock text source → 0 < length text
 block_some text source block =
     let marked = block_marked text source block in
     omega (arith, ap length marked.1, length-append mark marked.0)
@@ -133,7 +133,7 @@ cut_once text block rest other after cut another =
 -- ---- the first block of a text
 
 -- the text's first block is this source's, and the others follow it
-record IsFirstBlock (text : List ℕ) (source : Source) (sources : List Source) (rest : List ℕ) : Type 0 where
+record IsFirstBlock (text : List ℕ) (source : Given) (sources : List Given) (rest : List ℕ) : Type 0 where
   block : List ℕ
   after : List ℕ
   cut : IsCut text block after
@@ -141,7 +141,7 @@ record IsFirstBlock (text : List ℕ) (source : Source) (sources : List Source) 
   others : AreSourcesBefore after sources rest
 
 -- a block is cut off from other blocks and a rest
-cut_off : (sources : List Source) (block others rest : List ℕ) → AreBlocks sources others → (others ≡ []) ⊎ EndsLine block → EndsLine (block ++ others) ⊎ (rest ≡ []) → IsMarked rest ⊎ (rest ≡ []) → (others ++ rest ≡ []) ⊎ (EndsLine block × IsMarked (others ++ rest))
+cut_off : (sources : List Given) (block others rest : List ℕ) → AreBlocks sources others → (others ≡ []) ⊎ EndsLine block → EndsLine (block ++ others) ⊎ (rest ≡ []) → IsMarked rest ⊎ (rest ≡ []) → (others ++ rest ≡ []) ⊎ (EndsLine block × IsMarked (others ++ rest))
 cut_off sources block [] rest blocks ended (inl ends) (inl marked) = inr (subst EndsLine (append-nil block) ends, marked)
 cut_off sources block [] rest blocks ended (inr empty) marked = inl empty
 cut_off sources block [] rest blocks ended ends (inr empty) = inl empty
@@ -152,7 +152,7 @@ cut_off (source ∷ sources) block (byte ∷ others) rest blocks (inr ended) end
     let begins = block_marked next source is_block in
     inr (ended, (begins.0 ++ (more ++ rest), cc (whole, begins.1, append_assoc next more rest, append_assoc mark begins.0 (more ++ rest))))
 
-first_block : (text : List ℕ) (source : Source) (sources : List Source) (rest : List ℕ) → AreSourcesBefore text (source ∷ sources) rest → IsFirstBlock text source sources rest
+first_block : (text : List ℕ) (source : Given) (sources : List Given) (rest : List ℕ) → AreSourcesBefore text (source ∷ sources) rest → IsFirstBlock text source sources rest
 first_block text source sources rest before =
     let (block, others, whole, is_block, ended, blocks) = before.blocks in
     let some = block_some block source is_block in
@@ -175,12 +175,12 @@ first_block text source sources rest before =
 -- ---- the sources in front of a rest
 
 -- the text is blocks of these sources up to a rest where no block begins: it is empty, or its first line is no source line
-record StopsAt (text : List ℕ) (sources : List Source) (rest : List ℕ) : Type 0 where
+record StopsAt (text : List ℕ) (sources : List Given) (rest : List ℕ) : Type 0 where
   before : AreSourcesBefore text sources rest
   stop : (rest ≡ []) ⊎ IsFaultyBlock rest
 
 -- where no block begins, none is cut off
-stop_or_block : (text block after : List ℕ) (source : Source) → (text ≡ []) ⊎ IsFaultyBlock text → IsCut text block after → IsBlock block source → ⊥
+stop_or_block : (text block after : List ℕ) (source : Given) → (text ≡ []) ⊎ IsFaultyBlock text → IsCut text block after → IsBlock block source → ⊥
 stop_or_block text block after source (inl empty) cut is_block =
     omega (arith, ap length (sym cut.whole ∙ empty), length-append block after, block_some block source is_block)
 stop_or_block text block after source (inr (line, more, first, faulty)) cut is_block =
@@ -189,14 +189,14 @@ stop_or_block text block after source (inr (line, more, first, faulty)) cut is_b
     faulty source.place (rw same.0 is_block.names)
 
 -- where the text stops at once, no block is in front of another rest
-stop_or_more : (text rest after : List ℕ) (source : Source) (sources : List Source) → StopsAt text [] rest → AreSourcesBefore text (source ∷ sources) after → ⊥
+stop_or_more : (text rest after : List ℕ) (source : Given) (sources : List Given) → StopsAt text [] rest → AreSourcesBefore text (source ∷ sources) after → ⊥
 stop_or_more text rest after source sources stops before =
     let first = first_block text source sources after before in
     let same : rest ≡ text = cc (stops.before.whole, stops.before.blocks) in
     stop_or_block text first.block first.after source (rw same at stops.stop) first.cut first.is_block
 
 -- the sources up to where no block begins are one list, and there is one such rest
-stops_once : (sources others : List Source) (text rest after : List ℕ) → StopsAt text sources rest → StopsAt text others after → (sources ≡ others) × (rest ≡ after)
+stops_once : (sources others : List Given) (text rest after : List ℕ) → StopsAt text sources rest → StopsAt text others after → (sources ≡ others) × (rest ≡ after)
 stops_once [] [] text rest after stops another = (refl, cc (stops.before.whole, stops.before.blocks, another.before.whole, another.before.blocks))
 stops_once [] (other ∷ others) text rest after stops another = absurd (stop_or_more text rest after other others stops another.before)
 stops_once (source ∷ sources) [] text rest after stops another = absurd (stop_or_more text after rest source sources another stops.before)
@@ -210,7 +210,7 @@ stops_once (source ∷ sources) (other ∷ others) text rest after stops another
 
 -- ---- the laws
 
-blocks_stop : (input : List ℕ) (sources : List Source) → AreBlocks sources input → StopsAt input sources []
+blocks_stop : (input : List ℕ) (sources : List Given) → AreBlocks sources input → StopsAt input sources []
 blocks_stop input sources blocks =
     record { before = record { front = input; whole = sym (append-nil input); blocks = blocks; ended = inr refl; owed = inr refl }; stop = inl refl }
 
@@ -220,7 +220,7 @@ faulty_stop input number fault = record {
   stop = inr (fault.line, fault.more, fault.first, fault.faulty);
 }
 
-pub sources_once : (input : List ℕ) (sources others : List Source) → AreBlocks sources input → AreBlocks others input → sources ≡ others
+pub sources_once : (input : List ℕ) (sources others : List Given) → AreBlocks sources input → AreBlocks others input → sources ≡ others
 sources_once input sources others blocks other_blocks = (stops_once sources others input [] [] (blocks_stop input sources blocks) (blocks_stop input others other_blocks)).0
 
 pub line_once : (input : List ℕ) (number other : ℕ) → IsFaultyLine input number → IsFaultyLine input other → number ≡ other
@@ -229,7 +229,7 @@ line_once input number other fault another =
     let same_front = append_cancel_right fault.front another.front another.rest (cc (same.1, fault.whole, another.whole)) in
     fault.counted ∙ ap line_number same_front ∙ sym another.counted
 
-pub blocks_or_line : (input : List ℕ) (sources : List Source) (number : ℕ) → AreBlocks sources input → IsFaultyLine input number → ⊥
+pub blocks_or_line : (input : List ℕ) (sources : List Given) (number : ℕ) → AreBlocks sources input → IsFaultyLine input number → ⊥
 blocks_or_line input sources number blocks fault =
     let same = stops_once sources fault.sources input [] fault.rest (blocks_stop input sources blocks) (faulty_stop input number fault) in
     omega (arith, fault.some, ap length same.1)

@@ -1,4 +1,5 @@
 pub mod Lines
+pub mod LinesInRow
 pub mod Blocks
 pub mod Fronts
 pub mod Versions

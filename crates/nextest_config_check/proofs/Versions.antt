@@ -4,6 +4,7 @@ use Rattle.semver.specs.Parse.{◌>>=◌, Parts, digits_from, dot_of, is_memory,
 use Rattle.semver.specs.declared.error.Error.{Error}
 use Rattle.semver.specs.declared.error.Position.{Position}
 use Rattle.semver.specs.declared.error.Position.TheVariants as place
+use Rattle.nextest_config.specs.declared.nextest_version.edition.Edition.{Edition}
 use Rattle.nextest_config_check.specs.CommandLine.{check_of, IfComplaint}
 
 -- an error, if any, is none of memory
@@ -58,6 +59,6 @@ pub of_text-version_parts : (text : List ℕ) → IsOfText (version_parts text)
 of_text-version_parts text = search (rules, of_text, of_text-digits_from, of_text-dot_of, of_text-tail_pre) depth 12
 
 -- where memory ran out, the word isn't refused
-pub no_complaint : {T : Type 0} (word : List ℕ) (overridden : Bool) (read : Result Parts Error) (parsed : Result T Error) → IsOfText read → IsRefused read parsed → parsed ≡ Err memory_error → IfComplaint (check_of word overridden read) (λ text. ⊥)
-no_complaint word overridden (Ok current) parsed of_text refused memory = tt
-no_complaint word overridden (Err e) parsed of_text refused memory = absurd (cc (of_text.of_text))
+pub no_complaint : {T : Type 0} (word : List ℕ) (overridden : Bool) (edition : Edition) (read : Result Parts Error) (parsed : Result T Error) → IsOfText read → IsRefused read parsed → parsed ≡ Err memory_error → IfComplaint (check_of word overridden edition read) (λ text. ⊥)
+no_complaint word overridden edition (Ok current) parsed of_text refused memory = tt
+no_complaint word overridden edition (Err e) parsed of_text refused memory = absurd (cc (of_text.of_text))

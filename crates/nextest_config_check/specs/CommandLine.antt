@@ -1,22 +1,24 @@
 -- The words of the command line.
-use Rattle.std.specs.Prelude.{◌≡◌, ℕ, Bool, true, false, List, [], ◌∷◌, ◌++◌, codes, map, string_bytes, Result, Ok, Err, String, nat_eq, if◌then◌else◌}
+use Rattle.std.specs.Prelude.{◌≡◌, ℕ, Bool, true, false, ◌&&◌, List, [], ◌∷◌, ◌++◌, codes, map, string_bytes, Option, Some, None, Result, Ok, Err, String, nat_eq, if◌then◌else◌}
 use Rattle.std.specs.Cmp.Lexicographic.{pointwise}
 use Rattle.std.specs.declared.alloc.Global.{Global}
 use Rattle.semver.specs.Identifiers.{parts_of}
 use Rattle.semver.specs.Parse.{Parts, version_parts}
 use Rattle.semver.specs.declared.error.Error.{Error}
+use Rattle.nextest_config.specs.declared.nextest_version.edition.Edition.{Edition}
+use Rattle.nextest_config.specs.declared.nextest_version.edition.Edition.TheVariants.{ArrayAllowed, TableOnly}
 use Rattle.nextest_config_check.specs.declared.command_line.Check.{Check}
 use Rattle.nextest_config_check.specs.declared.command_line.WordsFault.{WordsFault}
 use Rattle.nextest_config_check.specs.declared.command_line.WordsFault.TheVariants as words
 
--- what the words ask for: a check of the current version, with the check overridden or not; or they are refused with a text
+-- what the words ask for: a check of the current version, with the check overridden or not, under an edition; or they are refused with a text
 pub data Command : Type 0 where
-  check : Parts → Bool → Command
+  check : Parts → Bool → Edition → Command
   complain : List ℕ → Command
 
 -- how the program is called
 abbrev pub usage_text : List ℕ
-usage_text = codes "usage: nextest_config_check CURRENT [--override]"
+usage_text = codes "usage: nextest_config_check CURRENT [--override] [--table-only]"
 
 -- words that are no call of it
 abbrev pub usage : Command
@@ -27,15 +29,30 @@ abbrev pub not_version_text : List ℕ → List ℕ
 not_version_text word = codes "not a version: " ++ word
 
 -- what a word asks for, by the version that it spells, if it spells one
-abbrev pub check_of : List ℕ → Bool → Result Parts Error → Command
-check_of word overridden (Ok current) = check current overridden
-check_of word overridden (Err e) = complain (not_version_text word ++ codes "\n")
+abbrev pub check_of : List ℕ → Bool → Edition → Result Parts Error → Command
+check_of word overridden edition (Ok current) = check current overridden edition
+check_of word overridden edition (Err e) = complain (not_version_text word ++ codes "\n")
+
+-- the word is this one
+abbrev pub is_word : List ℕ → List ℕ → Bool
+is_word word other = pointwise nat_eq word other
+
+-- what the flags ask for, in their order: whether the check is overridden, and the edition
+abbrev pub flags_of : List (List ℕ) → Option (Bool × Edition)
+flags_of [] = Some (false, ArrayAllowed)
+flags_of (flag ∷ []) = if is_word flag (codes "--override") then Some (true, ArrayAllowed) else (if is_word flag (codes "--table-only") then Some (false, TableOnly) else None)
+flags_of (first ∷ second ∷ []) = if is_word first (codes "--override") && is_word second (codes "--table-only") then Some (true, TableOnly) else None
+flags_of arguments = None
+
+-- what a word and what its flags ask for is
+abbrev pub check_with : List ℕ → Option (Bool × Edition) → Command
+check_with current None = usage
+check_with current (Some (overridden, edition)) = check_of current overridden edition (version_parts current)
 
 -- the words of the command line, without the program's name
 abbrev pub command_of : List (List ℕ) → Command
-command_of (current ∷ []) = check_of current false (version_parts current)
-command_of (current ∷ flag ∷ []) = if pointwise nat_eq flag (codes "--override") then check_of current true (version_parts current) else usage
-command_of arguments = usage
+command_of [] = usage
+command_of (current ∷ flags) = check_with current (flags_of flags)
 
 -- what these words ask for
 abbrev pub asked_by : List (String Global) → Command
@@ -43,12 +60,12 @@ asked_by words = command_of (map string_bytes words)
 
 -- for words that are refused with a text
 abbrev pub IfComplaint : Command → (List ℕ → Type 0) → Type 0
-IfComplaint (check current overridden) fact = Unit {0}
+IfComplaint (check current overridden edition) fact = Unit {0}
 IfComplaint (complain text) fact = fact text
 
 -- for words that ask for a check
-abbrev pub IfCheck : Command → (Parts → Bool → Type 0) → Type 0
-IfCheck (check current overridden) fact = fact current overridden
+abbrev pub IfCheck : Command → (Parts → Bool → Edition → Type 0) → Type 0
+IfCheck (check current overridden edition) fact = fact current overridden edition
 IfCheck (complain text) fact = Unit {0}
 
 -- what a fault of the words prints
@@ -65,7 +82,7 @@ IsWordsFault command words.Memory = IfComplaint command (λ text. ⊥)
 
 -- the words ask for this check
 abbrev pub AsksCheck : Command → Check → Type 0
-AsksCheck command asked = command ≡ check (parts_of asked.current) asked.override_version_check
+AsksCheck command asked = command ≡ check (parts_of asked.current) asked.override_version_check asked.edition
 
 -- the status after a fault of the words
 abbrev pub words_status : WordsFault → ℕ

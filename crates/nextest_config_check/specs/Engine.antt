@@ -2,6 +2,7 @@
 use Rattle.std.specs.Prelude.{◌≡◌, ℕ, Bool, List, ◌++◌, codes, Option, IfSome}
 use Rattle.std.specs.Io.KnownBytes.{Appends, IsAtEnd, Keeps}
 use Rattle.semver.specs.Parse.{Parts}
+use Rattle.nextest_config.specs.declared.nextest_version.edition.Edition.{Edition}
 use Rattle.nextest_config_check.specs.Report.{IsReport, status_of}
 use Rattle.nextest_config_check.specs.declared.engine.RunFault.{RunFault}
 use Rattle.nextest_config_check.specs.declared.engine.RunFault.TheVariants as faults
@@ -20,9 +21,9 @@ Writes old new faults.Write = Unit {0}
 Writes old new faults.Memory = Keeps old new
 
 -- the status is that of an outcome, and where the input is known, the report with that outcome was written
-abbrev pub IsChecked : Option (List ℕ) → Parts → Bool → ℕ → Option (List ℕ) → Option (List ℕ) → Type 0
-IsChecked known current overridden status old new =
-    (outcome : Outcome) × (status ≡ status_of outcome) × IfSome known (λ input. (text : List ℕ) × IsReport input current overridden text outcome × Appends old new text)
+abbrev pub IsChecked : Option (List ℕ) → Parts → Bool → Edition → ℕ → Option (List ℕ) → Option (List ℕ) → Type 0
+IsChecked known current overridden edition status old new =
+    (outcome : Outcome) × (status ≡ status_of outcome) × IfSome known (λ input. (text : List ℕ) × IsReport input current overridden edition text outcome × Appends old new text)
 
 -- known bytes stay, and what stands before this rest of the text comes behind them
 pub record AddsUpTo (old new : Option (List ℕ)) (text rest : List ℕ) : Type 0 where

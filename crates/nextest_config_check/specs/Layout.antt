@@ -3,7 +3,7 @@ use Rattle.std.specs.Prelude.{◌≡◌, ◌≢◌, ℕ, ◌+◌, ◌<◌, ◌==
 use Rattle.std.specs.List.{AllByRecursion}
 pub use Rattle.nextest_config_values.specs.Characters.{carriage_return, line_feed}
 use Rattle.nextest_config_values.specs.ToolConfig.{IsToolArgument}
-use Rattle.nextest_config.specs.NextestVersion.Source.{Source}
+use Rattle.nextest_config.specs.NextestVersion.Source.{Given}
 use Rattle.nextest_config.specs.NextestVersion.{Place, place_of}
 use Rattle.nextest_config.specs.declared.nextest_version.source.ConfigSource.{ConfigSource}
 use Rattle.nextest_config.specs.declared.nextest_version.source.ConfigSourceKind.{ConfigSourceKind}
@@ -86,7 +86,7 @@ abbrev pub IsSourceIfAny : (Place → Type 0) → Option ConfigSource → Type 0
 IsSourceIfAny IsSuch source = MatchOption source ((place : Place) → ¬ IsSuch place) (λ source. IsSuch (place_of source))
 
 -- the text is a source line and the contents of that source, in which no line is marked
-pub record IsBlock (text : List ℕ) (source : Source) : Type 0 where
+pub record IsBlock (text : List ℕ) (source : Given) : Type 0 where
   pub line : List ℕ
   pub contents : List ℕ
   pub first : IsFirstLine text line contents
@@ -95,7 +95,7 @@ pub record IsBlock (text : List ℕ) (source : Source) : Type 0 where
   pub holds : source.contents ≡ Some contents
 
 -- the text is a block for each of these sources, each from the beginning of a line
-abbrev pub AreBlocks : List Source → List ℕ → Type 0
+abbrev pub AreBlocks : List Given → List ℕ → Type 0
 AreBlocks [] text = text ≡ []
 AreBlocks (source ∷ sources) text =
     (block : List ℕ) × (rest : List ℕ) × (text ≡ block ++ rest) × IsBlock block source × ((rest ≡ []) ⊎ EndsLine block) × AreBlocks sources rest
@@ -114,7 +114,7 @@ pub record IsFaultyLine (input : List ℕ) (number : ℕ) : Type 0 where
   pub rest : List ℕ
   pub line : List ℕ
   pub more : List ℕ
-  pub sources : List Source
+  pub sources : List Given
   pub whole : input ≡ front ++ rest
   pub some : 0 < length rest
   pub blocks : AreBlocks sources front
@@ -141,7 +141,7 @@ abbrev pub IsFaultyBlock : List ℕ → Type 0
 IsFaultyBlock text = (line : List ℕ) × (more : List ℕ) × IsFirstLine text line more × ((place : Place) → ¬ IsSourceLine line place)
 
 -- the input up to the rest is blocks of these sources, and a source line is owed where the rest begins, if it isn't empty
-pub record AreSourcesBefore (input : List ℕ) (sources : List Source) (rest : List ℕ) : Type 0 where
+pub record AreSourcesBefore (input : List ℕ) (sources : List Given) (rest : List ℕ) : Type 0 where
   pub front : List ℕ
   pub whole : input ≡ front ++ rest
   pub blocks : AreBlocks sources front

@@ -33,7 +33,11 @@ known_text (feature ∷ features) = joined (map word_of (feature ∷ features))
 abbrev pub unknown_line : Unknown → List ℕ
 unknown_line unknown = codes "unknown in " ++ (place_text unknown.place ++ (codes ": " ++ (quoted_texts unknown.names ++ codes "\n")))
 
+-- the line of a source that names its features in an array
+abbrev pub array_line : Place → List ℕ
+array_line place = codes "deprecated array form in " ++ (place_text place ++ codes "\n")
+
 -- the lines of a list that reads
 abbrev pub read_text : Parts → Verdict → Experimental → List ℕ
 read_text current v experimental =
-    verdict_text current v ++ (codes "\nknown: " ++ (known_text experimental.known ++ (codes "\n" ++ flat_map unknown_line experimental.unknown)))
+    verdict_text current v ++ (codes "\nknown: " ++ (known_text experimental.known ++ (codes "\n" ++ (flat_map unknown_line experimental.unknown ++ flat_map array_line experimental.arrays))))

@@ -1,27 +1,35 @@
 //! The words of the command line.
 
-ghost use Rattle.std.specs.Prelude.{◌≡◌, ◌↔◌, ◌≢◌, ◌++◌, MatchResult};
+ghost use Rattle.std.specs.Prelude.{◌≡◌, ◌↔◌, ◌≢◌, ◌++◌, [], ◌∷◌, map, MatchResult, string_bytes};
 ghost use Rattle.std.specs.IoError.{error_kind};
 ghost use Rattle.semver.specs.Parse.{version_parts};
-ghost use Rattle.nextest_config_check.specs.CommandLine.{AsksCheck, IsWordsFault, asked_by, check_of, words_fault_text, words_status};
+ghost use Rattle.nextest_config_check.specs.CommandLine.{AsksCheck, IsWordsFault, asked_by, check_of, flags_of, words_fault_text, words_status};
 ghost use Rattle.nextest_config_check.specs.declared.command_line.WordsFault.TheVariants.{Memory, Usage};
 
 use crate::engine::NO_OUTCOME;
+use nextest_config::nextest_version::Edition;
 use semver::Version;
 use std::alloc::{AllocError, Global};
 use std::io::{self, ErrorKind};
+
+const USAGE: &str = "usage: nextest_config_check CURRENT [--override] [--table-only]";
+
+const OVERRIDE: &str = "--override";
+
+const TABLE_ONLY: &str = "--table-only";
 
 /// The check that the words of the command line ask for.
 #[derive(Debug, Drop)]
 pub(crate) struct Check {
     pub current: Version,
     pub override_version_check: bool,
+    pub edition: Edition,
 }
 
 /// Why the words of the command line ask for no check.
 #[derive(Clone, Copy, Debug)]
 pub(crate) enum WordsFault<'a> {
-    /// They are neither one word nor one word and the flag, or one of them is no text.
+    /// They aren't one word and flags in their order, or one of them is no text.
     Usage,
     /// This word is no version.
     NotVersion(&'a str),
@@ -46,7 +54,7 @@ impl<'a> WordsFault<'a> {
         ensures { result.0.now ++ result.1.now ≡ words_fault_text self.entry }
     {
         match self {
-            WordsFault::Usage => ("usage: nextest_config_check CURRENT [--override]", ""),
+            WordsFault::Usage => (USAGE, ""),
             WordsFault::NotVersion(word) => ("not a version: ", word),
             WordsFault::Memory => ("out of memory", ""),
         }
@@ -67,10 +75,43 @@ impl<'a> WordsFault<'a> {
 pub(crate) fn parse_words<'a>(alloc: Global, words: &'a [String]) -> Result<Check, WordsFault<'a>>
     ensures { MatchResult result (AsksCheck (asked_by words.now)) (IsWordsFault (asked_by words.now)) }
 {
-    match words {
-        [current] => parse_check(alloc, current, false),
-        [current, flag] if flag.as_str() == "--override" => parse_check(alloc, current, true),
-        _ => Err(WordsFault::Usage),
+    let [current, flags @ ..] = words else {
+        return Err(WordsFault::Usage);
+    };
+    match parse_flags(flags) {
+        Some((override_version_check, edition)) => {
+            parse_check(alloc, current, override_version_check, edition)
+        }
+        None => Err(WordsFault::Usage),
+    }
+}
+
+// Whether the flags override the check, and the edition that they ask for.
+fn parse_flags(flags: &[String]) -> Option<(bool, Edition)>
+    ensures { result ≡ flags_of (map string_bytes flags.now) }
+{
+    match flags {
+        [] => Some((false, Edition::ArrayAllowed)),
+        [flag] => parse_flag(flag),
+        [first, second] => {
+            if first.as_str() == OVERRIDE && second.as_str() == TABLE_ONLY {
+                Some((true, Edition::TableOnly))
+            } else {
+                None
+            }
+        }
+        _ => None,
+    }
+}
+
+// What a flag that stands alone asks for.
+fn parse_flag(flag: &str) -> Option<(bool, Edition)>
+    ensures { result ≡ flags_of (flag.now ∷ []) }
+{
+    match flag {
+        OVERRIDE => Some((true, Edition::ArrayAllowed)),
+        TABLE_ONLY => Some((false, Edition::TableOnly)),
+        _ => None,
     }
 }
 
@@ -79,14 +120,16 @@ fn parse_check<'a>(
     alloc: Global,
     word: &'a str,
     override_version_check: bool,
+    edition: Edition,
 ) -> Result<Check, WordsFault<'a>>
-    ensures { let command = check_of word.now override_version_check (version_parts word.now) in
+    ensures { let command = check_of word.now override_version_check edition (version_parts word.now) in
         MatchResult result (AsksCheck command) (IsWordsFault command) }
 {
     match Version::parse(alloc, word) {
         Ok(current) => Ok(Check {
             current,
             override_version_check,
+            edition,
         }),
         Err(error) if error == semver::Error::from(AllocError) => Err(WordsFault::Memory),
         Err(_) => Err(WordsFault::NotVersion(word)),

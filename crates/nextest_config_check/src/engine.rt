@@ -11,6 +11,7 @@ ghost use Rattle.nextest_config_check.specs.Report.{IsReport};
 use crate::command_line::{WordsFault, parse_words};
 pub use crate::report::Outcome;
 use crate::report::report_on;
+use nextest_config::nextest_version::Edition;
 use semver::Version;
 use std::alloc::{AllocError, Global};
 use std::fmt;
@@ -96,14 +97,14 @@ pub fn serve<R: Read, W: Write, E: Write>(
         Keeps (W.contents writer.old) (W.contents writer.new)) }
 
     // Words that ask for a check.
-    ensures checked { IfCheck (asked_by words.now) (λ current overridden. (result ≡ 3)
-        ⊎ IsChecked (R.remaining reader.old) current overridden result
+    ensures checked { IfCheck (asked_by words.now) (λ current overridden edition. (result ≡ 3)
+        ⊎ IsChecked (R.remaining reader.old) current overridden edition result
         (W.contents writer.old) (W.contents writer.new)) }
     ensures drained { result ≢ 3 → IfCheck (asked_by words.now)
-        (λ _ _. IsAtEnd (R.remaining reader.new)) }
+        (λ _ _ _. IsAtEnd (R.remaining reader.new)) }
     ensures quiet { result ≢ 3 → IfCheck (asked_by words.now)
-        (λ _ _. Keeps (E.contents faults.old) (E.contents faults.new)) }
-    ensures cut_short { result ≡ 3 → IfCheck (asked_by words.now) (λ _ _. IsCutShort
+        (λ _ _ _. Keeps (E.contents faults.old) (E.contents faults.new)) }
+    ensures cut_short { result ≡ 3 → IfCheck (asked_by words.now) (λ _ _ _. IsCutShort
         (R.remaining reader.new) (W.contents writer.old) (W.contents writer.new)
         (E.contents faults.old) (E.contents faults.new)) }
 {
@@ -117,6 +118,7 @@ pub fn serve<R: Read, W: Write, E: Write>(
         writer,
         &check.current,
         check.override_version_check,
+        check.edition,
     ) {
         Ok(outcome) => outcome.status(),
         Err(fault) => {
@@ -169,16 +171,17 @@ fn write_text<E: Write>(faults: &mut E, text: &str) -> io::Result<()>
     Err(io::Error::from(ErrorKind::Interrupted))
 }
 
-/// Reads the whole input and then writes the report on it.
+/// Reads the whole input, its sources under the edition, and then writes the report on it.
 pub fn run<R: Read, W: Write>(
     alloc: Global,
     reader: &mut R,
     writer: &mut W,
     current: &Version,
     override_version_check: bool,
+    edition: Edition,
 ) -> Result<Outcome, RunFault>
     ensures report { IfOk result (λ outcome. IfSome (R.remaining reader.old) (λ input. (text : List ℕ)
-        × IsReport input (parts_of current.now) override_version_check text outcome
+        × IsReport input (parts_of current.now) override_version_check edition text outcome
         × Appends (W.contents writer.old) (W.contents writer.new) text)) }
     ensures read { OnOk result (IsAtEnd (R.remaining reader.new)) }
     ensures read_first { result ≡ Err RunFault.Write → IsAtEnd (R.remaining reader.new) }
@@ -188,7 +191,7 @@ pub fn run<R: Read, W: Write>(
     if let Err(error) = reader.read_to_end(&mut input) {
         return Err(RunFault::of_read(&error));
     }
-    let report = report_on(alloc, &input, current, override_version_check)?;
+    let report = report_on(alloc, &input, current, override_version_check, edition)?;
     let Ok(()) = write_report(writer, report.text.as_bytes()) else {
         return Err(RunFault::Write);
     };

@@ -2,7 +2,8 @@
 
 ghost use Rattle.std.specs.Prelude.{◌≡◌, ℕ, Bool, List};
 ghost use Rattle.semver.specs.Parse.{Parts};
-ghost use Rattle.nextest_config.specs.NextestVersion.Source.{Source};
+ghost use Rattle.nextest_config.specs.NextestVersion.Source.{Given};
+ghost use Rattle.nextest_config.specs.declared.nextest_version.edition.Edition.{Edition};
 ghost use Rattle.nextest_config_check.specs.Layout.{AreBlocks, IsFaultyLine};
 ghost use Rattle.nextest_config_check.specs.Report.{IsReport};
 
@@ -10,17 +11,19 @@ use crate::report::Outcome;
 
 /// An input is laid out in at most one way, has at most one faulty line, and never both.
 pub fn law_layout_once()
-    ensures sources { (input : List ℕ) (a b : List Source)
+    ensures sources { (input : List ℕ) (a b : List Given)
         → AreBlocks a input → AreBlocks b input → a ≡ b }
     ensures line { (input : List ℕ) (m n : ℕ)
         → IsFaultyLine input m → IsFaultyLine input n → m ≡ n }
-    ensures never_both { (input : List ℕ) (sources : List Source) (n : ℕ)
+    ensures never_both { (input : List ℕ) (sources : List Given) (n : ℕ)
         → AreBlocks sources input → IsFaultyLine input n → ⊥ }
 {}
 
-/// For a current version and the flag, an input has at most one report, with one outcome.
+/// For a current version, the flag and an edition, an input has at most one report, with one outcome.
 pub fn law_report_once()
-    ensures { (input : List ℕ) (current : Parts) (overridden : Bool) (text other : List ℕ)
-        (outcome another : Outcome) → IsReport input current overridden text outcome
-        → IsReport input current overridden other another → (text ≡ other) × (outcome ≡ another) }
+    ensures { (input : List ℕ) (current : Parts) (overridden : Bool) (edition : Edition)
+        (text other : List ℕ) (outcome another : Outcome)
+        → IsReport input current overridden edition text outcome
+        → IsReport input current overridden edition other another
+        → (text ≡ other) × (outcome ≡ another) }
 {}

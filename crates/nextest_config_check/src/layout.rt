@@ -2,7 +2,7 @@
 //! line is `=== tool NAME:PATH`, `=== explicit PATH` or `=== repository PATH`.
 
 ghost use Rattle.std.specs.Prelude.{◌≡◌, ◌+◌, ◌-◌, ◌<◌, ◌≤◌, ◌++◌, ℕ, List, codes, length, map, take, IfOk, IfErr, MatchOption};
-ghost use Rattle.nextest_config.specs.NextestVersion.{source_of};
+ghost use Rattle.nextest_config.specs.NextestVersion.{given_of};
 ghost use Rattle.nextest_config_check.specs.Layout.{AreBlocks, IsBlock, IsCut, IsFaultyBlock, IsFaultyInput, IsFirstLine, IsSourceIfAny, IsSourceLine, HasNoMarkedLineBelow, IsWordAndPath, NamesPlace, line_number, trimmed};
 
 use nextest_config::nextest_version::{ConfigSource, ConfigSourceKind, SourceText};
@@ -34,7 +34,7 @@ impl From<AllocError> for LayoutFault {
 
 /// The sources of the input, in its order.
 pub(crate) fn sources(alloc: Global, input: &str) -> Result<Vec<SourceText>, LayoutFault>
-    ensures blocks { IfOk result (λ sources. AreBlocks (map source_of sources.items) input.now) }
+    ensures blocks { IfOk result (λ sources. AreBlocks (map given_of sources.items) input.now) }
     ensures faulty { IfErr result (IsFaultyInput input.now) }
 {
     let mut sources = Vec::new(alloc);
@@ -74,7 +74,7 @@ fn line_number(input: &str, left: usize) -> usize
 fn source(alloc: Global, block: &str) -> Result<Option<SourceText>, AllocError>
     requires { HasNoMarkedLineBelow block.now }
     ensures { IfOk result (λ source. MatchOption source (IsFaultyBlock block.now)
-        (λ source. IsBlock block.now (source_of source))) }
+        (λ source. IsBlock block.now (given_of source))) }
 {
     let (line, contents) = split_line(block);
     let Some(source) = source_line(alloc, line)? else {

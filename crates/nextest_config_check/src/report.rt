@@ -2,13 +2,13 @@
 
 ghost use Rattle.std.specs.Prelude.{◌≡◌, IfOk, map};
 ghost use Rattle.semver.specs.Identifiers.{parts_of};
-ghost use Rattle.nextest_config.specs.NextestVersion.{configuration_of, experimental_of, source_of, verdict, verdict_of};
+ghost use Rattle.nextest_config.specs.NextestVersion.{configuration_of, experimental_of, given_of, verdict, verdict_of};
 ghost use Rattle.nextest_config_check.specs.Report.{IsReportFor, IsReportForSources, IsReportOf, outcome_of, status_of};
 
 use crate::layout::{self, LayoutFault};
-use crate::report_lines::{push_known, push_unknown, verdict_line};
+use crate::report_lines::{push_arrays, push_known, push_unknown, verdict_line};
 use nextest_config::nextest_version::{
-    ExperimentalConfig, ListRefusal, NextestVersionEval, SourceText, VersionOnlyConfig,
+    Edition, ExperimentalConfig, ListRefusal, NextestVersionEval, SourceText, VersionOnlyConfig,
 };
 use semver::Version;
 use std::alloc::{AllocError, Global};
@@ -51,14 +51,18 @@ pub(crate) fn report_on(
     input: &[u8],
     current: &Version,
     override_version_check: bool,
+    edition: Edition,
 ) -> Result<Report, AllocError>
-    ensures { IfOk result (IsReportFor input.now (parts_of current.now) override_version_check) }
+    ensures { IfOk result
+        (IsReportFor input.now (parts_of current.now) override_version_check edition) }
 {
     let Ok(input) = str::from_utf8(input) else {
         return Ok(refused(String::from_str(alloc, "refused: input isn't UTF-8\n")?));
     };
     match layout::sources(alloc, input) {
-        Ok(sources) => report_on_sources(alloc, &sources, current, override_version_check),
+        Ok(sources) => {
+            report_on_sources(alloc, &sources, current, override_version_check, edition)
+        }
         Err(LayoutFault::Line(number)) => Ok(refused(format!(in alloc;
             "refused: line {number} isn't a source line\n"
         )?)),
@@ -82,11 +86,12 @@ fn report_on_sources(
     sources: &[SourceText],
     current: &Version,
     override_version_check: bool,
+    edition: Edition,
 ) -> Result<Report, AllocError>
-    ensures { IfOk result (IsReportForSources (map source_of sources.now) (parts_of current.now)
-        override_version_check) }
+    ensures { IfOk result (IsReportForSources (map given_of sources.now) (parts_of current.now)
+        override_version_check edition) }
 {
-    match VersionOnlyConfig::from_list(alloc, sources) {
+    match VersionOnlyConfig::from_list_with(alloc, edition, sources) {
         Ok(config) => report_on_read(alloc, &config, current, override_version_check),
         Err(ListRefusal::Refused { position, error }) => Ok(refused(format!(in alloc;
             "refused at {position}: {error}\n"
@@ -127,6 +132,7 @@ fn report_on_eval(
     push_known(&mut text, experimental.known())?;
     text.push_str("\n")?;
     push_unknown(&mut text, experimental.source_errors())?;
+    push_arrays(&mut text, experimental.array_sources())?;
     let outcome = verdict_outcome(eval);
     Ok(Report { text, outcome })
 }

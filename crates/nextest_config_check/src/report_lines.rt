@@ -2,11 +2,11 @@
 
 ghost use Rattle.std.specs.Prelude.{◌≡◌, ◌++◌, IfOk, OnOk, flat_map, string_bytes};
 ghost use Rattle.semver.specs.Identifiers.{parts_of};
-ghost use Rattle.nextest_config.specs.NextestVersion.{errors_left, place_of, verdict_of};
-ghost use Rattle.nextest_config_check.specs.ReportLines.{known_text, shortfall_text, unknown_line, verdict_text};
+ghost use Rattle.nextest_config.specs.NextestVersion.{arrays_left, errors_left, place_of, verdict_of};
+ghost use Rattle.nextest_config_check.specs.ReportLines.{array_line, known_text, shortfall_text, unknown_line, verdict_text};
 
 use nextest_config::nextest_version::{
-    ConfigExperimental, ConfigSource, NextestVersionEval, SourceErrors,
+    ArraySources, ConfigExperimental, ConfigSource, NextestVersionEval, SourceErrors,
 };
 use nextest_config_values::read::QuotedTexts;
 use semver::Version;
@@ -111,6 +111,17 @@ pub(crate) fn push_unknown(text: &mut String, errors: SourceErrors<'_>) -> Resul
 {
     for (source, names) in errors {
         writeln!(text, "unknown in {source}: {}", QuotedTexts(names))?;
+    }
+    Ok(())
+}
+
+/// Pushes a line for each source that names its features in an array.
+pub(crate) fn push_arrays(text: &mut String, arrays: ArraySources<'_>) -> Result<(), AllocError>
+    ensures { OnOk result (string_bytes text.new
+        ≡ string_bytes text.old ++ flat_map array_line (arrays_left arrays.entry)) }
+{
+    for source in arrays {
+        writeln!(text, "deprecated array form in {source}")?;
     }
     Ok(())
 }

@@ -1,13 +1,15 @@
 //! What sources ask together, and what a current version is told.
 
 use crate::features::{joined, words};
-use crate::rows::{Runner, Subject, Told, answered, copied, done, push, shown, tell, written};
 use crate::sources::listed;
-use crate::values::{FromRow, both, word};
+use crate::told::{Told, answered, tell};
+use crate::values::{FromRow, both};
 use nextest_config::nextest_version::{
-    ConfigParseError, ConfigSource, ExperimentalConfig, ListRefusal, NextestVersionConfig,
+    ConfigParseError, ConfigSource, Edition, ExperimentalConfig, ListRefusal, NextestVersionConfig,
     NextestVersionEval, NextestVersionReq, RepositoryText, SourceText, ToolText, VersionOnlyConfig,
 };
+use nextest_config_settings_vectors::rows::{Runner, Subject, copied, done, push, shown, written};
+use nextest_config_settings_vectors::values::word;
 use semver::Version;
 use std::collections::BTreeSet;
 
@@ -17,7 +19,29 @@ pub(crate) struct Lists;
 impl Subject for Lists {
     fn answer(rt: &impl Runner, call: &str, input: &str) -> String {
         let sources: Vec<SourceText> = listed(rt, input);
-        answered(rt, call, VersionOnlyConfig::from_list(rt.alloc(), &sources))
+        let (edition, call) = edition_of(call);
+        answered(rt, call, read_list(rt, edition, &sources))
+    }
+}
+
+// Reads the sources, under an edition if one is named.
+fn read_list(
+    rt: &impl Runner,
+    edition: Option<Edition>,
+    sources: &[SourceText],
+) -> Result<VersionOnlyConfig, ListRefusal> {
+    match edition {
+        Some(edition) => VersionOnlyConfig::from_list_with(rt.alloc(), edition, sources),
+        None => VersionOnlyConfig::from_list(rt.alloc(), sources),
+    }
+}
+
+// The edition that a call begins with, if it names one, and what stands behind it.
+fn edition_of(call: &str) -> (Option<Edition>, &str) {
+    match call.split_once(": ") {
+        Some(("ArrayAllowed", call)) => (Some(Edition::ArrayAllowed), call),
+        Some(("TableOnly", call)) => (Some(Edition::TableOnly), call),
+        _ => (None, call),
     }
 }
 
@@ -29,8 +53,22 @@ impl Subject for Files {
         let (tools, repository) = input.rsplit_once(" && ").unwrap_or(("", input));
         let tools: Vec<ToolText> = listed(rt, tools);
         let repository = RepositoryText::from_row(rt, repository);
-        let config = VersionOnlyConfig::from_sources(rt.alloc(), &repository, &tools);
-        answered(rt, call, config)
+        let (edition, call) = edition_of(call);
+        answered(rt, call, read_files(rt, edition, &repository, &tools))
+    }
+}
+
+// Reads the files, under an edition if one is named.
+fn read_files(
+    rt: &impl Runner,
+    edition: Option<Edition>,
+    repository: &RepositoryText,
+    tools: &[ToolText],
+) -> Result<VersionOnlyConfig, ConfigParseError> {
+    let alloc = rt.alloc();
+    match edition {
+        Some(edition) => VersionOnlyConfig::from_sources_with(alloc, edition, repository, tools),
+        None => VersionOnlyConfig::from_sources(alloc, repository, tools),
     }
 }
 
@@ -80,6 +118,7 @@ impl Told for VersionOnlyConfig {
     fn told(&self, rt: &impl Runner, call: &str) -> String {
         match call {
             "features" => features(rt, self.experimental()),
+            "arrays" => arrays(rt, self.experimental()),
             _ => self.nextest_version().told(rt, call),
         }
     }
@@ -91,6 +130,16 @@ fn features(rt: &impl Runner, experimental: &ExperimentalConfig) -> String {
     push(rt, &mut line, words(rt, experimental.known()).as_str());
     for (source, names) in experimental.source_errors() {
         push_entry(rt, &mut line, source, names);
+    }
+    line
+}
+
+// The known features, and each source that names its features in an array.
+fn arrays(rt: &impl Runner, experimental: &ExperimentalConfig) -> String {
+    let mut line = copied(rt, "known");
+    push(rt, &mut line, words(rt, experimental.known()).as_str());
+    for source in experimental.array_sources() {
+        done(rt, write!(line, "; {source}"));
     }
     line
 }

@@ -1,12 +1,13 @@
 //! Values that rows write: configurations, verdicts and refusals of sources.
 
-use crate::rows::{Runner, done, unknown};
 use crate::sources::listed;
-use crate::values::{FromRow, both, names, part, word};
+use crate::values::{FromRow, both};
 use nextest_config::nextest_version::{
     ConfigParseError, ConfigParseErrorKind, ExperimentalConfig, ListRefusal, NextestVersionConfig,
     NextestVersionEval, NextestVersionReq, Severity, SourceText, VersionOnlyConfig,
 };
+use nextest_config_settings_vectors::rows::{Runner, done, unknown};
+use nextest_config_settings_vectors::values::{names, part, word};
 use nextest_config_values::read::ReadFault;
 use semver::Version;
 use std::alloc::AllocError;
@@ -109,9 +110,9 @@ impl FromRow for ConfigParseError {
         if text == "Memory" {
             return ConfigParseError::from(AllocError);
         }
-        match config_of(rt, text).expect_err(rt, "the sources are read") {
-            ListRefusal::Refused { position: _, error } => error,
-            ListRefusal::Memory => unknown(rt, text),
+        match config_of(rt, text) {
+            Err(ListRefusal::Refused { position: _, error }) => error,
+            _ => unknown(rt, text),
         }
     }
 }

@@ -1,118 +1,8 @@
 //! Equal values, and values that differ in one part alone.
 
 use crate::compared::{Copies, Equality};
-use crate::rows::{Escaped, check};
-
-const EQUAL: &str = r#"
-ConfigIdentifier | e\u{301}x ~ \u{e9}x | same
-ConfigIdentifier | foo ~ fop | differ
-ConfigIdentifier | @tool:a:b ~ @tool:a:b | same
-ConfigIdentifier | @tool:a:b ~ @tool:a:c | differ
-ConfigIdentifier | @tool:a:b ~ @tool:c:b | differ
-ToolName | \u{212b} ~ \u{c5} | same
-ToolName | a-b ~ aa | differ
-ToolName | a ~ A | differ
-
-InvalidIdentifier | Empty ~ Empty | same
-InvalidIdentifier | Empty ~ Memory | differ
-InvalidIdentifier | InvalidXid a ~ InvalidXid a | same
-InvalidIdentifier | InvalidXid a ~ InvalidXid b | differ
-InvalidIdentifier | ToolIdentifierInvalidFormat a ~ ToolIdentifierInvalidFormat a | same
-InvalidIdentifier | ToolIdentifierInvalidFormat a ~ ToolIdentifierInvalidFormat b | differ
-InvalidIdentifier | ToolComponentEmpty a ~ ToolComponentEmpty a | same
-InvalidIdentifier | ToolComponentEmpty a ~ ToolComponentEmpty b | differ
-InvalidIdentifier | ToolIdentifierInvalidXid a ~ ToolIdentifierInvalidXid a | same
-InvalidIdentifier | ToolIdentifierInvalidXid a ~ ToolIdentifierInvalidXid b | differ
-InvalidIdentifier | InvalidXid a ~ ToolIdentifierInvalidFormat a | differ
-InvalidIdentifier | ToolIdentifierInvalidFormat a ~ ToolComponentEmpty a | differ
-InvalidIdentifier | ToolComponentEmpty a ~ ToolIdentifierInvalidXid a | differ
-InvalidIdentifier | Memory ~ Memory | same
-
-InvalidToolName | Empty ~ Empty | same
-InvalidToolName | Empty ~ Memory | differ
-InvalidToolName | StartsWithToolPrefix a ~ StartsWithToolPrefix a | same
-InvalidToolName | StartsWithToolPrefix a ~ StartsWithToolPrefix b | differ
-InvalidToolName | InvalidXid a ~ InvalidXid a | same
-InvalidToolName | InvalidXid a ~ InvalidXid b | differ
-InvalidToolName | InvalidXid a ~ StartsWithToolPrefix a | differ
-InvalidToolName | Memory ~ Memory | same
-
-ToolConfigFile | a:/x ~ a:/x | same
-ToolConfigFile | a:/x ~ b:/x | differ
-ToolConfigFile | a:/x ~ a:/y | differ
-
-ToolConfigFileParseError | InvalidFormat a ~ InvalidFormat a | same
-ToolConfigFileParseError | InvalidFormat a ~ InvalidFormat b | differ
-ToolConfigFileParseError | InvalidToolName a / Empty ~ InvalidToolName a / Empty | same
-ToolConfigFileParseError | InvalidToolName a / Empty ~ InvalidToolName b / Empty | differ
-ToolConfigFileParseError | InvalidToolName a / InvalidXid a ~ InvalidToolName a / InvalidXid b | differ
-ToolConfigFileParseError | EmptyConfigFile a ~ EmptyConfigFile a | same
-ToolConfigFileParseError | EmptyConfigFile a ~ EmptyConfigFile b | differ
-ToolConfigFileParseError | ConfigFileNotAbsolute a ~ ConfigFileNotAbsolute a | same
-ToolConfigFileParseError | ConfigFileNotAbsolute a ~ ConfigFileNotAbsolute b | differ
-ToolConfigFileParseError | InvalidFormat a ~ EmptyConfigFile a | differ
-ToolConfigFileParseError | EmptyConfigFile a ~ ConfigFileNotAbsolute a | differ
-ToolConfigFileParseError | InvalidFormat a ~ Memory | differ
-ToolConfigFileParseError | Memory ~ Memory | same
-
-Rule | PreRelease ~ PreRelease | same
-Rule | PreRelease ~ BuildMetadata | differ
-Rule | BuildMetadata ~ BuildMetadata | same
-Rule | NotVersion a ~ NotVersion a | same
-Rule | NotVersion a ~ NotVersion b | differ
-Rule | RequiredAboveRecommended 1.0.0 2.0.0 ~ RequiredAboveRecommended 1.0.0 2.0.0 | same
-Rule | RequiredAboveRecommended 1.0.0 2.0.0 ~ RequiredAboveRecommended 1.0.1 2.0.0 | differ
-Rule | RequiredAboveRecommended 1.0.0 2.0.0 ~ RequiredAboveRecommended 1.0.0 2.0.1 | differ
-Rule | JitterWithoutDelay ~ JitterWithoutDelay | same
-Rule | JitterWithoutDelay ~ CountZero | differ
-Rule | CountZero ~ CountZero | same
-Rule | CountZero ~ DelayZero | differ
-Rule | DelayZero ~ DelayZero | same
-Rule | DelayZero ~ MaxDelayZero | differ
-Rule | MaxDelayZero ~ MaxDelayZero | same
-Rule | MaxDelayZero ~ MaxDelayBelowDelay | differ
-Rule | MaxDelayBelowDelay ~ MaxDelayBelowDelay | same
-Rule | Priority 101 ~ Priority 101 | same
-Rule | Priority 101 ~ Priority 102 | differ
-Rule | Priority -128 ~ Priority 127 | differ
-
-FaultKind | InvalidType a / a string ~ InvalidType a / a string | same
-FaultKind | InvalidType a / a string ~ InvalidType b / a string | differ
-FaultKind | InvalidType a / a string ~ InvalidType a / a boolean | differ
-FaultKind | InvalidValue a / a string ~ InvalidValue a / a string | same
-FaultKind | InvalidValue a / a string ~ InvalidValue b / a string | differ
-FaultKind | InvalidValue a / a string ~ InvalidValue a / a boolean | differ
-FaultKind | UnknownVariant a / a string ~ UnknownVariant a / a string | same
-FaultKind | UnknownVariant a / a string ~ UnknownVariant b / a string | differ
-FaultKind | UnknownVariant a / a string ~ UnknownVariant a / a boolean | differ
-FaultKind | UnknownField a / a string ~ UnknownField a / a string | same
-FaultKind | UnknownField a / a string ~ UnknownField b / a string | differ
-FaultKind | UnknownField a / a string ~ UnknownField a / a boolean | differ
-FaultKind | InvalidType a / a string ~ InvalidValue a / a string | differ
-FaultKind | InvalidValue a / a string ~ UnknownVariant a / a string | differ
-FaultKind | UnknownVariant a / a string ~ UnknownField a / a string | differ
-FaultKind | MissingField a ~ MissingField a | same
-FaultKind | MissingField a ~ MissingField b | differ
-FaultKind | Custom PreRelease ~ Custom PreRelease | same
-FaultKind | Custom PreRelease ~ Custom BuildMetadata | differ
-FaultKind | Identifier Empty ~ Identifier Empty | same
-FaultKind | Identifier InvalidXid a ~ Identifier InvalidXid b | differ
-FaultKind | Identifier Empty ~ ToolName Empty | differ
-FaultKind | ToolName Empty ~ ToolName Empty | same
-FaultKind | ToolName InvalidXid a ~ ToolName InvalidXid b | differ
-FaultKind | Memory ~ Memory | same
-FaultKind | Memory ~ Custom PreRelease | differ
-
-ReadFault | p, Custom PreRelease ~ p, Custom PreRelease | same
-ReadFault | p, Custom PreRelease ~ q, Custom PreRelease | differ
-ReadFault | p, Custom PreRelease ~ p, Custom BuildMetadata | differ
-ReadFault | , Memory ~ , Memory | same
-
-TrackDefault | 5 read ~ 5 read | same
-TrackDefault | 5 default ~ 5 default | same
-TrackDefault | 5 read ~ 6 read | differ
-TrackDefault | 5 read ~ 5 default | differ
-"#;
+use crate::runner::check;
+use nextest_config_settings_vectors::rows::Escaped;
 
 const EQUAL_SOURCES: &str = r#"
 ConfigSourceKind | tool a ~ tool a | same
@@ -199,7 +89,9 @@ ExperimentalDeserialize | ['benchmarks', 'x'] ~ ['setup-scripts', 'x'] | differ
 ExperimentalDeserialize | ['benchmarks', 'x'] ~ ['benchmarks', 'y'] | differ
 ExperimentalDeserialize | ['benchmarks'] ~ [] | differ
 ExperimentalDeserialize | ['x'] ~ [] | differ
-ExperimentalDeserialize | [] ~ {} | same
+ExperimentalDeserialize | [] ~ {} | differ
+ExperimentalDeserialize | { x = 1 } ~ { x = 2 } | same
+ExperimentalDeserialize | { benchmarks = true } ~ ['benchmarks'] | differ
 
 ExperimentalConfig | explicit: a => experimental = ['benchmarks', 'x'] ~ explicit: a => experimental = ['x', 'benchmarks'] | same
 ExperimentalConfig | explicit: a => experimental = ['benchmarks', 'x'] ~ explicit: a => experimental = ['x'] | differ
@@ -208,7 +100,9 @@ ExperimentalConfig | explicit: a => experimental = ['benchmarks', 'x'] ~ explici
 ExperimentalConfig | explicit: a => experimental = ['x'] ~ explicit: a => experimental = ['x'] && explicit: a => experimental = ['x'] | differ
 ExperimentalConfig | explicit: a => nextest-version = '1.0' ~  | same
 
-VersionOnlyConfig | explicit: a => nextest-version = '1.0' && explicit: b => experimental = ['benchmarks'] ~ explicit: a => nextest-version = '1.0' && explicit: c => experimental = ['benchmarks'] | same
+VersionOnlyConfig | explicit: a => nextest-version = '1.0' && explicit: b => experimental = { benchmarks = true } ~ explicit: a => nextest-version = '1.0' && explicit: c => experimental = { benchmarks = true } | same
+VersionOnlyConfig | explicit: b => experimental = ['benchmarks'] ~ explicit: c => experimental = ['benchmarks'] | differ
+VersionOnlyConfig | explicit: b => experimental = ['benchmarks'] ~ explicit: b => experimental = { benchmarks = true } | differ
 VersionOnlyConfig | explicit: a => nextest-version = '1.0' ~ explicit: a => nextest-version = '1.1' | differ
 VersionOnlyConfig | explicit: a => nextest-version = '1.0' ~ explicit: b => nextest-version = '1.0' | differ
 VersionOnlyConfig | explicit: a => nextest-version = { recommended = '1.0' } ~ explicit: a => nextest-version = { recommended = '1.1' } | differ
@@ -270,20 +164,12 @@ VersionOnlyConfig |  | same
 ExperimentalConfig |  | same
 
 # names, arguments and sources
-ConfigIdentifier | e\u{301} | same
-ConfigIdentifier | @tool:a:b | same
-ToolName | a-b | same
-ToolConfigFile | my-tool:/etc/t.toml | same
 ConfigSourceKind | tool my-tool | same
 ConfigSourceKind | explicit | same
 ConfigSourceKind | repository | same
 ConfigSource | tool my-tool: /etc/t.toml | same
 ConfigSource | explicit: a.toml | same
 ConfigSource | repository:  | same
-
-# values and their marks
-TrackDefault | 5 read | same
-TrackDefault | 5 default | same
 
 # at every size
 ExperimentalDeserialize | [«'x@',» 'benchmarks'] | same
@@ -293,17 +179,9 @@ NextestVersionEval | Error 1.0.0 0.0.0 repository: a«a» | same
 NextestVersionDeserialize | 1.0.0-a«a» 1.0.0+b«b» | same
 ExperimentalConfig | «repository: @.toml => experimental = ['x'] && » | same
 VersionOnlyConfig | repository: a => nextest-version = '1.0'\nexperimental = [«'x@',» 'benchmarks'] | same
-ConfigIdentifier | a«-» | same
-ToolName | a«-» | same
-ToolConfigFile | a«-»:/«x» | same
 ConfigSourceKind | tool a«-» | same
 ConfigSource | tool a«-»: «x» | same
 "#;
-
-#[test]
-fn values_that_differ_in_one_part_are_unequal(rt: HostRuntime) {
-    check::<Escaped<Equality>>(&rt, EQUAL);
-}
 
 #[test]
 fn sources_that_differ_in_one_part_are_unequal(rt: HostRuntime) {

@@ -1,9 +1,13 @@
 //! Experimental features.
 
 use crate::asked::Lists;
-use crate::rows::{Escaped, Runner, Subject, Told, answered, check, done, push, unknown, written};
+use crate::runner::check;
+use crate::told::{Told, answered};
 use crate::values::{FromRow, both};
 use nextest_config::nextest_version::{ConfigExperimental, ExperimentalDeserialize};
+use nextest_config_settings_vectors::rows::{
+    Escaped, Runner, Subject, done, push, unknown, written,
+};
 use nextest_config_values::read::FromToml;
 use std::collections::{BTreeMap, BTreeSet};
 use toml::Value;
@@ -24,8 +28,9 @@ variables | NEXTEST_EXPERIMENTAL_SETUP_SCRIPTS=1 |  |
 variables |  |  |
 
 # settings of features
-setting | [] | known; unknown
-setting | ['x', 'benchmarks', 'setup-scripts', 'x'] | known setup-scripts benchmarks; unknown x
+setting | [] | known; unknown; array
+setting | {} | known; unknown
+setting | ['x', 'benchmarks', 'setup-scripts', 'x'] | known setup-scripts benchmarks; unknown x; array
 setting | { benchmarks = false, b = 1, a = 'x' } | known; unknown a b
 setting | { wrapper-scripts = true } | known wrapper-scripts; unknown
 setting | ['benchmarks', 1] | experimental[1]: invalid type: integer `1`, expected a string
@@ -35,7 +40,7 @@ setting | 1 | experimental: invalid type: integer `1`, expected a table ({ setup
 # at every size
 variables | «V@=1 »NEXTEST_EXPERIMENTAL_BENCHMARKS=1 |  benchmarks
 variables | «V@=1 »NEXTEST_EXPERIMENTAL_BENCHMARKS=1«1»1 |  |
-setting | [«'x@',» 'benchmarks'] | known benchmarks; unknown« x@»
+setting | [«'x@',» 'benchmarks'] | known benchmarks; unknown« x@»; array
 setting | {«x@ = 1,» benchmarks = true } | known benchmarks; unknown« x@»
 setting | [«'x',» 1] | experimental[«#»]: invalid type: integer `1`, expected a string
 "#;
@@ -68,7 +73,24 @@ features | tool my-tool: /etc/t.toml => experimental = ["benchmarks"]\nnextest-v
 features | repository: b.toml => experimental = ["benchmarks", "x"] && explicit: c.toml && tool my-tool: /etc/t.toml => experimental = {} && repository: a.toml => experimental = { setup-scripts = true, benchmarks = false, z = 1, y = 2 } && repository: b.toml => experimental = ["benchmarks", "x"] && repository: d.toml => x = 1 | known setup-scripts benchmarks; repository b.toml: x; repository a.toml: y z; repository b.toml: x
 features | repository: a.toml => nextest-version = "0.9.50" && repository: b.toml => x = && tool my-tool: /etc/t.toml => experimental = ["benchmarks"] | source 1: repository b.toml: not a TOML document
 
+# arrays of features are named, or refused before what they hold
+arrays | repository: a.toml => experimental = ["benchmarks"] && repository: b.toml => experimental = { benchmarks = true } && repository: c.toml => experimental = [] | known benchmarks; repository a.toml; repository c.toml
+ArrayAllowed: arrays | repository: a.toml => experimental = ["benchmarks"] && repository: b.toml => experimental = { benchmarks = true } && repository: c.toml => experimental = [] | known benchmarks; repository a.toml; repository c.toml
+arrays | tool my-tool: /etc/t.toml => experimental = [] && repository: c.toml => experimental = [] && repository: c.toml => experimental = [] | known; tool my-tool (/etc/t.toml); repository c.toml; repository c.toml
+TableOnly: arrays | repository: a.toml => experimental = ["benchmarks"] && repository: b.toml => experimental = { benchmarks = true } && repository: c.toml => experimental = [] | source 0: repository a.toml: experimental: the array form of `experimental` isn't supported, use a table
+TableOnly: arrays | repository: b.toml => experimental = { benchmarks = true } && repository: c.toml => experimental = [] | source 1: repository c.toml: experimental: the array form of `experimental` isn't supported, use a table
+TableOnly: arrays | repository: b.toml => experimental = { benchmarks = true } && repository: r.toml => nextest-version = "0.9.50" && explicit: e.toml | known benchmarks
+ArrayAllowed: arrays | repository: r.toml => experimental = [1] | source 0: repository r.toml: experimental[0]: invalid type: integer `1`, expected a string
+TableOnly: arrays | repository: r.toml => experimental = [1] | source 0: repository r.toml: experimental: the array form of `experimental` isn't supported, use a table
+TableOnly: arrays | tool my-tool: /etc/t.toml => experimental = ["benchmarks"] | source 0: tool my-tool (/etc/t.toml): experimental: the array form of `experimental` isn't supported, use a table
+TableOnly: arrays | tool my-tool: /etc/t.toml => experimental = { benchmarks = true } | source 0: tool my-tool (/etc/t.toml): experimental features in a tool configuration: "benchmarks"
+TableOnly: arrays | repository: r.toml => nextest-version = 1\nexperimental = [] | source 0: repository r.toml: nextest-version: invalid type: integer `1`, expected a table ({ required = "0.9.20", recommended = "0.9.30" }) or a string ("0.9.50")
+TableOnly: 0.9.49 | repository: b.toml => experimental = { benchmarks = true } && repository: r.toml => nextest-version = "0.9.50" | Error: 0.9.50, repository r.toml, 0.9.49
+TableOnly: features | repository: r.toml => experimental = { x = [], setup-scripts = true } | known setup-scripts; repository r.toml: x
+
 # at every size
+arrays | «repository: @.toml => experimental = [] && » | known«; repository @.toml»
+TableOnly: arrays | «repository: @.toml => experimental = {} && »repository: c.toml => experimental = [] | source «#»: repository c.toml: experimental: the array form of `experimental` isn't supported, use a table
 features | «repository: @.toml => experimental = ["x"] && » | known«; repository @.toml: x»
 features | repository: r.toml => experimental = ['a', «'x@',» 'benchmarks'] | known benchmarks; repository r.toml: a« x@»
 "#;
@@ -118,7 +140,11 @@ impl Told for ExperimentalDeserialize {
     fn told(&self, rt: &impl Runner, _call: &str) -> String {
         let known = words(rt, &self.known);
         let unknown = joined(rt, &self.unknown);
-        done(rt, format!(in rt.alloc(); "known{known}; unknown{unknown}"))
+        let array = if self.array { "; array" } else { "" };
+        done(
+            rt,
+            format!(in rt.alloc(); "known{known}; unknown{unknown}{array}"),
+        )
     }
 }
 

@@ -1,7 +1,8 @@
 //! Tools' files and the repository's, read together.
 
 use crate::asked::Files;
-use crate::rows::{Escaped, check};
+use crate::runner::check;
+use nextest_config_settings_vectors::rows::Escaped;
 
 const ROWS: &str = r#"
 # tools are read in reverse and then the repository
@@ -21,6 +22,13 @@ versions | tool one: /1.toml => nextest-version = { required = "0.9.51", recomme
 features | tool one: /1.toml => experimental = [] && tool two: /2.toml =>  && repository: r.toml => experimental = ["wrapper-scripts"] | known wrapper-scripts
 features | tool one: /1.toml => experimental = ["wrapper-scripts"] && tool two: /2.toml => experimental = [] && repository: r.toml => experimental = ["wrapper-scripts"] | tool one (/1.toml): experimental features in a tool configuration: "wrapper-scripts"
 features | tool one: /1.toml => experimental = [] && tool two: /2.toml => experimental = { x = true } && repository: r.toml => experimental = ["wrapper-scripts"] | tool two (/2.toml): experimental features in a tool configuration: "x"
+
+# an array is refused in the order in which the files are read
+arrays | tool one: /1.toml => experimental = [] && tool two: /2.toml => experimental = {} && repository: c.toml => experimental = [] | known; tool one (/1.toml); repository c.toml
+ArrayAllowed: arrays | tool one: /1.toml => experimental = [] && tool two: /2.toml => experimental = {} && repository: c.toml => experimental = [] | known; tool one (/1.toml); repository c.toml
+TableOnly: arrays | tool one: /1.toml => experimental = [] && tool two: /2.toml => experimental = {} && repository: c.toml => experimental = [] | tool one (/1.toml): experimental: the array form of `experimental` isn't supported, use a table
+TableOnly: arrays | tool one: /1.toml => experimental = [] && tool two: /2.toml => experimental = ["benchmarks"] && repository: c.toml => experimental = [] | tool two (/2.toml): experimental: the array form of `experimental` isn't supported, use a table
+TableOnly: arrays | tool one: /1.toml => experimental = {} && tool two: /2.toml && repository: b.toml => experimental = { benchmarks = true } | known benchmarks
 
 # files without contents ask nothing
 versions | tool one: /1.toml && tool two: /2.toml && repository: r.toml | none, none

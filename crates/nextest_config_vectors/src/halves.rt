@@ -6,10 +6,12 @@ ghost use Rattle.std.proofs.lemmas.List.{append_assoc, append-nil};
 ghost use Rattle.nextest_config_vectors.specs.Halves.{IsNumber, IsTooLarge, reads_numbers};
 
 use crate::merge::numbers_of;
-use crate::rows::{Runner, Subject, answered, check_at, done, unknown};
+use crate::runner::check_at;
+use crate::told::answered;
 use crate::values::FromRow;
 use nextest_config::merge::{Merge, PieceRefusal, ReadPiece, read_halves};
 use nextest_config::nextest_version::{SourceText, VersionOnlyConfig};
+use nextest_config_settings_vectors::rows::{Runner, Subject, done, unknown};
 use std::alloc::{AllocError, Global};
 
 // A number below 100 is a source that is read, any other one is refused.
@@ -80,11 +82,14 @@ impl ReadPiece for Numbers {
 
     type Error = usize;
 
+    // The least number that is refused.
+    type Context = usize;
+
     ghost Told = { ℕ };
 
     ghost told = { λ error. error };
 
-    ghost piece = { λ source it. IsNumber source it.numbers.items };
+    ghost piece = { λ least source it. IsNumber least source it.numbers.items };
 
     ghost wrong = { IsTooLarge };
 
@@ -94,8 +99,8 @@ impl ReadPiece for Numbers {
         }
     }
 
-    fn read_one(alloc: Global, source: &usize) -> Result<Self, PieceRefusal<usize>> {
-        if *source >= 100 {
+    fn read_one(alloc: Global, least: &usize, source: &usize) -> Result<Self, PieceRefusal<usize>> {
+        if *source >= *least {
             return Err(PieceRefusal::Refused {
                 position: 0,
                 error: *source,
@@ -104,7 +109,7 @@ impl ReadPiece for Numbers {
         Ok(one(alloc, *source)?)
     }
 
-    ghost reads_one = { reads_numbers (λ it. it.numbers.items) };
+    ghost reads_one = { λ least. reads_numbers (λ it. it.numbers.items) least };
 
     ghost size_in_range = { Prim.omega arith };
 }
@@ -131,7 +136,7 @@ impl Subject for Halves {
 }
 
 fn joined(rt: &impl Runner, sources: &[usize]) -> String {
-    let answer = match read_halves::<Numbers>(rt.alloc(), sources) {
+    let answer = match read_halves::<Numbers>(rt.alloc(), &100, sources) {
         Ok(read) => format!(in rt.alloc(); "{:?}", read.numbers),
         Err(PieceRefusal::Refused { position, error }) => {
             format!(in rt.alloc(); "refused at {position}: {error}")

@@ -3,10 +3,12 @@
 ghost use Rattle.std.specs.Prelude.{List, ℕ, [], ◌++◌, refl};
 ghost use Rattle.std.proofs.lemmas.List.{append_assoc, append-nil};
 
-use crate::rows::{Escaped, Runner, Subject, check, done, tell};
+use crate::runner::check;
+use crate::told::tell;
 use crate::values::FromRow;
 use nextest_config::merge::{Merge, merge_all};
 use nextest_config::nextest_version::VersionOnlyConfig;
+use nextest_config_settings_vectors::rows::{Escaped, Runner, Subject, done};
 use std::alloc::AllocError;
 
 const ROWS: &str = r#"
@@ -23,6 +25,10 @@ versions | repository: a.toml => nextest-version = "0.9.50" // repository: b.tom
 features | repository: a.toml => experimental = ["x"] // repository: b.toml => experimental = ["y"] // repository: c.toml => experimental = ["x"] | known; repository a.toml: x; repository b.toml: y; repository c.toml: x
 features | repository: c.toml => experimental = ["x"] // repository: a.toml => experimental = ["x"] // repository: b.toml => experimental = ["y"] | known; repository c.toml: x; repository a.toml: x; repository b.toml: y
 features | repository: a.toml => experimental = ["benchmarks"] // repository: b.toml => experimental = ["setup-scripts", "benchmarks"] | known setup-scripts benchmarks
+
+# arrays stay in the order of their pieces
+arrays | repository: a.toml => experimental = ["benchmarks"] // repository: b.toml => experimental = { benchmarks = true } && repository: c.toml => experimental = [] | known benchmarks; repository a.toml; repository c.toml
+arrays | repository: a.toml => experimental = ["benchmarks"] && repository: b.toml => experimental = { benchmarks = true } // repository: c.toml => experimental = [] //  // repository: a.toml => experimental = ["benchmarks"] | known benchmarks; repository a.toml; repository c.toml; repository a.toml
 
 # at every size
 features | «repository: @.toml => experimental = ["x"] // » | known«; repository @.toml: x»

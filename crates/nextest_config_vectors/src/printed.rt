@@ -1,105 +1,14 @@
 //! Values that print, each as its text alone.
 
-use crate::rows::{Escaped, Runner, Subject, check, shown, unknown, written};
+use crate::runner::check;
 use crate::values::FromRow;
 use nextest_config::nextest_version::{
     ConfigExperimental, ConfigParseError, ConfigParseErrorKind, ConfigSource, ListRefusal,
 };
-use nextest_config_elements::max_fail::TerminateMode;
-use nextest_config_values::identifier::{
-    ConfigIdentifier, InvalidIdentifier, InvalidToolName, ToolName,
-};
-use nextest_config_values::read::{FaultKind, ReadFault, Rule};
-use nextest_config_values::tool_config::ToolConfigFileParseError;
+use nextest_config_settings_vectors::rows::{Escaped, Runner, Subject, shown, unknown, written};
 use std::fmt::Display;
 
 const ROWS: &str = r#"
-ConfigIdentifier | a | a
-ConfigIdentifier | Δabc-e\u{301} | Δabc-é
-ConfigIdentifier | @tool:a:b | @tool:a:b
-ConfigIdentifier | a-long-name-that-is-longer-than-any-of-the-widths-that-it-is-printed-with | a-long-name-that-is-longer-than-any-of-the-widths-that-it-is-printed-with
-ToolName | a | a
-ToolName | Δabc-e\u{301} | Δabc-é
-ToolName | a-long-name-that-is-longer-than-any-of-the-widths-that-it-is-printed-with | a-long-name-that-is-longer-than-any-of-the-widths-that-it-is-printed-with
-
-InvalidIdentifier | Empty | identifier is empty
-InvalidIdentifier | InvalidXid a"b\u{1} | invalid identifier "a\"b\u{1}"
-InvalidIdentifier | InvalidXid  | invalid identifier ""
-InvalidIdentifier | ToolIdentifierInvalidFormat @tool:"\n | tool identifier isn't @tool:name:identifier: "@tool:\"\n"
-InvalidIdentifier | ToolIdentifierInvalidFormat  | tool identifier isn't @tool:name:identifier: ""
-InvalidIdentifier | ToolComponentEmpty @tool::\u{85} | tool identifier has an empty component: "@tool::\u{85}"
-InvalidIdentifier | ToolComponentEmpty  | tool identifier has an empty component: ""
-InvalidIdentifier | ToolIdentifierInvalidXid @tool:a: | invalid tool identifier "@tool:a:"
-InvalidIdentifier | ToolIdentifierInvalidXid  | invalid tool identifier ""
-InvalidIdentifier | Memory | out of memory
-
-InvalidToolName | Empty | tool name is empty
-InvalidToolName | StartsWithToolPrefix @tool\u{0}" | tool name begins with @tool: "@tool\0\""
-InvalidToolName | StartsWithToolPrefix  | tool name begins with @tool: ""
-InvalidToolName | InvalidXid é\u{7f} | invalid tool name "é\u{7f}"
-InvalidToolName | InvalidXid  | invalid tool name ""
-InvalidToolName | Memory | out of memory
-
-written ToolConfigFileParseError | InvalidFormat a"\u{1} | "tool configuration file isn't of the form NAME:PATH: a\"\u{1}"
-ToolConfigFileParseError | InvalidFormat  | tool configuration file isn't of the form NAME:PATH:  |
-ToolConfigFileParseError | InvalidToolName @tool:/path / StartsWithToolPrefix @tool | tool configuration file without a valid tool name: @tool:/path: tool name begins with @tool: "@tool"
-ToolConfigFileParseError | InvalidToolName :/b / Empty | tool configuration file without a valid tool name: :/b: tool name is empty
-ToolConfigFileParseError | InvalidToolName _: / InvalidXid _ | tool configuration file without a valid tool name: _:: invalid tool name "_"
-ToolConfigFileParseError | EmptyConfigFile a: | tool configuration file without a path: a:
-ToolConfigFileParseError | ConfigFileNotAbsolute ./b | tool configuration file isn't an absolute path: ./b
-ToolConfigFileParseError | Memory | out of memory
-
-Rule | PreRelease | pre-release identifiers are not supported in nextest-version
-Rule | BuildMetadata | build metadata is not supported in nextest-version
-Rule | NotVersion 1"\n | invalid version "1\"\n"
-Rule | NotVersion  | invalid version ""
-Rule | RequiredAboveRecommended 0.9.60 0.9.50 | required version (0.9.60) must not be greater than recommended version (0.9.50)
-Rule | RequiredAboveRecommended 18446744073709551615.0.0-a.1+b.2 0.0.0-0+0 | required version (18446744073709551615.0.0-a.1+b.2) must not be greater than recommended version (0.0.0-0+0)
-Rule | JitterWithoutDelay | `jitter` cannot be true if `delay` isn't specified or is zero
-Rule | CountZero | `count` cannot be zero with exponential backoff
-Rule | DelayZero | `delay` cannot be zero with exponential backoff
-Rule | MaxDelayZero | `max-delay` cannot be zero with exponential backoff
-Rule | MaxDelayBelowDelay | `max-delay` cannot be less than delay with exponential backoff
-Rule | Priority -128 | priority -128 must be between -100 and 100
-Rule | Priority -101 | priority -101 must be between -100 and 100
-Rule | Priority 0 | priority 0 must be between -100 and 100
-Rule | Priority 127 | priority 127 must be between -100 and 100
-
-FaultKind | InvalidType map / a boolean | invalid type: map, expected a boolean
-FaultKind | InvalidType  / a boolean | invalid type: , expected a boolean
-FaultKind | InvalidType map /  | invalid type: map, expected  |
-FaultKind | InvalidValue integer `-1` / a string | invalid value: integer `-1`, expected a string
-FaultKind | InvalidValue  / a string | invalid value: , expected a string
-written FaultKind | UnknownVariant "\u{1} / `a` | "unknown variant `\"\u{1}`, expected `a`"
-FaultKind | UnknownVariant  / `a` | unknown variant ``, expected `a`
-FaultKind | UnknownField max-delay / `a` | unknown field `max-delay`, expected `a`
-FaultKind | UnknownField  / `a` | unknown field ``, expected `a`
-FaultKind | MissingField p.k | missing configuration field "p.k"
-FaultKind | MissingField "\\ | missing configuration field ""\\"
-FaultKind | MissingField  | missing configuration field ""
-FaultKind | Custom Priority -128 | priority -128 must be between -100 and 100
-FaultKind | Custom NotVersion 1 | invalid version "1"
-FaultKind | Identifier InvalidXid _ | invalid identifier "_"
-FaultKind | Identifier Empty | identifier is empty
-FaultKind | ToolName InvalidXid _ | invalid tool name "_"
-FaultKind | ToolName Empty | tool name is empty
-FaultKind | Memory | out of memory
-
-ReadFault | p, InvalidType map / a boolean | p: invalid type: map, expected a boolean
-ReadFault | p, InvalidValue map / a boolean | p: invalid value: map, expected a boolean
-ReadFault | p, UnknownVariant x / `a` | p: unknown variant `x`, expected `a`
-ReadFault | retries, UnknownField max-delay / `a` | retries: unknown field `max-delay`, expected `a`
-ReadFault | p, MissingField p.k | p: missing configuration field "p.k"
-ReadFault | p, Custom Priority -128 | p: priority -128 must be between -100 and 100
-ReadFault | p, Identifier Empty | p: identifier is empty
-ReadFault | p, ToolName Memory | p: out of memory
-ReadFault | , Memory | out of memory
-ReadFault | , ToolName Empty | tool name is empty
-written ReadFault | "p".\u{1}, Custom PreRelease | "\"p\".\u{1}: pre-release identifiers are not supported in nextest-version"
-
-TerminateMode | wait | wait
-TerminateMode | immediate | immediate
-
 ConfigExperimental | setup-scripts | setup-scripts
 ConfigExperimental | wrapper-scripts | wrapper-scripts
 ConfigExperimental | benchmarks | benchmarks
@@ -136,28 +45,6 @@ ListRefusal | 7 Memory | source 7: out of memory
 ListRefusal | Memory | out of memory
 
 # at every size
-ConfigIdentifier | a«a» | a«a»
-ConfigIdentifier | @tool:a«a»:b«b» | @tool:a«a»:b«b»
-ToolName | a«a» | a«a»
-InvalidIdentifier | InvalidXid «"» | invalid identifier "«\"»"
-InvalidIdentifier | ToolIdentifierInvalidFormat «x» | tool identifier isn't @tool:name:identifier: "«x»"
-InvalidIdentifier | ToolComponentEmpty «x» | tool identifier has an empty component: "«x»"
-InvalidIdentifier | ToolIdentifierInvalidXid «x» | invalid tool identifier "«x»"
-InvalidToolName | StartsWithToolPrefix «x» | tool name begins with @tool: "«x»"
-InvalidToolName | InvalidXid «x» | invalid tool name "«x»"
-ToolConfigFileParseError | InvalidFormat a«x» | tool configuration file isn't of the form NAME:PATH: a«x»
-ToolConfigFileParseError | InvalidToolName a«x» / InvalidXid «y» | tool configuration file without a valid tool name: a«x»: invalid tool name "«y»"
-ToolConfigFileParseError | EmptyConfigFile a«x» | tool configuration file without a path: a«x»
-ToolConfigFileParseError | ConfigFileNotAbsolute a«x» | tool configuration file isn't an absolute path: a«x»
-Rule | NotVersion «x» | invalid version "«x»"
-Rule | RequiredAboveRecommended 1.0.0-a«a» 0.0.0+b«b» | required version (1.0.0-a«a») must not be greater than recommended version (0.0.0+b«b»)
-FaultKind | InvalidType «x» / a boolean | invalid type: «x», expected a boolean
-FaultKind | InvalidValue «x» / a boolean | invalid value: «x», expected a boolean
-FaultKind | UnknownVariant «x» / a boolean | unknown variant `«x»`, expected a boolean
-FaultKind | UnknownField «x» / a boolean | unknown field `«x»`, expected a boolean
-FaultKind | MissingField «x» | missing configuration field "«x»"
-ReadFault | p«p», Custom PreRelease | p«p»: pre-release identifiers are not supported in nextest-version
-ReadFault | p«p», MissingField «x» | p«p»: missing configuration field "«x»"
 ConfigSource | tool a«a»: «x» | tool a«a» («x»)
 ConfigSource | explicit: a«x» | explicit a«x»
 ConfigSource | repository: a«x» | repository a«x»
@@ -183,19 +70,10 @@ impl Subject for Printed {
 fn text_of(rt: &impl Runner, call: &str, input: &str) -> String {
     match call {
         "ConfigExperimental" => text::<ConfigExperimental>(rt, input),
-        "ConfigIdentifier" => text::<ConfigIdentifier>(rt, input),
         "ConfigParseError" => text::<ConfigParseError>(rt, input),
         "ConfigParseErrorKind" => text::<ConfigParseErrorKind>(rt, input),
         "ConfigSource" => text::<ConfigSource>(rt, input),
-        "FaultKind" => text::<FaultKind>(rt, input),
-        "InvalidIdentifier" => text::<InvalidIdentifier>(rt, input),
-        "InvalidToolName" => text::<InvalidToolName>(rt, input),
         "ListRefusal" => text::<ListRefusal>(rt, input),
-        "ReadFault" => text::<ReadFault>(rt, input),
-        "Rule" => text::<Rule>(rt, input),
-        "TerminateMode" => text::<TerminateMode>(rt, input),
-        "ToolConfigFileParseError" => text::<ToolConfigFileParseError>(rt, input),
-        "ToolName" => text::<ToolName>(rt, input),
         _ => unknown(rt, call),
     }
 }

@@ -1,15 +1,17 @@
 //! What a user of the libraries writes, as README shows it.
 
-use crate::rows::{compare, is_row, parts};
-use crate::values::part;
+use crate::runner::Test;
 use nextest_config::nextest_version::{
     ConfigSource, ConfigSourceKind, NextestVersionEval, SourceText, VersionOnlyConfig,
 };
 use nextest_config_elements::max_fail::TerminateMode;
+use nextest_config_settings_vectors::rows::{Runner, compare, is_row, parts};
+use nextest_config_settings_vectors::values::part;
 use nextest_config_values::identifier::ToolName;
 use nextest_config_values::read::FromToml;
 use semver::Version;
 use std::alloc::{AllocError, Global};
+use std::process::Abort;
 use std::test::Fail;
 use toml::Value;
 
@@ -113,13 +115,19 @@ terminate | immediate | immediate
 terminate | now | profile.ci.fail-fast.terminate: unknown variant `now`, expected `wait` or `immediate`
 "#;
 
+fn check_row(rt: &(impl Abort + AllocGlobal), row: &str) -> Result<(), Fail> {
+    let rt = Test(rt);
+    let (call, input, wanted) = parts(&rt, row);
+    let answer = answer(rt.alloc(), call, input)?;
+    compare(&rt, row, answer.as_str(), wanted);
+    Ok(())
+}
+
 #[test]
 fn a_version_is_checked_and_a_setting_is_read(rt: HostRuntime) -> Result<(), Fail> {
     for row in ROWS.lines() {
         if is_row(row) {
-            let (call, input, wanted) = parts(&rt, row);
-            let answer = answer(rt.alloc(), call, input)?;
-            compare(&rt, row, answer.as_str(), wanted);
+            check_row(&rt, row)?;
         }
     }
     Ok(())

@@ -1,12 +1,13 @@
 //! Values that rows write: sources, versions and what is kept of them.
 
-use crate::rows::{Runner, copied, cut, done, unknown};
-use crate::values::{FromRow, both, word};
+use crate::values::{FromRow, both};
 use nextest_config::nextest_version::{
     ConfigExperimental, ConfigSource, ConfigSourceKind, ExperimentalDeserialize,
     NextestVersionConfig, NextestVersionDeserialize, NextestVersionReq, RepositoryText, SourceText,
     ToolText,
 };
+use nextest_config_settings_vectors::rows::{Runner, copied, cut, done, unknown};
+use nextest_config_settings_vectors::values::word;
 use nextest_config_values::identifier::ToolName;
 use nextest_config_values::read::FromToml;
 use nextest_config_values::tool_config::ToolConfigFile;
@@ -128,13 +129,6 @@ impl FromRow for NextestVersionConfig {
             required,
             recommended,
         }
-    }
-}
-
-/// Writes a TOML value.
-impl FromRow for Value {
-    fn from_row(rt: &impl Runner, text: &str) -> Self {
-        done(rt, Value::from_str(rt.alloc(), text))
     }
 }
 

@@ -1,7 +1,8 @@
 //! What lists of sources ask, and what a current version is told.
 
 use crate::asked::{Asks, Lists};
-use crate::rows::{Escaped, check};
+use crate::runner::check;
+use nextest_config_settings_vectors::rows::Escaped;
 
 const ROWS: &str = r#"
 # an empty list asks nothing

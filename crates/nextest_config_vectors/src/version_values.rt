@@ -1,8 +1,10 @@
 //! Values of `nextest-version`, as the reader of the setting reads them.
 
-use crate::rows::{Runner, Subject, Told, answered, check, copied, done};
+use crate::runner::check;
+use crate::told::{Told, answered};
 use crate::values::FromRow;
 use nextest_config::nextest_version::NextestVersionDeserialize;
+use nextest_config_settings_vectors::rows::{Runner, Subject, copied, done};
 use nextest_config_values::read::FromToml;
 use semver::Version;
 use toml::Value;

@@ -20,9 +20,22 @@ features_of d = record { known = d.known.keys; unknown = map string_bytes d.unkn
 abbrev pub no_features : Features
 no_features = record { known = []; unknown = [] }
 
+-- what a setting says: the features that it names, and whether it is an array
+pub record FeatureSetting : Type 0 where
+  pub features : Features
+  pub array : Bool
+
+-- what was read of a setting
+abbrev pub feature_setting_of : ExperimentalDeserialize → FeatureSetting
+feature_setting_of d = record { features = features_of d; array = d.array }
+
+-- what a missing setting says
+abbrev pub no_feature_setting : FeatureSetting
+no_feature_setting = record { features = no_features; array = false }
+
 -- two of them name the same
 abbrev pub FeaturesAlike : ExperimentalDeserialize → ExperimentalDeserialize → Type 0
-FeaturesAlike a b = features_of a ≡ features_of b
+FeaturesAlike a b = feature_setting_of a ≡ feature_setting_of b
 
 -- both sets are written in order: the features in theirs, the names in byte order
 pub record AreSetsInOrder (named : Features) : Type 0 where
@@ -101,9 +114,13 @@ FeatureTableFaults = FirstSwitchFaults all_features
 abbrev pub features_expected : List ℕ
 features_expected = codes "a table ({ setup-scripts = true, benchmarks = true }) or an array ([\"setup-scripts\", \"benchmarks\"])"
 
+-- the features are named in this form
+abbrev pub InForm : {K : Type 0} → Bool → (K → Features → Type 0) → K → FeatureSetting → Type 0
+InForm array means held setting = means held setting.features × (setting.array ≡ array)
+
 -- the value names these: as an array, or as a table
-abbrev pub MeansFeatures : Data → Features → Type 0
-MeansFeatures value = MeansKind MeansFeatureArray (λ other. MeansKind MeansFeatureTable MeansNothing (as_table other) other) (as_array value) value
+abbrev pub MeansFeatures : Data → FeatureSetting → Type 0
+MeansFeatures value = MeansKind (InForm true MeansFeatureArray) (λ other. MeansKind (InForm false MeansFeatureTable) MeansNothing (as_table other) other) (as_array value) value
 
 -- what is wrong with the value at a path
 abbrev pub FeaturesFaults : Data → List ℕ → Fault → Type 0

@@ -16,7 +16,7 @@ use Rattle.toml.specs.Data.{Data, Items, Members, as_array, as_bool, as_str, as_
 use Rattle.nextest_config_values.specs.Read.Fault.{Fault}
 use Rattle.nextest_config_values.specs.Read.{at_key, bool_reading, equality, FaultsAs, HasNoFault, IsReading, kind_reading, MeansAs, MeansOr, MeansThen, MeansTruth, OptionalFaults, or_reading, reading_on, said_as, then_reading, wrong_kind}
 use Rattle.nextest_config.specs.NextestVersion.Experimental.{FeaturesInOrder, TextsInOrder, all_features, feature_cmp, place_among, word_of}
-use Rattle.nextest_config.specs.NextestVersion.ExperimentalDeserialize.{AreNamed, FeatureArrayFaults, Features, FeaturesAlike, FeaturesFaults, FirstSwitchFaults, IsTextAt, MeansFeatureArray, MeansFeatures, MeansFeatureTable, MeansSwitch, features_expected, features_of, text_in}
+use Rattle.nextest_config.specs.NextestVersion.ExperimentalDeserialize.{AreNamed, FeatureArrayFaults, Features, FeaturesAlike, FeaturesFaults, FeatureTableFaults, FirstSwitchFaults, InForm, IsTextAt, MeansFeatureArray, MeansFeatures, MeansFeatureTable, MeansSwitch, feature_setting_of, features_expected, text_in}
 use Rattle.nextest_config.specs.declared.nextest_version.experimental.ConfigExperimental.{ConfigExperimental}
 use Rattle.nextest_config.specs.declared.nextest_version.experimental.ConfigExperimental.TheVariants as features
 
@@ -110,8 +110,19 @@ each_switch (feature ∷ rest) table named meant = ((meant.of_switches feature).
 
 -- ---- the setting
 
-pub features_meant : IsReading MeansFeatures FeaturesFaults (λ a b. a ≡ b)
-features_meant = kind_reading array (kind_reading (said_as (each_switch all_features) (switches all_features)) (wrong_kind features_expected) as_table) as_array
+in_form : {K : Type 0} {means : K → Features → Type 0} {faults : K → List ℕ → Fault → Type 0} (form : Bool) → IsReading means faults (λ a b. a ≡ b) → IsReading (InForm form means) faults (λ a b. a ≡ b)
+in_form form reading = record {
+  equivalence = equality;
+  one_meaning = λ held a b h k. ap₂ (λ (features : Features) (array : Bool). record { features = features; array = array }) (reading.one_meaning held a.features b.features h.0 k.0) (h.1 ∙ sym k.1);
+  one_fault = reading.one_fault;
+  never_both = λ held at setting f meant. reading.never_both held at setting.features f meant.0;
+}
 
-pub features_reading : IsReading (λ value d. MeansFeatures value (features_of d)) FeaturesFaults FeaturesAlike
-features_reading = reading_on features_of features_meant
+table : IsReading MeansFeatureTable FeatureTableFaults (λ a b. a ≡ b)
+table = said_as (each_switch all_features) (switches all_features)
+
+pub features_meant : IsReading MeansFeatures FeaturesFaults (λ a b. a ≡ b)
+features_meant = kind_reading (in_form true array) (kind_reading (in_form false table) (wrong_kind features_expected) as_table) as_array
+
+pub features_reading : IsReading (λ value d. MeansFeatures value (feature_setting_of d)) FeaturesFaults FeaturesAlike
+features_reading = reading_on feature_setting_of features_meant

@@ -1,6 +1,8 @@
 -- Configuration sources without where they lie in memory.
 use Rattle.std.specs.Prelude.{ℕ, List, [], ◌∷◌, ◌++◌, map, reverse, codes, Option, String, string_bytes, option_map, if◌then◌else◌}
 use Rattle.std.specs.declared.alloc.Global.{Global}
+use Rattle.nextest_config.specs.declared.nextest_version.edition.Edition.{Edition}
+use Rattle.nextest_config.specs.declared.nextest_version.edition.Edition.TheVariants.{ArrayAllowed}
 use Rattle.nextest_config.specs.declared.nextest_version.file.File.{File}
 use Rattle.nextest_config.specs.declared.nextest_version.file.File.TheVariants as files
 use Rattle.nextest_config.specs.declared.nextest_version.source.ConfigSource.{ConfigSource}
@@ -16,44 +18,70 @@ pub record Place : Type 0 where
   pub path : List ℕ
 
 -- a place and the text that stands there, if any
+pub record Given : Type 0 where
+  pub place : Place
+  pub contents : Option (List ℕ)
+
+-- a place and the text that stands there, if any, which is read under an edition
 pub record Source : Type 0 where
   pub place : Place
   pub contents : Option (List ℕ)
+  pub edition : Edition
+
+-- what is given, read under this edition
+abbrev pub under : Edition → Given → Source
+under edition given = record { place = given.place; contents = given.contents; edition = edition }
 
 -- where a source is
 abbrev pub place_of : ConfigSource → Place
 place_of source = record { kind = source.kind; path = string_bytes source.path }
 
--- these contents, as a source
-abbrev pub source_at : ConfigSource → Option (String Global) → Source
-source_at source contents = record { place = place_of source; contents = option_map string_bytes contents }
+-- these contents, at the place of this source
+abbrev pub given_at : ConfigSource → Option (String Global) → Given
+given_at source contents = record { place = place_of source; contents = option_map string_bytes contents }
 
 -- a source and its contents
-abbrev pub source_of : SourceText → Source
-source_of text = source_at text.source text.contents
+abbrev pub given_of : SourceText → Given
+given_of text = given_at text.source text.contents
 
--- a tool's file, as a source
-abbrev pub tool_source : ToolText → Source
-tool_source text = record {
+-- a source and its contents, read under this edition
+abbrev pub source_under : Edition → SourceText → Source
+source_under edition text = under edition (given_of text)
+
+-- a source and its contents, read under the edition that allows arrays
+abbrev pub source_of : SourceText → Source
+source_of = source_under ArrayAllowed
+
+-- a tool's file
+abbrev pub tool_given : ToolText → Given
+tool_given text = record {
   place = record { kind = Tool text.file.tool; path = string_bytes text.file.config_file };
   contents = option_map string_bytes text.contents;
 }
 
--- a repository's file, as a source
-abbrev pub repository_source : RepositoryText → Source
-repository_source text = record {
+-- a repository's file
+abbrev pub repository_given : RepositoryText → Given
+repository_given text = record {
   place = record { kind = if text.explicit then ExplicitRepository else DiscoveredRepository; path = string_bytes text.path };
   contents = option_map string_bytes text.contents;
 }
 
--- a tool's file or a repository's, as a source
-abbrev pub file_source : File → Source
-file_source (files.Tool tool) = tool_source tool.now
-file_source (files.Repository repository) = repository_source repository.now
+-- a tool's file or a repository's
+abbrev pub file_given : File → Given
+file_given (files.Tool tool) = tool_given tool.now
+file_given (files.Repository repository) = repository_given repository.now
 
--- the sources, lowest priority first: the tools' files in reverse, and then the repository's
+-- the files, lowest priority first: the tools' in reverse, and then the repository's
+abbrev pub givens_of : RepositoryText → List ToolText → List Given
+givens_of repository tools = map tool_given (reverse tools) ++ (repository_given repository ∷ [])
+
+-- the files in this order, read under this edition
+abbrev pub sources_under : Edition → RepositoryText → List ToolText → List Source
+sources_under edition repository tools = map (under edition) (givens_of repository tools)
+
+-- the files in this order, read under the edition that allows arrays
 abbrev pub sources_of : RepositoryText → List ToolText → List Source
-sources_of repository tools = map tool_source (reverse tools) ++ (repository_source repository ∷ [])
+sources_of = sources_under ArrayAllowed
 
 -- how a place prints
 abbrev pub place_text : Place → List ℕ

@@ -5,7 +5,7 @@ use Rattle.semver.specs.Parse.{Parts}
 use Rattle.nextest_config.specs.Merge.{in_a_row, IsFirstWrong, IsReordering, total}
 use Rattle.nextest_config.specs.NextestVersion.Error.{Refusal, RefusesBy, refusal_of}
 use Rattle.nextest_config.specs.NextestVersion.Experimental.{FeaturesInOrder}
-use Rattle.nextest_config.specs.NextestVersion.ExperimentalConfig.{AreSeenAs, Experimental, SeenFeatures, Unknown, entry_at, experimental_of, features_from, join_features, no_experimental, seen_features}
+use Rattle.nextest_config.specs.NextestVersion.ExperimentalConfig.{AreSeenAs, Experimental, SeenFeatures, Unknown, array_at, entry_at, experimental_of, features_from, join_features, no_experimental, seen_features}
 use Rattle.nextest_config.specs.NextestVersion.Precedence.{IsBelow}
 use Rattle.nextest_config.specs.NextestVersion.Requirement.{Kept, Roles, kept_version, no_roles, roles_of, roles_from, join_roles}
 use Rattle.nextest_config.specs.NextestVersion.Source.{Place, Source}
@@ -21,12 +21,12 @@ use Rattle.nextest_config.specs.declared.nextest_version.version_only.VersionOnl
 
 -- the source is in its grammar with this ask
 abbrev pub IsRead : Source → Ask → Type 0
-IsRead source ask = TextAsks source.place.kind source.contents ask
+IsRead source ask = TextAsks source.edition source.place.kind source.contents ask
 
 -- the source is outside its grammar, with this one error, which carries the source
 pub record IsRefused (source : Source) (refusal : Refusal) : Type 0 where
   pub named : refusal.place ≡ source.place
-  pub wrong : IsWrong source.place.kind source.contents refusal.wrong
+  pub wrong : IsWrong source.edition source.place.kind source.contents refusal.wrong
 
 -- the error tells what is wrong with the source
 abbrev pub IsErrorOf : Source → Option Refusal → Type 0
@@ -111,6 +111,10 @@ pub record AreEnabled (asked : List Asked) (known : List ConfigExperimental) : T
 abbrev pub entry_of : Asked → List Unknown
 entry_of asked = entry_at asked.place asked.ask.features.unknown
 
+-- the place of a position that names its features in an array
+abbrev pub array_of : Asked → List Place
+array_of asked = array_at asked.place asked.ask.array
+
 -- what reading a list gives
 pub record Configuration : Type 0 where
   pub roles : Roles
@@ -130,6 +134,7 @@ pub record StandsForAsks (asked : List Asked) (configuration : Configuration) : 
   pub recommended : StandsIn (λ ask. ask.versions.recommended) asked configuration.roles.recommended
   pub known : AreEnabled asked configuration.experimental.known
   pub unknown : configuration.experimental.unknown ≡ flat_map entry_of asked
+  pub arrays : configuration.experimental.arrays ≡ flat_map array_of asked
 
 -- the configuration stands for the sources
 abbrev pub StandsFor : List Source → Configuration → Type 0
@@ -175,19 +180,20 @@ IsRefusalOf sources refusals.Memory = Unit {0}
 abbrev pub IsErrorOfList : List Source → ConfigParseError → Type 0
 IsErrorOfList sources = RefusesBy (λ refusal. (position : ℕ) × IsFirstRefused sources position refusal)
 
--- the two keep the same versions, know the same features and have the same entries of unknown names in some order; and on each current version both verdicts say the same
+-- the two keep the same versions, know the same features and have the same entries of unknown names and the same arrays in some order; and on each current version both verdicts say the same
 pub record Agree (configuration other : Configuration) : Type 0 where
   pub required : option_map kept_version configuration.roles.required ≡ option_map kept_version other.roles.required
   pub recommended : option_map kept_version configuration.roles.recommended ≡ option_map kept_version other.roles.recommended
   pub known : configuration.experimental.known ≡ other.experimental.known
   pub unknown : IsReordering configuration.experimental.unknown other.experimental.unknown
+  pub arrays : IsReordering configuration.experimental.arrays other.experimental.arrays
   pub verdicts : (current : Parts) (overridden : Bool) → SaysTheSame (verdict configuration.roles current overridden) (verdict other.roles current overridden)
 
 -- ---- the join of configurations
 
 -- what a source at this place asks, on its own
 abbrev pub configuration_from : Place → Ask → Configuration
-configuration_from place ask = record { roles = roles_from place ask.versions; experimental = features_from place ask.features }
+configuration_from place ask = record { roles = roles_from place ask.versions; experimental = features_from place (record { features = ask.features; array = ask.array }) }
 
 -- what is seen of a configuration where it is joined
 pub record SeenConfiguration : Type 0 where

@@ -1,15 +1,17 @@
 -- A source asks one thing, or one thing is wrong with it, and never both.
-use Rattle.std.proofs.Common.{◌≡◌, ℕ, List, Option, Some, None, sym, ap, ap₂, subst, ◌∙◌, inl, inr}
+use Rattle.std.proofs.Common.{◌≡◌, ℕ, List, Option, Some, None, IsSome, sym, ap, ap₂, subst, ◌∙◌, inl, inr}
 use mathlib.Core.Logic.Iff as iff
 use Rattle.toml.specs.Data.{Data, Members, get_member}
 use Rattle.toml.specs.Parse.{parse_document}
 use Rattle.nextest_config_values.specs.Read.Fault.{Fault}
 use Rattle.nextest_config_values.specs.Read.{IsReading, one_then, OptionalFaults, or_reading, Then}
 use Rattle.nextest_config.specs.NextestVersion.ErrorKind.{setting, tool_features, Wrong}
-use Rattle.nextest_config.specs.NextestVersion.ExperimentalDeserialize.{Features, FeaturesFaults, no_features}
+use Rattle.nextest_config.specs.NextestVersion.ExperimentalDeserialize.{Features, FeaturesFaults, FeatureSetting, no_feature_setting}
 use Rattle.nextest_config.specs.NextestVersion.ExperimentalLaws.{features_meant, texts_in_one_order}
 use Rattle.nextest_config.specs.NextestVersion.NextestVersionDeserialize.{no_versions, Versions, versions_meant, VersionsFaults}
-use Rattle.nextest_config.specs.NextestVersion.VersionOnlyDeserialize.{Ask, Asks, AsksFeatures, AsksVersions, BreaksToolRule, experimental_key, IsWrong, IsWrongDocument, IsWrongSetting, IsWrongTable, KeepsToolRule, TextAsks, version_key}
+use Rattle.nextest_config.specs.NextestVersion.VersionOnlyDeserialize.{Ask, Asks, AsksFeatures, AsksVersions, BreaksForm, BreaksToolRule, experimental_key, IsWrong, IsWrongBehind, IsWrongDocument, IsWrongSetting, IsWrongTable, KeepsForm, KeepsToolRule, TextAsks, version_key}
+use Rattle.nextest_config.specs.declared.nextest_version.edition.Edition.{Edition}
+use Rattle.nextest_config.specs.declared.nextest_version.edition.Edition.TheVariants.{ArrayAllowed, TableOnly}
 use Rattle.nextest_config.specs.declared.nextest_version.source.ConfigSourceKind.{ConfigSourceKind}
 use Rattle.nextest_config.specs.declared.nextest_version.source.ConfigSourceKind.TheVariants.{Tool, ExplicitRepository, DiscoveredRepository}
 
@@ -18,20 +20,24 @@ pub versions_asked : IsReading AsksVersions (OptionalFaults VersionsFaults) (λ 
 versions_asked = or_reading versions_meant no_versions
 
 pub features_asked : IsReading AsksFeatures (OptionalFaults FeaturesFaults) (λ a b. a ≡ b)
-features_asked = or_reading features_meant no_features
+features_asked = or_reading features_meant no_feature_setting
 
 -- ---- one ask
 
-asks_once : (kind : ConfigSourceKind) (table : Members) (a b : Ask) → Asks kind table a → Asks kind table b → a ≡ b
-asks_once kind table a b h k = ap₂ (λ (versions : Versions) (features : Features). record { versions = versions; features = features })
-    (versions_asked.one_meaning (get_member version_key table) a.versions b.versions h.of_versions k.of_versions)
-    (features_asked.one_meaning (get_member experimental_key table) a.features b.features h.of_features k.of_features)
+-- the features of an ask, and whether they are asked as an array
+abbrev setting_in : Ask → FeatureSetting
+setting_in ask = record { features = ask.features; array = ask.array }
 
-pub text_asks_once : (kind : ConfigSourceKind) (contents : Option (List ℕ)) (a b : Ask) → TextAsks kind contents a → TextAsks kind contents b → a ≡ b
-text_asks_once kind None a b h k = h ∙ sym k
-text_asks_once kind (Some text) a b h k =
+asks_once : (edition : Edition) (kind : ConfigSourceKind) (table : Members) (a b : Ask) → Asks edition kind table a → Asks edition kind table b → a ≡ b
+asks_once edition kind table a b h k = ap₂ (λ (versions : Versions) (named : FeatureSetting). record { versions = versions; features = named.features; array = named.array })
+    (versions_asked.one_meaning (get_member version_key table) a.versions b.versions h.of_versions k.of_versions)
+    (features_asked.one_meaning (get_member experimental_key table) (setting_in a) (setting_in b) h.of_features k.of_features)
+
+pub text_asks_once : (edition : Edition) (kind : ConfigSourceKind) (contents : Option (List ℕ)) (a b : Ask) → TextAsks edition kind contents a → TextAsks edition kind contents b → a ≡ b
+text_asks_once edition kind None a b h k = h ∙ sym k
+text_asks_once edition kind (Some text) a b h k =
     let same : k.0 ≡ h.0 = cc (h.1, k.1) in
-    asks_once kind h.0 a b h.2 (subst (λ (table : Members). Asks kind table b) same k.2)
+    asks_once edition kind h.0 a b h.2 (subst (λ (table : Members). Asks edition kind table b) same k.2)
 
 -- ---- one thing that is wrong
 
@@ -54,16 +60,30 @@ one_tool_error (Tool name) features a b (some, (names, are, is)) (also, (others,
 one_tool_error ExplicitRepository features a b h k = absurd h
 one_tool_error DiscoveredRepository features a b h k = absurd h
 
-one_table_error : (kind : ConfigSourceKind) (members : Members) (a b : Wrong) → IsWrongTable kind members a → IsWrongTable kind members b → a ≡ b
-one_table_error kind members = one_in_turn versions_asked version_key members (λ versions. one_in_turn features_asked experimental_key members (one_tool_error kind))
+one_form_error : (edition : Edition) (found : Option Data) (a b : Wrong) → BreaksForm edition found a → BreaksForm edition found b → a ≡ b
+one_form_error ArrayAllowed found a b h k = absurd h
+one_form_error TableOnly found a b h k = h.1 ∙ sym k.1
 
-pub one_wrong : (kind : ConfigSourceKind) (contents : Option (List ℕ)) (a b : Wrong) → IsWrong kind contents a → IsWrong kind contents b → a ≡ b
-one_wrong kind None a b h k = absurd h
-one_wrong kind (Some text) a b h k = by_document (parse_document text) h k
+form_kept_not_broken : (edition : Edition) (found : Option Data) (wrong : Wrong) → KeepsForm edition found → BreaksForm edition found wrong → ⊥
+form_kept_not_broken ArrayAllowed found wrong kept broken = broken
+form_kept_not_broken TableOnly found wrong kept broken = cc (subst IsSome kept broken.0)
+
+one_error_behind : (edition : Edition) (kind : ConfigSourceKind) (members : Members) (a b : Wrong) → IsWrongBehind edition kind members a → IsWrongBehind edition kind members b → a ≡ b
+one_error_behind edition kind members a b (inl h) (inl k) = one_form_error edition (get_member experimental_key members) a b h k
+one_error_behind edition kind members a b (inl h) (inr k) = absurd (form_kept_not_broken edition (get_member experimental_key members) a k.0 h)
+one_error_behind edition kind members a b (inr h) (inl k) = absurd (form_kept_not_broken edition (get_member experimental_key members) b h.0 k)
+one_error_behind edition kind members a b (inr h) (inr k) = one_in_turn features_asked experimental_key members (λ named. one_tool_error kind named.features) a b h.1 k.1
+
+one_table_error : (edition : Edition) (kind : ConfigSourceKind) (members : Members) (a b : Wrong) → IsWrongTable edition kind members a → IsWrongTable edition kind members b → a ≡ b
+one_table_error edition kind members = one_in_turn versions_asked version_key members (λ versions. one_error_behind edition kind members)
+
+pub one_wrong : (edition : Edition) (kind : ConfigSourceKind) (contents : Option (List ℕ)) (a b : Wrong) → IsWrong edition kind contents a → IsWrong edition kind contents b → a ≡ b
+one_wrong edition kind None a b h k = absurd h
+one_wrong edition kind (Some text) a b h k = by_document (parse_document text) h k
   where
-    by_document : (document : Option Members) → IsWrongDocument kind document a → IsWrongDocument kind document b → a ≡ b
+    by_document : (document : Option Members) → IsWrongDocument edition kind document a → IsWrongDocument edition kind document b → a ≡ b
     by_document None h k = h ∙ sym k
-    by_document (Some members) h k = one_table_error kind members a b h k
+    by_document (Some members) h k = one_table_error edition kind members a b h k
 
 -- ---- never both
 
@@ -72,16 +92,18 @@ kept_not_broken (Tool name) features wrong kept broken = broken.0 kept
 kept_not_broken ExplicitRepository features wrong kept broken = broken
 kept_not_broken DiscoveredRepository features wrong kept broken = broken
 
-asks_not_wrong : (kind : ConfigSourceKind) (table : Members) (ask : Ask) (wrong : Wrong) → Asks kind table ask → IsWrongTable kind table wrong → ⊥
-asks_not_wrong kind table ask wrong asks (inl refused) =
+asks_not_wrong : (edition : Edition) (kind : ConfigSourceKind) (table : Members) (ask : Ask) (wrong : Wrong) → Asks edition kind table ask → IsWrongTable edition kind table wrong → ⊥
+asks_not_wrong edition kind table ask wrong asks (inl refused) =
     versions_asked.never_both (get_member version_key table) version_key ask.versions refused.0 asks.of_versions refused.1
-asks_not_wrong kind table ask wrong asks (inr (versions, asked, inl refused)) =
-    features_asked.never_both (get_member experimental_key table) experimental_key ask.features refused.0 asks.of_features refused.1
-asks_not_wrong kind table ask wrong asks (inr (versions, asked, inr (features, named, broken))) =
-    let same : ask.features ≡ features = features_asked.one_meaning (get_member experimental_key table) ask.features features asks.of_features named in
-    kept_not_broken kind features wrong (subst (KeepsToolRule kind) same asks.of_tool) broken
+asks_not_wrong edition kind table ask wrong asks (inr (versions, asked, inl broken)) =
+    form_kept_not_broken edition (get_member experimental_key table) wrong asks.of_form broken
+asks_not_wrong edition kind table ask wrong asks (inr (versions, asked, inr (kept, inl refused))) =
+    features_asked.never_both (get_member experimental_key table) experimental_key (setting_in ask) refused.0 asks.of_features refused.1
+asks_not_wrong edition kind table ask wrong asks (inr (versions, asked, inr (kept, inr (named, meant, broken)))) =
+    let same : setting_in ask ≡ named = features_asked.one_meaning (get_member experimental_key table) (setting_in ask) named asks.of_features meant in
+    kept_not_broken kind named.features wrong (subst (λ (s : FeatureSetting). KeepsToolRule kind s.features) same asks.of_tool) broken
 
-pub text_not_wrong : (kind : ConfigSourceKind) (contents : Option (List ℕ)) (ask : Ask) (wrong : Wrong) → TextAsks kind contents ask → IsWrong kind contents wrong → ⊥
-text_not_wrong kind None ask wrong read refused = refused
-text_not_wrong kind (Some text) ask wrong read refused =
-    asks_not_wrong kind read.0 ask wrong read.2 (subst (λ (d : Option Members). IsWrongDocument kind d wrong) read.1 refused)
+pub text_not_wrong : (edition : Edition) (kind : ConfigSourceKind) (contents : Option (List ℕ)) (ask : Ask) (wrong : Wrong) → TextAsks edition kind contents ask → IsWrong edition kind contents wrong → ⊥
+text_not_wrong edition kind None ask wrong read refused = refused
+text_not_wrong edition kind (Some text) ask wrong read refused =
+    asks_not_wrong edition kind read.0 ask wrong read.2 (subst (λ (d : Option Members). IsWrongDocument edition kind d wrong) read.1 refused)

@@ -5,7 +5,7 @@ use Rattle.semver.specs.Parse.{Parts}
 use Rattle.nextest_config.specs.Merge.{IsMonoid, IsReadingOne}
 use Rattle.nextest_config.specs.NextestVersion.Error.{Refusal}
 use Rattle.nextest_config.specs.NextestVersion.ErrorKind.{Wrong}
-use Rattle.nextest_config.specs.NextestVersion.ExperimentalConfig.{Experimental, SeenFeatures, Unknown}
+use Rattle.nextest_config.specs.NextestVersion.ExperimentalConfig.{Experimental, SeenFeatures}
 use Rattle.nextest_config.specs.NextestVersion.ExperimentalConfigLaws.{features_join}
 use Rattle.nextest_config.specs.NextestVersion.ExperimentalLaws.{features_in_one_order}
 use Rattle.nextest_config.specs.NextestVersion.Requirement.{asked_from, Kept, Roles}
@@ -14,7 +14,6 @@ use Rattle.nextest_config.specs.NextestVersion.Source.{Place, Source}
 use Rattle.nextest_config.specs.NextestVersion.VersionOnly.{Asked, Configuration, IsErrorOf, IsRead, IsReadAs, IsRefused, join_configurations, neutral_seen, seen_configuration, SeenConfiguration, StandsForAsks, StandsForOne, StandsIn}
 use Rattle.nextest_config.specs.NextestVersion.VersionOnlyDeserialize.{Ask}
 use Rattle.nextest_config.specs.NextestVersion.VersionOnlyDeserializeLaws.{one_wrong, text_asks_once, text_not_wrong}
-use Rattle.nextest_config.specs.declared.nextest_version.experimental.ConfigExperimental.{ConfigExperimental}
 
 abbrev both : Roles → SeenFeatures → SeenConfiguration
 both roles experimental = record { roles = roles; experimental = experimental }
@@ -30,14 +29,14 @@ configurations_join = record {
 
 pub read_once : (source : Source) (a b : Asked) → IsReadAs source a → IsReadAs source b → a ≡ b
 read_once source a b h k = ap₂ (λ (place : Place) (ask : Ask). record { place = place; ask = ask })
-    (h.place ∙ sym k.place) (text_asks_once source.place.kind source.contents a.ask b.ask h.read k.read)
+    (h.place ∙ sym k.place) (text_asks_once source.edition source.place.kind source.contents a.ask b.ask h.read k.read)
 
 pub one_error : (source : Source) (a b : Refusal) → IsRefused source a → IsRefused source b → a ≡ b
 one_error source a b h k = ap₂ (λ (place : Place) (wrong : Wrong). record { place = place; wrong = wrong })
-    (h.named ∙ sym k.named) (one_wrong source.place.kind source.contents a.wrong b.wrong h.wrong k.wrong)
+    (h.named ∙ sym k.named) (one_wrong source.edition source.place.kind source.contents a.wrong b.wrong h.wrong k.wrong)
 
 pub read_not_refused : (source : Source) (ask : Ask) (refusal : Refusal) → IsRead source ask → IsRefused source refusal → ⊥
-read_not_refused source ask refusal read refused = text_not_wrong source.place.kind source.contents ask refusal.wrong read refused.wrong
+read_not_refused source ask refusal read refused = text_not_wrong source.edition source.place.kind source.contents ask refusal.wrong read refused.wrong
 
 -- a list of one has its one element in the middle
 only_one : {X : Type 0} (a : X) (before : List X) (x : X) (after : List X) → (a ∷ []) ≡ before ++ (x ∷ after) → a ≡ x
@@ -58,7 +57,7 @@ alone_once a c d h k =
     let recommended = sym (role_alone (λ ask. ask.versions.recommended) a c.roles.recommended h.recommended) ∙ role_alone (λ ask. ask.versions.recommended) a d.roles.recommended k.recommended in
     let known = features_in_one_order c.experimental.known d.experimental.known h.known.in_order k.known.in_order (λ f. iff.trans (h.known.of_some f) (iff.symm (k.known.of_some f))) in
     let roles : c.roles ≡ d.roles = ap₂ (λ (r m : Option Kept). record { required = r; recommended = m }) required recommended in
-    let experimental : c.experimental ≡ d.experimental = ap₂ (λ (fs : List ConfigExperimental) (us : List Unknown). record { known = fs; unknown = us }) known (h.unknown ∙ sym k.unknown) in
+    let experimental : c.experimental ≡ d.experimental = λ i. record { known = known i; unknown = (h.unknown ∙ sym k.unknown) i; arrays = (h.arrays ∙ sym k.arrays) i } in
     ap₂ (λ (r : Roles) (e : Experimental). record { roles = r; experimental = e }) roles experimental
 
 one_alone : (source : Source) (c d : Configuration) → StandsForOne source c → StandsForOne source d → c ≡ d

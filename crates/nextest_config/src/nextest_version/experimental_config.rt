@@ -1,6 +1,6 @@
 //! The experimental features that all sources name.
 
-ghost use Rattle.std.specs.Prelude.{◌≡◌, IfOk, OnErr, OnOk};
+ghost use Rattle.std.specs.Prelude.{◌≡◌, ◌++◌, IfOk, map, OnErr, OnOk, string_bytes};
 ghost use Rattle.std.proofs.Props.{props};
 ghost use Rattle.std.specs.Iterator.{YieldsFirstBy, item_count};
 ghost use Rattle.nextest_config.specs.NextestVersion.Experimental.{FeaturesInOrder};
@@ -19,6 +19,7 @@ use std::slice;
 pub struct ExperimentalConfig {
     known: BTreeSet<ConfigExperimental>,
     unknown: Vec<UnknownFeatures>,
+    array_sources: Vec<ConfigSource>,
     ghost known_in_order: { FeaturesInOrder known.keys } by { Prim.hlevel props },
 }
 
@@ -30,8 +31,8 @@ struct UnknownFeatures {
 }
 
 impl ExperimentalConfig {
-    ghost use Rattle.nextest_config.specs.NextestVersion.ExperimentalConfig.{AddsFeatures, errors_left, experimental_of, no_experimental};
-    ghost use Rattle.nextest_config.specs.NextestVersion.ExperimentalDeserialize.{features_of};
+    ghost use Rattle.nextest_config.specs.NextestVersion.ExperimentalConfig.{AddsFeatures, array_at, arrays_left, errors_left, experimental_of, no_experimental};
+    ghost use Rattle.nextest_config.specs.NextestVersion.ExperimentalDeserialize.{feature_setting_of};
     ghost use Rattle.nextest_config.specs.NextestVersion.Source.{place_of};
 
     /// The features of no source.
@@ -41,6 +42,7 @@ impl ExperimentalConfig {
         ExperimentalConfig {
             known: BTreeSet::new(alloc),
             unknown: Vec::new(alloc),
+            array_sources: Vec::new(alloc),
         }
     }
 
@@ -49,11 +51,13 @@ impl ExperimentalConfig {
         ensures { IfOk result (λ config. experimental_of config ≡ experimental_of self.now) }
     {
         let known = self.known.clone()?;
-        let mut unknown = Vec::new(alloc);
-        for entry in &self.unknown {
-            unknown.push(entry.clone(alloc)?)?;
-        }
-        Ok(ExperimentalConfig { known, unknown })
+        let unknown = UnknownFeatures::copies(alloc, &self.unknown)?;
+        let array_sources = ConfigSource::copies(alloc, &self.array_sources)?;
+        Ok(ExperimentalConfig {
+            known,
+            unknown,
+            array_sources,
+        })
     }
 
     /// The features that some source enables.
@@ -72,6 +76,16 @@ impl ExperimentalConfig {
         }
     }
 
+    /// Each source that names its features in an array, which is deprecated, in the order of the
+    /// sources.
+    pub fn array_sources(&self) -> ArraySources<'_>
+        ensures { arrays_left result ≡ (experimental_of self.now).arrays }
+    {
+        ArraySources {
+            sources: self.array_sources.iter(),
+        }
+    }
+
     // Takes in what a later source names.
     pub(crate) fn accumulate(
         &mut self,
@@ -79,19 +93,33 @@ impl ExperimentalConfig {
         named: ExperimentalDeserialize,
         source: &ConfigSource,
     ) -> Result<(), AllocError>
-        ensures { OnOk result (AddsFeatures (place_of source.now) (features_of named)
+        ensures { OnOk result (AddsFeatures (place_of source.now) (feature_setting_of named)
             (experimental_of self.old) (experimental_of self.new)) }
     {
-        let ExperimentalDeserialize { mut known, unknown } = named;
+        let ExperimentalDeserialize {
+            mut known,
+            unknown,
+            array,
+        } = named;
         self.known.append(&mut known)?;
-        if unknown.is_empty() {
-            return Ok(());
+        UnknownFeatures::push(alloc, &mut self.unknown, source, unknown)?;
+        ExperimentalConfig::push_array(alloc, &mut self.array_sources, source, array)?;
+        Ok(())
+    }
+
+    // Adds a source, if it names its features in an array.
+    fn push_array(
+        alloc: Global,
+        sources: &mut Vec<ConfigSource>,
+        source: &ConfigSource,
+        array: bool,
+    ) -> Result<(), AllocError>
+        ensures { OnOk result (map place_of sources.new.items ≡ map place_of sources.old.items
+            ++ array_at (place_of source.now) array) }
+    {
+        if array {
+            sources.push(source.clone(alloc)?)?;
         }
-        let source = source.clone(alloc)?;
-        self.unknown.push(UnknownFeatures {
-            source,
-            names: unknown,
-        })?;
         Ok(())
     }
 }
@@ -109,10 +137,13 @@ impl Merge for ExperimentalConfig {
     ghost neutral = { no_features_seen };
 
     /// Joins with the features that later sources name: those that either side enables, and the unknown
-    /// names of the later ones behind those of the earlier ones.
+    /// names and the arrays of the later ones behind those of the earlier ones.
     fn merge(&mut self, later: &mut Self) -> Result<(), AllocError> {
         let known = (&self.known | &later.known)?;
+        self.array_sources.reserve(later.array_sources.len())?;
         self.unknown.append(&mut later.unknown)?;
+        // It has its room.
+        self.array_sources.append(&mut later.array_sources)?;
         self.known = known;
         later.known.clear();
         Ok(())
@@ -122,7 +153,8 @@ impl Merge for ExperimentalConfig {
 }
 
 impl UnknownFeatures {
-    ghost use Rattle.nextest_config.specs.NextestVersion.ExperimentalConfig.{unknown_of};
+    ghost use Rattle.nextest_config.specs.NextestVersion.ExperimentalConfig.{entry_at, unknown_of};
+    ghost use Rattle.nextest_config.specs.NextestVersion.Source.{place_of};
 
     // A copy of the names and of their source.
     fn clone(&self, alloc: Global) -> Result<Self, AllocError>
@@ -131,6 +163,38 @@ impl UnknownFeatures {
         let source = self.source.clone(alloc)?;
         let names = self.names.clone()?;
         Ok(UnknownFeatures { source, names })
+    }
+
+    // Copies of the entries.
+    fn copies(
+        alloc: Global,
+        entries: &[UnknownFeatures],
+    ) -> Result<Vec<UnknownFeatures>, AllocError>
+        ensures { IfOk result (λ copies. map unknown_of copies.items ≡ map unknown_of entries.now) }
+    {
+        let mut copies = Vec::new(alloc);
+        for entry in entries {
+            copies.push(entry.clone(alloc)?)?;
+        }
+        Ok(copies)
+    }
+
+    // Adds the entry of a source with these names, unless there are none.
+    fn push(
+        alloc: Global,
+        entries: &mut Vec<UnknownFeatures>,
+        source: &ConfigSource,
+        names: BTreeSet<String>,
+    ) -> Result<(), AllocError>
+        ensures { OnOk result (map unknown_of entries.new.items ≡ map unknown_of entries.old.items
+            ++ entry_at (place_of source.now) (map string_bytes names.keys)) }
+    {
+        if names.is_empty() {
+            return Ok(());
+        }
+        let source = source.clone(alloc)?;
+        entries.push(UnknownFeatures { source, names })?;
+        Ok(())
     }
 }
 
@@ -153,5 +217,26 @@ impl<'a> Iterator for SourceErrors<'a> {
     fn next(&mut self) -> Option<(&'a ConfigSource, &'a BTreeSet<String>)> {
         let entry = self.unknown.next()?;
         Some((&entry.source, &entry.names))
+    }
+}
+
+/// The sources that name their features in an array. From [`ExperimentalConfig::array_sources`].
+#[derive(Clone, Debug, Drop)]
+pub struct ArraySources<'a> {
+    sources: slice::Iter<'a, ConfigSource>,
+}
+
+impl<'a> Iterator for ArraySources<'a> {
+    ghost use Rattle.nextest_config.specs.NextestVersion.ExperimentalConfig.{arrays_left};
+    ghost use Rattle.nextest_config.specs.NextestVersion.Source.{place_of};
+
+    type Item = &'a ConfigSource;
+
+    ghost next_gives = { YieldsFirstBy (λ source. place_of source.now) arrays_left };
+
+    ghost remaining = { item_count arrays_left };
+
+    fn next(&mut self) -> Option<&'a ConfigSource> {
+        self.sources.next()
     }
 }

@@ -1,9 +1,9 @@
 //! The experimental features that one source names.
 
-ghost use Rattle.std.specs.Prelude.{◌≡◌, ◌↔◌, ℕ, Bool, List, Contains, true, IfOk, IfErr, IsTrue, OnOk, map, string_bytes};
+ghost use Rattle.std.specs.Prelude.{◌≡◌, ◌↔◌, ℕ, Bool, List, Contains, true, false, IfOk, IfErr, IsTrue, OnOk, map, string_bytes};
 ghost use Rattle.toml.specs.View.{array_view, table_view, view};
 ghost use Rattle.nextest_config_values.specs.Read.{Refuses, RefusesAs, text_expected, wrong_type};
-ghost use Rattle.nextest_config.specs.NextestVersion.{AddsItem, AddsText, AreNames, FeatureArrayFaults, features_of, features_reading, FeaturesAlike, FeaturesFaults, FeaturesInOrder, FeatureTableFaults, HasOneMore, IsUnknownKey, IsWordAmong, item_path, ItemFaults, MeansFeatureArray, MeansFeatures, MeansFeatureTable, MeansSwitch, no_features, SwitchFaults, TextsInOrder};
+ghost use Rattle.nextest_config.specs.NextestVersion.{AddsItem, AddsText, AreNames, FeatureArrayFaults, features_of, features_reading, FeaturesAlike, FeaturesFaults, FeaturesInOrder, feature_setting_of, FeatureTableFaults, HasOneMore, InForm, IsUnknownKey, IsWordAmong, item_path, ItemFaults, MeansFeatureArray, MeansFeatures, MeansFeatureTable, MeansSwitch, no_feature_setting, no_features, SwitchFaults, TextsInOrder};
 
 use super::experimental::{ConfigExperimental, add_feature};
 use nextest_config_values::read::{FromToml, ReadFault, field_or};
@@ -22,26 +22,33 @@ pub struct ExperimentalDeserialize {
     pub known: BTreeSet<ConfigExperimental>,
     /// The names that are those of no feature.
     pub unknown: BTreeSet<String>,
+    /// Whether the source names them in an array, which is deprecated.
+    pub array: bool,
 }
 
 impl ExperimentalDeserialize {
     /// Names no feature.
     pub fn new(alloc: Global) -> Self
-        ensures { features_of result ≡ no_features }
+        ensures { feature_setting_of result ≡ no_feature_setting }
     {
         ExperimentalDeserialize {
             known: BTreeSet::new(alloc),
             unknown: BTreeSet::new(alloc),
+            array: false,
         }
     }
 
     /// A copy of the features and the other names.
     pub fn clone(&self, _alloc: Global) -> Result<Self, AllocError>
-        ensures { IfOk result (λ d. features_of d ≡ features_of self.now) }
+        ensures { IfOk result (λ d. feature_setting_of d ≡ feature_setting_of self.now) }
     {
         let known = self.known.clone()?;
         let unknown = self.unknown.clone()?;
-        Ok(ExperimentalDeserialize { known, unknown })
+        Ok(ExperimentalDeserialize {
+            known,
+            unknown,
+            array: self.array,
+        })
     }
 
     /// Whether no feature is named.
@@ -64,7 +71,8 @@ impl ExperimentalDeserialize {
 
     // The features that an array names.
     fn read_array(alloc: Global, array: &Array, at: &str) -> Result<Self, ReadFault>
-        ensures meant { IfOk result (λ d. MeansFeatureArray (array_view array.now) (features_of d)) }
+        ensures meant { IfOk result (λ d.
+            InForm true MeansFeatureArray (array_view array.now) (feature_setting_of d)) }
         ensures refused { IfErr result (Refuses
             (FeatureArrayFaults (array_view array.now) at.now) (Unit {0})) }
     {
@@ -72,6 +80,7 @@ impl ExperimentalDeserialize {
         for (index, value) in array.iter().enumerate() {
             features.read_item(alloc, value, index, at)?;
         }
+        features.array = true;
         Ok(features)
     }
 
@@ -85,6 +94,7 @@ impl ExperimentalDeserialize {
     ) -> Result<(), ReadFault>
         ensures added { OnOk result
             (AddsItem (features_of self.old) (view value.now) (features_of self.new)) }
+        ensures form { self.new.array ≡ self.old.array }
         ensures refused { IfErr result (Refuses
             (ItemFaults (view value.now) index at.now) (Unit {0})) }
     {
@@ -99,20 +109,26 @@ impl ExperimentalDeserialize {
 
     // The features that a table names.
     fn read_table(alloc: Global, table: &Table, at: &str) -> Result<Self, ReadFault>
-        ensures meant { IfOk result (λ d. MeansFeatureTable (table_view table.now) (features_of d)) }
+        ensures meant { IfOk result (λ d.
+            InForm false MeansFeatureTable (table_view table.now) (feature_setting_of d)) }
         ensures refused { IfErr result (Refuses
             (FeatureTableFaults (table_view table.now) at.now) (Unit {0})) }
     {
         let known = read_switches(alloc, table, at)?;
         match unknown_keys(alloc, table) {
-            Ok(unknown) => Ok(ExperimentalDeserialize { known, unknown }),
+            Ok(unknown) => Ok(ExperimentalDeserialize {
+                known,
+                unknown,
+                array: false,
+            }),
             Err(AllocError) => Err(ReadFault::memory(alloc)),
         }
     }
 
     // Adds a name.
     fn add(&mut self, alloc: Global, text: &str) -> Result<(), AllocError>
-        ensures { OnOk result (AddsText (features_of self.old) text.now (features_of self.new)) }
+        ensures added { OnOk result (AddsText (features_of self.old) text.now (features_of self.new)) }
+        ensures form { self.new.array ≡ self.old.array }
     {
         match ConfigExperimental::from_str(text) {
             Ok(feature) => {
@@ -128,7 +144,7 @@ impl ExperimentalDeserialize {
 }
 
 impl FromToml for ExperimentalDeserialize {
-    ghost means = { λ value d. MeansFeatures value (features_of d) };
+    ghost means = { λ value d. MeansFeatures value (feature_setting_of d) };
 
     ghost faults = { FeaturesFaults };
 

@@ -1,8 +1,9 @@
 //! The files of tools and of a repository, as a list of sources.
 
 ghost use Rattle.std.specs.Prelude.{◌≡◌, IfOk, map, option_map, string_bytes};
-ghost use Rattle.nextest_config.specs.NextestVersion.{file_source, place_of, sources_of};
+ghost use Rattle.nextest_config.specs.NextestVersion.{file_given, givens_of, place_of};
 
+use super::edition::Edition;
 use super::error::ConfigParseError;
 use super::source::{ConfigSource, RepositoryText, ToolText};
 use super::version_only::VersionOnlyConfig;
@@ -25,7 +26,7 @@ impl<'a> File<'a> {
         repository: &'a RepositoryText,
         tools: &'a [ToolText],
     ) -> Result<Vec<File<'a>>, AllocError>
-        ensures { IfOk result (λ files. map file_source files.items ≡ sources_of repository.now tools.now) }
+        ensures { IfOk result (λ files. map file_given files.items ≡ givens_of repository.now tools.now) }
     {
         let mut files = Vec::new(alloc);
         for tool in tools.iter().rev() {
@@ -37,7 +38,7 @@ impl<'a> File<'a> {
 
     // Where the file comes from.
     fn source(&self, alloc: Global) -> Result<ConfigSource, AllocError>
-        ensures { IfOk result (λ source. place_of source ≡ (file_source self.now).place) }
+        ensures { IfOk result (λ source. place_of source ≡ (file_given self.now).place) }
     {
         match self {
             File::Tool(tool) => tool.source(alloc),
@@ -46,7 +47,7 @@ impl<'a> File<'a> {
     }
 
     fn contents(&self) -> &'a Option<String>
-        ensures { option_map string_bytes result.now ≡ (file_source self.now).contents }
+        ensures { option_map string_bytes result.now ≡ (file_given self.now).contents }
     {
         match self {
             File::Tool(tool) => &tool.contents,
@@ -105,7 +106,7 @@ impl<'a> ReadPiece for FileConfig<'a> {
     ghost use Rattle.std.specs.Prelude.{Option};
     ghost use Rattle.std.proofs.Common.{arith};
     ghost use Rattle.nextest_config.specs.NextestVersion.Error.{Refusal, refusal_of};
-    ghost use Rattle.nextest_config.specs.NextestVersion.Source.{file_source};
+    ghost use Rattle.nextest_config.specs.NextestVersion.Source.{file_given, under};
     ghost use Rattle.nextest_config.specs.NextestVersion.VersionOnly.{configuration_of, IsErrorOf, StandsForOne};
     ghost use Rattle.nextest_config.specs.NextestVersion.VersionOnlyLaws.{one_read};
 
@@ -113,25 +114,33 @@ impl<'a> ReadPiece for FileConfig<'a> {
 
     type Error = ConfigParseError;
 
+    type Context = Edition;
+
     ghost Told = { Option Refusal };
 
     ghost told = { refusal_of };
 
-    ghost piece = { λ file files. StandsForOne (file_source file) (configuration_of files.config) };
+    ghost piece = { λ edition file files.
+        StandsForOne (under edition (file_given file)) (configuration_of files.config) };
 
-    ghost wrong = { λ file told. IsErrorOf (file_source file) told };
+    ghost wrong = { λ edition file told. IsErrorOf (under edition (file_given file)) told };
 
     fn neutral(alloc: Global) -> Self {
         FileConfig::new(VersionOnlyConfig::new(alloc))
     }
 
-    fn read_one(alloc: Global, file: &File<'a>) -> Result<Self, PieceRefusal<ConfigParseError>> {
+    fn read_one(
+        alloc: Global,
+        edition: &Edition,
+        file: &File<'a>,
+    ) -> Result<Self, PieceRefusal<ConfigParseError>> {
         let source = file.source(alloc)?;
-        let config = VersionOnlyConfig::of_source(alloc, &source, file.contents())?;
+        let config = VersionOnlyConfig::of_source(alloc, *edition, &source, file.contents())?;
         Ok(FileConfig::new(config))
     }
 
-    ghost reads_one = { one_read file_source (λ files. configuration_of files.config) };
+    ghost reads_one = { λ edition.
+        one_read (λ file. under edition (file_given file)) (λ files. configuration_of files.config) };
 
     ghost size_in_range = { Prim.omega arith };
 }

@@ -1,6 +1,6 @@
 //! Where a configuration comes from.
 
-ghost use Rattle.std.specs.Prelude.{◌≡◌, Some, IfOk};
+ghost use Rattle.std.specs.Prelude.{◌≡◌, Some, IfOk, map};
 
 use nextest_config_values::identifier::ToolName;
 use nextest_config_values::tool_config::ToolConfigFile;
@@ -62,11 +62,11 @@ impl ConfigSourceKind {
 }
 
 impl ToolText {
-    ghost use Rattle.nextest_config.specs.NextestVersion.Source.{place_of, tool_source};
+    ghost use Rattle.nextest_config.specs.NextestVersion.Source.{place_of, tool_given};
 
     // Where the tool's file comes from.
     pub(crate) fn source(&self, alloc: Global) -> Result<ConfigSource, AllocError>
-        ensures { IfOk result (λ source. place_of source ≡ (tool_source self.now).place) }
+        ensures { IfOk result (λ source. place_of source ≡ (tool_given self.now).place) }
     {
         Ok(ConfigSource {
             kind: ConfigSourceKind::Tool(self.file.tool.clone(alloc)?),
@@ -76,11 +76,11 @@ impl ToolText {
 }
 
 impl RepositoryText {
-    ghost use Rattle.nextest_config.specs.NextestVersion.Source.{place_of, repository_source};
+    ghost use Rattle.nextest_config.specs.NextestVersion.Source.{place_of, repository_given};
 
     // Where the repository's file comes from.
     pub(crate) fn source(&self, alloc: Global) -> Result<ConfigSource, AllocError>
-        ensures { IfOk result (λ source. place_of source ≡ (repository_source self.now).place) }
+        ensures { IfOk result (λ source. place_of source ≡ (repository_given self.now).place) }
     {
         let kind = if self.explicit {
             ConfigSourceKind::ExplicitRepository
@@ -103,6 +103,20 @@ impl ConfigSource {
             kind: self.kind.clone(alloc)?,
             path: String::from_str(alloc, self.path.as_str())?,
         })
+    }
+
+    // Copies of the sources.
+    pub(super) fn copies(
+        alloc: Global,
+        sources: &[ConfigSource],
+    ) -> Result<Vec<ConfigSource>, AllocError>
+        ensures { IfOk result (λ copies. map place_of copies.items ≡ map place_of sources.now) }
+    {
+        let mut copies = Vec::new(alloc);
+        for source in sources {
+            copies.push(source.clone(alloc)?)?;
+        }
+        Ok(copies)
     }
 }
 

@@ -2,10 +2,11 @@
 
 ghost use Rattle.std.specs.Prelude.{◌≡◌, IfOk, IfErr, OnOk, map, option_map, reverse, string_bytes};
 ghost use Rattle.nextest_config.specs.Merge.{IsRefusalOfOne};
-ghost use Rattle.nextest_config.specs.NextestVersion.{Adds, configuration_of, experimental_of, IsErrorOf, IsErrorOfList, IsRefusalOf, IsWrong, kind_of, neutral, Reads, refusal_of, RefusesSource, roles_of, SelectsFor, source_at, source_of, sources_of, StandsFor, StandsForOne, tool_source};
+ghost use Rattle.nextest_config.specs.NextestVersion.{Adds, configuration_of, experimental_of, given_at, IsErrorOf, IsErrorOfList, IsRefusalOf, IsWrong, kind_of, neutral, Reads, refusal_of, RefusesSource, roles_of, SelectsFor, source_of, source_under, sources_of, sources_under, StandsFor, StandsForOne, under};
 ghost use Rattle.nextest_config.specs.declared.nextest_version.error.ListRefusal.TheVariants.{Memory};
 ghost use Rattle.nextest_config.specs.declared.nextest_version.error_kind.ConfigParseErrorKind.TheVariants as kinds;
 
+use super::edition::Edition;
 use super::error::{ConfigParseError, ListRefusal};
 use super::error_kind::ConfigParseErrorKind;
 use super::experimental_config::ExperimentalConfig;
@@ -57,7 +58,25 @@ impl VersionOnlyConfig {
         ensures only { Reads (map source_of sources.now) → IfErr result (λ refusal. refusal ≡ Memory) }
         ensures refused { IfErr result (IsRefusalOf (map source_of sources.now)) }
     {
-        Ok(read_halves::<VersionOnlyConfig>(alloc, sources)?)
+        VersionOnlyConfig::from_list_with(alloc, Edition::ArrayAllowed, sources)
+    }
+
+    /// Reads the sources under the edition, lowest priority first, up to the first one that is refused.
+    pub fn from_list_with(
+        alloc: Global,
+        edition: Edition,
+        sources: &[SourceText],
+    ) -> Result<Self, ListRefusal>
+        ensures reads { OnOk result (Reads (map (source_under edition) sources.now)) }
+        ensures stands { IfOk result (λ config.
+            StandsFor (map (source_under edition) sources.now) (configuration_of config)) }
+        ensures selected { IfOk result (λ config.
+            SelectsFor (map (source_under edition) sources.now) (configuration_of config).roles) }
+        ensures only { Reads (map (source_under edition) sources.now)
+            → IfErr result (λ refusal. refusal ≡ Memory) }
+        ensures refused { IfErr result (IsRefusalOf (map (source_under edition) sources.now)) }
+    {
+        Ok(read_halves::<VersionOnlyConfig>(alloc, &edition, sources)?)
     }
 
     /// Reads the tools' files, the last one first, and then the repository's, up to the first one that
@@ -77,8 +96,29 @@ impl VersionOnlyConfig {
             → IfErr result (λ error. kind_of error ≡ kinds.Memory) }
         ensures refused { IfErr result (IsErrorOfList (sources_of repository.now tools.now)) }
     {
+        VersionOnlyConfig::from_sources_with(alloc, Edition::ArrayAllowed, repository, tools)
+    }
+
+    /// Reads the tools' files, the last one first, and then the repository's, under the edition, up to
+    /// the first one that is refused.
+    pub fn from_sources_with(
+        alloc: Global,
+        edition: Edition,
+        repository: &RepositoryText,
+        tools: &[ToolText],
+    ) -> Result<Self, ConfigParseError>
+        ensures reads { OnOk result (Reads (sources_under edition repository.now tools.now)) }
+        ensures stands { IfOk result (λ config.
+            StandsFor (sources_under edition repository.now tools.now) (configuration_of config)) }
+        ensures selected { IfOk result (λ config. SelectsFor
+            (sources_under edition repository.now tools.now) (configuration_of config).roles) }
+        ensures only { Reads (sources_under edition repository.now tools.now)
+            → IfErr result (λ error. kind_of error ≡ kinds.Memory) }
+        ensures refused { IfErr result
+            (IsErrorOfList (sources_under edition repository.now tools.now)) }
+    {
         let files = File::in_order(alloc, repository, tools)?;
-        match read_halves::<FileConfig>(alloc, files.as_slice()) {
+        match read_halves::<FileConfig>(alloc, &edition, files.as_slice()) {
             Ok(files) => Ok(files.into_config()),
             Err(refusal) => Err(ListRefusal::from(refusal).into_error()),
         }
@@ -101,16 +141,17 @@ impl VersionOnlyConfig {
     // The configuration of one source with these contents.
     pub(super) fn of_source(
         alloc: Global,
+        edition: Edition,
         source: &ConfigSource,
         contents: &Option<String>,
     ) -> Result<Self, PieceRefusal<ConfigParseError>>
-        ensures stands { IfOk result (λ config.
-            StandsForOne (source_at source.now contents.now) (configuration_of config)) }
-        ensures refused { IfErr result
-            (IsRefusalOfOne refusal_of IsErrorOf (source_at source.now contents.now)) }
+        ensures stands { IfOk result (λ config. StandsForOne
+            (under edition (given_at source.now contents.now)) (configuration_of config)) }
+        ensures refused { IfErr result (IsRefusalOfOne refusal_of IsErrorOf
+            (under edition (given_at source.now contents.now))) }
     {
         let mut config = VersionOnlyConfig::new(alloc);
-        match config.add(alloc, source, contents) {
+        match config.add(alloc, edition, source, contents) {
             Ok(()) => Ok(config),
             Err(kind) => Err(ConfigParseError::of_source(alloc, source, kind)),
         }
@@ -120,15 +161,16 @@ impl VersionOnlyConfig {
     fn add(
         &mut self,
         alloc: Global,
+        edition: Edition,
         source: &ConfigSource,
         contents: &Option<String>,
     ) -> Result<(), ConfigParseErrorKind>
-        ensures added { OnOk result (Adds (source_at source.now contents.now)
+        ensures added { OnOk result (Adds (under edition (given_at source.now contents.now))
             (configuration_of self.old) (configuration_of self.new)) }
         ensures refused { IfErr result (RefusesSource
-            (IsWrong source.now.kind (option_map string_bytes contents.now))) }
+            (IsWrong edition source.now.kind (option_map string_bytes contents.now))) }
     {
-        let asked = VersionOnlyDeserialize::read(alloc, &source.kind, contents)?;
+        let asked = VersionOnlyDeserialize::read(alloc, edition, &source.kind, contents)?;
         let VersionOnlyDeserialize {
             nextest_version,
             experimental,
@@ -165,7 +207,7 @@ impl ReadPiece for VersionOnlyConfig {
     ghost use Rattle.std.specs.Prelude.{Option};
     ghost use Rattle.std.proofs.Common.{arith};
     ghost use Rattle.nextest_config.specs.NextestVersion.Error.{Refusal, refusal_of};
-    ghost use Rattle.nextest_config.specs.NextestVersion.Source.{source_of};
+    ghost use Rattle.nextest_config.specs.NextestVersion.Source.{source_under};
     ghost use Rattle.nextest_config.specs.NextestVersion.VersionOnly.{configuration_of, IsErrorOf, StandsForOne};
     ghost use Rattle.nextest_config.specs.NextestVersion.VersionOnlyLaws.{one_read};
 
@@ -173,27 +215,31 @@ impl ReadPiece for VersionOnlyConfig {
 
     type Error = ConfigParseError;
 
+    type Context = Edition;
+
     ghost Told = { Option Refusal };
 
     ghost told = { refusal_of };
 
-    ghost piece = { λ source config. StandsForOne (source_of source) (configuration_of config) };
+    ghost piece = { λ edition source config.
+        StandsForOne (source_under edition source) (configuration_of config) };
 
-    ghost wrong = { λ source told. IsErrorOf (source_of source) told };
+    ghost wrong = { λ edition source told. IsErrorOf (source_under edition source) told };
 
     fn neutral(alloc: Global) -> Self {
         VersionOnlyConfig::new(alloc)
     }
 
-    /// What one source asks, or what is wrong with it.
+    /// What one source asks under the edition, or what is wrong with it.
     fn read_one(
         alloc: Global,
+        edition: &Edition,
         source: &SourceText,
     ) -> Result<Self, PieceRefusal<ConfigParseError>> {
-        VersionOnlyConfig::of_source(alloc, &source.source, &source.contents)
+        VersionOnlyConfig::of_source(alloc, *edition, &source.source, &source.contents)
     }
 
-    ghost reads_one = { one_read source_of configuration_of };
+    ghost reads_one = { λ edition. one_read (source_under edition) configuration_of };
 
     ghost size_in_range = { Prim.omega arith };
 }

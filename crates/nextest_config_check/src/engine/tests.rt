@@ -1,6 +1,7 @@
 //! Runs of the program over streams in memory, and over streams that fail.
 
 use super::{Outcome, RunFault, run, serve};
+use nextest_config::nextest_version::Edition;
 use semver::Version;
 use std::alloc::{AllocError, Global};
 use std::io::{self, ErrorKind, Read, Write};
@@ -13,12 +14,21 @@ const RUNS: &str = r#"
 0.9.49 --override | === repository .config/nextest.toml¶nextest-version = "0.9.50"¶ | 0 | error (overridden): 0.9.50 required by repository .config/nextest.toml, current 0.9.49¶known: none¶ | (nothing)
 0.9.50 | === repository .config/nextest.toml¶nextest-version = "0.9.50"¶ | 0 | satisfied: 0.9.50¶known: none¶ | (nothing)
 0.9.49-b.1+c | === repository a.toml¶nextest-version = "0.9.60"¶=== explicit b.toml¶nextest-version = "0.9.50"¶ | 1 | error: 0.9.60 required by repository a.toml, current 0.9.49-b.1+c¶known: none¶ | (nothing)
-0.9.55 | === tool my-tool:/etc/t.toml¶nextest-version = "0.9.50"¶=== repository .config/nextest.toml¶nextest-version = { recommended = "0.9.60" }¶experimental = ["benchmarks", "future"]¶ | 0 | warning: 0.9.60 recommended by repository .config/nextest.toml, current 0.9.55¶known: benchmarks¶unknown in repository .config/nextest.toml: "future"¶ | (nothing)
-0.9.55 --override | === tool my-tool:/etc/t.toml¶nextest-version = "0.9.50"¶=== repository .config/nextest.toml¶nextest-version = { recommended = "0.9.60" }¶experimental = ["benchmarks", "future"]¶ | 0 | warning (overridden): 0.9.60 recommended by repository .config/nextest.toml, current 0.9.55¶known: benchmarks¶unknown in repository .config/nextest.toml: "future"¶ | (nothing)
-0.9.49 | === tool my-tool:/etc/t.toml¶nextest-version = "0.9.50"¶=== repository .config/nextest.toml¶nextest-version = { recommended = "0.9.60" }¶experimental = ["benchmarks", "future"]¶ | 1 | error: 0.9.50 required by tool my-tool (/etc/t.toml), current 0.9.49¶known: benchmarks¶unknown in repository .config/nextest.toml: "future"¶ | (nothing)
-0.9.49 --override | === tool my-tool:/etc/t.toml¶nextest-version = "0.9.50"¶=== repository .config/nextest.toml¶nextest-version = { recommended = "0.9.60" }¶experimental = ["benchmarks", "future"]¶ | 0 | error (overridden): 0.9.50 required by tool my-tool (/etc/t.toml), current 0.9.49¶known: benchmarks¶unknown in repository .config/nextest.toml: "future"¶ | (nothing)
-1.0.0 | === explicit a.toml¶experimental = ["y", "benchmarks", "x\n"]¶=== explicit a.toml¶experimental = { z = 1, wrapper-scripts = true, setup-scripts = true }¶ | 0 | satisfied: 1.0.0¶known: setup-scripts, wrapper-scripts, benchmarks¶unknown in explicit a.toml: "x\n", "y"¶unknown in explicit a.toml: "z"¶ | (nothing)
-1.0.0 | === explicit a.toml¶experimental = ["a\u0085b"]¶ | 0 | satisfied: 1.0.0¶known: none¶unknown in explicit a.toml: "a\u{85}b"¶ | (nothing)
+0.9.55 | === tool my-tool:/etc/t.toml¶nextest-version = "0.9.50"¶=== repository .config/nextest.toml¶nextest-version = { recommended = "0.9.60" }¶experimental = ["benchmarks", "future"]¶ | 0 | warning: 0.9.60 recommended by repository .config/nextest.toml, current 0.9.55¶known: benchmarks¶unknown in repository .config/nextest.toml: "future"¶deprecated array form in repository .config/nextest.toml¶ | (nothing)
+0.9.55 --override | === tool my-tool:/etc/t.toml¶nextest-version = "0.9.50"¶=== repository .config/nextest.toml¶nextest-version = { recommended = "0.9.60" }¶experimental = ["benchmarks", "future"]¶ | 0 | warning (overridden): 0.9.60 recommended by repository .config/nextest.toml, current 0.9.55¶known: benchmarks¶unknown in repository .config/nextest.toml: "future"¶deprecated array form in repository .config/nextest.toml¶ | (nothing)
+0.9.49 | === tool my-tool:/etc/t.toml¶nextest-version = "0.9.50"¶=== repository .config/nextest.toml¶nextest-version = { recommended = "0.9.60" }¶experimental = ["benchmarks", "future"]¶ | 1 | error: 0.9.50 required by tool my-tool (/etc/t.toml), current 0.9.49¶known: benchmarks¶unknown in repository .config/nextest.toml: "future"¶deprecated array form in repository .config/nextest.toml¶ | (nothing)
+0.9.49 --override | === tool my-tool:/etc/t.toml¶nextest-version = "0.9.50"¶=== repository .config/nextest.toml¶nextest-version = { recommended = "0.9.60" }¶experimental = ["benchmarks", "future"]¶ | 0 | error (overridden): 0.9.50 required by tool my-tool (/etc/t.toml), current 0.9.49¶known: benchmarks¶unknown in repository .config/nextest.toml: "future"¶deprecated array form in repository .config/nextest.toml¶ | (nothing)
+1.0.0 | === explicit a.toml¶experimental = ["y", "benchmarks", "x\n"]¶=== explicit a.toml¶experimental = { z = 1, wrapper-scripts = true, setup-scripts = true }¶ | 0 | satisfied: 1.0.0¶known: setup-scripts, wrapper-scripts, benchmarks¶unknown in explicit a.toml: "x\n", "y"¶unknown in explicit a.toml: "z"¶deprecated array form in explicit a.toml¶ | (nothing)
+1.0.0 | === explicit a.toml¶experimental = ["a\u0085b"]¶ | 0 | satisfied: 1.0.0¶known: none¶unknown in explicit a.toml: "a\u{85}b"¶deprecated array form in explicit a.toml¶ | (nothing)
+1.0.0 | === repository a.toml¶experimental = ["benchmarks"]¶=== repository b.toml¶experimental = { benchmarks = true }¶=== repository c.toml¶experimental = []¶ | 0 | satisfied: 1.0.0¶known: benchmarks¶deprecated array form in repository a.toml¶deprecated array form in repository c.toml¶ | (nothing)
+1.0.0 | === tool t:/t.toml¶experimental = []¶ | 0 | satisfied: 1.0.0¶known: none¶deprecated array form in tool t (/t.toml)¶ | (nothing)
+1.0.0 --table-only | === repository a.toml¶experimental = ["benchmarks"]¶=== repository b.toml¶experimental = { benchmarks = true }¶=== repository c.toml¶experimental = []¶ | 2 | refused at 0: repository a.toml: experimental: the array form of `experimental` isn't supported, use a table¶ | (nothing)
+1.0.0 --override --table-only | === repository b.toml¶experimental = { benchmarks = true }¶=== repository c.toml¶experimental = []¶ | 2 | refused at 1: repository c.toml: experimental: the array form of `experimental` isn't supported, use a table¶ | (nothing)
+1.0.0 --table-only | === repository b.toml¶experimental = { benchmarks = true }¶ | 0 | satisfied: 1.0.0¶known: benchmarks¶ | (nothing)
+0.9.49 --table-only | === repository r.toml¶nextest-version = "0.9.50"¶ | 1 | error: 0.9.50 required by repository r.toml, current 0.9.49¶known: none¶ | (nothing)
+0.9.49 --override --table-only | === repository r.toml¶nextest-version = "0.9.50"¶ | 0 | error (overridden): 0.9.50 required by repository r.toml, current 0.9.49¶known: none¶ | (nothing)
+1.0.0 --table-only | === tool t:/t.toml¶experimental = ["benchmarks"]¶ | 2 | refused at 0: tool t (/t.toml): experimental: the array form of `experimental` isn't supported, use a table¶ | (nothing)
+1.0.0 --table-only | x = 1¶ | 2 | refused: line 1 isn't a source line¶ | (nothing)
 1.0.0 | === tool my-tool:/etc/t.toml¶experimental = ["x", "benchmarks"]¶ | 2 | refused at 0: tool my-tool (/etc/t.toml): experimental features in a tool configuration: "benchmarks", "x"¶ | (nothing)
 0.9.50 | === explicit a.toml¶nextest-version = "1-b+c"¶ | 2 | refused at 0: explicit a.toml: nextest-version: pre-release identifiers are not supported in nextest-version¶ | (nothing)
 0.9.50 | === explicit a.toml¶nextest-version = "1"¶ | 2 | refused at 0: explicit a.toml: nextest-version: invalid version "1"¶ | (nothing)
@@ -41,17 +51,21 @@ const RUNS: &str = r#"
 1.0.0 | === repository a.toml¶x = """¶=== foo¶ | 2 | refused: line 3 isn't a source line¶ | (nothing)
 1.0.0 | === repository a.toml←¶←¶=== explicit b¶=== ¶=== foo | 2 | refused: line 4 isn't a source line¶ | (nothing)
 1.0.0 | === explicit café.toml¶¶=== repository b.toml←¶x = 1¶=== foo¶ | 2 | refused: line 5 isn't a source line¶ | (nothing)
-(none) | x = 1¶ | 2 | (nothing) | usage: nextest_config_check CURRENT [--override]¶
-0.9.50 --table-only | x = 1¶ | 2 | (nothing) | usage: nextest_config_check CURRENT [--override]¶
---override 0.9.50 | x = 1¶ | 2 | (nothing) | usage: nextest_config_check CURRENT [--override]¶
-x.y --overrid | x = 1¶ | 2 | (nothing) | usage: nextest_config_check CURRENT [--override]¶
-0.9.50 --override --override | x = 1¶ | 2 | (nothing) | usage: nextest_config_check CURRENT [--override]¶
-x.y --override 0.9.50 x.y | x = 1¶ | 2 | (nothing) | usage: nextest_config_check CURRENT [--override]¶
+(none) | x = 1¶ | 2 | (nothing) | usage: nextest_config_check CURRENT [--override] [--table-only]¶
+0.9.50 --table-only --override | x = 1¶ | 2 | (nothing) | usage: nextest_config_check CURRENT [--override] [--table-only]¶
+0.9.50 --table-only --table-only | x = 1¶ | 2 | (nothing) | usage: nextest_config_check CURRENT [--override] [--table-only]¶
+0.9.50 --override --table-only --table-only | x = 1¶ | 2 | (nothing) | usage: nextest_config_check CURRENT [--override] [--table-only]¶
+--override 0.9.50 | x = 1¶ | 2 | (nothing) | usage: nextest_config_check CURRENT [--override] [--table-only]¶
+x.y --overrid | x = 1¶ | 2 | (nothing) | usage: nextest_config_check CURRENT [--override] [--table-only]¶
+0.9.50 --override --override | x = 1¶ | 2 | (nothing) | usage: nextest_config_check CURRENT [--override] [--table-only]¶
+x.y --override 0.9.50 x.y | x = 1¶ | 2 | (nothing) | usage: nextest_config_check CURRENT [--override] [--table-only]¶
 x.y | x = 1¶ | 2 | (nothing) | not a version: x.y¶
 0.9 | x = 1¶ | 2 | (nothing) | not a version: 0.9¶
  | x = 1¶ | 2 | (nothing) | not a version: ¶
 x.y --override | x = 1¶ | 2 | (nothing) | not a version: x.y¶
 --override | x = 1¶ | 2 | (nothing) | not a version: --override¶
+--table-only | x = 1¶ | 2 | (nothing) | not a version: --table-only¶
+--override --table-only | x = 1¶ | 2 | (nothing) | not a version: --override¶
 "#;
 
 // Sizes around powers of two, and some thousands.
@@ -268,6 +282,41 @@ fn complains_if_the_writer_fails(rt: HostRuntime) -> Result<(), Fail> {
 }
 
 #[test]
+fn fails_with_the_reader_at_each_call(rt: HostRuntime) -> Result<(), Fail> {
+    let alloc = rt.alloc();
+    let input = b"=== explicit a.toml\nnextest-version = 1\n";
+    for calls in 0..=input.len() {
+        let mut reader = Pieces {
+            rest: &input[..calls],
+            step: 1,
+            end: Some(ErrorKind::Other),
+        };
+        let writer = Watched::new(alloc, 4096, None);
+        let faults = Watched::new(alloc, 4096, None);
+        let line = served(alloc, "1.0.0", &mut reader, writer, faults)?;
+        assert_eq!(rt; line.as_str(), "3 | (nothing) | cannot read input\n");
+    }
+    Ok(())
+}
+
+#[test]
+fn fails_with_the_writer_at_each_call(rt: HostRuntime) -> Result<(), Fail> {
+    let alloc = rt.alloc();
+    let report = "refused: line 1 isn't a source line\n";
+    for calls in 1..=report.len() {
+        let writer = Watched::new(alloc, 1, Some(calls));
+        let faults = Watched::new(alloc, 1, None);
+        let line = served(alloc, "1.0.0", &mut &b"x = 1\n"[..], writer, faults)?;
+        let front = report.get(..calls).unwrap_or("");
+        assert_eq!(rt;
+            line,
+            format!(in alloc; "3 | {front}(not flushed) | cannot write output\n")?
+        );
+    }
+    Ok(())
+}
+
+#[test]
 fn keeps_the_status_if_faults_fail(rt: HostRuntime) -> Result<(), Fail> {
     let alloc = rt.alloc();
     for (fails_at, want) in [
@@ -294,11 +343,32 @@ fn tells_which_stream_failed(rt: HostRuntime) -> Result<(), Fail> {
         end: Some(ErrorKind::Other),
     };
     let mut writer = Watched::new(alloc, 4096, Some(0));
-    let outcome = run(alloc, &mut reader, &mut writer, &current, false);
+    let outcome = run(
+        alloc,
+        &mut reader,
+        &mut writer,
+        &current,
+        false,
+        Edition::ArrayAllowed,
+    );
     assert_eq!(rt; outcome, Err(RunFault::Read));
-    let outcome = run(alloc, &mut &b"x = 1\n"[..], &mut writer, &current, false);
+    let outcome = run(
+        alloc,
+        &mut &b"x = 1\n"[..],
+        &mut writer,
+        &current,
+        false,
+        Edition::ArrayAllowed,
+    );
     assert_eq!(rt; outcome, Err(RunFault::Write));
-    let outcome = run(alloc, &mut &b"x = 1\n"[..], &mut writer, &current, false);
+    let outcome = run(
+        alloc,
+        &mut &b"x = 1\n"[..],
+        &mut writer,
+        &current,
+        false,
+        Edition::ArrayAllowed,
+    );
     assert_eq!(rt; outcome, Ok(Outcome::Refused));
     Ok(())
 }

@@ -18,6 +18,7 @@ pub data BrokenRule : Type 0 where
   build_metadata : BrokenRule
   not_version : List ℕ → BrokenRule
   required_above_recommended : Parts → Parts → BrokenRule
+  array_form : BrokenRule
   jitter_without_delay : BrokenRule
   count_zero : BrokenRule
   delay_zero : BrokenRule
@@ -47,6 +48,7 @@ broken_rule rules_of.PreRelease = pre_release
 broken_rule rules_of.BuildMetadata = build_metadata
 broken_rule (rules_of.NotVersion text) = not_version (string_bytes text)
 broken_rule (rules_of.RequiredAboveRecommended required recommended) = required_above_recommended (parts_of required) (parts_of recommended)
+broken_rule rules_of.ArrayForm = array_form
 broken_rule rules_of.JitterWithoutDelay = jitter_without_delay
 broken_rule rules_of.CountZero = count_zero
 broken_rule rules_of.DelayZero = delay_zero
@@ -87,6 +89,7 @@ rule_text build_metadata = codes "build metadata is not supported in nextest-ver
 rule_text (not_version text) = codes "invalid version " ++ quoted_text text
 rule_text (required_above_recommended required recommended) =
     codes "required version (" ++ (parts_text required ++ (codes ") must not be greater than recommended version (" ++ (parts_text recommended ++ codes ")")))
+rule_text array_form = codes "the array form of `experimental` isn't supported, use a table"
 rule_text jitter_without_delay = codes "`jitter` cannot be true if `delay` isn't specified or is zero"
 rule_text count_zero = codes "`count` cannot be zero with exponential backoff"
 rule_text delay_zero = codes "`delay` cannot be zero with exponential backoff"

@@ -72,6 +72,8 @@ pub enum Rule {
         required: Version,
         recommended: Version,
     },
+    /// An array of features, where only a table is taken.
+    ArrayForm,
     /// Jitter where there is no delay.
     JitterWithoutDelay,
     /// No retry, with exponential backoff.
@@ -291,6 +293,9 @@ impl fmt::Display for Rule {
                 f,
                 "required version ({required}) must not be greater than recommended version ({recommended})"
             ),
+            Rule::ArrayForm => {
+                f.write_str("the array form of `experimental` isn't supported, use a table")
+            }
             Rule::JitterWithoutDelay => {
                 f.write_str("`jitter` cannot be true if `delay` isn't specified or is zero")
             }

@@ -1,37 +1,17 @@
-use Rattle.std.proofs.Common.{◌≡◌, ◌++◌, ℕ, List, [], ◌∷◌, length, map, refl, arith, string_bytes, sym, ap, ◌∙◌}
-use Rattle.std.proofs.lemmas.List.{append-nil, length-map, map_push}
-use Rattle.nextest_config.specs.NextestVersion.{entry_at, Place, place_of, unknown_of}
+use Rattle.std.proofs.Common.{map, string_bytes}
+use Rattle.nextest_config.specs.NextestVersion.{array_at, entry_at, place_of, unknown_of}
 use Rattle.nextest_config.proofs.Orders.{features_in_order}
 use Rattle.nextest_config.proofs.Joins.{seen_joined}
 use Rattle.nextest_config.proofs.nextest_version.experimental_config.ExperimentalConfig.accumulate.Goals as goal
 
-no_entry : (place : Place) (names : List (List ℕ)) → length names ≡ 0 → entry_at place names ≡ []
-no_entry place [] none = refl
-no_entry place (name ∷ names) none = absurd (omega (arith, none))
-
-one_entry : (place : Place) (names : List (List ℕ)) → (length names ≡ 0 → ⊥) → entry_at place names ≡ record { place = place; names = names } ∷ []
-one_entry place [] some = absurd (some refl)
-one_entry place (name ∷ names) some = refl
-
-pub returns-then-is_empty : goal.returns-then-is_empty
-returns-then-is_empty c =
-    let place = place_of c.args.source.now in
-    let names = map string_bytes c.args.named.unknown.keys in
-    let none = no_entry place names (length-map c.args.named.unknown.keys string_bytes ∙ c.is_empty.ensures.0 c.if-is_empty.true) in
-    let before = map unknown_of c.args.self.now.unknown.items in
-    record {
-      same = seen_joined c.args.self.now.known.keys c.args.named.known.keys c.append.new.self.keys before (entry_at place names) _ c.in_ok-append.ensures.inserts_all.0 (sym (append-nil before) ∙ ap (λ entries. before ++ entries) (sym none));
-      in_order = features_in_order c.append.new.self.keys c.append.ensures.ordered;
-    }
-
 pub returns : goal.returns
 returns c =
-    let names = map string_bytes c.args.named.unknown.keys in
-    let some = one_entry (place_of c.args.source.now) names (λ none. cc (c.is_empty.ensures.1 (sym (length-map c.args.named.unknown.keys string_bytes) ∙ none), c.if-is_empty.false)) in
-    let before = map unknown_of c.args.self.now.unknown.items in
-    let pushed = ap (map unknown_of) c.in_ok-push.ensures.items ∙ map_push unknown_of c.args.self.now.unknown.items _ in
-    let entry = ap (λ (place : Place). before ++ (record { place = place; names = names } ∷ [])) c.in_ok-source.ensures in
+    let place = place_of c.args.source.now in
     record {
-      same = seen_joined c.args.self.now.known.keys c.args.named.known.keys c.append.new.self.keys before (entry_at (place_of c.args.source.now) names) _ c.in_ok-append.ensures.inserts_all.0 (pushed ∙ entry ∙ ap (λ entries. before ++ entries) (sym some));
+      same = seen_joined c.args.self.now.known.keys c.args.named.known.keys c.append.new.self.keys (map unknown_of c.args.self.now.unknown.items) (entry_at place (map string_bytes c.args.named.unknown.keys)) _
+          (map place_of c.args.self.now.array_sources.items) (array_at place c.args.named.array) _ c.in_ok-append.ensures.inserts_all.0 c.in_ok-push.ensures c.in_ok-push_array.ensures;
       in_order = features_in_order c.append.new.self.keys c.append.ensures.ordered;
     }
+
+pub invariant_of-self-2 : goal.invariant_of-self-2
+invariant_of-self-2 c = record { known_in_order = features_in_order c.append.new.self.keys c.append.ensures.ordered }

@@ -1,6 +1,0 @@
-use Rattle.std.proofs.Common.{◌≡◌, map, take}
-use Rattle.nextest_config.specs.NextestVersion.{unknown_of}
-use Rattle.nextest_config.proofs.nextest_version.experimental_config.ExperimentalConfig.clone.Given as goal
-
-abbrev pub invariant-loop-entry : goal.invariant-loop-entry
-invariant-loop-entry l = map unknown_of l.unknown.items ≡ map unknown_of (take l.entry-index l.self.unknown.items)

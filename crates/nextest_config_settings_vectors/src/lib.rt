@@ -1,0 +1,43 @@
+//! Tables of rows, and worked values of nextest's settings, from outside, as tests.
+#![tactic(auto)]
+
+#[cfg(test)]
+mod arguments;
+#[cfg(test)]
+mod compared;
+#[cfg(test)]
+mod durations;
+#[cfg(test)]
+mod equality;
+#[cfg(test)]
+mod faults;
+#[cfg(test)]
+mod fields;
+#[cfg(test)]
+mod identifiers;
+#[cfg(test)]
+mod junit;
+#[cfg(test)]
+mod kinds;
+pub mod likeness;
+#[cfg(test)]
+mod limits;
+#[cfg(test)]
+mod orders;
+#[cfg(test)]
+mod paths;
+#[cfg(test)]
+mod printed;
+#[cfg(test)]
+mod readers;
+pub mod rows;
+#[cfg(test)]
+mod runner;
+#[cfg(test)]
+mod settings;
+#[cfg(test)]
+mod texts;
+#[cfg(test)]
+mod told;
+pub mod values;
+pub mod wrong_kinds;

@@ -1,0 +1,36 @@
+//! What runs the tests: a `Runner` over their runtime, by which a library's functions end a test.
+
+use nextest_config_settings_vectors::rows::{self, Runner, Subject};
+use nextest_config_settings_vectors::wrong_kinds;
+use std::alloc::Global;
+use std::fmt::Debug;
+use std::process::Abort;
+
+/// The runtime of a test.
+#[derive(Drop)]
+pub(crate) struct Test<'r, R>(pub(crate) &'r R);
+
+impl<R: Abort + AllocGlobal> Runner for Test<'_, R> {
+    fn alloc(&self) -> Global {
+        self.0.alloc()
+    }
+
+    fn done<T, E: Debug + Drop>(&self, answer: Result<T, E>) -> T {
+        answer.expect(self.0, "a row isn't answered as it says")
+    }
+}
+
+/// Asks for the answer of each row, and compares it.
+pub(crate) fn check<S: Subject>(rt: &(impl Abort + AllocGlobal), rows: &str) {
+    rows::check::<S>(&Test(rt), rows);
+}
+
+/// Does the same at sizes of its own.
+pub(crate) fn check_at<S: Subject>(rt: &(impl Abort + AllocGlobal), rows: &str, sizes: &[usize]) {
+    rows::check_at::<S>(&Test(rt), rows, sizes);
+}
+
+/// Tries values of each kind at readers.
+pub(crate) fn check_kinds<S: Subject>(rt: &(impl Abort + AllocGlobal), readers: &str) {
+    wrong_kinds::check_kinds::<S>(&Test(rt), readers);
+}
