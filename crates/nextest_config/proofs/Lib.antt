@@ -16,3 +16,7 @@ pub mod Members
 pub mod Orders
 pub mod Features
 pub mod Naming
+pub mod Halvings
+pub mod Choices
+pub mod Slots
+pub mod Commands

@@ -1,9 +1,12 @@
 //! Laws of the definitions, for every value. They call nothing.
 
-ghost use Rattle.std.specs.Prelude.{◌≡◌, ◌≢◌, ◌↔◌, ◌++◌, ◌∷◌, ℕ, List, Bool, true, false, map, None, Some};
+ghost use Rattle.std.specs.Prelude.{◌≡◌, ◌≢◌, ◌↔◌, ◌+◌, ◌-◌, ◌/◌, ◌^◌, ◌<◌, ◌≤◌, ◌++◌, [], ◌∷◌, ℕ, List, Bool, true, false, get_or, length, map, None, Some};
 ghost use Rattle.std.specs.List.{AllByRecursion, AllZip};
 ghost use Rattle.std.specs.Ordering.{nat_cmp};
 ghost use Rattle.semver.specs.Parse.{Parts};
+ghost use Rattle.nextest_config.specs.Board.{halvings};
+ghost use Rattle.nextest_config.specs.Board.Commands.{ChangesInTurn, Command, empty_board, HoldsLast, slot_in};
+ghost use Rattle.nextest_config.specs.Board.Slots.{BoardState};
 ghost use Rattle.nextest_config.specs.Merge.{IsCut, IsMonoid, IsReordering};
 ghost use Rattle.nextest_config.specs.NextestVersion.Verdict.{Verdict};
 ghost use Rattle.nextest_config.specs.NextestVersion.{Agree, alone, Asked, Configuration, IsBelow, IsEnough, IsEnoughByNumbers, IsFirstRefused, IsFirstRefusedAmong, IsFromSource, IsJoinOf, IsNoGraver, IsOverriding, IsSatisfied, IsSelected, IsSelectedFor, IsVersionText, join_configurations, join_features, join_kept, join_roles, Kept, neutral_seen, no_features_seen, no_roles, Numbers, plain, rank, Reads, Refusal, Roles, satisfied, Shortfall, StandsFor, verdict, warn};
@@ -128,4 +131,29 @@ pub fn law_added_source()
     ensures { (before after : List Source) (added : Source) (current : Parts) (overridden : Bool)
         (v w : Verdict) → IsSelectedFor (before ++ after) current overridden v
         → IsSelectedFor (before ++ (added ∷ after)) current overridden w → IsNoGraver w v }
+{}
+
+/// A place among up to one isn't halved away. Of more places the first half has half of them, rounded
+/// down, and the place is halved once, and then within the half that holds it. So it is halved at most
+/// as often as their number has binary digits.
+pub fn law_halvings()
+    ensures alone { (n i : ℕ) → n ≤ 1 → halvings n i ≡ 0 }
+    ensures first { (n i : ℕ) → 2 ≤ n → i < n / 2 → halvings n i ≡ 1 + halvings (n / 2) i }
+    ensures second { (n i : ℕ) → 2 ≤ n → n / 2 ≤ i
+        → halvings n i ≡ 1 + halvings (n - n / 2) (i - n / 2) }
+    ensures digits { (n i digits : ℕ) → n < 2 ^ digits → halvings n i ≤ digits }
+{}
+
+/// A board of n slots, however it was changed, has n slots; each holds the versions of the source that
+/// was put into it last, or none where it was left empty since or never changed; and the choices that
+/// are counted are those of the last change.
+pub fn law_board_follows()
+    ensures slots { (n : ℕ) (commands : List Command) (board : BoardState)
+        → ChangesInTurn commands (empty_board n) board → length board.slots ≡ n }
+    ensures holds { (n : ℕ) (commands : List Command) (board : BoardState)
+        → ChangesInTurn commands (empty_board n) board
+        → (slot : ℕ) → HoldsLast commands slot (get_or board.slots slot None) }
+    ensures selections { (n : ℕ) (commands : List Command) (last : Command) (board : BoardState)
+        → ChangesInTurn (commands ++ (last ∷ [])) (empty_board n) board
+        → board.selections ≡ halvings n (slot_in last) }
 {}

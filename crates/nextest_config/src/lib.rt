@@ -2,6 +2,7 @@
 //! reading the sources, keeping what stands for them all, and judging the current version by it.
 #![tactic(auto)]
 
+pub mod board;
 pub mod laws;
 pub mod merge;
 pub mod nextest_version;

@@ -4,6 +4,8 @@
 #[cfg(test)]
 mod asked;
 #[cfg(test)]
+mod board;
+#[cfg(test)]
 mod compared;
 #[cfg(test)]
 mod configurations;
@@ -31,6 +33,7 @@ mod runner;
 mod sources;
 #[cfg(test)]
 mod told;
+pub mod tree;
 #[cfg(test)]
 mod values;
 #[cfg(test)]

@@ -1,0 +1,179 @@
+-- The slots of a board, and the verdict of the sources that they hold.
+use Rattle.std.proofs.Common.{◌≡◌, ℕ, zero, suc, ◌+◌, ◌<◌, List, [], ◌∷◌, ◌++◌, length, get_or, set, replicate, map, Bool, true, false, Option, Some, None, option_map, Result, Ok, Err, IfOk, refl, sym, ap, ap₂, subst, ◌∙◌, arith}
+use Rattle.std.proofs.Math.Numerals.{add-one}
+use Rattle.std.proofs.lemmas.List.{append_assoc, get_or_at, length_push}
+use Rattle.semver.specs.Identifiers.{parts_of}
+use Rattle.semver.specs.Parse.{Parts}
+use Rattle.semver.specs.declared.Version.{Version}
+use Rattle.nextest_config.specs.Board.Refusals.{IsRefusedPut, IsRefusedSource}
+use Rattle.nextest_config.specs.Board.RolePair.{asked_in, later_asked, later_pair, no_pair, pair_in, version_at}
+use Rattle.nextest_config.specs.Board.Slots.{AreHeld, asked_at, board_list, IsFrom, IsHeld, kept_in, roles_in, slot_of, slots_of}
+use Rattle.nextest_config.specs.Merge.{total}
+use Rattle.nextest_config.specs.NextestVersion.Verdict.{Verdict}
+use Rattle.nextest_config.specs.NextestVersion.{alone, Asked, asked_from, error, is_below, IsSelected, join_kept, join_roles, Kept, no_roles, Numbers, place_of, plain, Roles, roles_from, satisfied, short_of, StandsIn, unmet, verdict, verdict_of, Versions, versions, versions_of, warn}
+use Rattle.nextest_config.specs.NextestVersion.Source.{Source}
+use Rattle.nextest_config.specs.declared.board.refusal.BoardRefusal.{BoardRefusal}
+use Rattle.nextest_config.specs.declared.board.refusal.BoardRefusal.TheVariants as refusals
+use Rattle.nextest_config.specs.declared.board.role_pair.AskedAt.{AskedAt}
+use Rattle.nextest_config.specs.declared.board.role_pair.RolePair.{RolePair}
+use Rattle.nextest_config.specs.declared.nextest_version.nextest_version_deserialize.NextestVersionDeserialize.{NextestVersionDeserialize}
+use Rattle.nextest_config.specs.declared.nextest_version.source.ConfigSource.{ConfigSource}
+use Rattle.nextest_config.specs.declared.nextest_version.verdict.NextestVersionEval.{NextestVersionEval}
+use Rattle.nextest_config.proofs.OneVerdict.{AsksPlain, IsPlainVersion}
+use Rattle.nextest_config.proofs.Selection.{selects_by}
+use Rattle.nextest_config.proofs.Standing.{stands_alone, stands_in_both}
+
+-- ---- a slot that is changed
+
+pub held_long : (from : ℕ) (sources : List (Option ConfigSource)) (pairs : List RolePair) → AreHeld from sources pairs → length pairs ≡ length sources
+held_long from [] [] held = refl
+held_long from [] (pair ∷ pairs) held = absurd held
+held_long from (source ∷ sources) [] held = absurd held
+held_long from (source ∷ sources) (pair ∷ pairs) held = ap suc (held_long (suc from) sources pairs held.1)
+
+pub slots_long : (from : ℕ) (sources : List (Option ConfigSource)) (pairs : List RolePair) → AreHeld from sources pairs → length (slots_of sources pairs) ≡ length sources
+slots_long from [] [] held = refl
+slots_long from [] (pair ∷ pairs) held = absurd held
+slots_long from (source ∷ sources) [] held = absurd held
+slots_long from (source ∷ sources) (pair ∷ pairs) held = ap suc (slots_long (suc from) sources pairs held.1)
+
+pub held_set : (from k : ℕ) (sources : List (Option ConfigSource)) (pairs : List RolePair) (source : Option ConfigSource) (pair : RolePair) → AreHeld from sources pairs → IsHeld (from + k) source pair
+    → AreHeld from (set sources k source) (set pairs k pair)
+held_set from k [] [] source pair held one = held
+held_set from k [] (p ∷ pairs) source pair held one = absurd held
+held_set from k (s ∷ sources) [] source pair held one = absurd held
+held_set from zero (s ∷ sources) (p ∷ pairs) source pair held one = (subst (λ n. IsHeld n source pair) (omega arith) one, held.1)
+held_set from (suc k) (s ∷ sources) (p ∷ pairs) source pair held one = (held.0, held_set (suc from) k sources pairs source pair held.1 (subst (λ n. IsHeld n source pair) (omega arith) one))
+
+pub slots_set : (from k : ℕ) (sources : List (Option ConfigSource)) (pairs : List RolePair) (source : Option ConfigSource) (pair : RolePair) → AreHeld from sources pairs
+    → slots_of (set sources k source) (set pairs k pair) ≡ set (slots_of sources pairs) k (slot_of source pair)
+slots_set from k [] [] source pair held = refl
+slots_set from k [] (p ∷ pairs) source pair held = absurd held
+slots_set from k (s ∷ sources) [] source pair held = absurd held
+slots_set from zero (s ∷ sources) (p ∷ pairs) source pair held = refl
+slots_set from (suc k) (s ∷ sources) (p ∷ pairs) source pair held = ap (λ slots. slot_of s p ∷ slots) (slots_set (suc from) k sources pairs source pair held.1)
+
+pub none_held : (from n : ℕ) → AreHeld from (replicate n None) (replicate n no_pair)
+none_held from zero = tt
+none_held from (suc n) = (refl, none_held (suc from) n)
+
+pub no_slots : (n : ℕ) → slots_of (replicate n None) (replicate n no_pair) ≡ replicate n None
+no_slots zero = refl
+no_slots (suc n) = ap (λ slots. None ∷ slots) (no_slots n)
+
+-- ---- a source that is put into a slot
+
+pub from_in : (slot : ℕ) (asked : Option Version) → IsFrom slot (option_map (asked_in slot) asked)
+from_in slot None = tt
+from_in slot (Some version) = refl
+
+by_numbers : (version : Parts) (numbers : Numbers) → version ≡ plain numbers → plain (version.0, version.1, version.2) ≡ version
+by_numbers version numbers is = rw is refl
+
+same_version : (slot : ℕ) (asked : Option Version) → IsPlainVersion (option_map parts_of asked) → option_map version_at (option_map (asked_in slot) asked) ≡ option_map parts_of asked
+same_version slot None plain = refl
+same_version slot (Some version) (numbers, is) = ap Some (by_numbers (parts_of version) numbers is)
+
+-- the slot keeps the versions that are asked
+pub same_versions : (slot : ℕ) (asked : NextestVersionDeserialize) → AsksPlain (versions_of asked) → versions (option_map version_at (pair_in slot asked).required) (option_map version_at (pair_in slot asked).recommended) ≡ versions_of asked
+same_versions slot asked are = ap₂ versions (same_version slot asked.required are.of_required) (same_version slot asked.recommended are.of_recommended)
+
+-- the refusal of a source is that of its put, where the board has the slot
+pub put_refused : (slots slot : ℕ) (source : Source) (refusal : BoardRefusal) → slot < slots → IsRefusedSource source refusal → IsRefusedPut slots slot source refusal
+put_refused slots slot source (refusals.NoSuchSlot told) within refused = absurd refused
+put_refused slots slot source (refusals.Refused it) within refused = (within, refused)
+put_refused slots slot source refusals.Memory within refused = within
+
+-- ---- what is chosen of all slots
+
+module _ (whole : List (Option ConfigSource)) where
+  -- this is kept of what is asked
+  abbrev IsKept : Option AskedAt → Option Kept → Type 0
+  IsKept None kept = kept ≡ None
+  IsKept (Some asked) kept = (one : Kept) × (kept ≡ Some one) × (one.version ≡ version_at asked) × (kept_in whole (Some asked) ≡ Some one)
+
+  kept_is : (asked : Option AskedAt) (kept : Option Kept) → IsKept asked kept → kept_in whole asked ≡ kept
+  kept_is None kept is = sym is
+  kept_is (Some asked) kept (one, is, version, found) = found ∙ sym is
+
+  both_asked : (a b : AskedAt) (x y : Kept) (below : Bool) → is_below (version_at b) (version_at a) ≡ below → x.version ≡ version_at a → y.version ≡ version_at b
+      → kept_in whole (Some a) ≡ Some x → kept_in whole (Some b) ≡ Some y → IsKept (later_asked (Some a) (Some b)) (join_kept (Some x) (Some y))
+  both_asked a b x y true below of_a of_b in_a in_b =
+      let other : is_below y.version x.version ≡ true = ap₂ is_below of_b of_a ∙ below in
+      rw (below, other) (x, refl, of_a, in_a)
+  both_asked a b x y false below of_a of_b in_a in_b =
+      let other : is_below y.version x.version ≡ false = ap₂ is_below of_b of_a ∙ below in
+      rw (below, other) (y, refl, of_b, in_b)
+
+  joined : (a b : Option AskedAt) (k l : Option Kept) → IsKept a k → IsKept b l → IsKept (later_asked a b) (join_kept k l)
+  joined None b k l none more = rw none more
+  joined (Some a) None k l (x, is, of_a, in_a) none = rw (is, none) (x, refl, of_a, in_a)
+  joined (Some a) (Some b) k l (x, is, of_a, in_a) (y, also, of_b, in_b) = rw (is, also) (both_asked a b x y (is_below (version_at b) (version_at a)) refl of_a of_b in_a in_b)
+
+  from_slot : (source : ConfigSource) (slot : ℕ) (asked : Option AskedAt) → get_or whole slot None ≡ Some source → IsFrom slot asked → IsKept asked (asked_from (place_of source) (option_map version_at asked))
+  from_slot source slot None here is = refl
+  from_slot source slot (Some asked) here is = (record { version = version_at asked; place = place_of source }, refl, refl, rw (is, here) refl)
+
+  record AllKept (pair : RolePair) (asked : List Asked) : Type 0 where
+    roles : Roles
+    required : IsKept pair.required roles.required
+    recommended : IsKept pair.recommended roles.recommended
+    stands_required : StandsIn (λ ask. ask.versions.required) asked roles.required
+    stands_recommended : StandsIn (λ ask. ask.versions.recommended) asked roles.recommended
+
+  one_more : (before : List (Option ConfigSource)) (source : Option ConfigSource) → length (before ++ (source ∷ [])) ≡ suc (length before)
+  one_more before source = length_push before source ∙ add-one (length before)
+
+  all_kept : (before sources : List (Option ConfigSource)) (pairs : List RolePair) → whole ≡ before ++ sources → AreHeld (length before) sources pairs
+      → AllKept (total later_pair no_pair pairs) (board_list (slots_of sources pairs))
+  all_kept before [] [] parts held = record { roles = no_roles; required = refl; recommended = refl; stands_required = tt; stands_recommended = tt }
+  all_kept before [] (pair ∷ pairs) parts held = absurd held
+  all_kept before (source ∷ sources) [] parts held = absurd held
+  all_kept before (None ∷ sources) (pair ∷ pairs) parts held =
+      let rest = all_kept (before ++ (None ∷ [])) sources pairs (parts ∙ sym (append_assoc before (None ∷ []) sources)) (subst (λ n. AreHeld n sources pairs) (sym (one_more before None)) held.1) in
+      subst (λ (first : RolePair). AllKept (later_pair first (total later_pair no_pair pairs)) (board_list (slots_of sources pairs))) (sym held.0) rest
+  all_kept before (Some source ∷ sources) (pair ∷ pairs) parts held =
+      let rest = all_kept (before ++ (Some source ∷ [])) sources pairs (parts ∙ sym (append_assoc before (Some source ∷ []) sources)) (subst (λ n. AreHeld n sources pairs) (sym (one_more before (Some source))) held.1) in
+      let here : get_or whole (length before) None ≡ Some source = ap (λ xs. get_or xs (length before) None) parts ∙ get_or_at before (Some source) sources None (length before) refl in
+      let asks : Versions = versions (option_map version_at pair.required) (option_map version_at pair.recommended) in
+      let one : Asked = asked_at (place_of source) asks in
+      let kept : Roles = roles_from (place_of source) asks in
+      record {
+        roles = join_roles kept rest.roles;
+        required = joined pair.required (total later_pair no_pair pairs).required kept.required rest.roles.required (from_slot source (length before) pair.required here held.0.0) rest.required;
+        recommended = joined pair.recommended (total later_pair no_pair pairs).recommended kept.recommended rest.roles.recommended (from_slot source (length before) pair.recommended here held.0.1) rest.recommended;
+        stands_required = stands_in_both (λ ask. ask.versions.required) (one ∷ []) (board_list (slots_of sources pairs)) kept.required rest.roles.required (stands_alone (λ ask. ask.versions.required) one asks.required refl) rest.stands_required;
+        stands_recommended = stands_in_both (λ ask. ask.versions.recommended) (one ∷ []) (board_list (slots_of sources pairs)) kept.recommended rest.roles.recommended (stands_alone (λ ask. ask.versions.recommended) one asks.recommended refl) rest.stands_recommended;
+      }
+
+  -- the verdict of what is chosen is selected from those of the sources
+  pub board_selects : (pairs : List RolePair) → AreHeld 0 whole pairs → (chosen : RolePair) → chosen ≡ total later_pair no_pair pairs → (current : Parts) (overridden : Bool)
+      → IsSelected (map (alone current overridden) (board_list (slots_of whole pairs))) (verdict (roles_in whole chosen) current overridden)
+  board_selects pairs held chosen is current overridden =
+      let kept = all_kept [] whole pairs refl held in
+      let roles : Roles = kept.roles in
+      let selected = selects_by (board_list (slots_of whole pairs)) roles current overridden (unmet roles.required current) (unmet roles.recommended current) kept.stands_required kept.stands_recommended refl refl in
+      rw (is, kept_is (total later_pair no_pair pairs).required roles.required kept.required, kept_is (total later_pair no_pair pairs).recommended roles.recommended kept.recommended) selected
+
+-- ---- the verdict, by which role is unmet
+
+pub told_error : (roles : Roles) (current : Parts) (overridden : Bool) (kept : Kept) (v : Verdict) → Some kept ≡ unmet roles.required current → v ≡ error (short_of kept current overridden) → verdict roles current overridden ≡ v
+told_error roles current overridden kept v is told = rw (← is) (sym told)
+
+pub told_warning : (roles : Roles) (current : Parts) (overridden : Bool) (kept : Kept) (v : Verdict) → None ≡ unmet roles.required current → Some kept ≡ unmet roles.recommended current → v ≡ warn (short_of kept current overridden)
+    → verdict roles current overridden ≡ v
+told_warning roles current overridden kept v none is told = rw (← none, ← is) (sym told)
+
+pub told_satisfied : (roles : Roles) (current : Parts) (overridden : Bool) → None ≡ unmet roles.required current → None ≡ unmet roles.recommended current → verdict roles current overridden ≡ satisfied
+told_satisfied roles current overridden none also = rw (← none, ← also) refl
+
+-- the same slots and the same verdict
+pub selected_as : (before after : List (Option Asked)) (v w : Verdict) (current : Parts) (overridden : Bool) → before ≡ after → v ≡ w → IsSelected (map (alone current overridden) (board_list before)) v
+    → IsSelected (map (alone current overridden) (board_list after)) w
+selected_as before after v w current overridden same told selected =
+    subst (λ (slots : List (Option Asked)). IsSelected (map (alone current overridden) (board_list slots)) w) same (subst (λ (u : Verdict). IsSelected (map (alone current overridden) (board_list before)) u) told selected)
+
+-- a verdict that tells the selected one
+pub told_as : {E : Type 0} (answer : Result NextestVersionEval E) (verdicts : List Verdict) (v : Verdict) → IfOk answer (λ eval. verdict_of eval ≡ v) → IsSelected verdicts v → IfOk answer (λ eval. IsSelected verdicts (verdict_of eval))
+told_as (Ok eval) verdicts v told selected = subst (λ (u : Verdict). IsSelected verdicts u) (sym told) selected
+told_as (Err e) verdicts v told selected = tt

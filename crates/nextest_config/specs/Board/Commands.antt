@@ -1,0 +1,54 @@
+-- Changes of a board, one after the other, and what they leave in each slot.
+use Rattle.std.specs.Prelude.{◌≡◌, ◌≢◌, ◌⊎◌, ℕ, List, [], ◌∷◌, ◌++◌, replicate, Option, Some, None}
+use Rattle.std.specs.List.{AllByRecursion}
+use Rattle.nextest_config.specs.Board.Slots.{asked_at, BoardState, IsChanged, IsPut}
+use Rattle.nextest_config.specs.NextestVersion.Source.{Source}
+use Rattle.nextest_config.specs.NextestVersion.VersionOnly.{Asked, IsRead}
+use Rattle.nextest_config.specs.NextestVersion.VersionOnlyDeserialize.{Ask}
+
+-- a change that a board accepts: a source is put into a slot, or the slot is left empty
+pub data Command : Type 0 where
+  put : ℕ → Source → Command
+  withdraw : ℕ → Command
+
+-- the slot that is changed
+abbrev pub slot_in : Command → ℕ
+slot_in (put slot source) = slot
+slot_in (withdraw slot) = slot
+
+-- the board changes so
+abbrev pub Changes : Command → BoardState → BoardState → Type 0
+Changes (put slot source) = IsPut slot source
+Changes (withdraw slot) = IsChanged slot None
+
+-- the board changes so, by one command after the other
+abbrev pub ChangesInTurn : List Command → BoardState → BoardState → Type 0
+ChangesInTurn [] old new = old ≡ new
+ChangesInTurn (command ∷ commands) old new = (between : BoardState) × Changes command old between × ChangesInTurn commands between new
+
+-- a board of so many slots, none of which holds a source
+abbrev pub empty_board : ℕ → BoardState
+empty_board n = record { slots = replicate n None; selections = 0 }
+
+-- the command leaves this in its slot
+abbrev pub Leaves : Command → Option Asked → Type 0
+Leaves (put slot source) held = (ask : Ask) × IsRead source ask × (held ≡ Some (asked_at source.place ask.versions))
+Leaves (withdraw slot) held = held ≡ None
+
+-- the command changes another slot
+abbrev pub IsOfOther : ℕ → Command → Type 0
+IsOfOther slot command = slot_in command ≢ slot
+
+-- this is what the last command of the slot leaves
+pub record IsLeft (commands : List Command) (slot : ℕ) (held : Option Asked) : Type 0 where
+  pub before : List Command
+  pub last : Command
+  pub after : List Command
+  pub whole : commands ≡ before ++ (last ∷ after)
+  pub of_slot : slot_in last ≡ slot
+  pub leaves : Leaves last held
+  pub others_later : AllByRecursion (IsOfOther slot) after
+
+-- the slot holds what its last command leaves, and nothing where it has no command
+abbrev pub HoldsLast : List Command → ℕ → Option Asked → Type 0
+HoldsLast commands slot held = IsLeft commands slot held ⊎ (AllByRecursion (IsOfOther slot) commands × (held ≡ None))
