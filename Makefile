@@ -6,6 +6,7 @@
 PREFIX ?= /usr/local
 PROGRAM := nextest_config_check
 CRATE := crates/$(PROGRAM)
+REFUSALS := nextest_config_refusals
 
 .PHONY: test run build install toolchain
 
@@ -13,6 +14,7 @@ test: toolchain
 	rt ci
 	tests/run $(CRATE)/out/$(PROGRAM)
 	tests/random $(CRATE)/out/$(PROGRAM)
+	tests/refusals crates/$(REFUSALS)/out/$(REFUSALS) $(CRATE)/out/$(PROGRAM)
 
 run: toolchain
 	@cd $(CRATE) && rt try -- 0.9.55 --override < ../../examples/sources.txt

@@ -1,0 +1,34 @@
+//! The field `k` of a table at the path `p`.
+
+use crate::announced::{Runner, begin, made};
+use crate::inputs::FromInput;
+use nextest_config_values::read::{FromToml, field_or, optional_field, required_field};
+use std::fmt::Debug;
+use toml::{Table, Value};
+
+/// Asks for the field by a call, as the type that is named.
+pub(crate) fn ask(rt: &impl Runner, call: &str, name: &str, input: &str) -> Option<()> {
+    let value = Value::from_input(rt, input)?;
+    let table = value.as_table()?;
+    match name {
+        "u32" => field(rt, call, table, 7_u32),
+        "String" => field(rt, call, table, String::from_input(rt, "default")?),
+        _ => None,
+    }
+}
+
+fn field<T: FromToml + Debug + Drop>(
+    rt: &impl Runner,
+    call: &str,
+    table: &Table,
+    default: T,
+) -> Option<()> {
+    let alloc = rt.alloc();
+    begin(rt);
+    match call {
+        "optional_field" => made(rt, optional_field::<T>(alloc, table, "k", "p")),
+        "required_field" => made(rt, required_field::<T>(alloc, table, "k", "p")),
+        "field_or" => made(rt, field_or(alloc, table, "k", "p", default)),
+        _ => None,
+    }
+}

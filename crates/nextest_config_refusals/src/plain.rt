@@ -1,0 +1,98 @@
+//! Calls that have no answer for want of memory.
+
+use crate::announced::{Runner, begin, written};
+use crate::inputs::FromInput;
+use nextest_config::nextest_version::{ConfigExperimental, NextestVersionEval};
+use nextest_config_elements::junit::{DefaultJunitImpl, JunitImpl};
+use nextest_config_elements::leak_timeout::LeakTimeout;
+use nextest_config_elements::max_fail::{MaxFail, TerminateMode};
+use nextest_config_elements::priority::TestPriority;
+use nextest_config_elements::report_skip_policy::{MismatchReason, ReportSkipPolicy};
+use nextest_config_elements::retry_policy::RetryPolicy;
+use nextest_config_elements::slow_timeout::SlowTimeout;
+use nextest_config_elements::threads_required::ThreadsRequired;
+use nextest_config_values::identifier::ConfigIdentifier;
+use nextest_config_values::read::{NonZeroCount, Word};
+
+/// Makes the call that is named.
+pub(crate) fn ask(rt: &impl Runner, name: &str, input: &str) -> Option<()> {
+    match name {
+        "ConfigIdentifier::tool_components" => components(rt, input),
+        "NextestVersionEval::severity" => severity(rt, input),
+        "DefaultJunitImpl::for_default_profile" => default_profile(rt, input),
+        "ConfigExperimental::known_features" => features(rt),
+        _ => ask_of_number(rt, name, input),
+    }
+}
+
+fn components(rt: &impl Runner, input: &str) -> Option<()> {
+    let identifier = ConfigIdentifier::from_input(rt, input)?;
+    begin(rt);
+    written(rt, identifier.tool_components())
+}
+
+fn severity(rt: &impl Runner, input: &str) -> Option<()> {
+    let verdict = NextestVersionEval::from_input(rt, input)?;
+    begin(rt);
+    written(rt, verdict.severity())
+}
+
+fn default_profile(rt: &impl Runner, input: &str) -> Option<()> {
+    let junit = JunitImpl::from_input(rt, input)?;
+    begin(rt);
+    written(rt, DefaultJunitImpl::for_default_profile(junit))
+}
+
+fn features(rt: &impl Runner) -> Option<()> {
+    begin(rt);
+    let mut features = ConfigExperimental::known_features();
+    let first = features.next();
+    let second = features.next();
+    let third = features.next();
+    written(rt, [first, second, third, features.next()])
+}
+
+fn ask_of_number(rt: &impl Runner, name: &str, input: &str) -> Option<()> {
+    let number = input.parse().unwrap_or(0);
+    let limit = MaxFail::Count {
+        max_fail: 5,
+        terminate: TerminateMode::Immediate,
+    };
+    begin(rt);
+    match name {
+        "MaxFail::from_fail_fast" => written(rt, MaxFail::from_fail_fast(input == "true")),
+        "MaxFail::is_exceeded" => written(rt, limit.is_exceeded(number)),
+        "NonZeroCount::new" => written(rt, NonZeroCount::new(number).map(NonZeroCount::get)),
+        "ThreadsRequired::compute" => written(rt, threads(input, number).compute(1, 8)),
+        "ReportSkipPolicy::should_report" => written(rt, reported(ReportSkipPolicy::Ignored)),
+        _ => ask_of_nothing(rt, name),
+    }
+}
+
+fn threads(word: &str, count: usize) -> ThreadsRequired {
+    match word {
+        "num-cpus" => ThreadsRequired::NumCpus,
+        "num-test-threads" => ThreadsRequired::NumTestThreads,
+        _ => ThreadsRequired::Count(count),
+    }
+}
+
+fn reported(policy: ReportSkipPolicy) -> [bool; 3] {
+    [
+        policy.should_report(MismatchReason::Ignored),
+        policy.should_report(MismatchReason::DefaultFilter),
+        policy.should_report(MismatchReason::NotBenchmark),
+    ]
+}
+
+fn ask_of_nothing(rt: &impl Runner, name: &str) -> Option<()> {
+    match name {
+        "SlowTimeout::very_large" => written(rt, SlowTimeout::very_large()),
+        "RetryPolicy::new_without_delay" => written(rt, RetryPolicy::new_without_delay(3)),
+        "LeakTimeout::default" => written(rt, LeakTimeout::default()),
+        "TestPriority::default" => written(rt, TestPriority::default()),
+        "ConfigExperimental::env_var" => written(rt, ConfigExperimental::Benchmarks.env_var()),
+        "Word::as_word" => written(rt, TerminateMode::Immediate.as_word()),
+        _ => None,
+    }
+}

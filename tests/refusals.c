@@ -1,0 +1,99 @@
+// An allocator that refuses requests for memory, to be preloaded by tests/refusals.
+//
+// REFUSE_FROM=N   counts requests from 1, and refuses each from the Nth on
+// REFUSE_ONCE=1   refuses the Nth alone
+// REFUSE_WHOLE=1  counts from the program's first instruction to its end; else between the first lines
+//                 `call` and `answer` that it writes to standard output, each in one write
+// REFUSE_TOLD=FD  at the end writes there how many requests were counted, and how many refused
+
+#include <errno.h>
+#include <limits.h>
+#include <stdio.h>
+#include <stdlib.h>
+#include <string.h>
+#include <sys/syscall.h>
+#include <unistd.h>
+
+void *__libc_malloc(size_t size);
+void *__libc_calloc(size_t count, size_t size);
+void *__libc_realloc(void *old, size_t size);
+void *__libc_memalign(size_t alignment, size_t size);
+
+enum window { BEFORE, WITHIN, BEHIND };
+
+static enum window window = BEFORE;
+static unsigned long from, counted, refused;
+static int once, told = -1;
+
+static unsigned long setting(const char *name, unsigned long otherwise) {
+    const char *text = getenv(name);
+    return text ? strtoul(text, NULL, 10) : otherwise;
+}
+
+__attribute__((constructor)) static void begin(void) {
+    from = setting("REFUSE_FROM", ULONG_MAX);
+    once = setting("REFUSE_ONCE", 0) != 0;
+    told = (int)setting("REFUSE_TOLD", 2);
+    if (setting("REFUSE_WHOLE", 0))
+        window = WITHIN;
+}
+
+__attribute__((destructor)) static void tell(void) {
+    char line[64];
+    window = BEHIND;
+    int length = snprintf(line, sizeof line, "%lu %lu\n", counted, refused);
+    syscall(SYS_write, told, line, (size_t)length);
+}
+
+static int refuses(void) {
+    if (window != WITHIN)
+        return 0;
+    counted++;
+    if (counted < from || (once && counted > from))
+        return 0;
+    refused++;
+    errno = ENOMEM;
+    return 1;
+}
+
+void *malloc(size_t size) {
+    return refuses() ? NULL : __libc_malloc(size);
+}
+
+void *calloc(size_t count, size_t size) {
+    return refuses() ? NULL : __libc_calloc(count, size);
+}
+
+void *realloc(void *old, size_t size) {
+    return refuses() ? NULL : __libc_realloc(old, size);
+}
+
+void *memalign(size_t alignment, size_t size) {
+    return refuses() ? NULL : __libc_memalign(alignment, size);
+}
+
+void *aligned_alloc(size_t alignment, size_t size) {
+    return memalign(alignment, size);
+}
+
+int posix_memalign(void **out, size_t alignment, size_t size) {
+    *out = memalign(alignment, size);
+    return *out ? 0 : ENOMEM;
+}
+
+static int is_line(const void *bytes, size_t length, const char *line) {
+    return length == strlen(line) && memcmp(bytes, line, length) == 0;
+}
+
+ssize_t write(int file, const void *bytes, size_t length) {
+    if (file == STDOUT_FILENO && window == WITHIN && is_line(bytes, length, "answer\n"))
+        window = BEHIND;
+    ssize_t written = syscall(SYS_write, file, bytes, length);
+    if (file == STDOUT_FILENO && window == BEFORE && is_line(bytes, length, "call\n"))
+        window = WITHIN;
+    return written;
+}
+
+ssize_t __write(int file, const void *bytes, size_t length) {
+    return write(file, bytes, length);
+}
