@@ -1,4 +1,4 @@
-# make test     the whole gate: every proof from nothing, the edits that must fail, the tests, the runs of tests/
+# make test     the whole gate: every proof from nothing, the edits that must fail, the tests, the runs and the rounds of tests/
 # make run      runs the program on examples/sources.txt, before its proof
 # make build    leaves the proved program at bin/nextest_config_check
 # make install  copies it and scripts/check-nextest-config to PREFIX/bin (PREFIX=/usr/local)
@@ -15,6 +15,8 @@ test: toolchain
 	tests/run $(CRATE)/out/$(PROGRAM)
 	tests/random $(CRATE)/out/$(PROGRAM)
 	tests/refusals crates/$(REFUSALS)/out/$(REFUSALS) $(CRATE)/out/$(PROGRAM)
+	tests/wrong-itself
+	tests/wrong
 
 run: toolchain
 	@cd $(CRATE) && rt try -- 0.9.55 --override < ../../examples/sources.txt
