@@ -16,7 +16,7 @@ test: toolchain
 	tests/random $(CRATE)/out/$(PROGRAM)
 	tests/refusals crates/$(REFUSALS)/out/$(REFUSALS) $(CRATE)/out/$(PROGRAM)
 	tests/wrong-itself
-	tests/wrong
+	tests/wrong --proved
 
 run: toolchain
 	@cd $(CRATE) && rt try -- 0.9.55 --override < ../../examples/sources.txt
