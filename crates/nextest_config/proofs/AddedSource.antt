@@ -3,10 +3,10 @@ use Rattle.std.proofs.Common.{◌≡◌, Bool, List, [], ◌∷◌, ◌++◌, ma
 use Rattle.std.proofs.lemmas.List.{map-append}
 use Rattle.std.specs.List.{AllByRecursion}
 use Rattle.semver.specs.Parse.{Parts}
-use Rattle.nextest_config.specs.NextestVersion.Source.{Source}
+use Rattle.nextest_config_sources.specs.NextestVersion.Source.{Source}
 use Rattle.nextest_config.specs.NextestVersion.Verdict.{Verdict}
 use Rattle.nextest_config.specs.NextestVersion.{alone, AreRead, Asked, IsNoGraver, IsSelected, IsSelectedFor}
-use Rattle.nextest_config_values.proofs.Lists.{all_joined, all_left, all_right}
+use Rattle.nextest_config_values.proofs.Elements.{all_joined, all_left, all_right}
 use Rattle.nextest_config.proofs.OneVerdict.{all_read_once, stands_in}
 use Rattle.nextest_config.proofs.Verdicts.{none_graver}
 

@@ -4,7 +4,7 @@ use Rattle.std.proofs.lemmas.Bool.{cases_order}
 use Rattle.std.proofs.lemmas.List.{get_or-set_other, get_or-set_same, length-replicate, length-set}
 use Rattle.std.specs.List.{AllByRecursion}
 use Rattle.nextest_config.specs.Board.Commands.{Changes, ChangesInTurn, Command, empty_board, HoldsLast, IsLeft, IsOfOther, Leaves, put, slot_in, withdraw}
-use Rattle.nextest_config.specs.Board.Halvings.{halvings}
+use Rattle.nextest_config_lists.specs.Choice.Halvings.{halvings}
 use Rattle.nextest_config.specs.Board.Slots.{asked_at, BoardState, IsChanged}
 use Rattle.nextest_config.specs.NextestVersion.VersionOnly.{Asked}
 

@@ -3,15 +3,16 @@ use Rattle.std.proofs.Common.{◌≡◌, ◌↔◌, ◌⊎◌, ◌+◌, ℕ, Lis
 use mathlib.Core.Logic.Iff as iff
 use Rattle.std.proofs.lemmas.List.Concat.{flat_map-append}
 use Rattle.std.specs.List.{AllByRecursion, AllZip}
-use Rattle.nextest_config.specs.Merge.{in_a_row, IsCut, total}
+use Rattle.nextest_config_lists.specs.Merge.{in_a_row, IsCut, total}
 use Rattle.nextest_config.specs.NextestVersion.{AreRead, Asked, Configuration, IsFirstRefused, IsFirstRefusedAmong, IsJoinOf, IsReadAs, join_configurations, neutral_seen, Reads, Refusal, seen_configuration, SeenConfiguration, StandsFor}
-use Rattle.nextest_config.specs.NextestVersion.ExperimentalLaws.{same_truth}
-use Rattle.nextest_config.specs.NextestVersion.Source.{Source}
-use Rattle.nextest_config.specs.declared.nextest_version.experimental.ConfigExperimental.{ConfigExperimental}
-use Rattle.nextest_config_values.proofs.Lists.{all_weaker}
+use Rattle.nextest_config_sources.specs.NextestVersion.ExperimentalLaws.{same_truth}
+use Rattle.nextest_config_sources.specs.NextestVersion.Source.{Source}
+use Rattle.nextest_config_sources.specs.declared.nextest_version.experimental.ConfigExperimental.{ConfigExperimental}
+use Rattle.nextest_config_lists.proofs.Lists.{zip_joined}
+use Rattle.nextest_config_values.proofs.Elements.{all_weaker}
 use Rattle.nextest_config.proofs.OneConfiguration.{one_kept}
 use Rattle.nextest_config.proofs.OneVerdict.{all_plain, all_read_once, IsPlainAsked}
-use Rattle.nextest_config.proofs.Standing.{all_seen, seen_of, stands_in_a_row, StandsSeen, zip_joined}
+use Rattle.nextest_config.proofs.Standing.{all_seen, seen_of, stands_in_a_row, StandsSeen}
 
 -- ---- which lists read
 

@@ -3,9 +3,11 @@ use Rattle.std.proofs.Common.{◌≡◌, ◌++◌, List}
 use Rattle.std.specs.Ordering.{eq_by_cmp}
 use Rattle.std.specs.Set.{IsUnion}
 use Rattle.nextest_config.specs.NextestVersion.ExperimentalConfig.{SeenFeatures}
-use Rattle.nextest_config.specs.NextestVersion.{has_feature, join_features, Place, Unknown}
-use Rattle.nextest_config.specs.declared.nextest_version.experimental.ConfigExperimental.{ConfigExperimental}
-use Rattle.nextest_config.proofs.Orders.{derived_cmp, known_joined}
+use Rattle.nextest_config_sources.specs.NextestVersion.{Place}
+use Rattle.nextest_config.specs.NextestVersion.{has_feature, join_features, Unknown}
+use Rattle.nextest_config_sources.specs.declared.nextest_version.experimental.ConfigExperimental.{ConfigExperimental}
+use Rattle.nextest_config_sources.proofs.Orders.{derived_cmp}
+use Rattle.nextest_config.proofs.Orders.{known_joined}
 
 abbrev pub seen : List ConfigExperimental → List Unknown → List Place → SeenFeatures
 seen known unknown arrays = record { enables = has_feature known; unknown = unknown; arrays = arrays }

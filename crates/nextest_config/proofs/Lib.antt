@@ -1,6 +1,4 @@
 pub mod Cuts
-pub mod Halves
-pub mod Enough
 pub mod Readings
 pub mod Refusals
 pub mod Standing
@@ -12,11 +10,6 @@ pub mod OneRefusal
 pub mod OneConfiguration
 pub mod AddedSource
 pub mod Joins
-pub mod Members
 pub mod Orders
-pub mod Features
-pub mod Naming
-pub mod Halvings
-pub mod Choices
 pub mod Slots
 pub mod Commands

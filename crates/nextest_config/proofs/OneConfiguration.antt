@@ -4,9 +4,10 @@ use mathlib.Core.Logic.Iff as iff
 use Rattle.std.specs.List.{AllByRecursion}
 use Rattle.semver.specs.Parse.{Parts}
 use Rattle.nextest_config.specs.NextestVersion.ExperimentalConfig.{Experimental}
-use Rattle.nextest_config.specs.NextestVersion.Source.{Source}
-use Rattle.nextest_config.specs.NextestVersion.{Ask, Asked, AsksNoGreater, AsksNone, AsksOther, Configuration, features_in_one_order, IsBelow, IsGreatest, Kept, Place, Roles, StandsFor, StandsForAsks, StandsIn}
-use Rattle.nextest_config_values.proofs.Lists.{all_middle, all_weaker, one_last}
+use Rattle.nextest_config_sources.specs.NextestVersion.Source.{Source}
+use Rattle.nextest_config_sources.specs.NextestVersion.{Ask, features_in_one_order, IsBelow, Place}
+use Rattle.nextest_config.specs.NextestVersion.{Asked, AsksNoGreater, AsksNone, AsksOther, Configuration, IsGreatest, Kept, Roles, StandsFor, StandsForAsks, StandsIn}
+use Rattle.nextest_config_values.proofs.Elements.{all_middle, all_weaker, one_last}
 use Rattle.nextest_config.proofs.OneVerdict.{IsPlainAsked, IsPlainVersion, all_plain, all_read_once, same_version}
 
 module _ (role : Ask → Option Parts) where

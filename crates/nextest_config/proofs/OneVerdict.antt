@@ -4,14 +4,15 @@ use Rattle.std.specs.List.{AllByRecursion}
 use Rattle.semver.specs.Parse.{Parts}
 use Rattle.toml.specs.Data.{Data, Members, as_str, as_table, get_member}
 use Rattle.nextest_config_values.specs.Read.{MeansKind, MeansNothing, MeansOptional}
-use Rattle.nextest_config.specs.NextestVersion.Source.{Source}
+use Rattle.nextest_config_sources.specs.NextestVersion.Source.{Source}
 use Rattle.nextest_config.specs.NextestVersion.Verdict.{Verdict}
-use Rattle.nextest_config.specs.NextestVersion.{alone, AreRead, Ask, Asked, asked_from, AsksVersions, error, gravity, IsBelow, IsEnoughByNumbers, IsGravest, IsNoGraver, IsNoGreaterOfItsKind, IsOtherOfItsKind, IsSatisfied, IsSelected, IsSelectedFor, judged, Kept, MeansVersion, MeansVersionTable, MeansVersionText, named_version, NamesNoGreater, Numbers, plain, satisfied, TextAsks, unmet, version_key, Versions, warn}
+use Rattle.nextest_config_sources.specs.NextestVersion.{Ask, AsksVersions, IsBelow, IsEnoughByNumbers, MeansVersion, MeansVersionTable, MeansVersionText, Numbers, plain, TextAsks, version_key, Versions}
+use Rattle.nextest_config.specs.NextestVersion.{alone, AreRead, Asked, asked_from, error, gravity, IsGravest, IsNoGraver, IsNoGreaterOfItsKind, IsOtherOfItsKind, IsSatisfied, IsSelected, IsSelectedFor, judged, Kept, named_version, NamesNoGreater, satisfied, unmet, warn}
 use Rattle.nextest_config.specs.NextestVersion.VersionOnlyLaws.{read_once}
-use Rattle.nextest_config_values.proofs.Lists.{all_middle, one_last}
-use Rattle.nextest_config.specs.declared.nextest_version.edition.Edition.{Edition}
-use Rattle.nextest_config.specs.declared.nextest_version.source.ConfigSourceKind.{ConfigSourceKind}
-use Rattle.nextest_config.proofs.Enough.{not_below_by_numbers}
+use Rattle.nextest_config_values.proofs.Elements.{all_middle, one_last}
+use Rattle.nextest_config_sources.specs.declared.nextest_version.edition.Edition.{Edition}
+use Rattle.nextest_config_sources.specs.declared.nextest_version.source.ConfigSourceKind.{ConfigSourceKind}
+use Rattle.nextest_config_sources.proofs.Enough.{not_below_by_numbers}
 use Rattle.nextest_config.proofs.Verdicts.{image_at, unmet_alone}
 
 -- ---- sources ask one thing

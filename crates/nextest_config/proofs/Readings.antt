@@ -1,20 +1,21 @@
 -- A list reads or is refused, and not both; and the refusal of a list, from those of its sources.
 use Rattle.std.proofs.Common.{◌≡◌, ℕ, List, ◌∷◌, map, Option, Some, None, Result, Ok, Err, IfErr, refl, ap, subst, ◌∙◌}
 use Rattle.std.proofs.lemmas.List.{length-map, map-append}
-use Rattle.nextest_config.specs.NextestVersion.Source.{Source}
-use Rattle.nextest_config.specs.Merge.{IsFirstWrong, IsRefusalOfOne, IsRefusalOfPieces}
-use Rattle.nextest_config.specs.NextestVersion.{AreRead, Configuration, IsErrorOf, IsErrorOfList, IsFirstRefused, IsKindOf, IsReadAs, IsRefusalOf, IsRefusedSo, IsWrong, kind_of, list_refusal, Reads, Refusal, refusal_at, refusal_of, RefusesSource, StandsForOne, Wrong, wrong_of}
+use Rattle.nextest_config_sources.specs.NextestVersion.Source.{Source}
+use Rattle.nextest_config_lists.specs.Merge.{IsFirstWrong, IsRefusalOfOne, IsRefusalOfPieces}
+use Rattle.nextest_config_sources.specs.NextestVersion.{IsWrong, RefusesSource, Wrong, wrong_of}
+use Rattle.nextest_config.specs.NextestVersion.{AreRead, Configuration, IsErrorOf, IsErrorOfList, IsFirstRefused, IsKindOf, IsReadAs, IsRefusalOf, IsRefusedSo, kind_of, list_refusal, Reads, Refusal, refusal_at, refusal_of, StandsForOne}
 use Rattle.nextest_config.specs.NextestVersion.VersionOnlyLaws.{read_not_refused}
-use Rattle.nextest_config.specs.declared.merge.PieceRefusal.{PieceRefusal}
-use Rattle.nextest_config.specs.declared.merge.PieceRefusal.TheVariants as pieces
+use Rattle.nextest_config_lists.specs.declared.merge.PieceRefusal.{PieceRefusal}
+use Rattle.nextest_config_lists.specs.declared.merge.PieceRefusal.TheVariants as pieces
 use Rattle.nextest_config.specs.declared.nextest_version.error.ConfigParseError.{ConfigParseError}
-use Rattle.nextest_config.specs.declared.nextest_version.error_kind.ConfigParseErrorKind.{ConfigParseErrorKind}
-use Rattle.nextest_config.specs.declared.nextest_version.error_kind.ConfigParseErrorKind.TheVariants as kinds
-use Rattle.nextest_config.proofs.Refusals.{told_twice}
+use Rattle.nextest_config_sources.specs.declared.nextest_version.error_kind.ConfigParseErrorKind.{ConfigParseErrorKind}
+use Rattle.nextest_config_sources.specs.declared.nextest_version.error_kind.ConfigParseErrorKind.TheVariants as kinds
+use Rattle.nextest_config_sources.proofs.Refusals.{told_twice}
 use Rattle.nextest_config.proofs.Standing.{reads_all}
 use Rattle.nextest_config.specs.declared.nextest_version.error.ListRefusal.{ListRefusal}
 use Rattle.nextest_config.specs.declared.nextest_version.error.ListRefusal.TheVariants as refusals
-use Rattle.nextest_config_values.proofs.Lists.{zip_middle}
+use Rattle.nextest_config_lists.proofs.Lists.{zip_middle}
 
 pub reads_not_refused : (sources : List Source) (position : ℕ) (refusal : Refusal) → Reads sources → IsFirstRefused sources position refusal → ⊥
 reads_not_refused sources position refusal reads first =

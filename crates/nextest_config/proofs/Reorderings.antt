@@ -6,12 +6,13 @@ use Rattle.std.proofs.lemmas.Option.{same_Some}
 use Rattle.std.proofs.lemmas.Slice.Zip.{AllZip-long}
 use Rattle.std.specs.List.{AllByRecursion, AllZip, swap}
 use Rattle.semver.specs.Parse.{Parts}
-use Rattle.nextest_config.specs.Merge.{IsReordering}
-use Rattle.nextest_config.specs.NextestVersion.{Agree, array_of, Ask, Asked, AsksNoGreater, AsksNone, Configuration, entry_of, error, features_in_one_order, IsEnabledBySome, IsReadAs, judged, Kept, kept_version, Place, Reads, SaysTheSame, StandsFor, StandsForAsks, StandsIn, Unknown, unmet, warn}
-use Rattle.nextest_config.specs.NextestVersion.Precedence.{is_enough}
-use Rattle.nextest_config.specs.NextestVersion.Source.{Source}
-use Rattle.nextest_config.specs.declared.nextest_version.experimental.ConfigExperimental.{ConfigExperimental}
-use Rattle.nextest_config_values.proofs.Lists.{all_weaker}
+use Rattle.nextest_config_lists.specs.Merge.{IsReordering}
+use Rattle.nextest_config_sources.specs.NextestVersion.{Ask, features_in_one_order, Place}
+use Rattle.nextest_config.specs.NextestVersion.{Agree, array_of, Asked, AsksNoGreater, AsksNone, Configuration, entry_of, error, IsEnabledBySome, IsReadAs, judged, Kept, kept_version, Reads, SaysTheSame, StandsFor, StandsForAsks, StandsIn, Unknown, unmet, warn}
+use Rattle.nextest_config_sources.specs.NextestVersion.Precedence.{is_enough}
+use Rattle.nextest_config_sources.specs.NextestVersion.Source.{Source}
+use Rattle.nextest_config_sources.specs.declared.nextest_version.experimental.ConfigExperimental.{ConfigExperimental}
+use Rattle.nextest_config_values.proofs.Elements.{all_weaker}
 use Rattle.nextest_config.proofs.OneConfiguration.{none_kept, one_greatest_version}
 use Rattle.nextest_config.proofs.OneVerdict.{all_plain, all_read_once, IsPlainAsked, IsPlainVersion}
 

@@ -5,9 +5,11 @@ use Rattle.std.proofs.lemmas.List.{map-append}
 use Rattle.std.specs.List.{AllByRecursion}
 use Rattle.semver.specs.Parse.{Parts}
 use Rattle.nextest_config.specs.NextestVersion.Verdict.{Verdict}
-use Rattle.nextest_config.specs.NextestVersion.{alone, Ask, Asked, asked_from, AsksNoGreater, AsksNone, AsksOther, Configuration, error, gravity, is_below, IsBelow, IsGravest, IsGreatest, IsNoGraver, IsNoGreaterOfItsKind, IsOtherOfItsKind, IsSatisfied, IsSelected, judged, Kept, named_version, Place, Roles, satisfied, SelectsAmong, short_of, Shortfall, StandsForAsks, StandsIn, unmet, warn}
-use Rattle.nextest_config_values.proofs.Lists.{all_always, all_both, all_mapped, all_weaker, map_agrees}
-use Rattle.nextest_config.specs.NextestVersion.PrecedenceLaws.{not_below_trans}
+use Rattle.nextest_config_sources.specs.NextestVersion.{Ask, is_below, IsBelow, Place}
+use Rattle.nextest_config.specs.NextestVersion.{alone, Asked, asked_from, AsksNoGreater, AsksNone, AsksOther, Configuration, error, gravity, IsGravest, IsGreatest, IsNoGraver, IsNoGreaterOfItsKind, IsOtherOfItsKind, IsSatisfied, IsSelected, judged, Kept, named_version, Roles, satisfied, SelectsAmong, short_of, Shortfall, StandsForAsks, StandsIn, unmet, warn}
+use Rattle.nextest_config_lists.proofs.Lists.{all_mapped, map_agrees}
+use Rattle.nextest_config_values.proofs.Elements.{all_always, all_both, all_weaker}
+use Rattle.nextest_config_sources.specs.NextestVersion.PrecedenceLaws.{not_below_trans}
 
 -- ---- a tier of verdicts: what it tells where a role is unmet, and what stands below it
 

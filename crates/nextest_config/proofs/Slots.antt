@@ -8,16 +8,17 @@ use Rattle.semver.specs.declared.Version.{Version}
 use Rattle.nextest_config.specs.Board.Refusals.{IsRefusedPut, IsRefusedSource}
 use Rattle.nextest_config.specs.Board.RolePair.{asked_in, later_asked, later_pair, no_pair, pair_in, version_at}
 use Rattle.nextest_config.specs.Board.Slots.{AreHeld, asked_at, board_list, IsFrom, IsHeld, kept_in, roles_in, slot_of, slots_of}
-use Rattle.nextest_config.specs.Merge.{total}
+use Rattle.nextest_config_lists.specs.Merge.{total}
 use Rattle.nextest_config.specs.NextestVersion.Verdict.{Verdict}
-use Rattle.nextest_config.specs.NextestVersion.{alone, Asked, asked_from, error, is_below, IsSelected, join_kept, join_roles, Kept, no_roles, Numbers, place_of, plain, Roles, roles_from, satisfied, short_of, StandsIn, unmet, verdict, verdict_of, Versions, versions, versions_of, warn}
-use Rattle.nextest_config.specs.NextestVersion.Source.{Source}
+use Rattle.nextest_config_sources.specs.NextestVersion.{is_below, Numbers, place_of, plain, Versions, versions, versions_of}
+use Rattle.nextest_config.specs.NextestVersion.{alone, Asked, asked_from, IsSelected, join_kept, join_roles, Kept, no_roles, Roles, roles_from, StandsIn, unmet, verdict, verdict_of}
+use Rattle.nextest_config_sources.specs.NextestVersion.Source.{Source}
 use Rattle.nextest_config.specs.declared.board.refusal.BoardRefusal.{BoardRefusal}
 use Rattle.nextest_config.specs.declared.board.refusal.BoardRefusal.TheVariants as refusals
 use Rattle.nextest_config.specs.declared.board.role_pair.AskedAt.{AskedAt}
 use Rattle.nextest_config.specs.declared.board.role_pair.RolePair.{RolePair}
-use Rattle.nextest_config.specs.declared.nextest_version.nextest_version_deserialize.NextestVersionDeserialize.{NextestVersionDeserialize}
-use Rattle.nextest_config.specs.declared.nextest_version.source.ConfigSource.{ConfigSource}
+use Rattle.nextest_config_sources.specs.declared.nextest_version.nextest_version_deserialize.NextestVersionDeserialize.{NextestVersionDeserialize}
+use Rattle.nextest_config_sources.specs.declared.nextest_version.source.ConfigSource.{ConfigSource}
 use Rattle.nextest_config.specs.declared.nextest_version.verdict.NextestVersionEval.{NextestVersionEval}
 use Rattle.nextest_config.proofs.OneVerdict.{AsksPlain, IsPlainVersion}
 use Rattle.nextest_config.proofs.Selection.{selects_by}
@@ -155,17 +156,7 @@ module _ (whole : List (Option ConfigSource)) where
       let selected = selects_by (board_list (slots_of whole pairs)) roles current overridden (unmet roles.required current) (unmet roles.recommended current) kept.stands_required kept.stands_recommended refl refl in
       rw (is, kept_is (total later_pair no_pair pairs).required roles.required kept.required, kept_is (total later_pair no_pair pairs).recommended roles.recommended kept.recommended) selected
 
--- ---- the verdict, by which role is unmet
-
-pub told_error : (roles : Roles) (current : Parts) (overridden : Bool) (kept : Kept) (v : Verdict) → Some kept ≡ unmet roles.required current → v ≡ error (short_of kept current overridden) → verdict roles current overridden ≡ v
-told_error roles current overridden kept v is told = rw (← is) (sym told)
-
-pub told_warning : (roles : Roles) (current : Parts) (overridden : Bool) (kept : Kept) (v : Verdict) → None ≡ unmet roles.required current → Some kept ≡ unmet roles.recommended current → v ≡ warn (short_of kept current overridden)
-    → verdict roles current overridden ≡ v
-told_warning roles current overridden kept v none is told = rw (← none, ← is) (sym told)
-
-pub told_satisfied : (roles : Roles) (current : Parts) (overridden : Bool) → None ≡ unmet roles.required current → None ≡ unmet roles.recommended current → verdict roles current overridden ≡ satisfied
-told_satisfied roles current overridden none also = rw (← none, ← also) refl
+-- ---- what is told
 
 -- the same slots and the same verdict
 pub selected_as : (before after : List (Option Asked)) (v w : Verdict) (current : Parts) (overridden : Bool) → before ≡ after → v ≡ w → IsSelected (map (alone current overridden) (board_list before)) v

@@ -8,14 +8,16 @@ use Rattle.std.proofs.lemmas.List.Elements.{Contains-append_cases, Contains-appe
 use Rattle.std.proofs.lemmas.Option.{IfSome_then}
 use Rattle.std.specs.List.{AllByRecursion, AllZip}
 use Rattle.semver.specs.Parse.{Parts}
-use Rattle.nextest_config.specs.Merge.{HavePieces, IsJoinOfPieces, total}
+use Rattle.nextest_config_lists.specs.Merge.{HavePieces, IsJoinOfPieces, total}
 use Rattle.nextest_config.specs.NextestVersion.ExperimentalConfig.{SeenFeatures}
-use Rattle.nextest_config.specs.NextestVersion.{Adds, AreEnabled, AreRead, array_of, Ask, Asked, asked_from, AsksNoGreater, AsksNone, AsksOther, Configuration, configuration_from, entry_of, feature_cmp, FeaturesInOrder, is_below, IsBelow, IsEnabledBySome, IsGreatest, IsReadAs, IsSeenAs, join_configurations, join_kept, Kept, neutral, neutral_seen, Place, Reads, Roles, seen_configuration, SeenConfiguration, StandsFor, StandsForAsks, StandsForOne, StandsIn, Unknown}
-use Rattle.nextest_config.specs.NextestVersion.PrecedenceLaws.{below_trans, not_below_itself, not_below_trans}
-use Rattle.nextest_config.specs.NextestVersion.Source.{Source}
-use Rattle.nextest_config_values.proofs.Lists.{all_joined, all_weaker, zip_push}
-use Rattle.nextest_config.specs.declared.nextest_version.experimental.ConfigExperimental.{ConfigExperimental}
-use Rattle.nextest_config.proofs.Members.{contains_cases, contains_first, contains_none, none_in_order}
+use Rattle.nextest_config_sources.specs.NextestVersion.{Ask, feature_cmp, FeaturesInOrder, is_below, IsBelow, Place}
+use Rattle.nextest_config.specs.NextestVersion.{Adds, AreEnabled, AreRead, array_of, Asked, asked_from, AsksNoGreater, AsksNone, AsksOther, Configuration, configuration_from, entry_of, IsEnabledBySome, IsGreatest, IsReadAs, IsSeenAs, join_configurations, join_kept, Kept, neutral, neutral_seen, Reads, Roles, seen_configuration, SeenConfiguration, StandsFor, StandsForAsks, StandsForOne, StandsIn, Unknown}
+use Rattle.nextest_config_sources.specs.NextestVersion.PrecedenceLaws.{below_trans, not_below_itself, not_below_trans}
+use Rattle.nextest_config_sources.specs.NextestVersion.Source.{Source}
+use Rattle.nextest_config_lists.proofs.Lists.{zip_joined, zip_push}
+use Rattle.nextest_config_values.proofs.Elements.{all_joined, all_weaker}
+use Rattle.nextest_config_sources.specs.declared.nextest_version.experimental.ConfigExperimental.{ConfigExperimental}
+use Rattle.nextest_config_sources.proofs.Members.{contains_cases, contains_first, contains_none, none_in_order}
 use Rattle.nextest_config.proofs.Orders.{has_feature_iff}
 
 -- ---- one role
@@ -155,12 +157,6 @@ stands_none c e = ([], tt, rw e (record { required = tt; recommended = tt; known
     none_enabled = record { of_some = λ feature. (λ h. absurd (contains_none h), λ (one, there, known). absurd (contains_none there)); in_order = none_in_order feature_cmp }
 
 -- ---- lists in a row
-
-pub zip_joined : {X Y : Type 0} (R : X → Y → Type 0) (xs : List X) (us : List Y) (ys : List X) (vs : List Y) → AllZip R xs us → AllZip R ys vs → AllZip R (xs ++ ys) (us ++ vs)
-zip_joined R [] [] ys vs h k = k
-zip_joined R [] (u ∷ us) ys vs h k = absurd h
-zip_joined R (x ∷ xs) [] ys vs h k = absurd h
-zip_joined R (x ∷ xs) (u ∷ us) ys vs h k = (h.0, zip_joined R xs us ys vs h.1 k)
 
 -- what is seen of all that stands for lists stands for the lists in a row
 module _ {X Y : Type 0} (sources_of : X → List Source) (configuration_of : Y → Configuration) where

@@ -5,9 +5,10 @@ use Rattle.std.proofs.lemmas.List.{map-append}
 use Rattle.std.specs.List.{AllByRecursion}
 use Rattle.semver.specs.Parse.{Parts}
 use Rattle.nextest_config.specs.NextestVersion.Verdict.{Verdict}
-use Rattle.nextest_config.specs.NextestVersion.{alone, Asked, asked_from, error, gravity, is_below, IsBelow, IsFromSource, IsNoGraver, IsSatisfied, IsSelected, judged, Kept, named_place, Place, Roles, roles_from, satisfied, Shortfall, unmet, verdict, warn}
-use Rattle.nextest_config_values.proofs.Lists.{all_middle, all_weaker}
-use Rattle.nextest_config.specs.NextestVersion.PrecedenceLaws.{not_below_trans}
+use Rattle.nextest_config_sources.specs.NextestVersion.{is_below, IsBelow, Place}
+use Rattle.nextest_config.specs.NextestVersion.{alone, Asked, asked_from, error, gravity, IsFromSource, IsNoGraver, IsSatisfied, IsSelected, judged, Kept, named_place, Roles, roles_from, satisfied, Shortfall, unmet, verdict, warn}
+use Rattle.nextest_config_values.proofs.Elements.{all_middle, all_weaker}
+use Rattle.nextest_config_sources.specs.NextestVersion.PrecedenceLaws.{not_below_trans}
 use Rattle.nextest_config.proofs.Selection.{enough_met, not_short, unmet_is}
 
 -- ---- whence a verdict comes

@@ -1,32 +1,22 @@
 //! Laws of the definitions, for every value. They call nothing.
 
-ghost use Rattle.std.specs.Prelude.{◌≡◌, ◌≢◌, ◌↔◌, ◌+◌, ◌-◌, ◌/◌, ◌^◌, ◌<◌, ◌≤◌, ◌++◌, [], ◌∷◌, ℕ, List, Bool, true, false, get_or, length, map, None, Some};
+ghost use Rattle.std.specs.Prelude.{◌≡◌, ◌≢◌, ◌↔◌, ◌+◌, ◌<◌, ◌++◌, [], ◌∷◌, ℕ, List, Bool, true, false, get_or, length, map, None, Some};
 ghost use Rattle.std.specs.List.{AllByRecursion, AllZip};
 ghost use Rattle.std.specs.Ordering.{nat_cmp};
 ghost use Rattle.semver.specs.Parse.{Parts};
-ghost use Rattle.nextest_config.specs.Board.{halvings};
+ghost use Rattle.nextest_config_lists.specs.Choice.{halvings};
 ghost use Rattle.nextest_config.specs.Board.Commands.{ChangesInTurn, Command, empty_board, HoldsLast, slot_in};
 ghost use Rattle.nextest_config.specs.Board.Slots.{BoardState};
-ghost use Rattle.nextest_config.specs.Merge.{IsCut, IsMonoid, IsReordering};
+ghost use Rattle.nextest_config_lists.specs.Merge.{IsCut, IsMonoid, IsReordering};
 ghost use Rattle.nextest_config.specs.NextestVersion.Verdict.{Verdict};
-ghost use Rattle.nextest_config.specs.NextestVersion.{Agree, alone, Asked, Configuration, IsBelow, IsEnough, IsEnoughByNumbers, IsFirstRefused, IsFirstRefusedAmong, IsFromSource, IsJoinOf, IsNoGraver, IsOverriding, IsSatisfied, IsSelected, IsSelectedFor, IsVersionText, join_configurations, join_features, join_kept, join_roles, Kept, neutral_seen, no_features_seen, no_roles, Numbers, plain, rank, Reads, Refusal, Roles, satisfied, Shortfall, StandsFor, verdict, warn};
-ghost use Rattle.nextest_config.specs.NextestVersion.Source.{Source};
+ghost use Rattle.nextest_config_sources.specs.NextestVersion.{IsBelow};
+ghost use Rattle.nextest_config.specs.NextestVersion.{Agree, alone, Asked, Configuration, IsFirstRefused, IsFirstRefusedAmong, IsFromSource, IsJoinOf, IsNoGraver, IsOverriding, IsSatisfied, IsSelected, IsSelectedFor, join_configurations, join_features, join_kept, join_roles, Kept, neutral_seen, no_features_seen, no_roles, rank, Reads, Refusal, Roles, satisfied, Shortfall, StandsFor, verdict, warn};
+ghost use Rattle.nextest_config_sources.specs.NextestVersion.Source.{Source};
 ghost use Rattle.nextest_config.specs.declared.nextest_version.verdict.Severity.{Severity};
 
 use crate::nextest_version::Severity;
-
-/// No text has two versions.
-pub fn law_version_once()
-    ensures { (text : List ℕ) (m n : Numbers)
-        → IsVersionText text m → IsVersionText text n → m ≡ n }
-{}
-
-/// A current version is enough for the version of a text where its numbers are greater in order, or
-/// are the same and it has no pre-release.
-pub fn law_enough()
-    ensures { (current : Parts) (asked : Numbers)
-        → IsEnough current (plain asked) ↔ IsEnoughByNumbers current asked }
-{}
+pub use nextest_config_lists::laws::law_halvings;
+pub use nextest_config_sources::laws::{law_enough, law_version_once};
 
 /// The rank of severities that the laws of verdicts speak of is the order of `Severity`.
 pub fn law_severity_order()
@@ -131,17 +121,6 @@ pub fn law_added_source()
     ensures { (before after : List Source) (added : Source) (current : Parts) (overridden : Bool)
         (v w : Verdict) → IsSelectedFor (before ++ after) current overridden v
         → IsSelectedFor (before ++ (added ∷ after)) current overridden w → IsNoGraver w v }
-{}
-
-/// A place among up to one isn't halved away. Of more places the first half has half of them, rounded
-/// down, and the place is halved once, and then within the half that holds it. So it is halved at most
-/// as often as their number has binary digits.
-pub fn law_halvings()
-    ensures alone { (n i : ℕ) → n ≤ 1 → halvings n i ≡ 0 }
-    ensures first { (n i : ℕ) → 2 ≤ n → i < n / 2 → halvings n i ≡ 1 + halvings (n / 2) i }
-    ensures second { (n i : ℕ) → 2 ≤ n → n / 2 ≤ i
-        → halvings n i ≡ 1 + halvings (n - n / 2) (i - n / 2) }
-    ensures digits { (n i digits : ℕ) → n < 2 ^ digits → halvings n i ≤ digits }
 {}
 
 /// A board of n slots, however it was changed, has n slots; each holds the versions of the source that

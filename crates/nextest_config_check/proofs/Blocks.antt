@@ -1,7 +1,7 @@
 -- Blocks of a text, each with its source.
 use Rattle.std.proofs.Common.{◌≡◌, ℕ, ◌-◌, ◌<◌, List, [], ◌∷◌, ◌++◌, length, take, refl, sym, ap, ◌∙◌, subst, inl, inr, ◌⊎◌, append_assoc, append-nil, length-append, take_at, arith}
 use Rattle.std.proofs.Math.Logic.{⊎_elim, ⊎_map, ⊎_swap}
-use Rattle.nextest_config.specs.NextestVersion.Source.{Given}
+use Rattle.nextest_config_sources.specs.NextestVersion.Source.{Given}
 use Rattle.nextest_config_check.specs.Layout.{line_feed, line_number, AreBlocks, AreSourcesBefore, EndsLine, IsBlock, IsCut, IsFaultyBlock, IsFaultyLine}
 use Rattle.nextest_config_check.proofs.Lines.{first_line_of_cut}
 

@@ -3,10 +3,10 @@ use Rattle.std.proofs.Common.{◌≡◌, ℕ, List, ◌++◌, Option, take, drop
 use Rattle.std.specs.Io.KnownBytes.{Appends, Keeps}
 use Rattle.std.proofs.KnownBytes.{Appends-kept, Appends-trans, Keeps-refl}
 use Rattle.nextest_config_check.specs.CommandLine.{Command, IfCheck, IsWordsFault, check, complain, words_fault_text, words_status}
-use Rattle.nextest_config_check.specs.Engine.{AddsFront, AddsUpTo, IsCutShort}
+use Rattle.nextest_config_check.specs.Streams.{AddsFront, AddsUpTo, IsCutShort}
 use Rattle.nextest_config_check.specs.declared.command_line.WordsFault.{WordsFault}
 use Rattle.nextest_config_check.specs.declared.command_line.WordsFault.TheVariants as words
-use Rattle.nextest_config_check.specs.declared.engine.RunFault.TheVariants as faults
+use Rattle.nextest_config_check.specs.declared.streams.RunFault.TheVariants as faults
 
 -- the writer took the first n bytes of the rest
 pub more_added : (old mid new : Option (List ℕ)) (text rest : List ℕ) (n : ℕ) → AddsUpTo old mid text rest → Appends mid new (take n rest) → AddsUpTo old new text (drop n rest)

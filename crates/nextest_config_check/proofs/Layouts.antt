@@ -3,8 +3,8 @@ use Rattle.std.proofs.Common.{◌≡◌, ℕ, ◌<◌, ◌==◌, true, false, if
 use Rattle.std.specs.List.{AllByRecursion}
 use Rattle.std.proofs.Math.Logic.{⊎_elim, ⊎_map}
 use Rattle.std.proofs.lemmas.List.{append_cancel_right}
-use Rattle.nextest_config.specs.NextestVersion.Source.{Given}
-use Rattle.nextest_config.specs.NextestVersion.{Place}
+use Rattle.nextest_config_sources.specs.NextestVersion.Source.{Given}
+use Rattle.nextest_config_sources.specs.NextestVersion.{Place}
 use Rattle.nextest_config_check.specs.Layout.{line_feed, carriage_return, line_number, mark, trimmed, AreBlocks, AreSourcesBefore, EndsLine, IsBlock, IsCut, IsFaultyBlock, IsFaultyLine, IsFirstLine, IsInLine, HasNoMarkedLine, HasNoMarkedLineBelow}
 use Rattle.nextest_config_check.proofs.Lines.{first_line_of_cut, not_in_line}
 use Rattle.nextest_config_check.proofs.Blocks.{ends_line_rest}

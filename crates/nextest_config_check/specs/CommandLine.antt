@@ -5,8 +5,8 @@ use Rattle.std.specs.declared.alloc.Global.{Global}
 use Rattle.semver.specs.Identifiers.{parts_of}
 use Rattle.semver.specs.Parse.{Parts, version_parts}
 use Rattle.semver.specs.declared.error.Error.{Error}
-use Rattle.nextest_config.specs.declared.nextest_version.edition.Edition.{Edition}
-use Rattle.nextest_config.specs.declared.nextest_version.edition.Edition.TheVariants.{ArrayAllowed, TableOnly}
+use Rattle.nextest_config_sources.specs.declared.nextest_version.edition.Edition.{Edition}
+use Rattle.nextest_config_sources.specs.declared.nextest_version.edition.Edition.TheVariants.{ArrayAllowed, TableOnly}
 use Rattle.nextest_config_check.specs.declared.command_line.Check.{Check}
 use Rattle.nextest_config_check.specs.declared.command_line.WordsFault.{WordsFault}
 use Rattle.nextest_config_check.specs.declared.command_line.WordsFault.TheVariants as words

@@ -3,11 +3,11 @@ use Rattle.std.specs.Prelude.{◌≡◌, ◌≢◌, ℕ, ◌+◌, ◌<◌, ◌==
 use Rattle.std.specs.List.{AllByRecursion}
 pub use Rattle.nextest_config_values.specs.Characters.{carriage_return, line_feed}
 use Rattle.nextest_config_values.specs.ToolConfig.{IsToolArgument}
-use Rattle.nextest_config.specs.NextestVersion.Source.{Given}
-use Rattle.nextest_config.specs.NextestVersion.{Place, place_of}
-use Rattle.nextest_config.specs.declared.nextest_version.source.ConfigSource.{ConfigSource}
-use Rattle.nextest_config.specs.declared.nextest_version.source.ConfigSourceKind.{ConfigSourceKind}
-use Rattle.nextest_config.specs.declared.nextest_version.source.ConfigSourceKind.TheVariants.{Tool, ExplicitRepository, DiscoveredRepository}
+use Rattle.nextest_config_sources.specs.NextestVersion.Source.{Given}
+use Rattle.nextest_config_sources.specs.NextestVersion.{Place, place_of}
+use Rattle.nextest_config_sources.specs.declared.nextest_version.source.ConfigSource.{ConfigSource}
+use Rattle.nextest_config_sources.specs.declared.nextest_version.source.ConfigSourceKind.{ConfigSourceKind}
+use Rattle.nextest_config_sources.specs.declared.nextest_version.source.ConfigSourceKind.TheVariants.{Tool, ExplicitRepository, DiscoveredRepository}
 use Rattle.nextest_config_check.specs.declared.layout.LayoutFault.{LayoutFault}
 use Rattle.nextest_config_check.specs.declared.layout.LayoutFault.TheVariants as faults
 

@@ -1,5 +1,5 @@
 pub mod CommandLine
-pub mod Engine
 pub mod Layout
 pub mod Report
 pub mod ReportLines
+pub mod Streams

@@ -6,8 +6,8 @@ use Rattle.semver.specs.Parse.{Parts}
 use Rattle.nextest_config.specs.NextestVersion.Verdict.{Verdict}
 use Rattle.nextest_config.specs.NextestVersion.{Configuration, error, IsFirstRefused, IsSelectedFor, Refusal, refusal_text, satisfied, StandsFor, warn}
 use Rattle.nextest_config.specs.NextestVersion.ExperimentalConfig.{Experimental}
-use Rattle.nextest_config.specs.NextestVersion.Source.{Given, under}
-use Rattle.nextest_config.specs.declared.nextest_version.edition.Edition.{Edition}
+use Rattle.nextest_config_sources.specs.NextestVersion.Source.{Given, under}
+use Rattle.nextest_config_sources.specs.declared.nextest_version.edition.Edition.{Edition}
 use Rattle.nextest_config_check.specs.Layout.{AreBlocks, IsFaultyLine}
 use Rattle.nextest_config_check.specs.ReportLines.{read_text}
 use Rattle.nextest_config_check.specs.declared.report.Outcome.{Outcome}

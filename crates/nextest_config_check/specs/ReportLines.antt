@@ -5,8 +5,9 @@ use Rattle.semver.specs.Parse.{Parts}
 use Rattle.nextest_config_values.specs.Read.{joined, quoted_texts}
 use Rattle.nextest_config.specs.NextestVersion.ExperimentalConfig.{Experimental}
 use Rattle.nextest_config.specs.NextestVersion.Verdict.{Verdict}
-use Rattle.nextest_config.specs.NextestVersion.{error, Place, place_text, satisfied, Unknown, warn, word_of}
-use Rattle.nextest_config.specs.declared.nextest_version.experimental.ConfigExperimental.{ConfigExperimental}
+use Rattle.nextest_config_sources.specs.NextestVersion.{Place, place_text, word_of}
+use Rattle.nextest_config.specs.NextestVersion.{error, satisfied, Unknown, warn}
+use Rattle.nextest_config_sources.specs.declared.nextest_version.experimental.ConfigExperimental.{ConfigExperimental}
 
 -- what a verdict is called, by whether it is overridden
 abbrev pub called : List ℕ → Bool → List ℕ

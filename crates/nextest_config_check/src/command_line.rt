@@ -6,7 +6,7 @@ ghost use Rattle.semver.specs.Parse.{version_parts};
 ghost use Rattle.nextest_config_check.specs.CommandLine.{AsksCheck, IsWordsFault, asked_by, check_of, flags_of, words_fault_text, words_status};
 ghost use Rattle.nextest_config_check.specs.declared.command_line.WordsFault.TheVariants.{Memory, Usage};
 
-use crate::engine::NO_OUTCOME;
+use crate::streams::NO_OUTCOME;
 use nextest_config::nextest_version::Edition;
 use semver::Version;
 use std::alloc::{AllocError, Global};

@@ -2,7 +2,7 @@
 //! line is `=== tool NAME:PATH`, `=== explicit PATH` or `=== repository PATH`.
 
 ghost use Rattle.std.specs.Prelude.{◌≡◌, ◌+◌, ◌-◌, ◌<◌, ◌≤◌, ◌++◌, ℕ, List, codes, length, map, take, IfOk, IfErr, MatchOption};
-ghost use Rattle.nextest_config.specs.NextestVersion.{given_of};
+ghost use Rattle.nextest_config_sources.specs.NextestVersion.{given_of};
 ghost use Rattle.nextest_config_check.specs.Layout.{AreBlocks, IsBlock, IsCut, IsFaultyBlock, IsFaultyInput, IsFirstLine, IsSourceIfAny, IsSourceLine, HasNoMarkedLineBelow, IsWordAndPath, NamesPlace, line_number, trimmed};
 
 use nextest_config::nextest_version::{ConfigSource, ConfigSourceKind, SourceText};

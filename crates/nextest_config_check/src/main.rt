@@ -4,17 +4,17 @@
 #![tactic(auto)]
 
 mod command_line;
-pub mod engine;
 pub mod laws;
 mod layout;
 mod report;
 mod report_lines;
+pub mod streams;
 
 use command_line::WordsFault;
-use engine::{refuse, serve};
 use std::env;
 use std::io::{self, Input};
 use std::process::ExitCode;
+use streams::{refuse, serve};
 
 fn main(rt: HostRuntime) -> ExitCode {
     let words = match words(&rt) {

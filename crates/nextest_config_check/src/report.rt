@@ -2,7 +2,8 @@
 
 ghost use Rattle.std.specs.Prelude.{◌≡◌, IfOk, map};
 ghost use Rattle.semver.specs.Identifiers.{parts_of};
-ghost use Rattle.nextest_config.specs.NextestVersion.{configuration_of, experimental_of, given_of, verdict, verdict_of};
+ghost use Rattle.nextest_config_sources.specs.NextestVersion.{given_of};
+ghost use Rattle.nextest_config.specs.NextestVersion.{configuration_of, experimental_of, verdict, verdict_of};
 ghost use Rattle.nextest_config_check.specs.Report.{IsReportFor, IsReportForSources, IsReportOf, outcome_of, status_of};
 
 use crate::layout::{self, LayoutFault};

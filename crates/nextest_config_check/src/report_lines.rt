@@ -2,7 +2,8 @@
 
 ghost use Rattle.std.specs.Prelude.{◌≡◌, ◌++◌, IfOk, OnOk, flat_map, string_bytes};
 ghost use Rattle.semver.specs.Identifiers.{parts_of};
-ghost use Rattle.nextest_config.specs.NextestVersion.{arrays_left, errors_left, place_of, verdict_of};
+ghost use Rattle.nextest_config_sources.specs.NextestVersion.{place_of};
+ghost use Rattle.nextest_config.specs.NextestVersion.{arrays_left, errors_left, verdict_of};
 ghost use Rattle.nextest_config_check.specs.ReportLines.{array_line, known_text, shortfall_text, unknown_line, verdict_text};
 
 use nextest_config::nextest_version::{

@@ -13,7 +13,7 @@ use Rattle.std.specs.String.{string_cmp}
 use Rattle.toml.proofs.Views.{Entry}
 use Rattle.toml.specs.Data.{Data, get_member}
 use Rattle.toml.specs.View.{members_view, view}
-use Rattle.nextest_config_values.proofs.Lists.{all_weaker}
+use Rattle.nextest_config_values.proofs.Elements.{all_weaker}
 use Rattle.nextest_config_elements.specs.UnknownKeys.{ComesBefore, HasOnlyKeys, IsFirstUnknownKey, IsOneOf}
 
 -- what is found at a text, by where it stands against a key

@@ -2,7 +2,7 @@
 use Rattle.std.specs.Prelude.{◌≡◌, ℕ, Bool, List, [], ◌∷◌, codes, Option, Some, None, IsSome, option_map, string_bytes}
 use Rattle.std.proofs.Common.{refl}
 use Rattle.toml.specs.Data.{Data, Members, as_table}
-use Rattle.nextest_config_values.specs.Helpers.{joined_path}
+use Rattle.nextest_config_values.specs.Helpers.Paths.{joined_path}
 use Rattle.nextest_config_values.specs.Read.Fault.{Fault}
 use Rattle.nextest_config_values.specs.Read.{at_key, bool_reading, BooleanFaults, FaultsKind, FaultsThen, IsReading, kind_reading, made_of, MeansBoolean, MeansKind, MeansNothing, MeansString, MeansWordText, optional_reading, OptionalKey, OptionalKeyFaults, reading_on, said_as, StringFaults, text_reading, then_reading, value_of, word_reading, WordTextFaults, wrong_kind, WrongKind}
 use Rattle.nextest_config_elements.specs.ReportSkipPolicy.{report_skip_policies, report_skip_reads_back, report_skip_word}

@@ -2,7 +2,7 @@
 
 ghost use Rattle.std.specs.Prelude.{◌≡◌, ◌↔◌, ℕ, ◌<◌, ◌≤◌, ◌^◌, ℤ, ◌<ℤ◌, IsTrue, List};
 ghost use Rattle.std.specs.Ordering.{MatchOrdering};
-ghost use Rattle.nextest_config_values.specs.Helpers.{MeansPath, PathFaults};
+ghost use Rattle.nextest_config_values.specs.Helpers.Paths.{MeansPath, PathFaults};
 ghost use Rattle.nextest_config_values.specs.Read.{IsReading, SameText};
 ghost use Rattle.nextest_config_elements.specs.LeakTimeout.{LeakTimeoutFaults, MeansLeakTimeout};
 ghost use Rattle.nextest_config_elements.specs.MaxFail.{FailFastFaults, IsLimitFault, IsLimitText, IsReached, limit_text, LimitFault, MeansFailFast};

@@ -1,6 +1,6 @@
 -- Leaves of which the first with something in it is chosen.
 use Rattle.std.proofs.Common.{◌≡◌, refl}
-use Rattle.nextest_config.specs.Merge.{IsMonoid}
+use Rattle.nextest_config_lists.specs.Merge.{IsMonoid}
 use Rattle.nextest_config_refusals.specs.declared.trees.Leaf.{Leaf}
 use Rattle.nextest_config_refusals.specs.declared.trees.Leaf.TheVariants.{Nothing, Something}
 

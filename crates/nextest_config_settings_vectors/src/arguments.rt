@@ -1,8 +1,8 @@
 //! Tool arguments.
 
-use crate::rows::{Escaped, Runner, Subject, done, shown, written};
-use crate::runner::check;
-use crate::told::{Told, answered};
+use crate::runner::{ThisCrate, check};
+use nextest_config_rows::rows::{Escaped, Runner, Subject, done, shown, written};
+use nextest_config_rows::told::{Told, answered};
 use nextest_config_values::tool_config::{ToolConfigFile, ToolConfigFileParseError};
 
 const ROWS: &str = r#"
@@ -44,7 +44,7 @@ impl Subject for Arguments {
     }
 }
 
-impl Told for ToolConfigFile {
+impl Told<ThisCrate> for ToolConfigFile {
     fn told(&self, rt: &impl Runner, _call: &str) -> String {
         done(
             rt,
@@ -53,7 +53,7 @@ impl Told for ToolConfigFile {
     }
 }
 
-impl Told for ToolConfigFileParseError {
+impl Told<ThisCrate> for ToolConfigFileParseError {
     fn told(&self, rt: &impl Runner, call: &str) -> String {
         match call {
             "argument" => refusal(rt, self),

@@ -1,8 +1,8 @@
 //! Durations as texts.
 
 use crate::readers::read;
-use crate::rows::{Escaped, Runner, Subject, made, unknown, written};
 use crate::runner::check;
+use nextest_config_rows::rows::{Escaped, Runner, Subject, made, unknown, written};
 use nextest_config_values::duration::parse_duration;
 use nextest_config_values::track_default::TrackDefault;
 use std::time::Duration;

@@ -1,8 +1,8 @@
 //! Equal values, and values that differ in one part alone.
 
 use crate::compared::{Copies, Equality};
-use crate::rows::Escaped;
 use crate::runner::check;
+use nextest_config_rows::rows::Escaped;
 
 const EQUAL: &str = r#"
 ConfigIdentifier | e\u{301}x ~ \u{e9}x | same

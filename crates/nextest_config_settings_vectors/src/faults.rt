@@ -1,9 +1,9 @@
 //! The texts of faults.
 
-use crate::rows::{Runner, Subject, cut, done, shown, unknown};
 use crate::runner::check;
-use crate::told::{Told, tell};
-use crate::values::{FromRow, expected, word};
+use nextest_config_rows::rows::{Runner, Subject, cut, unknown};
+use nextest_config_rows::told::tell;
+use nextest_config_rows::values::{FromRow, expected, word};
 use nextest_config_values::read::{FaultKind, ReadFault};
 use toml::Value;
 
@@ -79,16 +79,6 @@ fn mismatch(
         "invalid_type" => ReadFault::invalid_type(rt.alloc(), &value, at, wanted),
         "invalid_value" => ReadFault::invalid_value(rt.alloc(), &value, at, wanted),
         _ => unknown(rt, maker),
-    }
-}
-
-impl Told for ReadFault {
-    fn told(&self, rt: &impl Runner, call: &str) -> String {
-        if call.starts_with("kept ") {
-            done(rt, format!(in rt.alloc(); "{self:?}, {}", self.is_memory()))
-        } else {
-            shown(rt, self)
-        }
     }
 }
 

@@ -5,9 +5,9 @@ ghost use Rattle.toml.specs.Data.{as_integer};
 ghost use Rattle.nextest_config_values.specs.Read.FromToml.{FaultsAs, MeansAs, reading_on};
 ghost use Rattle.nextest_config_values.specs.Read.Plain.{IsOutside, MeansNumber, number_reading};
 
-use crate::rows::{Runner, Subject, cut, done, made, unknown};
 use crate::runner::check;
-use crate::values::FromRow;
+use nextest_config_rows::rows::{Runner, Subject, cut, done, made, unknown};
+use nextest_config_rows::values::FromRow;
 use nextest_config_values::read::{FromToml, ReadFault, field_or, optional_field, required_field};
 use nextest_config_values::track_default::TrackDefault;
 use std::alloc::Global;

@@ -1,8 +1,10 @@
 //! Identifiers and tool names.
 
-use crate::rows::{Escaped, Runner, Subject, copied, done, shown, unknown, variant, written};
-use crate::runner::{check, check_at};
-use crate::told::{Told, answered};
+use crate::runner::{ThisCrate, check, check_at};
+use nextest_config_rows::rows::{
+    Escaped, Runner, Subject, copied, done, shown, unknown, variant, written,
+};
+use nextest_config_rows::told::{Told, answered};
 use nextest_config_values::helpers::is_valid_identifier_unicode;
 use nextest_config_values::identifier::{
     ConfigIdentifier, InvalidIdentifier, InvalidToolName, ToolName,
@@ -113,7 +115,7 @@ impl Subject for Identifiers {
     }
 }
 
-impl Told for ConfigIdentifier {
+impl Told<ThisCrate> for ConfigIdentifier {
     fn told(&self, rt: &impl Runner, call: &str) -> String {
         match call {
             "identifier" => shown(rt, self),
@@ -140,7 +142,7 @@ fn bytes(rt: &impl Runner, identifier: &ConfigIdentifier) -> String {
     copied(rt, line.trim_end())
 }
 
-impl Told for InvalidIdentifier {
+impl Told<ThisCrate> for InvalidIdentifier {
     fn told(&self, rt: &impl Runner, call: &str) -> String {
         if call == "printed" {
             shown(rt, self)
@@ -150,13 +152,13 @@ impl Told for InvalidIdentifier {
     }
 }
 
-impl Told for ToolName {
+impl Told<ThisCrate> for ToolName {
     fn told(&self, rt: &impl Runner, _call: &str) -> String {
         shown(rt, self)
     }
 }
 
-impl Told for InvalidToolName {
+impl Told<ThisCrate> for InvalidToolName {
     fn told(&self, rt: &impl Runner, _call: &str) -> String {
         variant(rt, self)
     }

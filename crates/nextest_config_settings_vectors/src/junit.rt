@@ -1,15 +1,15 @@
 //! JUnit reports, reports of skipped tests, and what a report says of a flaky test.
 
-use crate::compared::{Copied, alike};
-use crate::rows::{Runner, Subject, copied, cut, done, made, unknown, written};
-use crate::runner::check;
-use crate::told::{Told, tell};
-use crate::values::{FromRow, word};
+use crate::runner::{ThisCrate, check};
 use nextest_config_elements::junit::{
     DefaultJunitImpl, JunitConfig, JunitImpl, JunitSettings, MissingSetting,
 };
 use nextest_config_elements::report_skip_policy::{MismatchReason, ReportSkipPolicy};
 use nextest_config_elements::retry_policy::FlakyResult;
+use nextest_config_rows::compared::{Copied, alike};
+use nextest_config_rows::rows::{Runner, Subject, copied, cut, done, made, unknown, written};
+use nextest_config_rows::told::{Told, tell};
+use nextest_config_rows::values::{FromRow, word};
 use nextest_config_values::helpers::join_path;
 use nextest_config_values::read::{FromToml, Word};
 use std::alloc::{AllocError, Global};
@@ -134,20 +134,20 @@ fn copy(rt: &impl Runner, call: &str, input: &str) -> String {
     }
 }
 
-impl Copied for JunitImpl {
+impl Copied<ThisCrate> for JunitImpl {
     fn copied(&self, alloc: Global) -> Result<Self, AllocError> {
         self.clone(alloc)
     }
 }
 
-impl Copied for DefaultJunitImpl {
+impl Copied<ThisCrate> for DefaultJunitImpl {
     fn copied(&self, alloc: Global) -> Result<Self, AllocError> {
         self.clone(alloc)
     }
 }
 
 /// Writes the setting's TOML value.
-impl FromRow for JunitImpl {
+impl FromRow<ThisCrate> for JunitImpl {
     fn from_row(rt: &impl Runner, text: &str) -> Self {
         let value = Value::from_row(rt, text);
         done(rt, JunitImpl::read(rt.alloc(), &value, "junit"))
@@ -160,14 +160,14 @@ fn default_of(rt: &impl Runner, text: &str) -> Result<DefaultJunitImpl, MissingS
 }
 
 /// Writes the default profile's TOML value.
-impl FromRow for DefaultJunitImpl {
+impl FromRow<ThisCrate> for DefaultJunitImpl {
     fn from_row(rt: &impl Runner, text: &str) -> Self {
         done(rt, default_of(rt, text))
     }
 }
 
 // The report below the folder that a call names last.
-impl Told for DefaultJunitImpl {
+impl Told<ThisCrate> for DefaultJunitImpl {
     fn told(&self, rt: &impl Runner, call: &str) -> String {
         let settings = JunitSettings {
             path: self.path.as_deref(),
@@ -186,7 +186,7 @@ impl Told for DefaultJunitImpl {
     }
 }
 
-impl<T: Told> Told for Option<T> {
+impl<T: Told<ThisCrate>> Told<ThisCrate> for Option<T> {
     fn told(&self, rt: &impl Runner, call: &str) -> String {
         match self {
             Some(value) => value.told(rt, call),
@@ -195,7 +195,7 @@ impl<T: Told> Told for Option<T> {
     }
 }
 
-impl Told for JunitConfig<'_> {
+impl Told<ThisCrate> for JunitConfig<'_> {
     fn told(&self, rt: &impl Runner, call: &str) -> String {
         if call.starts_with("copied ") {
             let copy = done(rt, self.clone(rt.alloc()));
@@ -232,7 +232,7 @@ impl Subject for Skipped {
     }
 }
 
-impl FromRow for MismatchReason {
+impl FromRow<ThisCrate> for MismatchReason {
     fn from_row(rt: &impl Runner, text: &str) -> Self {
         match text {
             "Ignored" => MismatchReason::Ignored,

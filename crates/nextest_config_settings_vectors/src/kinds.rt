@@ -5,9 +5,9 @@ use crate::fields::Fields;
 use crate::junit::Reports;
 use crate::paths::Paths;
 use crate::readers::Readers;
-use crate::rows::{Runner, Subject, cut, unknown};
 use crate::runner::check_kinds;
 use crate::settings::Settings;
+use nextest_config_rows::rows::{Runner, Subject, cut, unknown};
 
 const READERS: &str = r#"
 # plain values

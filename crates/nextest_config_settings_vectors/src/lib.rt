@@ -1,4 +1,4 @@
-//! Tables of rows, and worked values of nextest's settings, from outside, as tests.
+//! Worked values of nextest's settings, from outside, as tests.
 #![tactic(auto)]
 
 #[cfg(test)]
@@ -19,7 +19,6 @@ mod identifiers;
 mod junit;
 #[cfg(test)]
 mod kinds;
-pub mod likeness;
 #[cfg(test)]
 mod limits;
 #[cfg(test)]
@@ -30,14 +29,9 @@ mod paths;
 mod printed;
 #[cfg(test)]
 mod readers;
-pub mod rows;
 #[cfg(test)]
 mod runner;
 #[cfg(test)]
 mod settings;
 #[cfg(test)]
 mod texts;
-#[cfg(test)]
-mod told;
-pub mod values;
-pub mod wrong_kinds;

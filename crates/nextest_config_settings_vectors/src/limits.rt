@@ -1,14 +1,14 @@
 //! Fail limits, threads and priorities, beside their settings.
 
-use crate::rows::{Runner, Subject, done, shown, unknown, written};
-use crate::runner::check;
-use crate::values::{FromRow, word};
+use crate::runner::{ThisCrate, check};
 use nextest_config_elements::leak_timeout::LeakTimeout;
 use nextest_config_elements::max_fail::{MaxFail, TerminateMode};
 use nextest_config_elements::priority::TestPriority;
 use nextest_config_elements::retry_policy::RetryPolicy;
 use nextest_config_elements::slow_timeout::SlowTimeout;
 use nextest_config_elements::threads_required::ThreadsRequired;
+use nextest_config_rows::rows::{Runner, Subject, done, shown, unknown, written};
+use nextest_config_rows::values::{FromRow, word};
 
 const ROWS: &str = r#"
 # the texts of fail limits
@@ -167,7 +167,7 @@ fn priority(rt: &impl Runner, number: i8) -> String {
     done(rt, line)
 }
 
-impl FromRow for TestPriority {
+impl FromRow<ThisCrate> for TestPriority {
     fn from_row(rt: &impl Runner, text: &str) -> Self {
         done(rt, TestPriority::new(i8::from_row(rt, text)))
     }

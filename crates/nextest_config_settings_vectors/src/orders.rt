@@ -1,7 +1,6 @@
 //! Orders, hashes and defaults.
 
 use crate::compared::Orders;
-use crate::rows::{Escaped, Runner, Subject, unknown, written};
 use crate::runner::check;
 use nextest_config_elements::junit::{JunitFlakyFailStatus, JunitImpl};
 use nextest_config_elements::leak_timeout::LeakTimeoutResult;
@@ -9,8 +8,9 @@ use nextest_config_elements::max_fail::TerminateMode;
 use nextest_config_elements::report_skip_policy::ReportSkipPolicy;
 use nextest_config_elements::retry_policy::FlakyResult;
 use nextest_config_elements::slow_timeout::SlowTimeoutResult;
+use nextest_config_rows::printed::default;
+use nextest_config_rows::rows::{Escaped, Runner, Subject, unknown};
 use nextest_config_values::track_default::TrackDefault;
-use std::fmt::Debug;
 
 const ORDERS: &str = r#"
 # names compare by their kept texts
@@ -86,10 +86,6 @@ impl Subject for Defaults {
             _ => unknown(rt, call),
         }
     }
-}
-
-fn default<T: Default + Debug + Drop>(rt: &impl Runner) -> String {
-    written(rt, T::default())
 }
 
 #[test]

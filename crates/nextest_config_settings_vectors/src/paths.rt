@@ -1,9 +1,9 @@
 //! Relative paths.
 
-use crate::rows::{Runner, Subject, copied};
-use crate::runner::check;
-use crate::told::{Told, answered};
-use crate::values::FromRow;
+use crate::runner::{ThisCrate, check};
+use nextest_config_rows::rows::{Runner, Subject, copied};
+use nextest_config_rows::told::{Told, answered};
+use nextest_config_rows::values::FromRow;
 use nextest_config_values::helpers::deserialize_relative_path;
 use toml::Value;
 
@@ -42,7 +42,7 @@ impl Subject for Paths {
     }
 }
 
-impl Told for String {
+impl Told<ThisCrate> for String {
     fn told(&self, rt: &impl Runner, _call: &str) -> String {
         copied(rt, self.as_str())
     }

@@ -1,15 +1,14 @@
 //! Values that print, each as its text alone.
 
-use crate::rows::{Escaped, Runner, Subject, shown, unknown, written};
 use crate::runner::check;
-use crate::values::FromRow;
 use nextest_config_elements::max_fail::TerminateMode;
+use nextest_config_rows::printed::{Written, text};
+use nextest_config_rows::rows::{Escaped, Runner, Subject, unknown};
 use nextest_config_values::identifier::{
     ConfigIdentifier, InvalidIdentifier, InvalidToolName, ToolName,
 };
 use nextest_config_values::read::{FaultKind, ReadFault, Rule};
 use nextest_config_values::tool_config::ToolConfigFileParseError;
-use std::fmt::Display;
 
 const ROWS: &str = r#"
 ConfigIdentifier | a | a
@@ -124,38 +123,27 @@ ReadFault | p«p», Custom PreRelease | p«p»: pre-release identifiers are not 
 ReadFault | p«p», MissingField «x» | p«p»: missing configuration field "«x»"
 "#;
 
-/// The text of a value, or how a source would write the text.
+/// The text of a value.
 struct Printed;
 
 impl Subject for Printed {
     fn answer(rt: &impl Runner, call: &str, input: &str) -> String {
-        match call.strip_prefix("written ") {
-            Some(call) => written(rt, text_of(rt, call, input)),
-            None => text_of(rt, call, input),
+        match call {
+            "ConfigIdentifier" => text::<ConfigIdentifier, _>(rt, input),
+            "FaultKind" => text::<FaultKind, _>(rt, input),
+            "InvalidIdentifier" => text::<InvalidIdentifier, _>(rt, input),
+            "InvalidToolName" => text::<InvalidToolName, _>(rt, input),
+            "ReadFault" => text::<ReadFault, _>(rt, input),
+            "Rule" => text::<Rule, _>(rt, input),
+            "TerminateMode" => text::<TerminateMode, _>(rt, input),
+            "ToolConfigFileParseError" => text::<ToolConfigFileParseError, _>(rt, input),
+            "ToolName" => text::<ToolName, _>(rt, input),
+            _ => unknown(rt, call),
         }
     }
 }
 
-fn text_of(rt: &impl Runner, call: &str, input: &str) -> String {
-    match call {
-        "ConfigIdentifier" => text::<ConfigIdentifier>(rt, input),
-        "FaultKind" => text::<FaultKind>(rt, input),
-        "InvalidIdentifier" => text::<InvalidIdentifier>(rt, input),
-        "InvalidToolName" => text::<InvalidToolName>(rt, input),
-        "ReadFault" => text::<ReadFault>(rt, input),
-        "Rule" => text::<Rule>(rt, input),
-        "TerminateMode" => text::<TerminateMode>(rt, input),
-        "ToolConfigFileParseError" => text::<ToolConfigFileParseError>(rt, input),
-        "ToolName" => text::<ToolName>(rt, input),
-        _ => unknown(rt, call),
-    }
-}
-
-fn text<T: FromRow + Display + Drop>(rt: &impl Runner, input: &str) -> String {
-    shown(rt, &T::from_row(rt, input))
-}
-
 #[test]
 fn each_value_prints_its_text_alone(rt: HostRuntime) {
-    check::<Escaped<Printed>>(&rt, ROWS);
+    check::<Escaped<Written<Printed>>>(&rt, ROWS);
 }

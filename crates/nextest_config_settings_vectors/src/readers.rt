@@ -1,15 +1,15 @@
 //! The plain readers, words and marks.
 
-use crate::rows::{Runner, Subject, done, made, unknown, written};
-use crate::runner::check;
-use crate::told::{Told, answered};
-use crate::values::FromRow;
+use crate::runner::{ThisCrate, check};
 use nextest_config_elements::junit::JunitFlakyFailStatus;
 use nextest_config_elements::leak_timeout::LeakTimeoutResult;
 use nextest_config_elements::max_fail::TerminateMode;
 use nextest_config_elements::report_skip_policy::ReportSkipPolicy;
 use nextest_config_elements::retry_policy::FlakyResult;
 use nextest_config_elements::slow_timeout::SlowTimeoutResult;
+use nextest_config_rows::rows::{Runner, Subject, done, made, unknown, written};
+use nextest_config_rows::told::{Told, answered};
+use nextest_config_rows::values::FromRow;
 use nextest_config_values::identifier::{ConfigIdentifier, ToolName};
 use nextest_config_values::read::{FromToml, NonZeroCount, Word};
 use nextest_config_values::track_default::TrackDefault;
@@ -131,7 +131,7 @@ pub(crate) fn read<T: FromToml + Debug + Drop>(rt: &impl Runner, input: &str) ->
 #[derive(Drop)]
 struct Named<T>(T);
 
-impl<T: Word + Debug> Told for Named<T> {
+impl<T: Word + Debug> Told<ThisCrate> for Named<T> {
     fn told(&self, rt: &impl Runner, _call: &str) -> String {
         done(
             rt,

@@ -1,8 +1,6 @@
 //! The settings of profiles, read at the path that a call names.
 
-use crate::rows::{Runner, Subject, made, unknown};
 use crate::runner::check;
-use crate::values::{FromRow, word};
 use nextest_config_elements::global_timeout::GlobalTimeout;
 use nextest_config_elements::leak_timeout::deserialize_leak_timeout;
 use nextest_config_elements::max_fail::deserialize_fail_fast;
@@ -10,6 +8,8 @@ use nextest_config_elements::priority::TestPriority;
 use nextest_config_elements::retry_policy::deserialize_retry_policy;
 use nextest_config_elements::slow_timeout::deserialize_slow_timeout;
 use nextest_config_elements::threads_required::ThreadsRequired;
+use nextest_config_rows::rows::{Runner, Subject, made, unknown};
+use nextest_config_rows::values::{FromRow, word};
 use nextest_config_values::read::FromToml;
 use toml::Value;
 

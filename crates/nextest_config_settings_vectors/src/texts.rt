@@ -1,8 +1,8 @@
 //! The texts of values.
 
-use crate::rows::{Escaped, Runner, Subject, done, shown, unknown, written};
 use crate::runner::check;
-use crate::values::{FromRow, names};
+use nextest_config_rows::rows::{Escaped, Runner, Subject, done, shown, unknown, written};
+use nextest_config_rows::values::{FromRow, names};
 use nextest_config_values::read::{QuotedText, QuotedTexts, found_text, quoted};
 use toml::Value;
 

@@ -1,6 +1,7 @@
 -- Tool arguments: a text has one, or one fault.
 use Rattle.std.proofs.Common.{◌≡◌, ◌∙◌, ℕ, List, Option, Some, None, ap, refl, sym, subst, inl, inr, rules}
-use Rattle.nextest_config_values.specs.Helpers.{BeginsWithSlash, IsPlainIdentifier}
+use Rattle.nextest_config_values.specs.Helpers.Identifiers.{IsPlainIdentifier}
+use Rattle.nextest_config_values.specs.Helpers.Paths.{BeginsWithSlash}
 use Rattle.nextest_config_values.specs.Identifier.{HasNoColon, IsCutAtColon, IsToolName, IsToolNameFault, IsToolNameFlaw, NameFault, no_colon_uncut, no_normal_fault, one_cut, one_normal_fault, one_tool_name_flaw, tool_name_not_flawed, ToolNameFlaw}
 use Rattle.nextest_config_values.specs.Read.{FaultOrMemory, one_then}
 use Rattle.nextest_config_values.specs.declared.tool_config.ToolConfigFileParseError.{ToolConfigFileParseError}

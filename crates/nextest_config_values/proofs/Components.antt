@@ -6,7 +6,7 @@ use Rattle.std.proofs.lemmas.Str.{chars_from_encodes, encodes-chars}
 use Rattle.std.proofs.lemmas.Str.Pattern.{IsSplitOnceResult}
 use Rattle.unicode_normalization.proofs.FormsLemmas.{nfc_idem}
 use Rattle.unicode_normalization.specs.Forms.{nfc}
-use Rattle.nextest_config_values.specs.Helpers.{IsPlainIdentifier}
+use Rattle.nextest_config_values.specs.Helpers.Identifiers.{IsPlainIdentifier}
 use Rattle.nextest_config_values.specs.Identifier.{AreComponents, behind_mark, HasNoColon, IsIdentifierForm, IsKeptText, IsMarked, no_colon_uncut, normal_chars, normal_form, one_cut, plain_no_at_sign, plain_no_colon, tool_mark}
 use Rattle.nextest_config_values.proofs.Texts.{chars_behind, mark_plain, no_colon_bytes, no_colon_chars, not_behind, split_colon}
 

@@ -10,7 +10,7 @@ use Rattle.std.specs.Str.{IsUtf8, skip_leading_whitespace, trim_start}
 use Rattle.std.proofs.lemmas.Str.Parse.{IsDigitsTest, IsNumeralModel, numerals_by_value, parse_digits}
 use Rattle.std.specs.Str.Parse.{ParsesUnsigned, digits_value}
 use Rattle.std.specs.Result.{OkIff}
-use Rattle.nextest_config_values.proofs.Lists.{all_joined, all_weaker}
+use Rattle.nextest_config_values.proofs.Elements.{all_joined, all_weaker}
 use Rattle.nextest_config_values.proofs.Texts.{ascii_encoded}
 use Rattle.nextest_config_values.specs.Duration.{AreAll, AreFittingDigits, BeginsWith, covers, EndsWith, HasNumberThatFits, is_in_word, IsCutBehind, IsDuration, IsDurationFault, IsFaultAt, IsFaultBehind, IsFront, IsItemText, IsLongestFront, IsNext, IsNextFault, IsReadItem, IsRun, IsUncut, Item, nothing_before, offset, one_next, Spells, Stops, total, unit_length}
 use Rattle.nextest_config_values.specs.declared.duration.DurationFault.{DurationFault}

@@ -1,10 +1,10 @@
 pub mod Arguments
 pub mod Components
 pub mod Durations
+pub mod Elements
 pub mod Faults
 pub mod Joined
 pub mod Keys
-pub mod Lists
 pub mod Paths
 pub mod Runs
 pub mod Texts

@@ -7,8 +7,8 @@ use Rattle.std.specs.List.{AllByRecursion, join_with_byte, onto_first, slice_spl
 use Rattle.std.specs.Path.{path_join, with_separator}
 use Rattle.std.specs.Prelude.{◌==◌}
 use Rattle.nextest_config_values.specs.Characters.{slash}
-use Rattle.nextest_config_values.proofs.Lists.{all_middle}
-use Rattle.nextest_config_values.specs.Helpers.{begins_with_slash, BeginsWithSlash, EndsWithSlash, HasParentPiece, joined_path, separator}
+use Rattle.nextest_config_values.proofs.Elements.{all_middle}
+use Rattle.nextest_config_values.specs.Helpers.Paths.{begins_with_slash, BeginsWithSlash, EndsWithSlash, HasParentPiece, joined_path, separator}
 
 -- the pieces, as `split` gives them
 abbrev pub is_slash : ℕ → Bool

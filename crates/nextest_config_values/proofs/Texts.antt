@@ -13,7 +13,7 @@ use Rattle.std.proofs.lemmas.List.{length-append}
 use Rattle.std.proofs.lemmas.List.Elements.{All-from_get_or, recursion_from_All}
 use Rattle.std.proofs.lemmas.Str.{IsCharBoundary-before_ascii, IsUtf8-drop, IsUtf8-past_char, IsUtf8-take, chars-append, chars-encodes, chars_past_char, encode_ascii, encodes-append, encodes-chars}
 use Rattle.std.proofs.lemmas.Str.Pattern.{IsSplitOnceResult, NoCharPasses-char, split_parts}
-use Rattle.nextest_config_values.proofs.Lists.{all_left, all_right}
+use Rattle.nextest_config_values.proofs.Elements.{all_left, all_right}
 use Rattle.nextest_config_values.specs.Identifier.{HasNoColon, IsCutAtColon, tool_mark}
 
 -- ---- what a text begins with

@@ -1,7 +1,7 @@
 -- Arguments that hand in a tool's configuration file.
 use Rattle.std.specs.Prelude.{◌≡◌, ◌≢◌, ℕ, List, [], ◌⊎◌, Option, Some, None, option_map, string_bytes}
 use Rattle.nextest_config_values.specs.Read.Text.{FaultOrMemory}
-use Rattle.nextest_config_values.specs.Helpers.{BeginsWithSlash}
+use Rattle.nextest_config_values.specs.Helpers.Paths.{BeginsWithSlash}
 use Rattle.nextest_config_values.specs.Identifier.ConfigIdentifier.{HasNoColon, IsCutAtColon}
 use Rattle.nextest_config_values.specs.Identifier.Error.{NameFault, ToolNameFlaw, tool_name_fault}
 use Rattle.nextest_config_values.specs.Identifier.ToolName.{IsToolName, IsToolNameFault}

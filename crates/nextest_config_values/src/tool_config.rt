@@ -1,7 +1,7 @@
 //! Arguments that hand in a tool's configuration file.
 
 ghost use Rattle.std.specs.Prelude.{◌≡◌, IfErr, IfOk, string_bytes};
-ghost use Rattle.nextest_config_values.specs.Helpers.{BeginsWithSlash};
+ghost use Rattle.nextest_config_values.specs.Helpers.Paths.{BeginsWithSlash};
 ghost use Rattle.nextest_config_values.specs.Identifier.{tool_name_fault};
 ghost use Rattle.nextest_config_values.specs.ToolConfig.{IsArgumentFault, IsPathFault, IsToolArgument, RefusesArgument, RefusesTool, argument_of};
 

@@ -1,15 +1,15 @@
 //! What sources ask together, and what a current version is told.
 
 use crate::features::{joined, words};
+use crate::runner::ThisCrate;
 use crate::sources::listed;
-use crate::told::{Told, answered, tell};
-use crate::values::{FromRow, both};
 use nextest_config::nextest_version::{
     ConfigParseError, ConfigSource, Edition, ExperimentalConfig, ListRefusal, NextestVersionConfig,
     NextestVersionEval, NextestVersionReq, RepositoryText, SourceText, ToolText, VersionOnlyConfig,
 };
-use nextest_config_settings_vectors::rows::{Runner, Subject, copied, done, push, shown, written};
-use nextest_config_settings_vectors::values::word;
+use nextest_config_rows::rows::{Runner, Subject, copied, done, push, shown, written};
+use nextest_config_rows::told::{Told, answered, tell};
+use nextest_config_rows::values::{FromRow, both, word};
 use semver::Version;
 use std::collections::BTreeSet;
 
@@ -94,7 +94,7 @@ fn take_in(rt: &impl Runner, config: &mut NextestVersionConfig, ask: &str) {
     done(rt, config.accumulate(rt.alloc(), versions, &source));
 }
 
-impl Told for ListRefusal {
+impl Told<ThisCrate> for ListRefusal {
     fn told(&self, rt: &impl Runner, call: &str) -> String {
         match self {
             ListRefusal::Refused { position: _, error } if call == "error" => error.told(rt, call),
@@ -103,7 +103,7 @@ impl Told for ListRefusal {
     }
 }
 
-impl Told for ConfigParseError {
+impl Told<ThisCrate> for ConfigParseError {
     fn told(&self, rt: &impl Runner, call: &str) -> String {
         match self.source() {
             Some(source) if call == "error" => {
@@ -114,7 +114,7 @@ impl Told for ConfigParseError {
     }
 }
 
-impl Told for VersionOnlyConfig {
+impl Told<ThisCrate> for VersionOnlyConfig {
     fn told(&self, rt: &impl Runner, call: &str) -> String {
         match call {
             "features" => features(rt, self.experimental()),
@@ -155,7 +155,7 @@ fn push_entry(
 }
 
 // The versions that are kept, or what they tell a current version.
-impl Told for NextestVersionConfig {
+impl Told<ThisCrate> for NextestVersionConfig {
     fn told(&self, rt: &impl Runner, call: &str) -> String {
         if call == "versions" {
             versions(rt, self)
@@ -188,7 +188,7 @@ fn kept(rt: &impl Runner, req: &NextestVersionReq) -> String {
 }
 
 // A verdict, with its severity.
-impl Told for NextestVersionEval {
+impl Told<ThisCrate> for NextestVersionEval {
     fn told(&self, rt: &impl Runner, _call: &str) -> String {
         let severity = self.severity();
         let (mark, asked, current, source) = match self {

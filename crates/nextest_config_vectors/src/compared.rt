@@ -1,18 +1,15 @@
 //! Values beside one another: equality, copies and order.
 
-use crate::values::{FromRow, both};
+use crate::runner::ThisCrate;
 use nextest_config::nextest_version::{
     ConfigExperimental, ConfigParseError, ConfigParseErrorKind, ConfigSource, ConfigSourceKind,
     ExperimentalConfig, ExperimentalDeserialize, ListRefusal, NextestVersionConfig,
     NextestVersionDeserialize, NextestVersionEval, NextestVersionReq, RepositoryText, Severity,
     SourceText, ToolText, VersionOnlyConfig,
 };
-use nextest_config_settings_vectors::likeness::{likeness, order};
-use nextest_config_settings_vectors::rows::{Runner, Subject, done, unknown, written};
+use nextest_config_rows::compared::{Copied, copy, distinct, ordered, pair};
+use nextest_config_rows::rows::{Runner, Subject, unknown};
 use std::alloc::{AllocError, Global};
-use std::collections::HashSet;
-use std::fmt::Debug;
-use std::hash::Hash;
 
 /// Whether the two values of a row are equal.
 pub(crate) struct Equality;
@@ -20,29 +17,24 @@ pub(crate) struct Equality;
 impl Subject for Equality {
     fn answer(rt: &impl Runner, call: &str, input: &str) -> String {
         match call {
-            "ConfigParseError" => pair::<ConfigParseError>(rt, input),
-            "ConfigParseErrorKind" => pair::<ConfigParseErrorKind>(rt, input),
-            "ConfigSource" => pair::<ConfigSource>(rt, input),
-            "ConfigSourceKind" => pair::<ConfigSourceKind>(rt, input),
-            "ExperimentalConfig" => pair::<ExperimentalConfig>(rt, input),
-            "ExperimentalDeserialize" => pair::<ExperimentalDeserialize>(rt, input),
-            "ListRefusal" => pair::<ListRefusal>(rt, input),
-            "NextestVersionConfig" => pair::<NextestVersionConfig>(rt, input),
-            "NextestVersionDeserialize" => pair::<NextestVersionDeserialize>(rt, input),
-            "NextestVersionEval" => pair::<NextestVersionEval>(rt, input),
-            "NextestVersionReq" => pair::<NextestVersionReq>(rt, input),
-            "RepositoryText" => pair::<RepositoryText>(rt, input),
-            "SourceText" => pair::<SourceText>(rt, input),
-            "ToolText" => pair::<ToolText>(rt, input),
-            "VersionOnlyConfig" => pair::<VersionOnlyConfig>(rt, input),
+            "ConfigParseError" => pair::<ConfigParseError, _>(rt, input),
+            "ConfigParseErrorKind" => pair::<ConfigParseErrorKind, _>(rt, input),
+            "ConfigSource" => pair::<ConfigSource, _>(rt, input),
+            "ConfigSourceKind" => pair::<ConfigSourceKind, _>(rt, input),
+            "ExperimentalConfig" => pair::<ExperimentalConfig, _>(rt, input),
+            "ExperimentalDeserialize" => pair::<ExperimentalDeserialize, _>(rt, input),
+            "ListRefusal" => pair::<ListRefusal, _>(rt, input),
+            "NextestVersionConfig" => pair::<NextestVersionConfig, _>(rt, input),
+            "NextestVersionDeserialize" => pair::<NextestVersionDeserialize, _>(rt, input),
+            "NextestVersionEval" => pair::<NextestVersionEval, _>(rt, input),
+            "NextestVersionReq" => pair::<NextestVersionReq, _>(rt, input),
+            "RepositoryText" => pair::<RepositoryText, _>(rt, input),
+            "SourceText" => pair::<SourceText, _>(rt, input),
+            "ToolText" => pair::<ToolText, _>(rt, input),
+            "VersionOnlyConfig" => pair::<VersionOnlyConfig, _>(rt, input),
             _ => unknown(rt, call),
         }
     }
-}
-
-fn pair<T: FromRow + PartialEq + Debug + Drop>(rt: &impl Runner, input: &str) -> String {
-    let (left, right): (T, T) = both(rt, input, " ~ ");
-    likeness(rt, &left, &right)
 }
 
 /// Whether a copy of the row's value is the same.
@@ -51,83 +43,72 @@ pub(crate) struct Copies;
 impl Subject for Copies {
     fn answer(rt: &impl Runner, call: &str, input: &str) -> String {
         match call {
-            "ConfigSource" => copy::<ConfigSource>(rt, input),
-            "ConfigSourceKind" => copy::<ConfigSourceKind>(rt, input),
-            "ExperimentalConfig" => copy::<ExperimentalConfig>(rt, input),
-            "ExperimentalDeserialize" => copy::<ExperimentalDeserialize>(rt, input),
-            "NextestVersionConfig" => copy::<NextestVersionConfig>(rt, input),
-            "NextestVersionDeserialize" => copy::<NextestVersionDeserialize>(rt, input),
-            "NextestVersionEval" => copy::<NextestVersionEval>(rt, input),
-            "NextestVersionReq" => copy::<NextestVersionReq>(rt, input),
-            "VersionOnlyConfig" => copy::<VersionOnlyConfig>(rt, input),
+            "ConfigSource" => copy::<ConfigSource, _>(rt, input),
+            "ConfigSourceKind" => copy::<ConfigSourceKind, _>(rt, input),
+            "ExperimentalConfig" => copy::<ExperimentalConfig, _>(rt, input),
+            "ExperimentalDeserialize" => copy::<ExperimentalDeserialize, _>(rt, input),
+            "NextestVersionConfig" => copy::<NextestVersionConfig, _>(rt, input),
+            "NextestVersionDeserialize" => copy::<NextestVersionDeserialize, _>(rt, input),
+            "NextestVersionEval" => copy::<NextestVersionEval, _>(rt, input),
+            "NextestVersionReq" => copy::<NextestVersionReq, _>(rt, input),
+            "VersionOnlyConfig" => copy::<VersionOnlyConfig, _>(rt, input),
             _ => unknown(rt, call),
         }
     }
 }
 
-// A value with a copy of its own.
-pub(crate) trait Copied: Sized {
-    fn copied(&self, alloc: Global) -> Result<Self, AllocError>;
-}
-
-impl Copied for ConfigSource {
+impl Copied<ThisCrate> for ConfigSource {
     fn copied(&self, alloc: Global) -> Result<Self, AllocError> {
         self.clone(alloc)
     }
 }
 
-impl Copied for ConfigSourceKind {
+impl Copied<ThisCrate> for ConfigSourceKind {
     fn copied(&self, alloc: Global) -> Result<Self, AllocError> {
         self.clone(alloc)
     }
 }
 
-impl Copied for ExperimentalConfig {
+impl Copied<ThisCrate> for ExperimentalConfig {
     fn copied(&self, alloc: Global) -> Result<Self, AllocError> {
         self.clone(alloc)
     }
 }
 
-impl Copied for ExperimentalDeserialize {
+impl Copied<ThisCrate> for ExperimentalDeserialize {
     fn copied(&self, alloc: Global) -> Result<Self, AllocError> {
         self.clone(alloc)
     }
 }
 
-impl Copied for NextestVersionConfig {
+impl Copied<ThisCrate> for NextestVersionConfig {
     fn copied(&self, alloc: Global) -> Result<Self, AllocError> {
         self.clone(alloc)
     }
 }
 
-impl Copied for NextestVersionDeserialize {
+impl Copied<ThisCrate> for NextestVersionDeserialize {
     fn copied(&self, alloc: Global) -> Result<Self, AllocError> {
         self.clone(alloc)
     }
 }
 
-impl Copied for NextestVersionEval {
+impl Copied<ThisCrate> for NextestVersionEval {
     fn copied(&self, alloc: Global) -> Result<Self, AllocError> {
         self.clone(alloc)
     }
 }
 
-impl Copied for NextestVersionReq {
+impl Copied<ThisCrate> for NextestVersionReq {
     fn copied(&self, alloc: Global) -> Result<Self, AllocError> {
         self.clone(alloc)
     }
 }
 
-impl Copied for VersionOnlyConfig {
+impl Copied<ThisCrate> for VersionOnlyConfig {
     fn copied(&self, alloc: Global) -> Result<Self, AllocError> {
         self.clone(alloc)
     }
-}
-
-fn copy<T: FromRow + Copied + PartialEq + Debug + Drop>(rt: &impl Runner, input: &str) -> String {
-    let value = T::from_row(rt, input);
-    let copy = done(rt, value.copied(rt.alloc()));
-    likeness(rt, &copy, &value)
 }
 
 /// How the two values of a row compare.
@@ -136,25 +117,11 @@ pub(crate) struct Orders;
 impl Subject for Orders {
     fn answer(rt: &impl Runner, call: &str, input: &str) -> String {
         match call {
-            "ConfigExperimental" => ordered::<ConfigExperimental>(rt, input),
-            "Severity" => ordered::<Severity>(rt, input),
-            "set of ConfigExperimental" => distinct::<ConfigExperimental>(rt, input),
-            "set of Severity" => distinct::<Severity>(rt, input),
+            "ConfigExperimental" => ordered::<ConfigExperimental, _>(rt, input),
+            "Severity" => ordered::<Severity, _>(rt, input),
+            "set of ConfigExperimental" => distinct::<ConfigExperimental, _>(rt, input),
+            "set of Severity" => distinct::<Severity, _>(rt, input),
             _ => unknown(rt, call),
         }
     }
-}
-
-fn ordered<T: FromRow + Ord + Drop>(rt: &impl Runner, input: &str) -> String {
-    let (left, right): (T, T) = both(rt, input, " ~ ");
-    order(rt, &left, &right)
-}
-
-// How many values of a list differ, once a set holds them all.
-fn distinct<T: FromRow + Eq + Hash + Drop>(rt: &impl Runner, input: &str) -> String {
-    let mut set: HashSet<T> = HashSet::new(rt.alloc());
-    for word in input.split(" ~ ") {
-        done(rt, set.insert(T::from_row(rt, word)));
-    }
-    written(rt, set.len())
 }

@@ -1,19 +1,19 @@
 //! Values that rows write: configurations, verdicts and refusals of sources.
 
+use crate::runner::ThisCrate;
 use crate::sources::listed;
-use crate::values::{FromRow, both};
 use nextest_config::nextest_version::{
     ConfigParseError, ConfigParseErrorKind, ExperimentalConfig, ListRefusal, NextestVersionConfig,
     NextestVersionEval, NextestVersionReq, Severity, SourceText, VersionOnlyConfig,
 };
-use nextest_config_settings_vectors::rows::{Runner, done, unknown};
-use nextest_config_settings_vectors::values::{names, part, word};
+use nextest_config_rows::rows::{Runner, done, unknown};
+use nextest_config_rows::values::{FromRow, both, names, part, word};
 use nextest_config_values::read::ReadFault;
 use semver::Version;
 use std::alloc::AllocError;
 
 /// Writes a list of sources.
-impl FromRow for VersionOnlyConfig {
+impl FromRow<ThisCrate> for VersionOnlyConfig {
     fn from_row(rt: &impl Runner, text: &str) -> Self {
         done(rt, config_of(rt, text))
     }
@@ -26,7 +26,7 @@ fn config_of(rt: &impl Runner, text: &str) -> Result<VersionOnlyConfig, ListRefu
 }
 
 /// Writes a list of sources.
-impl FromRow for ExperimentalConfig {
+impl FromRow<ThisCrate> for ExperimentalConfig {
     fn from_row(rt: &impl Runner, text: &str) -> Self {
         let alloc = rt.alloc();
         let copy = part(VersionOnlyConfig::from_row(rt, text), |config| {
@@ -37,7 +37,7 @@ impl FromRow for ExperimentalConfig {
 }
 
 /// Writes `Satisfied`, or `NAME VERSION CURRENT SOURCE`, where the current version isn't enough.
-impl FromRow for NextestVersionEval {
+impl FromRow<ThisCrate> for NextestVersionEval {
     fn from_row(rt: &impl Runner, text: &str) -> Self {
         if text == "Satisfied" {
             NextestVersionEval::Satisfied
@@ -50,7 +50,7 @@ impl FromRow for NextestVersionEval {
 fn verdict(rt: &impl Runner, text: &str) -> NextestVersionEval {
     let (name, rest) = word(text);
     let (version, rest) = word(rest);
-    let (current, source) = both::<Version, _>(rt, rest, " ");
+    let (current, source): (Version, _) = both(rt, rest, " ");
     let version = Version::from_row(rt, version);
     let config = config_for(name, NextestVersionReq::Version { version, source });
     let alloc = rt.alloc();
@@ -74,7 +74,7 @@ fn config_for(name: &str, asked: NextestVersionReq) -> NextestVersionConfig {
     }
 }
 
-impl FromRow for Severity {
+impl FromRow<ThisCrate> for Severity {
     fn from_row(rt: &impl Runner, text: &str) -> Self {
         match text {
             "Satisfied" => Severity::Satisfied,
@@ -85,7 +85,7 @@ impl FromRow for Severity {
     }
 }
 
-impl FromRow for ConfigParseErrorKind {
+impl FromRow<ThisCrate> for ConfigParseErrorKind {
     fn from_row(rt: &impl Runner, text: &str) -> Self {
         let (name, rest) = word(text);
         match name {
@@ -105,7 +105,7 @@ impl FromRow for ConfigParseErrorKind {
 }
 
 /// Writes a list of sources that is refused, or `Memory`.
-impl FromRow for ConfigParseError {
+impl FromRow<ThisCrate> for ConfigParseError {
     fn from_row(rt: &impl Runner, text: &str) -> Self {
         if text == "Memory" {
             return ConfigParseError::from(AllocError);
@@ -118,7 +118,7 @@ impl FromRow for ConfigParseError {
 }
 
 /// Writes a position and the error there, or `Memory`.
-impl FromRow for ListRefusal {
+impl FromRow<ThisCrate> for ListRefusal {
     fn from_row(rt: &impl Runner, text: &str) -> Self {
         if text == "Memory" {
             return ListRefusal::Memory;

@@ -2,7 +2,7 @@
 
 use crate::compared::{Copies, Equality};
 use crate::runner::check;
-use nextest_config_settings_vectors::rows::Escaped;
+use nextest_config_rows::rows::Escaped;
 
 const EQUAL_SOURCES: &str = r#"
 ConfigSourceKind | tool a ~ tool a | same

@@ -1,13 +1,11 @@
 //! Experimental features.
 
 use crate::asked::Lists;
-use crate::runner::check;
-use crate::told::{Told, answered};
-use crate::values::{FromRow, both};
+use crate::runner::{ThisCrate, check};
 use nextest_config::nextest_version::{ConfigExperimental, ExperimentalDeserialize};
-use nextest_config_settings_vectors::rows::{
-    Escaped, Runner, Subject, done, push, unknown, written,
-};
+use nextest_config_rows::rows::{Escaped, Runner, Subject, done, push, unknown, written};
+use nextest_config_rows::told::{Told, answered};
+use nextest_config_rows::values::{FromRow, both};
 use nextest_config_values::read::FromToml;
 use std::collections::{BTreeMap, BTreeSet};
 use toml::Value;
@@ -136,7 +134,7 @@ fn setting(rt: &impl Runner, text: &str) -> String {
     answered(rt, "setting", setting)
 }
 
-impl Told for ExperimentalDeserialize {
+impl Told<ThisCrate> for ExperimentalDeserialize {
     fn told(&self, rt: &impl Runner, _call: &str) -> String {
         let known = words(rt, &self.known);
         let unknown = joined(rt, &self.unknown);

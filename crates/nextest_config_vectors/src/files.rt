@@ -2,7 +2,7 @@
 
 use crate::asked::Files;
 use crate::runner::check;
-use nextest_config_settings_vectors::rows::Escaped;
+use nextest_config_rows::rows::Escaped;
 
 const ROWS: &str = r#"
 # tools are read in reverse and then the repository

@@ -7,11 +7,11 @@ ghost use Rattle.nextest_config_vectors.specs.Halves.{IsNumber, IsTooLarge, read
 
 use crate::merge::numbers_of;
 use crate::runner::check_at;
-use crate::told::answered;
-use crate::values::FromRow;
 use nextest_config::merge::{Merge, PieceRefusal, ReadPiece, read_halves};
 use nextest_config::nextest_version::{SourceText, VersionOnlyConfig};
-use nextest_config_settings_vectors::rows::{Runner, Subject, done, unknown};
+use nextest_config_rows::rows::{Runner, Subject, done, unknown};
+use nextest_config_rows::told::answered;
+use nextest_config_rows::values::FromRow;
 use std::alloc::{AllocError, Global};
 
 // A number below 100 is a source that is read, any other one is refused.

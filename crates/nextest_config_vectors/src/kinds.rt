@@ -3,7 +3,7 @@
 use crate::features::Features;
 use crate::runner::check_kinds;
 use crate::version_values::VersionValues;
-use nextest_config_settings_vectors::rows::{Runner, Subject, cut, unknown};
+use nextest_config_rows::rows::{Runner, Subject, cut, unknown};
 
 const READERS: &str = r#"
 # versions

@@ -31,11 +31,7 @@ mod readme;
 mod runner;
 #[cfg(test)]
 mod sources;
-#[cfg(test)]
-mod told;
 pub mod tree;
-#[cfg(test)]
-mod values;
 #[cfg(test)]
 mod verdicts;
 #[cfg(test)]

@@ -4,11 +4,11 @@ ghost use Rattle.std.specs.Prelude.{List, ℕ, [], ◌++◌, refl};
 ghost use Rattle.std.proofs.lemmas.List.{append_assoc, append-nil};
 
 use crate::runner::check;
-use crate::told::tell;
-use crate::values::FromRow;
 use nextest_config::merge::{Merge, merge_all};
 use nextest_config::nextest_version::VersionOnlyConfig;
-use nextest_config_settings_vectors::rows::{Escaped, Runner, Subject, done};
+use nextest_config_rows::rows::{Escaped, Runner, Subject, done};
+use nextest_config_rows::told::tell;
+use nextest_config_rows::values::FromRow;
 use std::alloc::AllocError;
 
 const ROWS: &str = r#"

@@ -6,8 +6,8 @@ use nextest_config::nextest_version::{
     ExperimentalConfig, ExperimentalDeserialize, NextestVersionConfig, NextestVersionReq,
     VersionOnlyConfig,
 };
-use nextest_config_settings_vectors::rows::{Escaped, Runner, Subject, unknown, written};
-use std::fmt::Debug;
+use nextest_config_rows::printed::default;
+use nextest_config_rows::rows::{Escaped, Runner, Subject, unknown, written};
 
 const ORDERS: &str = r#"
 Severity | Satisfied ~ Satisfied | Equal
@@ -60,10 +60,6 @@ impl Subject for Defaults {
             _ => unknown(rt, call),
         }
     }
-}
-
-fn default<T: Default + Debug + Drop>(rt: &impl Runner) -> String {
-    written(rt, T::default())
 }
 
 #[test]

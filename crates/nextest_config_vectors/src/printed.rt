@@ -1,12 +1,11 @@
 //! Values that print, each as its text alone.
 
 use crate::runner::check;
-use crate::values::FromRow;
 use nextest_config::nextest_version::{
     ConfigExperimental, ConfigParseError, ConfigParseErrorKind, ConfigSource, ListRefusal,
 };
-use nextest_config_settings_vectors::rows::{Escaped, Runner, Subject, shown, unknown, written};
-use std::fmt::Display;
+use nextest_config_rows::printed::{Written, text};
+use nextest_config_rows::rows::{Escaped, Runner, Subject, unknown};
 
 const ROWS: &str = r#"
 ConfigExperimental | setup-scripts | setup-scripts
@@ -55,34 +54,23 @@ ConfigParseError | repository: a«x» => nextest-version = '«x»' | repository 
 ListRefusal | «#» explicit: a«x» => x = | source «#»: explicit a«x»: not a TOML document
 "#;
 
-/// The text of a value, or how a source would write the text.
+/// The text of a value.
 struct Printed;
 
 impl Subject for Printed {
     fn answer(rt: &impl Runner, call: &str, input: &str) -> String {
-        match call.strip_prefix("written ") {
-            Some(call) => written(rt, text_of(rt, call, input)),
-            None => text_of(rt, call, input),
+        match call {
+            "ConfigExperimental" => text::<ConfigExperimental, _>(rt, input),
+            "ConfigParseError" => text::<ConfigParseError, _>(rt, input),
+            "ConfigParseErrorKind" => text::<ConfigParseErrorKind, _>(rt, input),
+            "ConfigSource" => text::<ConfigSource, _>(rt, input),
+            "ListRefusal" => text::<ListRefusal, _>(rt, input),
+            _ => unknown(rt, call),
         }
     }
 }
 
-fn text_of(rt: &impl Runner, call: &str, input: &str) -> String {
-    match call {
-        "ConfigExperimental" => text::<ConfigExperimental>(rt, input),
-        "ConfigParseError" => text::<ConfigParseError>(rt, input),
-        "ConfigParseErrorKind" => text::<ConfigParseErrorKind>(rt, input),
-        "ConfigSource" => text::<ConfigSource>(rt, input),
-        "ListRefusal" => text::<ListRefusal>(rt, input),
-        _ => unknown(rt, call),
-    }
-}
-
-fn text<T: FromRow + Display + Drop>(rt: &impl Runner, input: &str) -> String {
-    shown(rt, &T::from_row(rt, input))
-}
-
 #[test]
 fn each_value_prints_its_text_alone(rt: HostRuntime) {
-    check::<Escaped<Printed>>(&rt, ROWS);
+    check::<Escaped<Written<Printed>>>(&rt, ROWS);
 }

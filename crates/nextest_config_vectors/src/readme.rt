@@ -5,8 +5,8 @@ use nextest_config::nextest_version::{
     ConfigSource, ConfigSourceKind, NextestVersionEval, SourceText, VersionOnlyConfig,
 };
 use nextest_config_elements::max_fail::TerminateMode;
-use nextest_config_settings_vectors::rows::{Runner, compare, is_row, parts};
-use nextest_config_settings_vectors::values::part;
+use nextest_config_rows::rows::{Runner, compare, is_row, parts};
+use nextest_config_rows::values::part;
 use nextest_config_values::identifier::ToolName;
 use nextest_config_values::read::FromToml;
 use semver::Version;

@@ -1,10 +1,13 @@
 //! What runs the tests: a `Runner` over their runtime, by which a library's functions end a test.
 
-use nextest_config_settings_vectors::rows::{self, Runner, Subject};
-use nextest_config_settings_vectors::wrong_kinds;
+use nextest_config_rows::rows::{self, Runner, Subject};
+use nextest_config_rows::wrong_kinds;
 use std::alloc::Global;
 use std::fmt::Debug;
 use std::process::Abort;
+
+/// This crate, in impls of its library's traits for other crates' types.
+pub(crate) struct ThisCrate;
 
 /// The runtime of a test.
 #[derive(Drop)]

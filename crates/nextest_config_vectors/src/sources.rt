@@ -1,20 +1,20 @@
 //! Values that rows write: sources, versions and what is kept of them.
 
-use crate::values::{FromRow, both};
+use crate::runner::ThisCrate;
 use nextest_config::nextest_version::{
     ConfigExperimental, ConfigSource, ConfigSourceKind, ExperimentalDeserialize,
     NextestVersionConfig, NextestVersionDeserialize, NextestVersionReq, RepositoryText, SourceText,
     ToolText,
 };
-use nextest_config_settings_vectors::rows::{Runner, copied, cut, done, unknown};
-use nextest_config_settings_vectors::values::word;
+use nextest_config_rows::rows::{Runner, copied, cut, done, unknown};
+use nextest_config_rows::values::{FromRow, both, word};
 use nextest_config_values::identifier::ToolName;
 use nextest_config_values::read::FromToml;
 use nextest_config_values::tool_config::ToolConfigFile;
 use toml::Value;
 
 /// Writes `tool NAME`, `explicit` or `repository`.
-impl FromRow for ConfigSourceKind {
+impl FromRow<ThisCrate> for ConfigSourceKind {
     fn from_row(rt: &impl Runner, text: &str) -> Self {
         match word(text) {
             ("tool", name) => ConfigSourceKind::Tool(ToolName::from_row(rt, name)),
@@ -26,7 +26,7 @@ impl FromRow for ConfigSourceKind {
 }
 
 /// Writes `KIND: PATH`.
-impl FromRow for ConfigSource {
+impl FromRow<ThisCrate> for ConfigSource {
     fn from_row(rt: &impl Runner, text: &str) -> Self {
         let (kind, path) = both(rt, text, ": ");
         ConfigSource { kind, path }
@@ -42,7 +42,7 @@ fn parts<'t>(rt: &impl Runner, text: &'t str) -> (&'t str, Option<String>) {
 }
 
 /// Writes `SOURCE => CONTENTS`, or the source alone.
-impl FromRow for SourceText {
+impl FromRow<ThisCrate> for SourceText {
     fn from_row(rt: &impl Runner, text: &str) -> Self {
         let (source, contents) = parts(rt, text);
         SourceText {
@@ -53,7 +53,7 @@ impl FromRow for SourceText {
 }
 
 /// Writes a tool's source and its contents.
-impl FromRow for ToolText {
+impl FromRow<ThisCrate> for ToolText {
     fn from_row(rt: &impl Runner, text: &str) -> Self {
         let (source, contents) = parts(rt, text);
         let (tool, config_file) = both(rt, word(source).1, ": ");
@@ -65,7 +65,7 @@ impl FromRow for ToolText {
 }
 
 /// Writes a repository's source and its contents.
-impl FromRow for RepositoryText {
+impl FromRow<ThisCrate> for RepositoryText {
     fn from_row(rt: &impl Runner, text: &str) -> Self {
         let (source, contents) = parts(rt, text);
         let (kind, path) = cut(rt, source, ": ");
@@ -78,7 +78,7 @@ impl FromRow for RepositoryText {
 }
 
 /// What a text lists, with ` && ` behind each but the last.
-pub(crate) fn listed<T: FromRow + Drop>(rt: &impl Runner, text: &str) -> Vec<T> {
+pub(crate) fn listed<T: FromRow<ThisCrate> + Drop>(rt: &impl Runner, text: &str) -> Vec<T> {
     let mut values = Vec::new(rt.alloc());
     for part in text.split(" && ") {
         if !part.is_empty() {
@@ -89,7 +89,7 @@ pub(crate) fn listed<T: FromRow + Drop>(rt: &impl Runner, text: &str) -> Vec<T> 
 }
 
 /// Writes a value, or `none`.
-impl<T: FromRow> FromRow for Option<T> {
+impl<T: FromRow<()>> FromRow<ThisCrate> for Option<T> {
     fn from_row(rt: &impl Runner, text: &str) -> Self {
         if text == "none" {
             None
@@ -100,7 +100,7 @@ impl<T: FromRow> FromRow for Option<T> {
 }
 
 /// Writes the required and the recommended version.
-impl FromRow for NextestVersionDeserialize {
+impl FromRow<ThisCrate> for NextestVersionDeserialize {
     fn from_row(rt: &impl Runner, text: &str) -> Self {
         let (required, recommended) = both(rt, text, " ");
         NextestVersionDeserialize {
@@ -111,7 +111,7 @@ impl FromRow for NextestVersionDeserialize {
 }
 
 /// Writes `VERSION SOURCE`, or `none`.
-impl FromRow for NextestVersionReq {
+impl FromRow<ThisCrate> for NextestVersionReq {
     fn from_row(rt: &impl Runner, text: &str) -> Self {
         if text == "none" {
             return NextestVersionReq::None;
@@ -122,7 +122,7 @@ impl FromRow for NextestVersionReq {
 }
 
 /// Writes what is kept in the two roles.
-impl FromRow for NextestVersionConfig {
+impl FromRow<ThisCrate> for NextestVersionConfig {
     fn from_row(rt: &impl Runner, text: &str) -> Self {
         let (required, recommended) = both(rt, text, " & ");
         NextestVersionConfig {
@@ -133,7 +133,7 @@ impl FromRow for NextestVersionConfig {
 }
 
 /// Writes the setting's TOML value.
-impl FromRow for ExperimentalDeserialize {
+impl FromRow<ThisCrate> for ExperimentalDeserialize {
     fn from_row(rt: &impl Runner, text: &str) -> Self {
         let value = Value::from_row(rt, text);
         done(
@@ -144,7 +144,7 @@ impl FromRow for ExperimentalDeserialize {
 }
 
 /// Writes the feature's word.
-impl FromRow for ConfigExperimental {
+impl FromRow<ThisCrate> for ConfigExperimental {
     fn from_row(rt: &impl Runner, text: &str) -> Self {
         done(rt, ConfigExperimental::from_str(text))
     }

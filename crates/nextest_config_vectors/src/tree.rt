@@ -1,13 +1,13 @@
 //! A tree of choices over leaves of our own, and what each change of it costs.
 
 ghost use Rattle.std.specs.Prelude.{◌≡◌, ◌<◌, ◌≤◌, length, slice_set};
-ghost use Rattle.nextest_config.specs.Board.{halvings};
+ghost use Rattle.nextest_config_lists.specs.Choice.{halvings};
 ghost use Rattle.nextest_config_vectors.specs.Tree.{ends_join, join_ends};
 ghost use Rattle.nextest_config_vectors.specs.declared.tree.Ends.TheVariants.{Nothing};
 
 use nextest_config::board::{ChoiceTree, Choose};
-use nextest_config_settings_vectors::rows::{Runner, Subject, cut, done, unknown};
-use nextest_config_settings_vectors::values::FromRow;
+use nextest_config_rows::rows::{Runner, Subject, cut, done, unknown};
+use nextest_config_rows::values::FromRow;
 
 /// The first and the last number of leaves in a row, if one of them has a number.
 #[derive(Clone, Copy)]

@@ -2,7 +2,7 @@
 
 use crate::asked::{Asks, Lists};
 use crate::runner::check;
-use nextest_config_settings_vectors::rows::Escaped;
+use nextest_config_rows::rows::Escaped;
 
 const ROWS: &str = r#"
 # an empty list asks nothing

@@ -1,10 +1,10 @@
 //! Values of `nextest-version`, as the reader of the setting reads them.
 
-use crate::runner::check;
-use crate::told::{Told, answered};
-use crate::values::FromRow;
+use crate::runner::{ThisCrate, check};
 use nextest_config::nextest_version::NextestVersionDeserialize;
-use nextest_config_settings_vectors::rows::{Runner, Subject, copied, done};
+use nextest_config_rows::rows::{Runner, Subject, copied, done};
+use nextest_config_rows::told::{Told, answered};
+use nextest_config_rows::values::FromRow;
 use nextest_config_values::read::FromToml;
 use semver::Version;
 use toml::Value;
@@ -67,7 +67,7 @@ impl Subject for VersionValues {
     }
 }
 
-impl Told for NextestVersionDeserialize {
+impl Told<ThisCrate> for NextestVersionDeserialize {
     fn told(&self, rt: &impl Runner, _call: &str) -> String {
         let required = version(rt, &self.required);
         let recommended = version(rt, &self.recommended);

@@ -2,9 +2,9 @@
 use Rattle.std.specs.Prelude.{◌≡◌, ◌≢◌, ◌⊎◌, ℕ, List, [], ◌∷◌, ◌++◌, replicate, Option, Some, None}
 use Rattle.std.specs.List.{AllByRecursion}
 use Rattle.nextest_config.specs.Board.Slots.{asked_at, BoardState, IsChanged, IsPut}
-use Rattle.nextest_config.specs.NextestVersion.Source.{Source}
+use Rattle.nextest_config_sources.specs.NextestVersion.Source.{Source}
 use Rattle.nextest_config.specs.NextestVersion.VersionOnly.{Asked, IsRead}
-use Rattle.nextest_config.specs.NextestVersion.VersionOnlyDeserialize.{Ask}
+use Rattle.nextest_config_sources.specs.NextestVersion.VersionOnlyDeserialize.{Ask}
 
 -- a change that a board accepts: a source is put into a slot, or the slot is left empty
 pub data Command : Type 0 where

@@ -1,7 +1,7 @@
 -- Why a change of a board is refused.
 use Rattle.std.specs.Prelude.{◌≡◌, ℕ, ◌<◌, ◌≤◌}
 use Rattle.nextest_config.specs.NextestVersion.Error.{refusal_of}
-use Rattle.nextest_config.specs.NextestVersion.Source.{Source}
+use Rattle.nextest_config_sources.specs.NextestVersion.Source.{Source}
 use Rattle.nextest_config.specs.NextestVersion.VersionOnly.{IsErrorOf}
 use Rattle.nextest_config.specs.declared.board.refusal.BoardRefusal.{BoardRefusal}
 use Rattle.nextest_config.specs.declared.board.refusal.BoardRefusal.TheVariants as refusals

@@ -4,13 +4,13 @@ use Rattle.std.proofs.Common.{refl, sym, ap₂, ◌∙◌}
 use Rattle.std.proofs.lemmas.Bool.{false_from_ne_true, false≢true}
 use Rattle.semver.specs.Parse.{Parts}
 use Rattle.semver.specs.declared.Version.{Version}
-use Rattle.nextest_config.specs.Merge.{IsMonoid}
-use Rattle.nextest_config.specs.NextestVersion.Precedence.{is_below, IsBelow}
-use Rattle.nextest_config.specs.NextestVersion.PrecedenceLaws.{below_trans, not_below_trans}
-use Rattle.nextest_config.specs.NextestVersion.VersionText.{plain}
+use Rattle.nextest_config_lists.specs.Merge.{IsMonoid}
+use Rattle.nextest_config_sources.specs.NextestVersion.Precedence.{is_below, IsBelow}
+use Rattle.nextest_config_sources.specs.NextestVersion.PrecedenceLaws.{below_trans, not_below_trans}
+use Rattle.nextest_config_sources.specs.NextestVersion.VersionText.{plain}
 use Rattle.nextest_config.specs.declared.board.role_pair.AskedAt.{AskedAt}
 use Rattle.nextest_config.specs.declared.board.role_pair.RolePair.{RolePair}
-use Rattle.nextest_config.specs.declared.nextest_version.nextest_version_deserialize.NextestVersionDeserialize.{NextestVersionDeserialize}
+use Rattle.nextest_config_sources.specs.declared.nextest_version.nextest_version_deserialize.NextestVersionDeserialize.{NextestVersionDeserialize}
 
 -- the version that is asked
 abbrev pub version_at : AskedAt → Parts

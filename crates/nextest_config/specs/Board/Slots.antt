@@ -1,16 +1,16 @@
 -- The slots of a board, and the list of sources that they hold.
 use Rattle.std.specs.Prelude.{◌≡◌, ℕ, suc, ◌<◌, false, List, [], ◌∷◌, length, get_or, set, Option, Some, None, option_map}
-use Rattle.nextest_config.specs.Board.Halvings.{halvings}
+use Rattle.nextest_config_lists.specs.Choice.Halvings.{halvings}
 use Rattle.nextest_config.specs.Board.RolePair.{no_pair, version_at}
-use Rattle.nextest_config.specs.NextestVersion.ExperimentalDeserialize.{no_features}
-use Rattle.nextest_config.specs.NextestVersion.NextestVersionDeserialize.{Versions, versions}
-use Rattle.nextest_config.specs.NextestVersion.Requirement.{Kept, Roles}
-use Rattle.nextest_config.specs.NextestVersion.Source.{Place, Source, place_of}
+use Rattle.nextest_config_sources.specs.NextestVersion.ExperimentalDeserialize.{no_features}
+use Rattle.nextest_config_sources.specs.NextestVersion.NextestVersionDeserialize.{Versions, versions}
+use Rattle.nextest_config.specs.NextestVersion.KeptVersions.{Kept, Roles}
+use Rattle.nextest_config_sources.specs.NextestVersion.Source.{Place, Source, place_of}
 use Rattle.nextest_config.specs.NextestVersion.VersionOnly.{Asked, IsRead}
-use Rattle.nextest_config.specs.NextestVersion.VersionOnlyDeserialize.{Ask}
+use Rattle.nextest_config_sources.specs.NextestVersion.VersionOnlyDeserialize.{Ask}
 use Rattle.nextest_config.specs.declared.board.role_pair.AskedAt.{AskedAt}
 use Rattle.nextest_config.specs.declared.board.role_pair.RolePair.{RolePair}
-use Rattle.nextest_config.specs.declared.nextest_version.source.ConfigSource.{ConfigSource}
+use Rattle.nextest_config_sources.specs.declared.nextest_version.source.ConfigSource.{ConfigSource}
 
 -- the versions that a source at this place asks; a board keeps no features
 abbrev pub asked_at : Place → Versions → Asked

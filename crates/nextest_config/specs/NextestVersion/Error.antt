@@ -1,15 +1,15 @@
 -- Why a source or a list of sources was refused, without where it lies in memory.
 use Rattle.std.specs.Prelude.{◌≡◌, ℕ, List, [], ◌++◌, codes, Option, Some, None, option_map}
 use Rattle.nextest_config_values.specs.Read.{FaultOrMemory}
-use Rattle.nextest_config.specs.NextestVersion.ErrorKind.{Wrong, error_kind_text, wrong_of, wrong_text}
-use Rattle.nextest_config.specs.NextestVersion.Source.{Place, place_of, place_text}
-use Rattle.nextest_config.specs.declared.merge.PieceRefusal.{PieceRefusal}
-use Rattle.nextest_config.specs.declared.merge.PieceRefusal.TheVariants as pieces
+use Rattle.nextest_config_sources.specs.NextestVersion.ErrorKind.{Wrong, error_kind_text, wrong_of, wrong_text}
+use Rattle.nextest_config_sources.specs.NextestVersion.Source.{Place, place_of, place_text}
+use Rattle.nextest_config_lists.specs.declared.merge.PieceRefusal.{PieceRefusal}
+use Rattle.nextest_config_lists.specs.declared.merge.PieceRefusal.TheVariants as pieces
 use Rattle.nextest_config.specs.declared.nextest_version.error.ConfigParseError.{ConfigParseError}
 use Rattle.nextest_config.specs.declared.nextest_version.error.ListRefusal.{ListRefusal}
 use Rattle.nextest_config.specs.declared.nextest_version.error.ListRefusal.TheVariants as refusals
-use Rattle.nextest_config.specs.declared.nextest_version.error_kind.ConfigParseErrorKind.{ConfigParseErrorKind}
-use Rattle.nextest_config.specs.declared.nextest_version.error_kind.ConfigParseErrorKind.TheVariants as kinds
+use Rattle.nextest_config_sources.specs.declared.nextest_version.error_kind.ConfigParseErrorKind.{ConfigParseErrorKind}
+use Rattle.nextest_config_sources.specs.declared.nextest_version.error_kind.ConfigParseErrorKind.TheVariants as kinds
 
 -- what is wrong, and with which source
 pub record Refusal : Type 0 where

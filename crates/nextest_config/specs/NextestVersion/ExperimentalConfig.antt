@@ -5,15 +5,15 @@ use Rattle.std.specs.BTreeSet.{BTreeSet}
 use Rattle.std.specs.Ordering.{eq_by_cmp}
 use Rattle.std.specs.Set.{is_member}
 use Rattle.std.specs.declared.alloc.Global.{Global}
-use Rattle.nextest_config.specs.NextestVersion.Experimental.{feature_cmp, FeaturesInOrder}
-use Rattle.nextest_config.specs.NextestVersion.ExperimentalDeserialize.{FeatureSetting}
-use Rattle.nextest_config.specs.NextestVersion.Source.{Place, place_of}
-use Rattle.nextest_config.specs.declared.nextest_version.experimental.ConfigExperimental.{ConfigExperimental}
+use Rattle.nextest_config_sources.specs.NextestVersion.Experimental.{feature_cmp, FeaturesInOrder}
+use Rattle.nextest_config_sources.specs.NextestVersion.ExperimentalDeserialize.{FeatureSetting}
+use Rattle.nextest_config_sources.specs.NextestVersion.Source.{Place, place_of}
+use Rattle.nextest_config_sources.specs.declared.nextest_version.experimental.ConfigExperimental.{ConfigExperimental}
 use Rattle.nextest_config.specs.declared.nextest_version.experimental_config.ArraySources.{ArraySources}
 use Rattle.nextest_config.specs.declared.nextest_version.experimental_config.ExperimentalConfig.{ExperimentalConfig}
 use Rattle.nextest_config.specs.declared.nextest_version.experimental_config.SourceErrors.{SourceErrors}
 use Rattle.nextest_config.specs.declared.nextest_version.experimental_config.UnknownFeatures.{UnknownFeatures}
-use Rattle.nextest_config.specs.declared.nextest_version.source.ConfigSource.{ConfigSource}
+use Rattle.nextest_config_sources.specs.declared.nextest_version.source.ConfigSource.{ConfigSource}
 
 -- names of no feature, and the place of the source that names them
 pub record Unknown : Type 0 where

@@ -3,11 +3,11 @@ use Rattle.std.specs.Prelude.{◌≡◌, ◌≢◌, ℕ, ◌≤◌, Bool, true, 
 use Rattle.std.specs.List.{AllByRecursion}
 use Rattle.semver.specs.Identifiers.{parts_of}
 use Rattle.semver.specs.Parse.{Parts}
-use Rattle.nextest_config.specs.NextestVersion.Precedence.{is_enough, IsBelow}
-use Rattle.nextest_config.specs.NextestVersion.Requirement.{Kept, Roles}
-use Rattle.nextest_config.specs.NextestVersion.Source.{Place, place_of}
+use Rattle.nextest_config_sources.specs.NextestVersion.Precedence.{is_enough, IsBelow}
+use Rattle.nextest_config.specs.NextestVersion.KeptVersions.{Kept, Roles}
+use Rattle.nextest_config_sources.specs.NextestVersion.Source.{Place, place_of}
 use Rattle.semver.specs.declared.Version.{Version}
-use Rattle.nextest_config.specs.declared.nextest_version.source.ConfigSource.{ConfigSource}
+use Rattle.nextest_config_sources.specs.declared.nextest_version.source.ConfigSource.{ConfigSource}
 use Rattle.nextest_config.specs.declared.nextest_version.verdict.NextestVersionEval.{NextestVersionEval}
 use Rattle.nextest_config.specs.declared.nextest_version.verdict.NextestVersionEval.TheVariants as evals
 use Rattle.nextest_config.specs.declared.nextest_version.verdict.Severity.{Severity}

@@ -2,19 +2,19 @@
 use Rattle.std.specs.Prelude.{◌≡◌, ◌≢◌, ◌↔◌, ◌+◌, ℕ, List, [], ◌∷◌, ◌++◌, length, map, flat_map, Contains, Bool, Option, Some, None, IfSome, option_map}
 use Rattle.std.specs.List.{AllByRecursion, AllZip}
 use Rattle.semver.specs.Parse.{Parts}
-use Rattle.nextest_config.specs.Merge.{in_a_row, IsFirstWrong, IsReordering, total}
+use Rattle.nextest_config_lists.specs.Merge.{in_a_row, IsFirstWrong, IsReordering, total}
 use Rattle.nextest_config.specs.NextestVersion.Error.{Refusal, RefusesBy, refusal_of}
-use Rattle.nextest_config.specs.NextestVersion.Experimental.{FeaturesInOrder}
+use Rattle.nextest_config_sources.specs.NextestVersion.Experimental.{FeaturesInOrder}
 use Rattle.nextest_config.specs.NextestVersion.ExperimentalConfig.{AreSeenAs, Experimental, SeenFeatures, Unknown, array_at, entry_at, experimental_of, features_from, join_features, no_experimental, seen_features}
-use Rattle.nextest_config.specs.NextestVersion.Precedence.{IsBelow}
-use Rattle.nextest_config.specs.NextestVersion.Requirement.{Kept, Roles, kept_version, no_roles, roles_of, roles_from, join_roles}
-use Rattle.nextest_config.specs.NextestVersion.Source.{Place, Source}
+use Rattle.nextest_config_sources.specs.NextestVersion.Precedence.{IsBelow}
+use Rattle.nextest_config.specs.NextestVersion.KeptVersions.{Kept, Roles, kept_version, no_roles, roles_of, roles_from, join_roles}
+use Rattle.nextest_config_sources.specs.NextestVersion.Source.{Place, Source}
 use Rattle.nextest_config.specs.NextestVersion.Verdict.{Verdict, verdict, named_place, IsSelected, SaysTheSame}
-use Rattle.nextest_config.specs.NextestVersion.VersionOnlyDeserialize.{Ask, IsWrong, TextAsks}
+use Rattle.nextest_config_sources.specs.NextestVersion.VersionOnlyDeserialize.{Ask, IsWrong, TextAsks}
 use Rattle.nextest_config.specs.declared.nextest_version.error.ConfigParseError.{ConfigParseError}
 use Rattle.nextest_config.specs.declared.nextest_version.error.ListRefusal.{ListRefusal}
 use Rattle.nextest_config.specs.declared.nextest_version.error.ListRefusal.TheVariants as refusals
-use Rattle.nextest_config.specs.declared.nextest_version.experimental.ConfigExperimental.{ConfigExperimental}
+use Rattle.nextest_config_sources.specs.declared.nextest_version.experimental.ConfigExperimental.{ConfigExperimental}
 use Rattle.nextest_config.specs.declared.nextest_version.version_only.VersionOnlyConfig.{VersionOnlyConfig}
 
 -- ---- one source

@@ -2,18 +2,18 @@
 use Rattle.std.proofs.Common.{◌≡◌, List, [], ◌∷◌, ◌++◌, Option, Some, None, sym, ap, ap₂, subst, ◌∙◌}
 use mathlib.Core.Logic.Iff as iff
 use Rattle.semver.specs.Parse.{Parts}
-use Rattle.nextest_config.specs.Merge.{IsMonoid, IsReadingOne}
+use Rattle.nextest_config_lists.specs.Merge.{IsMonoid, IsReadingOne}
 use Rattle.nextest_config.specs.NextestVersion.Error.{Refusal}
-use Rattle.nextest_config.specs.NextestVersion.ErrorKind.{Wrong}
+use Rattle.nextest_config_sources.specs.NextestVersion.ErrorKind.{Wrong}
 use Rattle.nextest_config.specs.NextestVersion.ExperimentalConfig.{Experimental, SeenFeatures}
 use Rattle.nextest_config.specs.NextestVersion.ExperimentalConfigLaws.{features_join}
-use Rattle.nextest_config.specs.NextestVersion.ExperimentalLaws.{features_in_one_order}
-use Rattle.nextest_config.specs.NextestVersion.Requirement.{asked_from, Kept, Roles}
-use Rattle.nextest_config.specs.NextestVersion.RequirementLaws.{roles_join}
-use Rattle.nextest_config.specs.NextestVersion.Source.{Place, Source}
+use Rattle.nextest_config_sources.specs.NextestVersion.ExperimentalLaws.{features_in_one_order}
+use Rattle.nextest_config.specs.NextestVersion.KeptVersions.{asked_from, Kept, Roles}
+use Rattle.nextest_config.specs.NextestVersion.KeptVersionsLaws.{roles_join}
+use Rattle.nextest_config_sources.specs.NextestVersion.Source.{Place, Source}
 use Rattle.nextest_config.specs.NextestVersion.VersionOnly.{Asked, Configuration, IsErrorOf, IsRead, IsReadAs, IsRefused, join_configurations, neutral_seen, seen_configuration, SeenConfiguration, StandsForAsks, StandsForOne, StandsIn}
-use Rattle.nextest_config.specs.NextestVersion.VersionOnlyDeserialize.{Ask}
-use Rattle.nextest_config.specs.NextestVersion.VersionOnlyDeserializeLaws.{one_wrong, text_asks_once, text_not_wrong}
+use Rattle.nextest_config_sources.specs.NextestVersion.VersionOnlyDeserialize.{Ask}
+use Rattle.nextest_config_sources.specs.NextestVersion.VersionOnlyDeserializeLaws.{one_wrong, text_asks_once, text_not_wrong}
 
 abbrev both : Roles → SeenFeatures → SeenConfiguration
 both roles experimental = record { roles = roles; experimental = experimental }

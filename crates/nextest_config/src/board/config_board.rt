@@ -1,20 +1,20 @@
 //! A board of sources, with the verdict of the sources as they are.
 
-ghost use Rattle.std.specs.Prelude.{◌≡◌, ◌<◌, ◌≤◌, IfOk, IfErr, OnOk, OnErr, None, length, map, option_map, replicate};
+ghost use Rattle.std.specs.Prelude.{◌≡◌, ◌<◌, IfOk, IfErr, OnOk, OnErr, None, length, map, option_map, replicate};
 ghost use Rattle.semver.specs.Identifiers.{parts_of};
 ghost use Rattle.nextest_config.specs.Board.RolePair.{pair_in};
 ghost use Rattle.nextest_config.specs.Board.Slots.{AreHeld, board_list, BoardState, IsChanged, IsHeld, IsPut, IsReadInto, kept_in, slot_of, slots_of};
 ghost use Rattle.nextest_config.specs.Board.Refusals.{IsNoSlot, IsRefusedPut, IsRefusedSource};
-ghost use Rattle.nextest_config.specs.NextestVersion.{alone, IsSelected, kept_from, source_of, unmet, verdict_of};
+ghost use Rattle.nextest_config_sources.specs.NextestVersion.{source_of};
+ghost use Rattle.nextest_config.specs.NextestVersion.{alone, IsSelected, kept_from, unmet, verdict_of};
 
 use super::refusal::BoardRefusal;
 use super::role_pair::{AskedAt, RolePair, Tally};
-use super::tree::ChoiceTree;
-use crate::board::Choose;
-use crate::merge::PieceRefusal;
-use crate::nextest_version::{
-    ConfigParseError, ConfigSource, Edition, NextestVersionDeserialize, NextestVersionEval,
-    SourceText, VersionOnlyDeserialize,
+use crate::nextest_version::{ConfigParseError, NextestVersionEval};
+use nextest_config_lists::choice::{ChoiceTree, Choose};
+use nextest_config_lists::merge::PieceRefusal;
+use nextest_config_sources::nextest_version::{
+    ConfigSource, Edition, NextestVersionDeserialize, SourceText, VersionOnlyDeserialize,
 };
 use semver::Version;
 use std::alloc::{AllocError, Global};
@@ -67,25 +67,15 @@ impl ConfigBoard {
             (verdict_of eval)) }
     {
         let chosen = self.tree.whole();
-        if let Some((required, source)) = unmet_in(&self.sources, chosen.required, current) {
-            return NextestVersionEval::error(
-                alloc,
-                &required,
-                current,
-                source,
-                override_version_check,
-            );
-        }
-        if let Some((recommended, source)) = unmet_in(&self.sources, chosen.recommended, current) {
-            return NextestVersionEval::warning(
-                alloc,
-                &recommended,
-                current,
-                source,
-                override_version_check,
-            );
-        }
-        Ok(NextestVersionEval::Satisfied)
+        let required = unmet_in(&self.sources, chosen.required, current);
+        let recommended = unmet_in(&self.sources, chosen.recommended, current);
+        NextestVersionEval::judged(
+            alloc,
+            borrowed(&required),
+            borrowed(&recommended),
+            current,
+            override_version_check,
+        )
     }
 
     /// Puts a source into the slot, in place of what it held.
@@ -204,6 +194,19 @@ fn unmet_in<'a>(
     match sources.get(asked.slot) {
         Some(Some(source)) => Some((version, source)),
         _ => None,
+    }
+}
+
+// The version and its source, if any, as a verdict borrows them.
+fn borrowed<'a>(
+    unmet: &'a Option<(Version, &'a ConfigSource)>,
+) -> Option<(&'a Version, &'a ConfigSource)>
+    ensures { option_map (λ kept. kept_from kept.0.now kept.1.now) result
+        ≡ option_map (λ kept. kept_from kept.0 kept.1.now) unmet.now }
+{
+    match unmet {
+        Some((version, source)) => Some((version, source)),
+        None => None,
     }
 }
 

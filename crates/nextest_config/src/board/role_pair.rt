@@ -3,9 +3,9 @@
 ghost use Rattle.std.specs.Prelude.{◌≡◌, ◌+◌, ◌<◌, None, option_map, Some};
 ghost use Rattle.semver.specs.Identifiers.{parts_of};
 ghost use Rattle.nextest_config.specs.Board.RolePair.{asked_in, later_asked, later_pair, no_pair, pairs_join};
-ghost use Rattle.nextest_config.specs.NextestVersion.{plain};
+ghost use Rattle.nextest_config_sources.specs.NextestVersion.{plain};
 
-use super::choose::Choose;
+use nextest_config_lists::choice::Choose;
 use semver::Version;
 use std::cmp::Ordering;
 

@@ -1,12 +1,11 @@
 //! Why a source, or a list of sources, was refused.
 
 ghost use Rattle.std.specs.Prelude.{◌≡◌, ◌↔◌, IsNone, Some, None, option_map, is_none, false};
-ghost use Rattle.nextest_config.specs.NextestVersion.ErrorKind.{is_memory, wrong_of};
-ghost use Rattle.nextest_config.specs.declared.nextest_version.error_kind.ConfigParseErrorKind.TheVariants.{Memory};
+ghost use Rattle.nextest_config_sources.specs.NextestVersion.ErrorKind.{is_memory, wrong_of};
+ghost use Rattle.nextest_config_sources.specs.declared.nextest_version.error_kind.ConfigParseErrorKind.TheVariants.{Memory};
 
-use super::error_kind::ConfigParseErrorKind;
-use super::source::ConfigSource;
-use crate::merge::PieceRefusal;
+use nextest_config_lists::merge::PieceRefusal;
+use nextest_config_sources::nextest_version::{ConfigParseErrorKind, ConfigSource};
 use std::alloc::{AllocError, Global};
 use std::fmt;
 use thiserror::Error;
@@ -21,7 +20,7 @@ pub struct ConfigParseError {
 
 impl ConfigParseError {
     ghost use Rattle.nextest_config.specs.NextestVersion.Error.{IsKindOf, kind_of, refusal_at, refusal_of, source_place};
-    ghost use Rattle.nextest_config.specs.NextestVersion.Source.{place_of};
+    ghost use Rattle.nextest_config_sources.specs.NextestVersion.Source.{place_of};
 
     // The error that says nothing of any source.
     fn memory() -> Self
@@ -132,7 +131,7 @@ impl From<PieceRefusal<ConfigParseError>> for ListRefusal {
 
 impl ListRefusal {
     ghost use Rattle.std.specs.Prelude.{List};
-    ghost use Rattle.nextest_config.specs.NextestVersion.Source.{Source};
+    ghost use Rattle.nextest_config_sources.specs.NextestVersion.Source.{Source};
     ghost use Rattle.nextest_config.specs.NextestVersion.VersionOnly.{IsErrorOfList, IsRefusalOf};
 
     // The error of the source that is refused, without its position.

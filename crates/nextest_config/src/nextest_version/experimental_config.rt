@@ -1,14 +1,14 @@
 //! The experimental features that all sources name.
 
-ghost use Rattle.std.specs.Prelude.{◌≡◌, ◌++◌, IfOk, map, OnErr, OnOk, string_bytes};
+ghost use Rattle.std.specs.Prelude.{◌≡◌, ◌++◌, IfOk, map, OnOk, string_bytes};
 ghost use Rattle.std.proofs.Props.{props};
 ghost use Rattle.std.specs.Iterator.{YieldsFirstBy, item_count};
-ghost use Rattle.nextest_config.specs.NextestVersion.Experimental.{FeaturesInOrder};
+ghost use Rattle.nextest_config_sources.specs.NextestVersion.Experimental.{FeaturesInOrder};
 
-use super::experimental::ConfigExperimental;
-use super::experimental_deserialize::ExperimentalDeserialize;
-use super::source::ConfigSource;
-use crate::merge::Merge;
+use nextest_config_lists::merge::Merge;
+use nextest_config_sources::nextest_version::{
+    ConfigExperimental, ConfigSource, ExperimentalDeserialize,
+};
 use std::alloc::{AllocError, Global};
 use std::collections::BTreeSet;
 use std::slice;
@@ -32,8 +32,8 @@ struct UnknownFeatures {
 
 impl ExperimentalConfig {
     ghost use Rattle.nextest_config.specs.NextestVersion.ExperimentalConfig.{AddsFeatures, array_at, arrays_left, errors_left, experimental_of, no_experimental};
-    ghost use Rattle.nextest_config.specs.NextestVersion.ExperimentalDeserialize.{feature_setting_of};
-    ghost use Rattle.nextest_config.specs.NextestVersion.Source.{place_of};
+    ghost use Rattle.nextest_config_sources.specs.NextestVersion.ExperimentalDeserialize.{feature_setting_of};
+    ghost use Rattle.nextest_config_sources.specs.NextestVersion.Source.{place_of};
 
     /// The features of no source.
     pub fn new(alloc: Global) -> Self
@@ -154,7 +154,7 @@ impl Merge for ExperimentalConfig {
 
 impl UnknownFeatures {
     ghost use Rattle.nextest_config.specs.NextestVersion.ExperimentalConfig.{entry_at, unknown_of};
-    ghost use Rattle.nextest_config.specs.NextestVersion.Source.{place_of};
+    ghost use Rattle.nextest_config_sources.specs.NextestVersion.Source.{place_of};
 
     // A copy of the names and of their source.
     fn clone(&self, alloc: Global) -> Result<Self, AllocError>
@@ -228,7 +228,7 @@ pub struct ArraySources<'a> {
 
 impl<'a> Iterator for ArraySources<'a> {
     ghost use Rattle.nextest_config.specs.NextestVersion.ExperimentalConfig.{arrays_left};
-    ghost use Rattle.nextest_config.specs.NextestVersion.Source.{place_of};
+    ghost use Rattle.nextest_config_sources.specs.NextestVersion.Source.{place_of};
 
     type Item = &'a ConfigSource;
 

@@ -1,13 +1,13 @@
 //! The files of tools and of a repository, as a list of sources.
 
 ghost use Rattle.std.specs.Prelude.{◌≡◌, IfOk, map, option_map, string_bytes};
-ghost use Rattle.nextest_config.specs.NextestVersion.{file_given, givens_of, place_of};
+ghost use Rattle.nextest_config_sources.specs.NextestVersion.{place_of};
+ghost use Rattle.nextest_config.specs.NextestVersion.{file_given, givens_of};
 
-use super::edition::Edition;
 use super::error::ConfigParseError;
-use super::source::{ConfigSource, RepositoryText, ToolText};
 use super::version_only::VersionOnlyConfig;
-use crate::merge::{Merge, PieceRefusal, ReadPiece};
+use nextest_config_lists::merge::{Merge, PieceRefusal, ReadPiece};
+use nextest_config_sources::nextest_version::{ConfigSource, Edition, RepositoryText, ToolText};
 use std::alloc::{AllocError, Global};
 use std::marker::PhantomData;
 
@@ -106,7 +106,8 @@ impl<'a> ReadPiece for FileConfig<'a> {
     ghost use Rattle.std.specs.Prelude.{Option};
     ghost use Rattle.std.proofs.Common.{arith};
     ghost use Rattle.nextest_config.specs.NextestVersion.Error.{Refusal, refusal_of};
-    ghost use Rattle.nextest_config.specs.NextestVersion.Source.{file_given, under};
+    ghost use Rattle.nextest_config_sources.specs.NextestVersion.Source.{under};
+    ghost use Rattle.nextest_config.specs.NextestVersion.File.{file_given};
     ghost use Rattle.nextest_config.specs.NextestVersion.VersionOnly.{configuration_of, IsErrorOf, StandsForOne};
     ghost use Rattle.nextest_config.specs.NextestVersion.VersionOnlyLaws.{one_read};
 

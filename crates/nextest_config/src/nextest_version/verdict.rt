@@ -1,9 +1,10 @@
 //! The verdict on the current version.
 
-ghost use Rattle.std.specs.Prelude.{◌≡◌, true, IfOk};
+ghost use Rattle.std.specs.Prelude.{◌≡◌, true, IfOk, IsOk, option_map};
 ghost use Rattle.semver.specs.Identifiers.{parts_of};
+ghost use Rattle.nextest_config.specs.NextestVersion.KeptVersions.{kept_from};
 
-use super::source::ConfigSource;
+use nextest_config_sources::nextest_version::ConfigSource;
 use semver::Version;
 use std::alloc::{AllocError, Global};
 
@@ -47,10 +48,39 @@ pub enum Severity {
 }
 
 impl NextestVersionEval {
-    ghost use Rattle.nextest_config.specs.NextestVersion.Verdict.{error, severity_of, shortfall, verdict_of, warn};
+    ghost use Rattle.nextest_config.specs.NextestVersion.Verdict.{error, judged, satisfied, severity_of, shortfall, verdict_of, warn};
+
+    /// The verdict on the current version, of the versions that it isn't enough for in the two roles,
+    /// each with the source that asks it.
+    pub(crate) fn judged(
+        alloc: Global,
+        required: Option<(&Version, &ConfigSource)>,
+        recommended: Option<(&Version, &ConfigSource)>,
+        current: &Version,
+        overridden: bool,
+    ) -> Result<Self, AllocError>
+        ensures value { IfOk result (λ eval. verdict_of eval ≡ judged
+            (option_map (λ unmet. kept_from unmet.0.now unmet.1.now) required.entry)
+            (option_map (λ unmet. kept_from unmet.0.now unmet.1.now) recommended.entry)
+            (parts_of current.now) overridden) }
+        ensures satisfied { judged
+            (option_map (λ unmet. kept_from unmet.0.now unmet.1.now) required.entry)
+            (option_map (λ unmet. kept_from unmet.0.now unmet.1.now) recommended.entry)
+            (parts_of current.now) overridden ≡ satisfied → IsOk result }
+    {
+        match (required, recommended) {
+            (Some((version, source)), _) => {
+                NextestVersionEval::error(alloc, version, current, source, overridden)
+            }
+            (None, Some((version, source))) => {
+                NextestVersionEval::warning(alloc, version, current, source, overridden)
+            }
+            (None, None) => Ok(NextestVersionEval::Satisfied),
+        }
+    }
 
     // The error of an unmet required version.
-    pub(crate) fn error(
+    fn error(
         alloc: Global,
         required: &Version,
         current: &Version,
@@ -78,7 +108,7 @@ impl NextestVersionEval {
     }
 
     // The warning of an unmet recommended version.
-    pub(crate) fn warning(
+    fn warning(
         alloc: Global,
         recommended: &Version,
         current: &Version,

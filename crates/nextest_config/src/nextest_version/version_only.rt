@@ -1,20 +1,21 @@
 //! The configuration of a list of sources.
 
-ghost use Rattle.std.specs.Prelude.{◌≡◌, IfOk, IfErr, OnOk, map, option_map, reverse, string_bytes};
-ghost use Rattle.nextest_config.specs.Merge.{IsRefusalOfOne};
-ghost use Rattle.nextest_config.specs.NextestVersion.{Adds, configuration_of, experimental_of, given_at, IsErrorOf, IsErrorOfList, IsRefusalOf, IsWrong, kind_of, neutral, Reads, refusal_of, RefusesSource, roles_of, SelectsFor, source_of, source_under, sources_of, sources_under, StandsFor, StandsForOne, under};
+ghost use Rattle.std.specs.Prelude.{◌≡◌, IfOk, IfErr, OnOk, map, option_map, string_bytes};
+ghost use Rattle.nextest_config_lists.specs.Merge.{IsRefusalOfOne};
+ghost use Rattle.nextest_config_sources.specs.NextestVersion.{given_at, IsWrong, RefusesSource, source_of, source_under, under};
+ghost use Rattle.nextest_config.specs.NextestVersion.{Adds, configuration_of, experimental_of, IsErrorOf, IsErrorOfList, IsRefusalOf, kind_of, neutral, Reads, refusal_of, roles_of, SelectsFor, sources_of, sources_under, StandsFor, StandsForOne};
 ghost use Rattle.nextest_config.specs.declared.nextest_version.error.ListRefusal.TheVariants.{Memory};
-ghost use Rattle.nextest_config.specs.declared.nextest_version.error_kind.ConfigParseErrorKind.TheVariants as kinds;
+ghost use Rattle.nextest_config_sources.specs.declared.nextest_version.error_kind.ConfigParseErrorKind.TheVariants as kinds;
 
-use super::edition::Edition;
 use super::error::{ConfigParseError, ListRefusal};
-use super::error_kind::ConfigParseErrorKind;
 use super::experimental_config::ExperimentalConfig;
 use super::file::{File, FileConfig};
-use super::requirement::NextestVersionConfig;
-use super::source::{ConfigSource, RepositoryText, SourceText, ToolText};
-use super::version_only_deserialize::VersionOnlyDeserialize;
-use crate::merge::{Merge, PieceRefusal, ReadPiece, read_halves};
+use super::kept_versions::NextestVersionConfig;
+use nextest_config_lists::merge::{Merge, PieceRefusal, ReadPiece, read_halves};
+use nextest_config_sources::nextest_version::{
+    ConfigParseErrorKind, ConfigSource, Edition, RepositoryText, SourceText, ToolText,
+    VersionOnlyDeserialize,
+};
 use std::alloc::{AllocError, Global};
 
 /// The part of the configuration that is read before any other: which nextest version it needs, and
@@ -207,7 +208,7 @@ impl ReadPiece for VersionOnlyConfig {
     ghost use Rattle.std.specs.Prelude.{Option};
     ghost use Rattle.std.proofs.Common.{arith};
     ghost use Rattle.nextest_config.specs.NextestVersion.Error.{Refusal, refusal_of};
-    ghost use Rattle.nextest_config.specs.NextestVersion.Source.{source_under};
+    ghost use Rattle.nextest_config_sources.specs.NextestVersion.Source.{source_under};
     ghost use Rattle.nextest_config.specs.NextestVersion.VersionOnly.{configuration_of, IsErrorOf, StandsForOne};
     ghost use Rattle.nextest_config.specs.NextestVersion.VersionOnlyLaws.{one_read};
 

@@ -4,8 +4,8 @@ use Rattle.std.specs.List.{AllByRecursion}
 use Rattle.toml.specs.Data.{Data}
 use Rattle.nextest_config_values.specs.Characters.{colon}
 use Rattle.nextest_config_values.specs.Read.Fault.{Fault, identifier}
-use Rattle.nextest_config_values.specs.Helpers.{IsPlainFlaw, IsPlainIdentifier}
-use Rattle.nextest_config_values.specs.declared.helpers.InvalidIdentifierKind.{InvalidIdentifierKind}
+use Rattle.nextest_config_values.specs.Helpers.Identifiers.{IsPlainFlaw, IsPlainIdentifier}
+use Rattle.nextest_config_values.specs.declared.helpers.identifiers.InvalidIdentifierKind.{InvalidIdentifierKind}
 use Rattle.nextest_config_values.specs.Identifier.Error.{Component, IdentifierFlaw, NameFault, OneComponent, Whole}
 use Rattle.nextest_config_values.specs.Identifier.Normal.{IsNormalFault, IsNormalText, NameFaults}
 

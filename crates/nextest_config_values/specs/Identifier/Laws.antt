@@ -5,14 +5,14 @@ use Rattle.std.specs.List.{AllByRecursion}
 use Rattle.toml.specs.Data.{as_str}
 use Rattle.unicode_ident.proofs.IdentLemmas.{is_xid_continue-ascii, is_xid_start-ascii}
 use Rattle.unicode_ident.specs.Ident.{is_xid_start}
-use Rattle.nextest_config_values.specs.Helpers.{GoesOn, IsPlainFlaw, IsPlainIdentifier}
+use Rattle.nextest_config_values.specs.Helpers.Identifiers.{GoesOn, IsPlainFlaw, IsPlainIdentifier}
 use Rattle.nextest_config_values.specs.Identifier.ConfigIdentifier.{AreFlawed, HasNoColon, IdentifierFaults, IsCutAtColon, IsIdentifier, IsIdentifierFlaw, IsIdentifierForm, IsMarkedPair, tool_mark}
 use Rattle.nextest_config_values.specs.Identifier.Error.{Component, IdentifierFlaw, NameFault, OneComponent, ToolNameFlaw, Whole, flawed}
 use Rattle.nextest_config_values.specs.Identifier.Normal.{IsNormalFault, IsNormalText, NameFaults, normal_chars}
 use Rattle.nextest_config_values.specs.Identifier.ToolName.{IsToolName, IsToolNameFlaw, ToolNameFaults}
 use Rattle.nextest_config_values.specs.Read.Fault.{Reason, fault_at, identifier, tool_name}
 use Rattle.nextest_config_values.specs.Read.FromToml.{FaultsAs, IsReading, MeansAs, equality, reading_as, text_expected}
-use Rattle.nextest_config_values.specs.declared.helpers.InvalidIdentifierKind.{InvalidIdentifierKind}
+use Rattle.nextest_config_values.specs.declared.helpers.identifiers.InvalidIdentifierKind.{InvalidIdentifierKind}
 use Rattle.nextest_config_values.specs.declared.identifier.error.ToolNameFlaw.TheVariants as of_names
 
 -- ---- characters

@@ -2,7 +2,7 @@
 use Rattle.std.specs.Prelude.{◌≡◌, ◌≢◌, ℕ, List, [], ◌++◌, codes}
 use Rattle.toml.specs.Data.{Data}
 use Rattle.nextest_config_values.specs.Read.Fault.{Fault, tool_name}
-use Rattle.nextest_config_values.specs.Helpers.{IsPlainIdentifier}
+use Rattle.nextest_config_values.specs.Helpers.Identifiers.{IsPlainIdentifier}
 use Rattle.nextest_config_values.specs.Identifier.Error.{NameFault, ToolNameFlaw}
 use Rattle.nextest_config_values.specs.declared.identifier.error.ToolNameFlaw.TheVariants.{Empty, StartsWithToolPrefix, InvalidXid}
 use Rattle.nextest_config_values.specs.Identifier.Normal.{IsNormalFault, IsNormalText, NameFaults}

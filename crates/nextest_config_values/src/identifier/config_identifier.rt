@@ -2,7 +2,7 @@
 
 ghost use Rattle.std.specs.Prelude.{◌≡◌, ◌↔◌, ◌++◌, ℕ, List, IfErr, IfOk, IsOk, IsTrue, MatchOption, OnOk, Some, chars, true};
 ghost use Rattle.toml.specs.Data.{as_str};
-ghost use Rattle.nextest_config_values.specs.Helpers.{IsPlainIdentifier};
+ghost use Rattle.nextest_config_values.specs.Helpers.Identifiers.{IsPlainIdentifier};
 ghost use Rattle.nextest_config_values.specs.Identifier.{AreComponents, AreFlawed, FitsInline, identifier_fault, identifier_reading, IsIdentifier, IsIdentifierFault, IsIdentifierFlaw, IsIdentifierForm, IsKeptText, IsMarked, IsQuicklyNormal, tool_mark};
 ghost use Rattle.nextest_config_values.specs.Read.{FaultOrMemory, FaultsAs, MeansAs, text_expected};
 ghost use Rattle.nextest_config_values.specs.declared.identifier.error.InvalidIdentifier.TheVariants.{Memory};

@@ -2,7 +2,7 @@
 
 ghost use Rattle.std.specs.Prelude.{◌≡◌, ℕ, List, IfErr, IfOk, IsOk, OnOk, Some, chars, true};
 ghost use Rattle.toml.specs.Data.{as_str};
-ghost use Rattle.nextest_config_values.specs.Helpers.{IsPlainIdentifier};
+ghost use Rattle.nextest_config_values.specs.Helpers.Identifiers.{IsPlainIdentifier};
 ghost use Rattle.nextest_config_values.specs.Identifier.{FitsInline, IsKeptText, IsQuicklyNormal, IsToolName, IsToolNameFault, IsToolNameFlaw, tool_name_fault, tool_name_reading, ToolNameFaults};
 ghost use Rattle.nextest_config_values.specs.Read.{FaultOrMemory, FaultsAs, MeansAs, text_expected};
 ghost use Rattle.nextest_config_values.specs.declared.identifier.error.InvalidToolName.TheVariants.{Memory};
@@ -28,7 +28,7 @@ pub struct ToolName {
 
 impl Model for ToolName {
     ghost use Rattle.std.specs.Prelude.{ℕ, List};
-    ghost use Rattle.nextest_config_values.specs.Helpers.{IsPlainIdentifier};
+    ghost use Rattle.nextest_config_values.specs.Helpers.Identifiers.{IsPlainIdentifier};
     ghost use Rattle.nextest_config_values.specs.Identifier.Normal.{IsKeptText};
 
     ghost Value = { List ℕ };

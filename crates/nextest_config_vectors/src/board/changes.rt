@@ -6,9 +6,7 @@ use super::commands::{board_of, run};
 use crate::asked::Lists;
 use crate::runner::Test;
 use nextest_config::board::ConfigBoard;
-use nextest_config_settings_vectors::rows::{
-    Runner, Subject, compare, copied, done, push, unknown, written,
-};
+use nextest_config_rows::rows::{Runner, Subject, compare, copied, done, push, unknown, written};
 use std::process::Abort;
 
 const CHANGES: usize = 200;

@@ -1,14 +1,13 @@
 //! Boards that are given commands in turn, and what each command answers.
 
-use crate::runner::check;
-use crate::told::{Told, tell};
-use crate::values::FromRow;
+use crate::runner::{ThisCrate, check};
 use nextest_config::board::{BoardRefusal, ConfigBoard};
 use nextest_config::nextest_version::{NextestVersionEval, SourceText};
-use nextest_config_settings_vectors::rows::{
+use nextest_config_rows::rows::{
     Escaped, Runner, Subject, copied, done, push, shown, unknown, written,
 };
-use nextest_config_settings_vectors::values::word;
+use nextest_config_rows::told::{Told, tell};
+use nextest_config_rows::values::{FromRow, word};
 use semver::Version;
 
 // The number of slots and the commands; then the answers.
@@ -129,7 +128,7 @@ fn changed(rt: &impl Runner, change: Result<(), BoardRefusal>) -> String {
     }
 }
 
-impl Told for BoardRefusal {
+impl Told<ThisCrate> for BoardRefusal {
     fn told(&self, rt: &impl Runner, _call: &str) -> String {
         match self {
             BoardRefusal::NoSuchSlot { slots } => {

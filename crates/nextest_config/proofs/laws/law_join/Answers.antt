@@ -1,5 +1,5 @@
 use Rattle.nextest_config.specs.NextestVersion.ExperimentalConfigLaws.{features_join}
-use Rattle.nextest_config.specs.NextestVersion.RequirementLaws.{kept_join, roles_join}
+use Rattle.nextest_config.specs.NextestVersion.KeptVersionsLaws.{kept_join, roles_join}
 use Rattle.nextest_config.specs.NextestVersion.VersionOnlyLaws.{configurations_join}
 use Rattle.nextest_config.proofs.laws.law_join.Goals as goal
 

@@ -2,8 +2,8 @@
 
 use super::ConfigBoard;
 use crate::board::role_pair::{RolePair, Tally};
-use crate::board::tree::ChoiceTree;
-use crate::nextest_version::{ConfigSource, ConfigSourceKind, SourceText};
+use nextest_config_lists::choice::ChoiceTree;
+use nextest_config_sources::nextest_version::{ConfigSource, ConfigSourceKind, SourceText};
 use std::alloc::Global;
 use std::test::Fail;
 

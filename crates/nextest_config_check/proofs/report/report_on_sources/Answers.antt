@@ -2,10 +2,11 @@ use Rattle.std.proofs.Common.{◌≡◌, List, map, subst, subst₂, sym}
 use mathlib.Core.List.{map-map}
 use Rattle.std.proofs.lemmas.Result.{IfOk-weaker}
 use Rattle.semver.specs.Identifiers.{parts_of}
-use Rattle.nextest_config.specs.NextestVersion.{configuration_of, given_of, IsRefusalOf, SelectsFor, source_under, StandsFor, under, verdict}
-use Rattle.nextest_config.specs.declared.nextest_version.edition.Edition.{Edition}
+use Rattle.nextest_config_sources.specs.NextestVersion.{given_of, source_under, under}
+use Rattle.nextest_config.specs.NextestVersion.{configuration_of, IsRefusalOf, SelectsFor, StandsFor, verdict}
+use Rattle.nextest_config_sources.specs.declared.nextest_version.edition.Edition.{Edition}
 use Rattle.nextest_config.specs.declared.nextest_version.error.ListRefusal.TheVariants as refusals
-use Rattle.nextest_config.specs.declared.nextest_version.source.SourceText.{SourceText}
+use Rattle.nextest_config_sources.specs.declared.nextest_version.source.SourceText.{SourceText}
 use Rattle.nextest_config_check.specs.Report.{IsReport, read_list, refused_list}
 use Rattle.nextest_config.proofs.Refusals.{text_of_told}
 use Rattle.nextest_config_check.proofs.report.report_on_sources.Goals as goal

@@ -1,6 +1,7 @@
 use Rattle.std.proofs.Common.{string_bytes, rules}
 use Rattle.std.proofs.lemmas.Iterator.Consumers.{YieldsList-end, YieldsList-from_first}
-use Rattle.nextest_config.specs.NextestVersion.{arrays_left, place_of}
+use Rattle.nextest_config_sources.specs.NextestVersion.{place_of}
+use Rattle.nextest_config.specs.NextestVersion.{arrays_left}
 use Rattle.nextest_config_check.specs.ReportLines.{array_line}
 use Rattle.nextest_config_check.proofs.LinesInRow.{one_more_line}
 use Rattle.nextest_config_check.proofs.report_lines.push_arrays.Goals as goal

@@ -1,5 +1,5 @@
 use Rattle.std.proofs.Common.{◌≡◌, ◌++◌, flat_map, map, string_bytes}
-use Rattle.nextest_config.specs.NextestVersion.{place_of}
+use Rattle.nextest_config_sources.specs.NextestVersion.{place_of}
 use Rattle.nextest_config_check.specs.ReportLines.{array_line}
 use Rattle.nextest_config_check.proofs.report_lines.push_arrays.Given as goal
 

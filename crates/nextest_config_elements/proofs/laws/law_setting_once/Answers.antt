@@ -1,4 +1,4 @@
-use Rattle.nextest_config_values.specs.Helpers.{path_reading}
+use Rattle.nextest_config_values.specs.Helpers.Paths.{path_reading}
 use Rattle.nextest_config_elements.specs.LeakTimeout.{leak_timeout_meant}
 use Rattle.nextest_config_elements.specs.MaxFail.{fail_fast_reading}
 use Rattle.nextest_config_elements.specs.RetryPolicy.{retry_policy_meant}

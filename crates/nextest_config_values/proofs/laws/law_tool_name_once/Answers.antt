@@ -1,4 +1,4 @@
-use Rattle.nextest_config_values.specs.Helpers.{IsPlainIdentifier}
+use Rattle.nextest_config_values.specs.Helpers.Identifiers.{IsPlainIdentifier}
 use Rattle.nextest_config_values.specs.Identifier.{IsToolNameFlaw, no_normal_fault, one_tool_name_flaw, tool_name_not_flawed}
 use Rattle.nextest_config_values.proofs.laws.law_tool_name_once.Goals as goal
 

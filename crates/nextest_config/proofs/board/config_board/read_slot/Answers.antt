@@ -1,7 +1,7 @@
 use Rattle.std.proofs.Common.{Some, ap₂, string_bytes, option_map}
 use Rattle.nextest_config.specs.Board.Slots.{asked_at}
-use Rattle.nextest_config.specs.NextestVersion.{ask_of, Place, Versions}
-use Rattle.nextest_config.specs.declared.nextest_version.edition.Edition.TheVariants.{ArrayAllowed}
+use Rattle.nextest_config_sources.specs.NextestVersion.{ask_of, Place, Versions}
+use Rattle.nextest_config_sources.specs.declared.nextest_version.edition.Edition.TheVariants.{ArrayAllowed}
 use Rattle.nextest_config.proofs.OneVerdict.{text_plain}
 use Rattle.nextest_config.proofs.Slots.{from_in, same_versions}
 use Rattle.nextest_config.proofs.board.config_board.read_slot.Goals as goal

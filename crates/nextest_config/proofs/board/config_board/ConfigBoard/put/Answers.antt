@@ -1,6 +1,6 @@
 use Rattle.std.proofs.Common.{◌≡◌, length, ap, arith}
 use Rattle.nextest_config.specs.Board.Slots.{BoardState, slots_of}
-use Rattle.nextest_config.specs.NextestVersion.{source_of}
+use Rattle.nextest_config_sources.specs.NextestVersion.{source_of}
 use Rattle.nextest_config.proofs.Slots.{put_refused, slots_long}
 use Rattle.nextest_config.proofs.board.config_board.ConfigBoard.put.Goals as goal
 

@@ -1,6 +1,7 @@
 use Rattle.std.proofs.Common.{map, string_bytes}
-use Rattle.nextest_config.specs.NextestVersion.{array_at, entry_at, place_of, unknown_of}
-use Rattle.nextest_config.proofs.Orders.{features_in_order}
+use Rattle.nextest_config_sources.specs.NextestVersion.{place_of}
+use Rattle.nextest_config.specs.NextestVersion.{array_at, entry_at, unknown_of}
+use Rattle.nextest_config_sources.proofs.Orders.{features_in_order}
 use Rattle.nextest_config.proofs.Joins.{seen_joined}
 use Rattle.nextest_config.proofs.nextest_version.experimental_config.ExperimentalConfig.accumulate.Goals as goal
 

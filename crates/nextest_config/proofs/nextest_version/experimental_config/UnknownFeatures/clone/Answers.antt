@@ -1,5 +1,5 @@
 use Rattle.std.proofs.Common.{refl, string_bytes}
-use Rattle.nextest_config_values.proofs.Lists.{zip_same_images}
+use Rattle.nextest_config_lists.proofs.Lists.{zip_same_images}
 use Rattle.nextest_config.proofs.nextest_version.experimental_config.UnknownFeatures.clone.Goals as goal
 
 pub returns : goal.returns

@@ -1,6 +1,7 @@
 use Rattle.std.proofs.Common.{◌≡◌, ◌++◌, ℕ, List, [], ◌∷◌, length, map, refl, arith, string_bytes, sym, ap, ◌∙◌}
 use Rattle.std.proofs.lemmas.List.{append-nil, length-map, map_push}
-use Rattle.nextest_config.specs.NextestVersion.{entry_at, Place, place_of, unknown_of}
+use Rattle.nextest_config_sources.specs.NextestVersion.{Place, place_of}
+use Rattle.nextest_config.specs.NextestVersion.{entry_at, unknown_of}
 use Rattle.nextest_config.proofs.nextest_version.experimental_config.UnknownFeatures.push.Goals as goal
 
 no_entry : (place : Place) (names : List (List ℕ)) → length names ≡ 0 → entry_at place names ≡ []

@@ -1,5 +1,6 @@
 use Rattle.std.proofs.Common.{◌≡◌, map}
-use Rattle.nextest_config.specs.NextestVersion.{file_given, tool_given}
+use Rattle.nextest_config_sources.specs.NextestVersion.{tool_given}
+use Rattle.nextest_config.specs.NextestVersion.{file_given}
 use Rattle.nextest_config.proofs.nextest_version.file.File.in_order.Given as goal
 
 abbrev pub invariant-loop-tool : goal.invariant-loop-tool

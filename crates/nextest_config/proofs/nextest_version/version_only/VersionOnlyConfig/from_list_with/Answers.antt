@@ -1,6 +1,7 @@
 use Rattle.std.proofs.Common.{map}
 use Rattle.std.proofs.lemmas.Result.{err_from_is_err_and}
-use Rattle.nextest_config.specs.NextestVersion.{configuration_of, source_under}
+use Rattle.nextest_config_sources.specs.NextestVersion.{source_under}
+use Rattle.nextest_config.specs.NextestVersion.{configuration_of}
 use Rattle.nextest_config.proofs.Readings.{only_memory, refusal_of_list}
 use Rattle.nextest_config.proofs.Selection.{selects}
 use Rattle.nextest_config.proofs.Standing.{stands_for_all}

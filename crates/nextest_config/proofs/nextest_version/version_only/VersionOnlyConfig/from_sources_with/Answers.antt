@@ -1,10 +1,11 @@
 use Rattle.std.proofs.Common.{◌≡◌, List, map, ap, ◌∙◌, sym, subst}
 use mathlib.Core.List.{map-map}
-use Rattle.nextest_config.specs.NextestVersion.{configuration_of, file_given, Given, givens_of, IsRefusalOf, list_refusal, sources_under, StandsFor, under}
+use Rattle.nextest_config_sources.specs.NextestVersion.{Given, under}
+use Rattle.nextest_config.specs.NextestVersion.{configuration_of, file_given, givens_of, IsRefusalOf, list_refusal, sources_under, StandsFor}
 use Rattle.nextest_config.proofs.Readings.{no_error_but_memory, refusal_of_list}
 use Rattle.nextest_config.proofs.Selection.{selects}
 use Rattle.nextest_config.proofs.Standing.{stands_for_all}
-use Rattle.nextest_config.specs.declared.nextest_version.edition.Edition.{Edition}
+use Rattle.nextest_config_sources.specs.declared.nextest_version.edition.Edition.{Edition}
 use Rattle.nextest_config.specs.declared.nextest_version.file.File.{File}
 use Rattle.nextest_config.specs.declared.nextest_version.file.FileConfig.{FileConfig}
 use Rattle.nextest_config.proofs.nextest_version.version_only.VersionOnlyConfig.from_sources_with.Goals as goal

@@ -1,5 +1,6 @@
 use Rattle.std.proofs.Common.{[]}
-use Rattle.nextest_config.specs.NextestVersion.{configuration_of, given_at, under}
+use Rattle.nextest_config_sources.specs.NextestVersion.{given_at, under}
+use Rattle.nextest_config.specs.NextestVersion.{configuration_of}
 use Rattle.nextest_config.proofs.Readings.{refusal_of_one}
 use Rattle.nextest_config.proofs.Standing.{stands_more, stands_none}
 use Rattle.nextest_config.proofs.nextest_version.version_only.VersionOnlyConfig.of_source.Goals as goal

@@ -1,0 +1,69 @@
+-- What is kept of all asks.
+use Rattle.std.specs.Prelude.{◌≡◌, Option, Some, None, option_map, if◌then◌else◌}
+use Rattle.semver.specs.Identifiers.{parts_of}
+use Rattle.semver.specs.Parse.{Parts}
+use Rattle.semver.specs.declared.Version.{Version}
+use Rattle.nextest_config_sources.specs.NextestVersion.NextestVersionDeserialize.{Versions}
+use Rattle.nextest_config_sources.specs.NextestVersion.Precedence.{is_below}
+use Rattle.nextest_config_sources.specs.NextestVersion.Source.{Place, place_of}
+use Rattle.nextest_config_sources.specs.declared.nextest_version.source.ConfigSource.{ConfigSource}
+use Rattle.nextest_config.specs.declared.nextest_version.kept_versions.NextestVersionReq.{NextestVersionReq}
+use Rattle.nextest_config.specs.declared.nextest_version.kept_versions.NextestVersionReq.TheVariants as kept_as
+use Rattle.nextest_config.specs.declared.nextest_version.kept_versions.NextestVersionConfig.{NextestVersionConfig}
+
+-- a version that is kept, and the place that asked for it
+pub record Kept : Type 0 where
+  pub version : Parts
+  pub place : Place
+
+-- the two roles of a version
+pub record Roles : Type 0 where
+  pub required : Option Kept
+  pub recommended : Option Kept
+
+-- the kept version
+abbrev pub kept_version : Kept → Parts
+kept_version kept = kept.version
+
+-- this version, from this source
+abbrev pub kept_from : Version → ConfigSource → Kept
+kept_from version source = record { version = parts_of version; place = place_of source }
+
+-- what a role keeps
+abbrev pub kept_of : NextestVersionReq → Option Kept
+kept_of (kept_as.Version version source) = Some (kept_from version source)
+kept_of kept_as.None = None
+
+-- what a configuration keeps
+abbrev pub roles_of : NextestVersionConfig → Roles
+roles_of config = record { required = kept_of config.required; recommended = kept_of config.recommended }
+
+-- no version is kept
+abbrev pub no_roles : Roles
+no_roles = record { required = None; recommended = None }
+
+-- the version that is asked, if any, with its place
+abbrev pub asked_from : Place → Option Parts → Option Kept
+asked_from place asked = option_map (λ version. record { version = version; place = place }) asked
+
+-- the roles that one source asks, from its place
+abbrev pub roles_from : Place → Versions → Roles
+roles_from place versions = record { required = asked_from place versions.required; recommended = asked_from place versions.recommended }
+
+-- the join of two kept versions: the later one, unless its version is below the earlier one's
+abbrev pub join_kept : Option Kept → Option Kept → Option Kept
+join_kept None later = later
+join_kept (Some earlier) None = Some earlier
+join_kept (Some earlier) (Some later) = if is_below later.version earlier.version then Some earlier else Some later
+
+-- the join of each role
+abbrev pub join_roles : Roles → Roles → Roles
+join_roles earlier later = record {
+  required = join_kept earlier.required later.required;
+  recommended = join_kept earlier.recommended later.recommended;
+}
+
+-- the raised requirement is what is kept once it is joined; none where nothing changes
+abbrev pub IsRaised : Option Kept → Option Kept → Option NextestVersionReq → Type 0
+IsRaised kept joined None = joined ≡ kept
+IsRaised kept joined (Some req) = kept_of req ≡ joined

@@ -1,0 +1,95 @@
+-- What is read of two lists, as what is read of both in a row.
+use Rattle.std.proofs.Common.{◌≡◌, ℕ, ◌+◌, ◌^◌, ◌<◌, List, [], ◌∷◌, ◌++◌, length, length-append, map, refl, sym, ap, ap₂, ◌∙◌, subst, append_assoc, arith, get_or, Result, Ok, Err, IfErr}
+use Rattle.std.proofs.lemmas.List.{map-append}
+use Rattle.std.specs.List.{AllZip}
+use Rattle.nextest_config_lists.specs.Merge.{behind, FitsBehind, HavePieces, IsFirstWrong, IsJoinOfPieces, IsMonoid, IsReadingOne, IsRefusalOfOne, IsRefusalOfPieces, total}
+use Rattle.nextest_config_lists.specs.declared.merge.PieceRefusal.{PieceRefusal}
+use Rattle.nextest_config_lists.specs.declared.merge.PieceRefusal.TheVariants as refusals
+use Rattle.nextest_config_lists.proofs.Lists.{zip_joined, zip_middle}
+
+-- the join of lists in a row
+pub total_joined : {X : Type 0} (join : X → X → X) (neutral : X) → IsMonoid join neutral → (xs ys : List X) → total join neutral (xs ++ ys) ≡ join (total join neutral xs) (total join neutral ys)
+total_joined join neutral laws [] ys = sym (laws.neutral_first (total join neutral ys))
+total_joined join neutral laws (x ∷ xs) ys = ap (join x) (total_joined join neutral laws xs ys) ∙ sym (laws.associative x (total join neutral xs) (total join neutral ys))
+
+module _ {Source Piece Seen : Type 0} (join : Seen → Seen → Seen) (neutral : Seen) (seen : Piece → Seen) (piece : Source → Piece → Type 0) (laws : IsMonoid join neutral) where
+  pub of_none : (joined : Seen) → joined ≡ neutral → IsJoinOfPieces join neutral seen piece [] joined
+  of_none joined is = ([], tt, is)
+
+  pub of_one : (source : Source) (a : Piece) → piece source a → IsJoinOfPieces join neutral seen piece (source ∷ []) (seen a)
+  of_one source a read = (a ∷ [], (read, tt), sym (laws.neutral_last (seen a)))
+
+  -- the join of both is that of the pieces of both lists in a row
+  pub of_both : (xs ys : List Source) (first second joined : Seen) → IsJoinOfPieces join neutral seen piece xs first → IsJoinOfPieces join neutral seen piece ys second → joined ≡ join first (total join neutral (second ∷ []))
+      → IsJoinOfPieces join neutral seen piece (xs ++ ys) joined
+  of_both xs ys first second joined (us, read, is) (vs, more_read, more) joins =
+      let parts = total_joined join neutral laws (map seen us) (map seen vs) in
+      (us ++ vs, zip_joined piece xs us ys vs read more_read, joins ∙ ap (join first) (laws.neutral_last second) ∙ ap₂ join is more ∙ sym parts ∙ ap (total join neutral) (sym (map-append seen us vs)))
+
+module _ {Source Piece Told : Type 0} (piece : Source → Piece → Type 0) (wrong : Source → Told → Type 0) where
+  pub wrong_alone : (source : Source) (position : ℕ) (error : Told) → position ≡ 0 → wrong source error → IsFirstWrong piece wrong (source ∷ []) position error
+  wrong_alone source position error first refused = record { before = []; source = source; after = []; whole = refl; place = sym first; read = ([], tt); refused = refused }
+
+  pub wrong_in_first : (xs ys : List Source) (position : ℕ) (error : Told) → IsFirstWrong piece wrong xs position error → IsFirstWrong piece wrong (xs ++ ys) position error
+  wrong_in_first xs ys position error first = record {
+    before = first.before;
+    source = first.source;
+    after = first.after ++ ys;
+    whole = ap (λ zs. zs ++ ys) first.whole ∙ append_assoc first.before (first.source ∷ first.after) ys;
+    place = first.place;
+    read = first.read;
+    refused = first.refused;
+  }
+
+  pub wrong_in_second : (xs ys : List Source) (position : ℕ) (error : Told) → HavePieces piece xs → IsFirstWrong piece wrong ys position error → IsFirstWrong piece wrong (xs ++ ys) (length xs + position) error
+  wrong_in_second xs ys position error (us, read) first = record {
+    before = xs ++ first.before;
+    source = first.source;
+    after = first.after;
+    whole = ap (λ zs. xs ++ zs) first.whole ∙ sym (append_assoc xs first.before (first.source ∷ first.after));
+    place = length-append xs first.before ∙ ap (λ n. length xs + n) first.place;
+    read = (us ++ first.read.0, zip_joined piece xs us first.before first.read.0 read first.read.1);
+    refused = first.refused;
+  }
+
+  -- the position is one of the list
+  pub within : (sources : List Source) (position : ℕ) (error : Told) → IsFirstWrong piece wrong sources position error → position < length sources
+  within sources position error first = omega (arith, first.place, ap length first.whole, length-append first.before (first.source ∷ first.after))
+
+-- where every source has a piece, none is refused
+pub none_wrong : {Source Piece Seen Told : Type 0} (seen : Piece → Seen) (piece : Source → Piece → Type 0) (wrong : Source → Told → Type 0) → IsReadingOne seen piece wrong
+    → (sources : List Source) (position : ℕ) (error : Told) → HavePieces piece sources → IsFirstWrong piece wrong sources position error → ⊥
+none_wrong seen piece wrong laws sources position error (pieces, read) first =
+    let found = zip_middle piece first.before first.source first.after pieces (subst (λ xs. AllZip piece xs pieces) first.whole read) in
+    laws.never_both first.source found.0 error found.1 first.refused
+
+module _ {Source Piece Error Told : Type 0} (told : Error → Told) (piece : Source → Piece → Type 0) (wrong : Source → Told → Type 0) where
+  pub refused_alone : (source : Source) (r : PieceRefusal Error) → IsRefusalOfOne told wrong source r → IsRefusalOfPieces told piece wrong (source ∷ []) r
+  refused_alone source (refusals.Refused position error) (first, refused) = wrong_alone piece wrong source position (told error) first refused
+  refused_alone source refusals.Memory refused = tt
+
+  pub refused_in_first : (xs ys : List Source) (r : PieceRefusal Error) → IsRefusalOfPieces told piece wrong xs r → IsRefusalOfPieces told piece wrong (xs ++ ys) r
+  refused_in_first xs ys (refusals.Refused position error) first = wrong_in_first piece wrong xs ys position (told error) first
+  refused_in_first xs ys refusals.Memory first = tt
+
+  pub refused_in_second : (xs ys : List Source) (r : PieceRefusal Error) → HavePieces piece xs → IsRefusalOfPieces told piece wrong ys r → IsRefusalOfPieces told piece wrong (xs ++ ys) (behind (length xs) r)
+  refused_in_second xs ys (refusals.Refused position error) read first = wrong_in_second piece wrong xs ys position (told error) read first
+  refused_in_second xs ys refusals.Memory read first = tt
+
+  -- the position stays in range
+  pub fits_behind : (xs ys : List Source) (r : PieceRefusal Error) → length (xs ++ ys) < 2 ^ 64 → IsRefusalOfPieces told piece wrong ys r → FitsBehind (length xs) r
+  fits_behind xs ys (refusals.Refused position error) small first = omega (arith, length-append xs ys, within piece wrong ys position (told error) first)
+  fits_behind xs ys refusals.Memory small first = tt
+
+  -- where every source has a piece, only memory can be wanting
+  pub only_memory : {Seen : Type 0} (seen : Piece → Seen) → IsReadingOne seen piece wrong → (sources : List Source) {X : Type 0} (result : Result X (PieceRefusal Error)) → HavePieces piece sources → IfErr result (IsRefusalOfPieces told piece wrong sources)
+      → IfErr result (λ refusal. refusal ≡ refusals.Memory)
+  only_memory seen laws sources (Ok x) read first = tt
+  only_memory seen laws sources (Err (refusals.Refused position error)) read first = absurd (none_wrong seen piece wrong laws sources position (told error) read first)
+  only_memory seen laws sources (Err refusals.Memory) read first = refl
+
+-- the one element of a list
+pub only_element : {X : Type 0} (xs : List X) (x : X) → x ≡ get_or xs 0 x → length xs ≡ 1 → xs ≡ x ∷ []
+only_element [] x here one = absurd (omega (arith, one))
+only_element (y ∷ []) x here one = ap (λ z. z ∷ []) (sym here)
+only_element (y ∷ z ∷ xs) x here one = absurd (omega (arith, one))

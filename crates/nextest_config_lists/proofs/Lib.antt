@@ -1,0 +1,4 @@
+pub mod Choices
+pub mod Halves
+pub mod Halvings
+pub mod Lists

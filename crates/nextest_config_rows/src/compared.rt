@@ -1,0 +1,95 @@
+//! Values beside one another: equality, copies, order and hashes.
+
+use crate::likeness::{likeness, order, sameness};
+use crate::rows::{Runner, done, written};
+use crate::values::{FromRow, both};
+use nextest_config_values::identifier::{ConfigIdentifier, ToolName};
+use nextest_config_values::tool_config::ToolConfigFile;
+use nextest_config_values::track_default::TrackDefault;
+use std::alloc::{AllocError, Global};
+use std::collections::HashSet;
+use std::fmt::Debug;
+use std::hash::{DefaultHasher, Hash, Hasher};
+
+/// Whether the two values of a row are equal.
+pub fn pair<T: FromRow<By> + PartialEq + Debug + Drop, By>(
+    rt: &impl Runner,
+    input: &str,
+) -> String {
+    let (left, right): (T, T) = both(rt, input, " ~ ");
+    likeness(rt, &left, &right)
+}
+
+/// A value with a copy of its own. `By` is who says so: `()` here, a type of their own in tests.
+pub trait Copied<By>: Sized {
+    /// The copy.
+    fn copied(&self, alloc: Global) -> Result<Self, AllocError>;
+}
+
+impl Copied<()> for ConfigIdentifier {
+    fn copied(&self, alloc: Global) -> Result<Self, AllocError> {
+        self.clone(alloc)
+    }
+}
+
+impl Copied<()> for ToolConfigFile {
+    fn copied(&self, alloc: Global) -> Result<Self, AllocError> {
+        self.clone(alloc)
+    }
+}
+
+impl Copied<()> for ToolName {
+    fn copied(&self, alloc: Global) -> Result<Self, AllocError> {
+        self.clone(alloc)
+    }
+}
+
+impl Copied<()> for TrackDefault<u32> {
+    fn copied(&self, _alloc: Global) -> Result<Self, AllocError> {
+        let copy = *self;
+        copy.clone()
+    }
+}
+
+/// Whether a copy of the row's value is the same.
+pub fn copy<T: FromRow<By> + Copied<By> + PartialEq + Debug + Drop, By>(
+    rt: &impl Runner,
+    input: &str,
+) -> String {
+    let value = T::from_row(rt, input);
+    let copy = done(rt, value.copied(rt.alloc()));
+    likeness(rt, &copy, &value)
+}
+
+/// Whether a copy is written as the value is.
+pub fn alike<T: Copied<By> + Debug + Drop, By>(rt: &impl Runner, value: T) -> String {
+    let copy = done(rt, value.copied(rt.alloc()));
+    sameness(rt, written(rt, &copy) == written(rt, &value))
+}
+
+/// How the two values of a row compare.
+pub fn ordered<T: FromRow<By> + Ord + Drop, By>(rt: &impl Runner, input: &str) -> String {
+    let (left, right): (T, T) = both(rt, input, " ~ ");
+    order(rt, &left, &right)
+}
+
+/// How many values of a row differ, once a set holds them all.
+pub fn distinct<T: FromRow<By> + Eq + Hash + Drop, By>(rt: &impl Runner, input: &str) -> String {
+    let mut set: HashSet<T> = HashSet::new(rt.alloc());
+    for word in input.split(" ~ ") {
+        done(rt, set.insert(T::from_row(rt, word)));
+    }
+    written(rt, set.len())
+}
+
+/// Whether the hashes of the two values of a row are the same.
+pub fn hashed<T: FromRow<By> + Hash + Drop, By>(rt: &impl Runner, input: &str) -> String {
+    let (left, right): (T, T) = both(rt, input, " ~ ");
+    sameness(rt, hash_of(&left) == hash_of(&right))
+}
+
+fn hash_of<T: Hash>(value: &T) -> u64 {
+    let mut hasher = DefaultHasher::new();
+    value.hash(&mut hasher);
+    hasher.finish()
+}

@@ -1,0 +1,29 @@
+//! Values as texts.
+
+use crate::rows::{Runner, Subject, shown, written};
+use crate::values::FromRow;
+use std::fmt::{Debug, Display};
+
+/// A subject whose calls may ask, by `written ` in front, how a source would write the answer.
+pub struct Written<S> {
+    _subject: S,
+}
+
+impl<S: Subject> Subject for Written<S> {
+    fn answer(rt: &impl Runner, call: &str, input: &str) -> String {
+        match call.strip_prefix("written ") {
+            Some(call) => written(rt, S::answer(rt, call, input)),
+            None => S::answer(rt, call, input),
+        }
+    }
+}
+
+/// The text of the row's value.
+pub fn text<T: FromRow<By> + Display + Drop, By>(rt: &impl Runner, input: &str) -> String {
+    shown(rt, &T::from_row(rt, input))
+}
+
+/// The value that a type has at first, as a source would write it.
+pub fn default<T: Default + Debug + Drop>(rt: &impl Runner) -> String {
+    written(rt, T::default())
+}

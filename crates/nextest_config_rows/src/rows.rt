@@ -1,0 +1,243 @@
+//! Tables of rows, each a line `CALL | INPUT | ANSWER`.
+//!
+//! A blank line is no row, nor is one that begins with `#`. An answer that is empty or ends in a space
+//! is followed by ` |`. What a row can't ask for ends its test.
+
+use std::alloc::Global;
+use std::fmt::{Debug, Display};
+
+// Sizes around the powers of two, and some thousands.
+const SIZES: [usize; 37] = [
+    0, 1, 2, 3, 4, 5, 7, 8, 9, 15, 16, 17, 31, 32, 33, 63, 64, 65, 127, 128, 129, 255, 256, 257,
+    511, 512, 513, 1023, 1024, 1025, 2047, 2048, 2049, 4095, 4096, 4097, 5000,
+];
+
+/// What runs a test: it has memory, and can end the test.
+pub trait Runner {
+    /// The memory of the test.
+    fn alloc(&self) -> Global;
+
+    /// What a call answered. A refusal ends the test.
+    fn done<T, E: Debug + Drop>(&self, answer: Result<T, E>) -> T;
+}
+
+/// What tables of rows are about.
+pub trait Subject {
+    /// What a call answers for an input.
+    fn answer(rt: &impl Runner, call: &str, input: &str) -> String;
+}
+
+/// A subject whose inputs write some characters as `\n` or `\u{..}`.
+pub struct Escaped<S> {
+    _subject: S,
+}
+
+impl<S: Subject> Subject for Escaped<S> {
+    fn answer(rt: &impl Runner, call: &str, input: &str) -> String {
+        let input = unescaped(rt, input);
+        S::answer(rt, call, input.as_str())
+    }
+}
+
+/// Asks for the answer of each row, and compares it. A row with `«PIECE»` is asked for at each size, that is
+/// with each piece that many times. A `@` in a piece is its number, in five digits. `«#»` is the size.
+pub fn check<S: Subject>(rt: &impl Runner, rows: &str) {
+    check_at::<S>(rt, rows, &SIZES);
+}
+
+/// Does the same at sizes of its own.
+pub fn check_at<S: Subject>(rt: &impl Runner, rows: &str, sizes: &[usize]) {
+    for line in rows.lines() {
+        if is_row(line) {
+            check_sizes::<S>(rt, line, sizes);
+        }
+    }
+}
+
+/// Whether the line is a row.
+pub fn is_row(line: &str) -> bool {
+    !line.is_empty() && !line.starts_with('#')
+}
+
+fn check_sizes<S: Subject>(rt: &impl Runner, row: &str, sizes: &[usize]) {
+    if !row.contains('«') {
+        return check_row::<S>(rt, row);
+    }
+    for size in sizes {
+        check_grown::<S>(rt, row, *size);
+    }
+}
+
+fn check_grown<S: Subject>(rt: &impl Runner, row: &str, size: usize) {
+    let row = grown(rt, row, size);
+    check_row::<S>(rt, row.as_str());
+}
+
+fn check_row<S: Subject>(rt: &impl Runner, row: &str) {
+    let (call, input, wanted) = parts(rt, row);
+    let answer = S::answer(rt, call, input);
+    compare(rt, row, answer.as_str(), wanted);
+}
+
+/// The call, the input and the wanted answer of a row.
+pub fn parts<'t>(rt: &impl Runner, row: &'t str) -> (&'t str, &'t str, &'t str) {
+    let (call, rest) = cut(rt, row, " | ");
+    let (input, wanted) = cut(rt, rest, " | ");
+    (call, input, wanted)
+}
+
+// A row that isn't answered as it wants.
+#[derive(Clone, Copy, Debug)]
+struct Mismatch<'t> {
+    row: &'t str,
+    answer: &'t str,
+    wanted: &'t str,
+}
+
+/// Ends the test where the answer isn't the wanted one.
+pub fn compare(rt: &impl Runner, row: &str, answer: &str, wanted: &str) {
+    let wanted = wanted.strip_suffix(" |").unwrap_or(wanted);
+    let compared = if answer == wanted {
+        Ok(())
+    } else {
+        Err(Mismatch {
+            row,
+            answer,
+            wanted,
+        })
+    };
+    done(rt, compared);
+}
+
+fn grown(rt: &impl Runner, row: &str, size: usize) -> String {
+    let mut text = String::new(rt.alloc());
+    for part in row.split('«') {
+        grow(rt, &mut text, part, size);
+    }
+    text
+}
+
+fn grow(rt: &impl Runner, text: &mut String, part: &str, size: usize) {
+    match part.split_once('»') {
+        Some((piece, rest)) => {
+            repeat(rt, text, piece, size);
+            push(rt, text, rest);
+        }
+        None => push(rt, text, part),
+    }
+}
+
+fn repeat(rt: &impl Runner, text: &mut String, piece: &str, size: usize) {
+    if piece == "#" {
+        return done(rt, write!(text, "{size}"));
+    }
+    for number in 10000..size.saturating_add(10000) {
+        push_piece(rt, text, piece, number);
+    }
+}
+
+fn push_piece(rt: &impl Runner, text: &mut String, piece: &str, number: usize) {
+    match piece.split_once('@') {
+        Some((left, right)) => done(rt, write!(text, "{left}{number}{right}")),
+        None => push(rt, text, piece),
+    }
+}
+
+/// Adds to a text.
+pub fn push(rt: &impl Runner, text: &mut String, more: &str) {
+    done(rt, text.push_str(more));
+}
+
+/// The two sides of the first of these marks.
+pub fn cut<'t>(rt: &impl Runner, text: &'t str, mark: &str) -> (&'t str, &'t str) {
+    done(rt, text.split_once(mark).ok_or("a row lacks a part"))
+}
+
+// The text with the characters that its escapes name.
+fn unescaped(rt: &impl Runner, text: &str) -> String {
+    let mut parts = text.split('\\');
+    let mut made = String::new(rt.alloc());
+    push(rt, &mut made, parts.next().unwrap_or(""));
+    for part in parts {
+        unescape(rt, &mut made, part);
+    }
+    made
+}
+
+fn unescape(rt: &impl Runner, text: &mut String, part: &str) {
+    let (character, rest) = named_by(part);
+    done(rt, text.push(character));
+    push(rt, text, rest);
+}
+
+// What a backslash in front of a text names, and what stands behind that.
+fn named_by(text: &str) -> (char, &str) {
+    if let Some(rest) = text.strip_prefix('n') {
+        return ('\n', rest);
+    }
+    let Some(rest) = text.strip_prefix("u{") else {
+        return ('\\', text);
+    };
+    match rest.split_once('}') {
+        Some((code, rest)) => (character(code), rest),
+        None => ('\\', text),
+    }
+}
+
+fn character(code: &str) -> char {
+    let code = u32::from_str_radix(code, 16).unwrap_or(u32::MAX);
+    char::from_u32(code).unwrap_or('?')
+}
+
+/// What a call answered, which may not be a refusal.
+pub fn done<T, E: Debug + Drop>(rt: &impl Runner, answer: Result<T, E>) -> T {
+    rt.done(answer)
+}
+
+// A word of a row that nothing has.
+#[derive(Clone, Copy, Debug)]
+struct UnknownWord<'t>(&'t str);
+
+/// Ends the test at a word that nothing has.
+pub fn unknown<T>(rt: &impl Runner, word: &str) -> T {
+    done(rt, Err(UnknownWord(word)))
+}
+
+/// A copy of a text.
+pub fn copied(rt: &impl Runner, text: &str) -> String {
+    done(rt, String::from_str(rt.alloc(), text))
+}
+
+/// The text of a value, which is the same whatever a format asks for.
+pub fn shown<T: Display>(rt: &impl Runner, value: &T) -> String {
+    let text = done(rt, format!(in rt.alloc(); "{value}"));
+    let formatted = done(
+        rt,
+        format!(in rt.alloc(); "{value:>40}{value:*^60}{value:#}"),
+    );
+    if formatted == done(rt, text.repeat(rt.alloc(), 3)) {
+        text
+    } else {
+        formatted
+    }
+}
+
+/// What was answered: a value as a source would write it, or a refusal as it prints.
+pub fn made<T: Debug + Drop, E: Display + Drop>(rt: &impl Runner, answer: Result<T, E>) -> String {
+    match answer {
+        Ok(value) => written(rt, value),
+        Err(error) => shown(rt, &error),
+    }
+}
+
+/// A value as a source would write it.
+pub fn written<T: Debug + Drop>(rt: &impl Runner, value: T) -> String {
+    done(rt, format!(in rt.alloc(); "{value:?}"))
+}
+
+/// A variant that has no more than a text, and the text.
+pub fn variant<T: Debug>(rt: &impl Runner, value: &T) -> String {
+    let text = written(rt, value);
+    let text = done(rt, text.replace(rt.alloc(), "(\"", " "));
+    done(rt, text.replace(rt.alloc(), "\")", ""))
+}

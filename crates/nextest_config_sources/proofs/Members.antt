@@ -1,0 +1,138 @@
+-- The elements of lists: after an insertion, of two lists in one, of a mapped list, found by a test, in order, and those that hold something.
+use Rattle.std.proofs.Common.{◌≡◌, ◌↔◌, ◌⊎◌, zero, suc, Bool, true, List, [], ◌∷◌, ◌++◌, map, Contains, Ordering, Less, Equal, Greater, refl, subst, sym, ap, ◌∙◌, inl, inr, ⊎_elim, arith}
+use Rattle.std.proofs.lemmas.Bool.{or_left, or_right}
+use mathlib.Core.Logic.{⊎_map}
+use Rattle.std.proofs.lemmas.List.{map-id, map_push}
+use Rattle.std.proofs.lemmas.List.Elements.{Contains-append_left, Contains-push, Contains-push_cases}
+use Rattle.std.proofs.lemmas.Map.Views.{Contains-from_any}
+use Rattle.std.specs.BTreeSet.{insert_key}
+use Rattle.std.specs.List.Sorted.{IsStrictlySortedBy}
+use Rattle.std.specs.Ordering.{match_ordering}
+use Rattle.std.specs.Set.{is_member}
+use Rattle.nextest_config_lists.proofs.Lists.{all_mapped}
+use Rattle.nextest_config_sources.specs.NextestVersion.{HasOneMore}
+
+pub contains_first : {X : Type 0} {x y : X} (xs : List X) → x ≡ y → Contains (x ∷ xs) y
+contains_first xs same = (0, omega arith, same)
+
+pub contains_later : {X : Type 0} (x : X) {y : X} (xs : List X) → Contains xs y → Contains (x ∷ xs) y
+contains_later x xs (k, within, is) = (suc k, omega arith, is)
+
+pub contains_cases : {X : Type 0} (x : X) {y : X} (xs : List X) → Contains (x ∷ xs) y → (x ≡ y) ⊎ Contains xs y
+contains_cases x xs (zero, within, is) = inl is
+contains_cases x xs (suc k, within, is) = inr (k, omega arith, is)
+
+pub contains_none : {X : Type 0} {y : X} → Contains [] y → ⊥
+contains_none (k, within, is) = omega arith
+
+-- an order on the keys, and what is seen of each key, which is the same at keys that are equal by the order
+module _ {K Y : Type 0} (cmp : K → K → Ordering) (seen : K → Y) (exact : (x y : K) → cmp x y ≡ Equal → seen x ≡ seen y) (k : K) where
+  abbrev placed : Ordering → K → List K → List K
+  placed order x xs = match_ordering order (k ∷ x ∷ xs) (x ∷ xs) (x ∷ insert_key cmp xs k)
+
+  inserted_by : (order : Ordering) (x : K) (xs : List K) (y : Y) → cmp k x ≡ order → Contains (map seen (insert_key cmp xs k)) y ↔ (Contains (map seen xs) y ⊎ (seen k ≡ y))
+      → Contains (map seen (placed order x xs)) y ↔ (Contains (map seen (x ∷ xs)) y ⊎ (seen k ≡ y))
+  inserted_by Less x xs y is more =
+      let all = map seen (x ∷ xs) in
+      (λ h. ⊎_elim inr inl (contains_cases (seen k) all h), ⊎_elim (contains_later (seen k) all) (contains_first all))
+  inserted_by Equal x xs y is more = (inl, ⊎_elim (λ h. h) (λ same. contains_first (map seen xs) (sym (exact k x is) ∙ same)))
+  inserted_by Greater x xs y is more =
+      let later = contains_later (seen x) (map seen xs) in
+      let still = contains_later (seen x) (map seen (insert_key cmp xs k)) in (
+        λ h. ⊎_elim (λ same. inl (contains_first (map seen xs) same)) (λ h. ⊎_map later (λ same. same) (more.0 h)) (contains_cases (seen x) (map seen (insert_key cmp xs k)) h),
+        ⊎_elim (λ h. ⊎_elim (contains_first (map seen (insert_key cmp xs k))) (λ h. still (more.1 (inl h))) (contains_cases (seen x) (map seen xs) h)) (λ same. still (more.1 (inr same))),
+      )
+
+  inserted : (ks : List K) (y : Y) → Contains (map seen (insert_key cmp ks k)) y ↔ (Contains (map seen ks) y ⊎ (seen k ≡ y))
+  inserted [] y = (λ h. ⊎_elim inr inl (contains_cases (seen k) [] h), ⊎_elim (λ none. absurd (contains_none none)) (contains_first []))
+  inserted (x ∷ xs) y = inserted_by (cmp k x) x xs y refl (inserted xs y)
+
+-- after an insertion, a set has one more of what is seen of its keys, and one more key
+pub one_more_seen : {K Y : Type 0} (cmp : K → K → Ordering) (seen : K → Y) → ((x y : K) → cmp x y ≡ Equal → seen x ≡ seen y) → (k : K) (before after : List K) → after ≡ insert_key cmp before k → HasOneMore (map seen before) (seen k) (map seen after)
+one_more_seen cmp seen exact k before after is y = rw is (inserted cmp seen exact k before y)
+
+pub one_more : {K : Type 0} (cmp : K → K → Ordering) → ((x y : K) → cmp x y ≡ Equal → x ≡ y) → (k : K) (before after : List K) → after ≡ insert_key cmp before k → HasOneMore before k after
+one_more {K} cmp exact k before after is = rw (map-id before, map-id after) at (one_more_seen cmp (λ (x : K). x) exact k before after is)
+
+pub pushed : {X : Type 0} (xs : List X) (x : X) → HasOneMore xs x (xs ++ x ∷ [])
+pushed xs x y = (Contains-push_cases xs x y, ⊎_elim (Contains-append_left xs (x ∷ []) y) (λ same. subst (Contains (xs ++ x ∷ [])) same (Contains-push xs x)))
+
+-- ---- elements of two lists in one
+
+-- the last list has the elements of both others
+abbrev pub HasBoth : {X : Type 0} → List X → List X → List X → Type 0
+HasBoth {X} xs ys both = (x : X) → Contains both x ↔ (Contains xs x ⊎ Contains ys x)
+
+pub both_with_none : {X : Type 0} (xs : List X) → HasBoth xs [] xs
+both_with_none xs x = (inl, ⊎_elim (λ h. h) (λ none. absurd (contains_none none)))
+
+pub both_with_more : {X Y : Type 0} (seen : X → Y) (xs : List Y) (ys : List X) (both later : List Y) (y : X) → HasBoth xs (map seen ys) both → HasOneMore both (seen y) later
+    → HasBoth xs (map seen (ys ++ y ∷ [])) later
+both_with_more seen xs ys both later y has more x =
+    let grown = pushed (map seen ys) (seen y) x in
+    rw (map_push seen ys y) (
+      λ h. ⊎_elim (λ there. ⊎_map (λ in_xs. in_xs) (λ in_ys. grown.1 (inl in_ys)) ((has x).0 there)) (λ same. inr (grown.1 (inr same))) ((more x).0 h),
+      λ h. (more x).1 (⊎_elim (λ in_xs. inl ((has x).1 (inl in_xs))) (λ in_ys. ⊎_map (λ earlier. (has x).1 (inr earlier)) (λ same. same) (grown.0 in_ys)) h),
+    )
+
+pub among_images : {X Y : Type 0} (f : X → Y) (xs : List X) (y : Y) → Contains (map f xs) y ↔ ((x : X) × Contains xs x × (f x ≡ y))
+among_images f [] y = (λ h. absurd (contains_none h), λ (x, none, image). absurd (contains_none none))
+among_images f (x ∷ xs) y = (
+  λ h. ⊎_elim (λ same. (x, contains_first xs refl, same)) (λ later. let (k, there, image) = (among_images f xs y).0 later in (k, contains_later x xs there, image))
+      (contains_cases (f x) (map f xs) h),
+  λ (k, there, image). ⊎_elim (λ same. contains_first (map f xs) (ap f same ∙ image)) (λ later. contains_later (f x) (map f xs) ((among_images f xs y).1 (k, later, image)))
+      (contains_cases x xs there),
+)
+
+-- a test that tells elements apart finds those of a list
+module _ {K : Type 0} (eq : K → K → Bool) (itself : (x : K) → eq x x ≡ true) (exact : (x y : K) → eq x y ≡ true → x ≡ y) where
+  found_member : (k : K) (xs : List K) → Contains xs k → is_member eq xs k ≡ true
+  found_member k [] h = absurd (contains_none h)
+  found_member k (x ∷ xs) h = ⊎_elim (λ same. or_left (eq k x) (is_member eq xs k) (subst (λ y. eq k y ≡ true) (sym same) (itself k)))
+      (λ later. or_right (eq k x) (is_member eq xs k) (found_member k xs later)) (contains_cases x xs h)
+
+  -- the test finds those that the list has
+  pub member_iff : (k : K) (xs : List K) → (is_member eq xs k ≡ true) ↔ Contains xs k
+  member_iff k xs = (Contains-from_any exact k xs, found_member k xs)
+
+-- ---- elements in order
+
+pub none_in_order : {X : Type 0} (cmp : X → X → Ordering) → IsStrictlySortedBy cmp []
+unfolding IsStrictlySortedBy
+none_in_order cmp = tt
+
+-- what is in order by what is seen of it is seen in order
+pub seen_in_order : {X Y : Type 0} (cmp : X → X → Ordering) (seen_cmp : Y → Y → Ordering) (seen : X → Y) → ((x y : X) → cmp x y ≡ seen_cmp (seen x) (seen y)) → (xs : List X)
+    → IsStrictlySortedBy cmp xs → IsStrictlySortedBy seen_cmp (map seen xs)
+unfolding IsStrictlySortedBy
+seen_in_order cmp seen_cmp seen same [] h = tt
+seen_in_order cmp seen_cmp seen same (x ∷ xs) h =
+    (all_mapped (λ y. cmp x y ≡ Less) (λ y. seen_cmp (seen x) y ≡ Less) seen (λ y less. sym (same x y) ∙ less) xs h.0, seen_in_order cmp seen_cmp seen same xs h.1)
+
+pub in_order_by : {X : Type 0} (cmp other : X → X → Ordering) → ((x y : X) → cmp x y ≡ other x y) → (xs : List X) → IsStrictlySortedBy cmp xs → IsStrictlySortedBy other xs
+in_order_by {X} cmp other same xs h = subst (IsStrictlySortedBy other) (map-id xs) (seen_in_order cmp other (λ (x : X). x) same xs h)
+
+-- ---- the elements of a list that hold something
+
+-- the elements so far of which this holds
+abbrev pub AreThoseOf : {X : Type 0} → (X → Type 0) → List X → List X → Type 0
+AreThoseOf {X} Holds so_far those = (x : X) → Contains those x ↔ (Contains so_far x × Holds x)
+
+pub none_of_none : {X : Type 0} (Holds : X → Type 0) → AreThoseOf Holds [] []
+none_of_none Holds x = (λ h. absurd (contains_none h), λ h. absurd (contains_none h.0))
+
+pub one_that_holds : {X : Type 0} (Holds : X → Type 0) (so_far before after : List X) (x : X)
+    → AreThoseOf Holds so_far before → HasOneMore before x after → Holds x → AreThoseOf Holds (so_far ++ x ∷ []) after
+one_that_holds Holds so_far before after x those more holds other =
+    let grown = pushed so_far x other in (
+      λ h. ⊎_elim (λ there. let (stood, held) = (those other).0 there in (grown.1 (inl stood), held)) (λ same. (grown.1 (inr same), subst Holds same holds)) ((more other).0 h),
+      λ (there, held). (more other).1 (⊎_map (λ stood. (those other).1 (stood, held)) (λ same. same) (grown.0 there)),
+    )
+
+pub one_that_fails : {X : Type 0} (Holds : X → Type 0) (so_far those : List X) (x : X)
+    → AreThoseOf Holds so_far those → (Holds x → ⊥) → AreThoseOf Holds (so_far ++ x ∷ []) those
+one_that_fails Holds so_far those x are fails other =
+    let grown = pushed so_far x other in (
+      λ h. let (stood, held) = (are other).0 h in (grown.1 (inl stood), held),
+      λ (there, held). (are other).1 (⊎_elim (λ stood. stood) (λ same. absurd (fails (subst Holds (sym same) held))) (grown.0 there), held),
+    )

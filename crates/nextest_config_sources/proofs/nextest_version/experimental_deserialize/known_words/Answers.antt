@@ -1,0 +1,25 @@
+use Rattle.std.proofs.Common.{[], map, string_bytes, subst}
+use Rattle.std.proofs.lemmas.Map.Iter.{iter_end}
+use Rattle.std.specs.Cmp.Lexicographic.{slice_cmp}
+use Rattle.std.specs.Map.Iter.{deref}
+use Rattle.std.specs.Ordering.{nat_cmp}
+use Rattle.nextest_config_sources.specs.NextestVersion.{HasOneMore}
+use Rattle.nextest_config_sources.proofs.Members.{both_with_more, both_with_none, none_in_order}
+use Rattle.nextest_config_sources.proofs.Naming.{all_words, seen_word}
+use Rattle.nextest_config_sources.proofs.nextest_version.experimental_deserialize.known_words.Goals as goal
+
+pub loop-feature-init : goal.loop-feature-init
+loop-feature-init c = rw c.new-words.ensures.empty (none_in_order (slice_cmp nat_cmp), both_with_none [])
+
+pub loop-feature-preserved : goal.loop-feature-preserved
+loop-feature-preserved c =
+    let more = subst (λ text. HasOneMore (map string_bytes c.loop-feature.words.keys) text (map string_bytes c.add_text.new.texts.keys)) c.as_word.ensures c.in_ok-add_text.ensures.added in (
+      c.in_ok-add_text.ensures.in_order,
+      both_with_more seen_word [] c.loop-feature.yielded
+          (map string_bytes c.loop-feature.words.keys) (map string_bytes c.add_text.new.texts.keys) c.in-Some.feature c.loop-feature.invariant.1 more,
+    )
+
+pub returns-clause-words : goal.returns-clause-words
+returns-clause-words c =
+    let ended = iter_end deref c.args.known.now.keys c.loop-feature.yielded _ _ _ _ c.into_iter-feature-iterator.ensures.into_iter_gives.0 c.loop-feature.yielded_by c.in-None.is c.next.ensures.steps in
+    all_words c.args.known.now.keys c.loop-feature.yielded (map string_bytes c.loop-feature.words.keys) ended.0 c.loop-feature.invariant.1

@@ -1,0 +1,25 @@
+use Rattle.std.proofs.lemmas.Result.{err_from_is_err_and}
+use Rattle.toml.specs.View.{table_view}
+use Rattle.nextest_config_sources.specs.NextestVersion.{features_left}
+use Rattle.nextest_config_sources.proofs.Naming.{all_switches, refuses_switches, switched_off, switched_on}
+use Rattle.nextest_config_sources.proofs.nextest_version.experimental_deserialize.read_switches.Goals as goal
+
+pub returns-in_err-read_switch-clause-refused : goal.returns-in_err-read_switch-clause-refused
+returns-in_err-read_switch-clause-refused c =
+    let passed = err_from_is_err_and c.from_residual.result c.from_residual.ensures.1 in
+    rw (passed.1, passed.2) (refuses_switches (table_view c.args.table.now) c.args.at.now c.in_err-read_switch.field-0.0 c.loop-feature.yielded _ c.loop-feature.known.keys (features_left c.next.new.self) c.in-Some.feature
+    c.loop-feature.invariant c.in-Some.ensures.steps c.in_err-read_switch.ensures.refused)
+
+pub loop-feature-preserved-then-not-branch : goal.loop-feature-preserved-then-not-branch
+loop-feature-preserved-then-not-branch c =
+    let off = rw c.if-not-branch.true at c.in_ok-read_switch.ensures.meant in
+    switched_off (table_view c.args.table.now) c.loop-feature.yielded _ c.loop-feature.known.keys (features_left c.next.new.self) c.in-Some.feature c.loop-feature.invariant c.in-Some.ensures.steps off
+
+pub loop-feature-preserved : goal.loop-feature-preserved
+loop-feature-preserved c =
+    let on = rw c.if-not-branch.false at c.in_ok-read_switch.ensures.meant in
+    switched_on (table_view c.args.table.now) c.loop-feature.yielded _ c.loop-feature.known.keys (features_left c.next.new.self) c.add_feature.new.features.keys c.in-Some.feature c.loop-feature.invariant c.in-Some.ensures.steps on
+    c.in-Ok.ensures.added c.in-Ok.ensures.in_order
+
+pub returns-clause-switches : goal.returns-clause-switches
+returns-clause-switches c = all_switches (table_view c.args.table.now) c.loop-feature.yielded _ c.loop-feature.known.keys c.loop-feature.invariant c.in-None.ensures.steps.0

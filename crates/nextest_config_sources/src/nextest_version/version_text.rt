@@ -1,0 +1,103 @@
+//! Version texts.
+
+ghost use Rattle.std.specs.Prelude.{◌≡◌, true, IfOk, IfErr, IsErr, Ok, MatchOption};
+ghost use Rattle.std.specs.List.{AllByRecursion};
+ghost use Rattle.semver.specs.Identifiers.{parts_of};
+ghost use Rattle.semver.specs.Parse.{version_parts};
+ghost use Rattle.nextest_config_values.specs.Read.{broken_rule, reading_on, Refuses};
+ghost use Rattle.nextest_config_sources.specs.NextestVersion.{BreaksVersion, HasVersion, IsPlain, IsVersionFault, MeansVersion, version_reading, VersionFaults, VersionTextFaults};
+
+use nextest_config_values::read::{FaultKind, FromToml, ReadFault, Rule};
+use semver::Version;
+use std::alloc::{AllocError, Global};
+use toml::Value;
+
+/// A version, as a setting writes it.
+#[derive(Drop)]
+pub(crate) struct VersionText {
+    pub version: Version,
+}
+
+impl FromToml for VersionText {
+    ghost means = { λ value text. MeansVersion value (parts_of text.version) };
+
+    ghost faults = { VersionFaults };
+
+    ghost needs_memory = { true };
+
+    ghost alike = { λ a b. parts_of a.version ≡ parts_of b.version };
+
+    ghost laws = { reading_on (λ text. parts_of text.version) version_reading };
+
+    fn read(alloc: Global, value: &Value, at: &str) -> Result<Self, ReadFault> {
+        match value.as_str() {
+            Some(text) => {
+                let version = read_version(alloc, text, at)?;
+                Ok(VersionText { version })
+            }
+            None => Err(ReadFault::invalid_type(alloc, value, at, "a string")),
+        }
+    }
+}
+
+/// The version of a text at a path.
+pub(crate) fn read_version(alloc: Global, text: &str, at: &str) -> Result<Version, ReadFault>
+    ensures meant { IfOk result (λ v. HasVersion text.now (parts_of v)) }
+    ensures refused { IfErr result (Refuses (VersionTextFaults text.now at.now) (Unit {0})) }
+{
+    match parse_version(alloc, text) {
+        Ok(version) => Ok(version),
+        Err(kind) => Err(ReadFault::new(alloc, at, kind)),
+    }
+}
+
+// The version of a text, `x.y.z` or `x.y`.
+fn parse_version(alloc: Global, text: &str) -> Result<Version, FaultKind>
+    ensures version { IfOk result (λ v. HasVersion text.now (parts_of v)) }
+    ensures fault { IfErr result (BreaksVersion text.now) }
+{
+    if let Some(rule) = first_mark(text) {
+        return Err(FaultKind::Custom(rule));
+    }
+    if let Some(version) = parse_semver(alloc, text)? {
+        return Ok(version);
+    }
+    let three = format!(in alloc; "{text}.0")?;
+    if let Some(version) = parse_semver(alloc, three.as_str())? {
+        return Ok(version);
+    }
+    let text = String::from_str(alloc, text)?;
+    Err(FaultKind::Custom(Rule::NotVersion { text }))
+}
+
+// The rule that the first hyphen or plus sign breaks.
+fn first_mark(text: &str) -> Option<Rule>
+    ensures { MatchOption result (AllByRecursion IsPlain text.now)
+        (λ rule. IsVersionFault text.now (broken_rule rule)) }
+{
+    for byte in text.as_bytes() {
+        match *byte {
+            b'-' => return Some(Rule::PreRelease),
+            b'+' => return Some(Rule::BuildMetadata),
+            _ => {}
+        }
+    }
+    None
+}
+
+// The version that SemVer's own grammar gives the text, if any.
+fn parse_semver(alloc: Global, text: &str) -> Result<Option<Version>, AllocError>
+    ensures { IfOk result (λ found. MatchOption found (IsErr (version_parts text.now))
+        (λ v. version_parts text.now ≡ Ok (parts_of v))) }
+{
+    match Version::parse(alloc, text) {
+        Ok(version) => Ok(Some(version)),
+        Err(error) => {
+            if error == semver::Error::from(AllocError) {
+                Err(AllocError)
+            } else {
+                Ok(None)
+            }
+        }
+    }
+}

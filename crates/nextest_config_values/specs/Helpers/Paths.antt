@@ -1,0 +1,73 @@
+-- Relative paths, and the join of two paths.
+use Rattle.std.specs.Prelude.{◌≡◌, ℕ, ◌==◌, Bool, false, List, [], ◌∷◌, ◌++◌, reverse, codes, if◌then◌else◌, ◌⊎◌, String, string_bytes}
+use Rattle.std.proofs.Common.{refl, sym, ◌∙◌}
+use Rattle.std.specs.declared.alloc.Global.{Global}
+use Rattle.toml.specs.Data.{Data, as_str}
+use Rattle.nextest_config_values.specs.Characters.{slash}
+use Rattle.nextest_config_values.specs.Read.Fault.{Fault, wrong_value}
+use Rattle.nextest_config_values.specs.Read.FromToml.{FaultsAs, IsHeldReading, IsReading, MeansAs, reading_as, text_expected}
+use Rattle.nextest_config_values.specs.Read.Plain.{SameText}
+
+-- the text begins with a slash
+abbrev pub BeginsWithSlash : List ℕ → Type 0
+BeginsWithSlash text = (rest : List ℕ) × (text ≡ slash ∷ rest)
+
+-- the text ends with a slash
+abbrev pub EndsWithSlash : List ℕ → Type 0
+EndsWithSlash text = (front : List ℕ) × (text ≡ front ++ (slash ∷ []))
+
+-- one of the pieces between slashes is `..`
+pub record HasParentPiece (text : List ℕ) : Type 0 where
+  pub before : List ℕ
+  pub after : List ℕ
+  pub whole : text ≡ before ++ (codes ".." ++ after)
+  pub begins : (before ≡ []) ⊎ EndsWithSlash before
+  pub ends : (after ≡ []) ⊎ BeginsWithSlash after
+
+-- the text doesn't begin with a slash, and no piece of it is `..`
+abbrev pub IsRelativePath : List ℕ → Type 0
+IsRelativePath text = ¬ (BeginsWithSlash text) × ¬ (HasParentPiece text)
+
+-- the path is the text as it is written
+abbrev pub MeansPathText : List ℕ → String Global → Type 0
+MeansPathText held path = (string_bytes path ≡ held) × IsRelativePath held
+
+-- the text is no relative path
+abbrev pub PathTextFaults : List ℕ → Data → List ℕ → Fault → Type 0
+PathTextFaults held value at fault = ¬ (IsRelativePath held) × (fault ≡ wrong_value value at (codes "a relative path with no parent components"))
+
+-- the value is a text that is a relative path
+abbrev pub MeansPath : Data → String Global → Type 0
+MeansPath = MeansAs as_str MeansPathText
+
+-- the value is no text, or no relative path
+abbrev pub PathFaults : Data → List ℕ → Fault → Type 0
+PathFaults = FaultsAs as_str text_expected PathTextFaults
+
+held_path : IsHeldReading MeansPathText PathTextFaults SameText
+held_path = record {
+  equivalence = record { itself = λ x. refl; back = λ x y e. sym e; through = λ x y z e f. e ∙ f };
+  one_meaning = λ value x y a b. a.0 ∙ sym b.0;
+  one_fault = λ value at f g a b. a.1 ∙ sym b.1;
+  never_both = λ value at x f a b. b.0 a.1;
+}
+
+-- a value means one relative path or has one fault, and not both
+pub path_reading : IsReading MeansPath PathFaults SameText
+path_reading = reading_as as_str text_expected MeansPathText PathTextFaults SameText held_path
+
+-- ---- the join of two paths, by the rules of Unix
+
+-- whether the path begins with a slash
+abbrev pub begins_with_slash : List ℕ → Bool
+begins_with_slash [] = false
+begins_with_slash (b ∷ rest) = b == slash
+
+-- what has to stand between the path and another one: a slash, unless the path is empty or ends with one
+abbrev pub separator : List ℕ → List ℕ
+separator [] = []
+separator (b ∷ rest) = if begins_with_slash (reverse (b ∷ rest)) then [] else slash ∷ []
+
+-- the join of two paths: the second one where it begins with a slash; else both, with the separator between
+abbrev pub joined_path : List ℕ → List ℕ → List ℕ
+joined_path first second = if begins_with_slash second then second else first ++ (separator first ++ second)

@@ -1,0 +1,46 @@
+//! Relative paths, and the join of two paths.
+
+ghost use Rattle.std.specs.Prelude.{◌≡◌, ◌↔◌, true, IfErr, IfOk, IsTrue, string_bytes};
+ghost use Rattle.toml.specs.View.{view};
+ghost use Rattle.nextest_config_values.specs.Helpers.Paths.{IsRelativePath, joined_path, MeansPath, PathFaults};
+ghost use Rattle.nextest_config_values.specs.Read.{Refuses, WantsMemory};
+
+use crate::read::{FromToml, ReadFault};
+use std::alloc::{AllocError, Global};
+use std::path::Path;
+use toml::Value;
+
+/// Reads a relative path, which is kept as it is written: it doesn't begin with `/`, and none of its
+/// pieces between slashes is `..`.
+pub fn deserialize_relative_path(
+    alloc: Global,
+    value: &Value,
+    at: &str,
+) -> Result<String, ReadFault>
+    ensures meant { IfOk result (MeansPath (view value.now)) }
+    ensures refused { IfErr result (Refuses (PathFaults (view value.now) at.now)
+        (WantsMemory (MeansPath (view value.now)) true)) }
+{
+    let path = String::read(alloc, value, at)?;
+    if is_relative_path(path.as_str()) {
+        Ok(path)
+    } else {
+        let expected = "a relative path with no parent components";
+        Err(ReadFault::invalid_value(alloc, value, at, expected))
+    }
+}
+
+fn is_relative_path(path: &str) -> bool
+    ensures { IsTrue result ↔ IsRelativePath path.now }
+{
+    !path.starts_with('/') && path.split('/').all(|piece| piece != "..")
+}
+
+/// The path that `path` names beside the folder `base`, by the rules of Unix: a path that begins with `/`
+/// stays as it is.
+pub fn join_path(alloc: Global, base: &str, path: &str) -> Result<String, AllocError>
+    ensures { IfOk result (λ joined. string_bytes joined ≡ joined_path base.now path.now) }
+{
+    let joined = Path::new(base).join(alloc, path)?;
+    Ok(joined.into_string())
+}
