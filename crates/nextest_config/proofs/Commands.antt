@@ -1,12 +1,16 @@
 -- What the changes of a board leave in each slot.
-use Rattle.std.proofs.Common.{◌≡◌, ◌≢◌, ◌⊎◌, ℕ, zero, suc, List, [], ◌∷◌, ◌++◌, length, get_or, Option, Some, None, refl, sym, ap, subst, ◌∙◌, inl, inr, ⊎_elim, arith}
+use Rattle.std.proofs.Common.{◌≡◌, ◌≢◌, ◌↔◌, ◌⊎◌, ℕ, zero, suc, Bool, List, [], ◌∷◌, ◌++◌, length, get_or, map, replicate, set, Option, Some, None, refl, sym, ap, subst, ◌∙◌, inl, inr, ⊎_elim, arith}
 use Rattle.std.proofs.lemmas.Bool.{cases_order}
 use Rattle.std.proofs.lemmas.List.{get_or-set_other, get_or-set_same, length-replicate, length-set}
-use Rattle.std.specs.List.{AllByRecursion}
-use Rattle.nextest_config.specs.Board.Commands.{Changes, ChangesInTurn, Command, empty_board, HoldsLast, IsLeft, IsOfOther, Leaves, put, slot_in, withdraw}
+use Rattle.std.specs.List.{AllByRecursion, AllZip}
+use Rattle.semver.specs.Parse.{Parts}
+use Rattle.nextest_config.specs.Board.Commands.{Changes, ChangesInTurn, Command, empty_board, HoldsLast, HoldsSource, IsLeft, IsOfOther, Leaves, present, put, slot_in, source_left, sources_after, withdraw}
 use Rattle.nextest_config_lists.specs.Choice.Halvings.{halvings}
-use Rattle.nextest_config.specs.Board.Slots.{asked_at, BoardState, IsChanged}
-use Rattle.nextest_config.specs.NextestVersion.VersionOnly.{Asked}
+use Rattle.nextest_config.specs.Board.Slots.{asked_at, board_list, BoardState, IsChanged}
+use Rattle.nextest_config.specs.NextestVersion.Verdict.{Verdict}
+use Rattle.nextest_config.specs.NextestVersion.{alone, AreRead, Asked, IsSelected, IsSelectedFor}
+use Rattle.nextest_config_sources.specs.NextestVersion.Source.{Source}
+use Rattle.nextest_config.proofs.OneVerdict.{all_read_once}
 
 -- what the slot holds
 abbrev held_in : BoardState → ℕ → Option Asked
@@ -90,3 +94,60 @@ counts_since (command ∷ commands) last old new (between, change, rest) =
 
 pub counts_last : (n : ℕ) (commands : List Command) (last : Command) (board : BoardState) → ChangesInTurn (commands ++ (last ∷ [])) (empty_board n) board → board.selections ≡ halvings n (slot_in last)
 counts_last n commands last board changes = counts_since commands last (empty_board n) board changes ∙ ap (λ k. halvings k (slot_in last)) (length-replicate n None)
+
+-- ---- the sources themselves
+
+-- each slot holds its source
+abbrev AllHold : List (Option Source) → List (Option Asked) → Type 0
+AllHold = AllZip HoldsSource
+
+set_both : (sources : List (Option Source)) (slots : List (Option Asked)) (k : ℕ) (source : Option Source) (held : Option Asked) → AllHold sources slots → HoldsSource source held
+    → AllHold (set sources k source) (set slots k held)
+set_both [] [] k source held all one = all
+set_both [] (y ∷ slots) k source held all one = absurd all
+set_both (x ∷ sources) [] k source held all one = absurd all
+set_both (x ∷ sources) (y ∷ slots) zero source held all one = (one, all.1)
+set_both (x ∷ sources) (y ∷ slots) (suc k) source held all one = (all.0, set_both sources slots k source held all.1 one)
+
+hold_after : (commands : List Command) (sources : List (Option Source)) (old new : BoardState) → ChangesInTurn commands old new → AllHold sources old.slots → AllHold (sources_after commands sources) new.slots
+hold_after [] sources old new same all = subst (λ (board : BoardState). AllHold sources board.slots) same all
+hold_after (command ∷ commands) sources old new (between, change, rest) all =
+    let (held, changed, leaves) = changed_so command old between change in
+    let next : List (Option Source) = set sources (slot_in command) (source_left command) in
+    let set_so : AllHold next (set old.slots (slot_in command) held) = set_both sources old.slots (slot_in command) (source_left command) held all leaves in
+    hold_after commands next between new rest (subst (λ (slots : List (Option Asked)). AllHold next slots) (sym changed.slots) set_so)
+
+none_hold : (n : ℕ) → AllHold (replicate n None) (replicate n None)
+none_hold zero = tt
+none_hold (suc n) = (refl, none_hold n)
+
+-- the sources ask this, and the slots give the same verdicts
+abbrev IsAskedBy : List (Option Source) → List (Option Asked) → List Asked → Type 0
+IsAskedBy sources slots asked =
+    AreRead (present sources) asked × ((current : Parts) (overridden : Bool) → map (alone current overridden) (board_list slots) ≡ map (alone current overridden) asked)
+
+asked_by : (sources : List (Option Source)) (slots : List (Option Asked)) → AllHold sources slots → (asked : List Asked) × IsAskedBy sources slots asked
+asked_by [] [] all = ([], (tt, λ current overridden. refl))
+asked_by [] (slot ∷ slots) all = absurd all
+asked_by (source ∷ sources) [] all = absurd all
+asked_by (None ∷ sources) (slot ∷ slots) all =
+    let (asked, (read, same)) = asked_by sources slots all.1 in
+    (asked, (read, λ current overridden. rw all.0 (same current overridden)))
+asked_by (Some source ∷ sources) (slot ∷ slots) all =
+    let (ask, is_read, holds) = all.0 in
+    let (asked, (read, same)) = asked_by sources slots all.1 in
+    let one : Asked = record { place = source.place; ask = ask } in
+    (one ∷ asked, ((record { place = refl; read = is_read }, read), λ current overridden. rw holds (ap (λ (verdicts : List Verdict). alone current overridden one ∷ verdicts) (same current overridden))))
+
+-- the verdict of the slots is that of the sources
+pub board_verdict : (n : ℕ) (commands : List Command) (board : BoardState) (current : Parts) (overridden : Bool) (v : Verdict) → ChangesInTurn commands (empty_board n) board
+    → IsSelected (map (alone current overridden) (board_list board.slots)) v ↔ IsSelectedFor (present (sources_after commands (replicate n None))) current overridden v
+board_verdict n commands board current overridden v changes =
+    let sources = sources_after commands (replicate n None) in
+    let (asked, (read, same)) = asked_by sources board.slots (hold_after commands (replicate n None) (empty_board n) board changes (none_hold n)) in (
+      λ selected. (asked, read, subst (λ (verdicts : List Verdict). IsSelected verdicts v) (same current overridden) selected),
+      λ (others, other_read, selected).
+          let is : others ≡ asked = all_read_once (present sources) others asked other_read read in
+          let told : map (alone current overridden) others ≡ map (alone current overridden) (board_list board.slots) = ap (map (alone current overridden)) is ∙ sym (same current overridden) in
+          subst (λ (verdicts : List Verdict). IsSelected verdicts v) told selected,
+    )

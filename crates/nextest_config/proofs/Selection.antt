@@ -6,7 +6,8 @@ use Rattle.std.specs.List.{AllByRecursion}
 use Rattle.semver.specs.Parse.{Parts}
 use Rattle.nextest_config.specs.NextestVersion.Verdict.{Verdict}
 use Rattle.nextest_config_sources.specs.NextestVersion.{Ask, is_below, IsBelow, Place}
-use Rattle.nextest_config.specs.NextestVersion.{alone, Asked, asked_from, AsksNoGreater, AsksNone, AsksOther, Configuration, error, gravity, IsGravest, IsGreatest, IsNoGraver, IsNoGreaterOfItsKind, IsOtherOfItsKind, IsSatisfied, IsSelected, judged, Kept, named_version, Roles, satisfied, SelectsAmong, short_of, Shortfall, StandsForAsks, StandsIn, unmet, warn}
+use Rattle.nextest_config.specs.NextestVersion.{alone, Asked, asked_from, AsksNoGreater, AsksNone, AsksOther, Configuration, error, gravity, IsGravest, IsGreatest, IsNoGraver, IsNoGreaterOfItsKind, IsOtherOfItsKind, IsSatisfied, IsSelected, judged, Kept, named_version, Roles, satisfied, SelectsAmong, SelectsFor, short_of, Shortfall, StandsFor, StandsForAsks, StandsIn, unmet, warn}
+use Rattle.nextest_config_sources.specs.NextestVersion.Source.{Source}
 use Rattle.nextest_config_lists.proofs.Lists.{all_mapped, map_agrees}
 use Rattle.nextest_config_values.proofs.Elements.{all_always, all_both, all_weaker}
 use Rattle.nextest_config_sources.specs.NextestVersion.PrecedenceLaws.{not_below_trans}
@@ -175,3 +176,6 @@ selects_by asked roles current overridden None None h k r_is m_is =
 pub selects : (asked : List Asked) (c : Configuration) → StandsForAsks asked c → SelectsAmong asked c.roles
 selects asked c stands current overridden =
     selects_by asked c.roles current overridden (unmet c.roles.required current) (unmet c.roles.recommended current) stands.required stands.recommended refl refl
+
+pub selects_for : (sources : List Source) (c : Configuration) → StandsFor sources c → SelectsFor sources c.roles
+selects_for sources c (asked, read, stands) = (asked, read, selects asked c stands)

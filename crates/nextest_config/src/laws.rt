@@ -1,18 +1,20 @@
 //! Laws of the definitions, for every value. They call nothing.
 
-ghost use Rattle.std.specs.Prelude.{◌≡◌, ◌≢◌, ◌↔◌, ◌+◌, ◌<◌, ◌++◌, [], ◌∷◌, ℕ, List, Bool, true, false, get_or, length, map, None, Some};
+ghost use Rattle.std.specs.Prelude.{◌≡◌, ◌≢◌, ◌↔◌, ◌+◌, ◌<◌, ◌++◌, [], ◌∷◌, ℕ, List, Bool, true, false, get_or, length, map, None, replicate, Some};
 ghost use Rattle.std.specs.List.{AllByRecursion, AllZip};
 ghost use Rattle.std.specs.Ordering.{nat_cmp};
 ghost use Rattle.semver.specs.Parse.{Parts};
 ghost use Rattle.nextest_config_lists.specs.Choice.{halvings};
-ghost use Rattle.nextest_config.specs.Board.Commands.{ChangesInTurn, Command, empty_board, HoldsLast, slot_in};
-ghost use Rattle.nextest_config.specs.Board.Slots.{BoardState};
+ghost use Rattle.nextest_config.specs.Board.Commands.{ChangesInTurn, Command, empty_board, HoldsLast, present, slot_in, sources_after};
+ghost use Rattle.nextest_config.specs.Board.Slots.{board_list, BoardState};
 ghost use Rattle.nextest_config_lists.specs.Merge.{IsCut, IsMonoid, IsReordering};
 ghost use Rattle.nextest_config.specs.NextestVersion.Verdict.{Verdict};
-ghost use Rattle.nextest_config_sources.specs.NextestVersion.{IsBelow};
-ghost use Rattle.nextest_config.specs.NextestVersion.{Agree, alone, Asked, Configuration, IsFirstRefused, IsFirstRefusedAmong, IsFromSource, IsJoinOf, IsNoGraver, IsOverriding, IsSatisfied, IsSelected, IsSelectedFor, join_configurations, join_features, join_kept, join_roles, Kept, neutral_seen, no_features_seen, no_roles, rank, Reads, Refusal, Roles, satisfied, Shortfall, StandsFor, verdict, warn};
+ghost use Rattle.nextest_config_values.specs.Equality.{IsCopy, IsEquality};
+ghost use Rattle.nextest_config_sources.specs.NextestVersion.{FeaturesInOrder, IsBelow};
+ghost use Rattle.nextest_config.specs.NextestVersion.{Agree, alone, Asked, Configuration, configuration_of, IsFirstRefused, IsFirstRefusedAmong, IsFromSource, IsJoinOf, IsNoGraver, IsOverriding, IsSatisfied, IsSelected, IsSelectedFor, join_configurations, join_features, join_kept, join_roles, Kept, neutral_seen, no_features_seen, no_roles, rank, Reads, Refusal, Roles, satisfied, SelectsFor, Shortfall, StandsFor, verdict, warn};
 ghost use Rattle.nextest_config_sources.specs.NextestVersion.Source.{Source};
 ghost use Rattle.nextest_config.specs.declared.nextest_version.verdict.Severity.{Severity};
+ghost use Rattle.nextest_config.specs.declared.nextest_version.version_only.VersionOnlyConfig.{VersionOnlyConfig};
 
 use crate::nextest_version::Severity;
 pub use nextest_config_lists::laws::law_halvings;
@@ -20,7 +22,9 @@ pub use nextest_config_sources::laws::{law_enough, law_version_once};
 
 /// The rank of severities that the laws of verdicts speak of is the order of `Severity`.
 pub fn law_severity_order()
-    ensures { (a b : Severity) → ⟦<Severity as Ord>⟧.cmp a b ≡ nat_cmp (rank a) (rank b) }
+    ensures order { (a b : Severity) → ⟦<Severity as Ord>⟧.cmp a b ≡ nat_cmp (rank a) (rank b) }
+    ensures equality { IsEquality ⟦<Severity as PartialEq>⟧.eq }
+    ensures copies { IsCopy ⟦<Severity as Clone>⟧.is_clone }
 {}
 
 /// The override turns an error into an overridden error and a warning into an overridden warning,
@@ -41,6 +45,19 @@ pub fn law_refusal_once()
 pub fn law_configuration_once()
     ensures { (sources : List Source) (configuration other : Configuration)
         → StandsFor sources configuration → StandsFor sources other → configuration ≡ other }
+{}
+
+/// What stands for a list selects for it: on each current version, overridden or not, its verdict is the
+/// one selected from those of the sources alone.
+pub fn law_selected()
+    ensures { (sources : List Source) (configuration : Configuration)
+        → StandsFor sources configuration → SelectsFor sources configuration.roles }
+{}
+
+/// The features that a configuration knows stand in their order, each once.
+pub fn law_known_in_order()
+    ensures { (config : VersionOnlyConfig)
+        → FeaturesInOrder (configuration_of config).experimental.known }
 {}
 
 /// The join is associative, and what asks nothing changes nothing on either side: of the versions that
@@ -135,4 +152,13 @@ pub fn law_board_follows()
     ensures selections { (n : ℕ) (commands : List Command) (last : Command) (board : BoardState)
         → ChangesInTurn (commands ++ (last ∷ [])) (empty_board n) board
         → board.selections ≡ halvings n (slot_in last) }
+{}
+
+/// The verdict of a board is that of the sources that its slots hold, read as one list in the order of
+/// the slots.
+pub fn law_board_verdict()
+    ensures { (n : ℕ) (commands : List Command) (board : BoardState) (current : Parts)
+        (overridden : Bool) (v : Verdict) → ChangesInTurn commands (empty_board n) board
+        → IsSelected (map (alone current overridden) (board_list board.slots)) v
+        ↔ IsSelectedFor (present (sources_after commands (replicate n None))) current overridden v }
 {}

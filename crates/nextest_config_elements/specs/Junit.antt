@@ -1,5 +1,5 @@
 -- The setting `junit`, and the report that a profile writes by it.
-use Rattle.std.specs.Prelude.{◌≡◌, ℕ, Bool, List, [], ◌∷◌, codes, Option, Some, None, IsSome, option_map, string_bytes}
+use Rattle.std.specs.Prelude.{◌≡◌, ◌⊎◌, ℕ, Bool, List, [], ◌∷◌, codes, Option, Some, None, IsSome, option_map, string_bytes}
 use Rattle.std.proofs.Common.{refl}
 use Rattle.toml.specs.Data.{Data, Members, as_table}
 use Rattle.nextest_config_values.specs.Helpers.Paths.{joined_path}
@@ -138,6 +138,14 @@ pub record MeansJunitTable (members : Members) (said : JunitTable) : Type 0 wher
   pub of_report_skipped : OptionalKey report_skipped_key MeansReportSkipped members said.report_skipped
   pub of_flaky_fail_status : OptionalKey flaky_fail_status_key MeansFlakyFailStatus members said.flaky_fail_status
 
+-- the table has a text, which is kept in memory of its own
+abbrev pub HasText : JunitTable → Type 0
+HasText said = IsSome said.path ⊎ IsSome said.report_name
+
+-- memory is wanted where the table has a text, or means nothing
+abbrev pub WantsTexts : Members → Type 0
+WantsTexts members = (said : JunitTable) → MeansJunitTable members said → HasText said
+
 -- what is wrong with the table, key by key
 abbrev pub JunitTableFaults : Members → List ℕ → Fault → Type 0
 JunitTableFaults =
@@ -193,8 +201,8 @@ IsFirstMissing said missing.FlakyFailStatus =
 
 -- ---- the setting's law
 
-table : IsReading MeansJunitTable JunitTableFaults (λ a b. a ≡ b)
-table = said_as (λ members said meant. (
+pub junit_table : IsReading MeansJunitTable JunitTableFaults (λ a b. a ≡ b)
+junit_table = said_as (λ members said meant. (
   said.path,
   meant.of_path,
   (
@@ -226,7 +234,7 @@ table = said_as (λ members said meant. (
     }) (at_key flaky_fail_status_key (optional_reading (word_reading flaky_fail_statuses flaky_fail_word flaky_fail_reads_back)))))))))
 
 junit_meant : IsReading MeansJunit JunitFaults (λ a b. a ≡ b)
-junit_meant = kind_reading table (wrong_kind junit_expected) as_table
+junit_meant = kind_reading junit_table (wrong_kind junit_expected) as_table
 
 -- a value says one thing of a report or has one fault, and not both
 pub junit_reading : IsReading (λ value junit. MeansJunit value (table_of junit)) JunitFaults (λ a b. table_of a ≡ table_of b)

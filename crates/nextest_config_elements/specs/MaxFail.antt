@@ -5,7 +5,7 @@ pub mod NumberTextLaws
 pub mod LimitText
 pub mod FailFast
 pub mod FailFastLaws
-pub use Limit.{fail_fast_limit, IsReached, limit_text, mode_word}
+pub use Limit.{fail_fast_limit, IsReached, limit_text, mode_word, styled_limit_text}
 pub use NumberText.{IsNumberText, minus, plus, Sign, sign_text, signed, unsigned}
 pub use NumberTextLaws.{number_from_parts, number_parts, one_number}
 pub use LimitText.{bad_count, bad_mode, HasCount, IsAllText, IsBadCount, IsBadMode, IsCountFault, IsCountLimit, IsCountText, IsLimitFault, IsLimitText, IsNoMode, IsNotPositive, IsParted, limit_fault, limit_fault_text, LimitFault, MeansMode, not_positive, RefusesLimit}

@@ -1,9 +1,9 @@
 //! The JUnit report.
 
 ghost use Rattle.std.specs.Prelude.{◌≡◌, None, true, IfErr, IfOk, IsOk, option_map};
-ghost use Rattle.toml.specs.View.{table_view};
-ghost use Rattle.nextest_config_values.specs.Read.{Refuses};
-ghost use Rattle.nextest_config_elements.specs.Junit.{default_of, empty_table, flaky_fail_reads_back, flaky_fail_statuses, flaky_fail_word, IsFirstMissing, junit_reading, JunitFaults, JunitTableFaults, MeansJunit, MeansJunitTable, report_in, report_of, SaysAll, settings_of, table_of};
+ghost use Rattle.toml.specs.View.{table_view, view};
+ghost use Rattle.nextest_config_values.specs.Read.{Refuses, WantsMemory};
+ghost use Rattle.nextest_config_elements.specs.Junit.{default_of, empty_table, flaky_fail_reads_back, flaky_fail_statuses, flaky_fail_word, HasText, IsFirstMissing, junit_reading, JunitFaults, JunitTable, JunitTableFaults, MeansJunit, MeansJunitTable, report_in, report_of, SaysAll, settings_of, table_of, WantsTexts};
 
 use crate::report_skip_policy::ReportSkipPolicy;
 use nextest_config_values::helpers::join_path;
@@ -307,7 +307,7 @@ impl JunitImpl {
         ensures meant { IfOk result (λ junit.
             MeansJunitTable (table_view table.now) (table_of junit)) }
         ensures refused { IfErr result (Refuses (JunitTableFaults (table_view table.now) at.now)
-            (Unit {0})) }
+            (WantsTexts (table_view table.now))) }
     {
         let path: Option<String> = optional_field(alloc, table, PATH_KEY, at)?;
         let report_name: Option<String> = optional_field(alloc, table, REPORT_NAME_KEY, at)?;
@@ -337,7 +337,14 @@ impl FromToml for JunitImpl {
 
     ghost laws = { junit_reading };
 
-    fn read(alloc: Global, value: &Value, at: &str) -> Result<Self, ReadFault> {
+    /// Reads the table of a profile's `junit`. It takes memory for a path and for a name of the report.
+    fn read(alloc: Global, value: &Value, at: &str) -> Result<Self, ReadFault>
+        ensures meant { IfOk result (λ junit. MeansJunit (view value.now) (table_of junit)) }
+        ensures refused { IfErr result (Refuses (JunitFaults (view value.now) at.now)
+            (WantsMemory (λ junit. MeansJunit (view value.now) (table_of junit)) true)) }
+        ensures texts { (said : JunitTable) → MeansJunit (view value.now) said → ¬ HasText said
+            → IsOk result }
+    {
         match value.as_table() {
             Some(table) => JunitImpl::read_table(alloc, table, at),
             None => Err(ReadFault::invalid_type(alloc, value, at, "a table")),

@@ -1,18 +1,27 @@
 //! Laws of the definitions, for every value. They call nothing.
 
-ghost use Rattle.std.specs.Prelude.{◌≡◌, ◌↔◌, ℕ, ◌<◌, ◌≤◌, ◌^◌, ℤ, ◌<ℤ◌, IsTrue, List};
+ghost use Rattle.std.specs.Prelude.{◌≡◌, ◌↔◌, ℕ, ◌<◌, ◌≤◌, ◌^◌, ℤ, ◌<ℤ◌, IsTrue, List, option_map};
 ghost use Rattle.std.specs.Ordering.{MatchOrdering};
+ghost use Rattle.nextest_config_values.specs.Equality.{IsCopy, IsEquality, IsEqualityBy};
 ghost use Rattle.nextest_config_values.specs.Helpers.Paths.{MeansPath, PathFaults};
 ghost use Rattle.nextest_config_values.specs.Read.{IsReading, SameText};
-ghost use Rattle.nextest_config_elements.specs.LeakTimeout.{LeakTimeoutFaults, MeansLeakTimeout};
-ghost use Rattle.nextest_config_elements.specs.MaxFail.{FailFastFaults, IsLimitFault, IsLimitText, IsReached, limit_text, LimitFault, MeansFailFast};
-ghost use Rattle.nextest_config_elements.specs.RetryPolicy.{MeansRetryPolicy, RetryPolicyFaults};
-ghost use Rattle.nextest_config_elements.specs.SlowTimeout.{MeansSlowTimeout, SlowTimeoutFaults};
+ghost use Rattle.nextest_config_elements.specs.LeakTimeout.{leak_timeout_of, LeakTimeoutFaults, MeansLeakTimeoutSetting};
+ghost use Rattle.nextest_config_elements.specs.MaxFail.{FailFastFaults, IsLimitFault, IsLimitText, IsReached, limit_fault, limit_text, LimitFault, MeansFailFast};
+ghost use Rattle.nextest_config_elements.specs.RetryPolicy.{MeansRetryPolicySetting, retry_policy_of, RetryPolicyFaults};
+ghost use Rattle.nextest_config_elements.specs.SlowTimeout.{MeansSlowTimeoutSetting, slow_timeout_of, SlowTimeoutFaults};
 ghost use Rattle.nextest_config_elements.specs.declared.max_fail.MaxFail.{MaxFail};
 ghost use Rattle.nextest_config_elements.specs.declared.max_fail.MaxFail.TheVariants.{All, Count};
 ghost use Rattle.nextest_config_elements.specs.declared.max_fail.TerminateMode.{TerminateMode};
 
-use crate::priority::TestPriority;
+use crate::global_timeout::GlobalTimeout;
+use crate::junit::{JunitFlakyFailStatus, MissingSetting};
+use crate::leak_timeout::{LeakTimeout, LeakTimeoutResult};
+use crate::max_fail::{CountFault, MaxFail, MaxFailParseError, TerminateMode};
+use crate::priority::{TestPriority, TestPriorityOutOfRange};
+use crate::report_skip_policy::{MismatchReason, ReportSkipPolicy};
+use crate::retry_policy::{FlakyResult, RetryPolicy};
+use crate::slow_timeout::{SlowTimeout, SlowTimeoutResult};
+use crate::threads_required::ThreadsRequired;
 
 /// No text has two fail limits, two faults as one, or both.
 pub fn law_limit_once()
@@ -51,9 +60,54 @@ pub fn law_priority_order()
 /// No value of the settings that may set nothing, `slow-timeout`, `leak-timeout`, `retries` and
 /// `fail-fast`, and none of a relative path means two things, has two faults at one path, or both.
 pub fn law_setting_once()
-    ensures slow_timeout { IsReading MeansSlowTimeout SlowTimeoutFaults ◌≡◌ }
-    ensures leak_timeout { IsReading MeansLeakTimeout LeakTimeoutFaults ◌≡◌ }
-    ensures retries { IsReading MeansRetryPolicy RetryPolicyFaults ◌≡◌ }
+    ensures slow_timeout { IsReading MeansSlowTimeoutSetting SlowTimeoutFaults
+        (λ a b. option_map slow_timeout_of a ≡ option_map slow_timeout_of b) }
+    ensures leak_timeout { IsReading MeansLeakTimeoutSetting LeakTimeoutFaults
+        (λ a b. option_map leak_timeout_of a ≡ option_map leak_timeout_of b) }
+    ensures retries { IsReading MeansRetryPolicySetting RetryPolicyFaults
+        (λ a b. option_map retry_policy_of a ≡ option_map retry_policy_of b) }
     ensures fail_fast { IsReading MeansFailFast FailFastFaults ◌≡◌ }
     ensures relative_path { IsReading MeansPath PathFaults SameText }
+{}
+
+/// Values are equal exactly where they are the same; refusals of a fail limit where they tell the same.
+pub fn law_equality()
+    ensures retry_policy { IsEquality ⟦<RetryPolicy as PartialEq>⟧.eq }
+    ensures flaky_result { IsEquality ⟦<FlakyResult as PartialEq>⟧.eq }
+    ensures leak_timeout { IsEquality ⟦<LeakTimeout as PartialEq>⟧.eq }
+    ensures leak_timeout_result { IsEquality ⟦<LeakTimeoutResult as PartialEq>⟧.eq }
+    ensures flaky_fail_status { IsEquality ⟦<JunitFlakyFailStatus as PartialEq>⟧.eq }
+    ensures missing_setting { IsEquality ⟦<MissingSetting as PartialEq>⟧.eq }
+    ensures priority_out_of_range { IsEquality ⟦<TestPriorityOutOfRange as PartialEq>⟧.eq }
+    ensures skip_policy { IsEquality ⟦<ReportSkipPolicy as PartialEq>⟧.eq }
+    ensures mismatch { IsEquality ⟦<MismatchReason as PartialEq>⟧.eq }
+    ensures global_timeout { IsEquality ⟦<GlobalTimeout as PartialEq>⟧.eq }
+    ensures fail_limit { IsEquality ⟦<MaxFail as PartialEq>⟧.eq }
+    ensures terminate_mode { IsEquality ⟦<TerminateMode as PartialEq>⟧.eq }
+    ensures count_fault { IsEquality ⟦<CountFault as PartialEq>⟧.eq }
+    ensures slow_timeout { IsEquality ⟦<SlowTimeout as PartialEq>⟧.eq }
+    ensures slow_timeout_result { IsEquality ⟦<SlowTimeoutResult as PartialEq>⟧.eq }
+    ensures threads { IsEquality ⟦<ThreadsRequired as PartialEq>⟧.eq }
+    ensures fail_limit_refusal { IsEqualityBy limit_fault ⟦<MaxFailParseError as PartialEq>⟧.eq }
+{}
+
+/// A copy is the value that it is made of.
+pub fn law_copies()
+    ensures retry_policy { IsCopy ⟦<RetryPolicy as Clone>⟧.is_clone }
+    ensures flaky_result { IsCopy ⟦<FlakyResult as Clone>⟧.is_clone }
+    ensures leak_timeout { IsCopy ⟦<LeakTimeout as Clone>⟧.is_clone }
+    ensures leak_timeout_result { IsCopy ⟦<LeakTimeoutResult as Clone>⟧.is_clone }
+    ensures flaky_fail_status { IsCopy ⟦<JunitFlakyFailStatus as Clone>⟧.is_clone }
+    ensures missing_setting { IsCopy ⟦<MissingSetting as Clone>⟧.is_clone }
+    ensures priority_out_of_range { IsCopy ⟦<TestPriorityOutOfRange as Clone>⟧.is_clone }
+    ensures skip_policy { IsCopy ⟦<ReportSkipPolicy as Clone>⟧.is_clone }
+    ensures mismatch { IsCopy ⟦<MismatchReason as Clone>⟧.is_clone }
+    ensures global_timeout { IsCopy ⟦<GlobalTimeout as Clone>⟧.is_clone }
+    ensures fail_limit { IsCopy ⟦<MaxFail as Clone>⟧.is_clone }
+    ensures terminate_mode { IsCopy ⟦<TerminateMode as Clone>⟧.is_clone }
+    ensures count_fault { IsCopy ⟦<CountFault as Clone>⟧.is_clone }
+    ensures slow_timeout { IsCopy ⟦<SlowTimeout as Clone>⟧.is_clone }
+    ensures slow_timeout_result { IsCopy ⟦<SlowTimeoutResult as Clone>⟧.is_clone }
+    ensures threads { IsCopy ⟦<ThreadsRequired as Clone>⟧.is_clone }
+    ensures priority { IsCopy ⟦<TestPriority as Clone>⟧.is_clone }
 {}

@@ -1,9 +1,10 @@
 //! The fail limit.
 
-ghost use Rattle.std.specs.Prelude.{◌≡◌, ◌↔◌, ℕ, [], ◌∷◌, IfErr, IfOk, IsTrue, MatchOption, refl, Some};
+ghost use Rattle.std.specs.Prelude.{◌≡◌, ◌↔◌, ◌++◌, ℕ, [], ◌∷◌, IfErr, IfOk, IsTrue, MatchOption, refl, Some};
+ghost use Rattle.std.specs.Fmt.{WritesOnOk, WritesStyledOnOk};
 ghost use Rattle.std.specs.Str.Parse.{AllDigits, IsNumeral, without_leading_sign};
 ghost use Rattle.nextest_config_values.specs.Read.{told_text};
-ghost use Rattle.nextest_config_elements.specs.MaxFail.{bad_count, bad_mode, fail_fast_limit, IsBadCount, IsCountFault, IsCountLimit, IsCountText, IsLimitFault, IsLimitText, IsNoMode, IsNumberText, IsReached, limit_fault, limit_fault_text, limit_text, mode_word, RefusesLimit};
+ghost use Rattle.nextest_config_elements.specs.MaxFail.{bad_count, bad_mode, fail_fast_limit, IsBadCount, IsCountFault, IsCountLimit, IsCountText, IsLimitFault, IsLimitText, IsNoMode, IsNumberText, IsReached, limit_fault, limit_fault_text, limit_text, mode_word, RefusesLimit, styled_limit_text};
 ghost use Rattle.nextest_config_elements.specs.declared.max_fail.MaxFail.{MaxFail};
 ghost use Rattle.nextest_config_elements.specs.declared.max_fail.TerminateMode.{TerminateMode};
 
@@ -263,6 +264,8 @@ fn are_digits(bytes: &[u8]) -> bool
 impl fmt::Display for MaxFail {
     ghost output = { λ limit. Some (limit_text limit) };
 
+    ghost styled_output = { λ limit _. styled_limit_text limit };
+
     fn fmt<W: fmt::Write>(&self, f: &mut fmt::Formatter<W>) -> fmt::Result {
         match self {
             MaxFail::All => f.write_str("all"),
@@ -278,14 +281,35 @@ impl fmt::Display for MaxFail {
     }
 }
 
+// A text between these.
+fn write_named<W: fmt::Write>(
+    f: &mut fmt::Formatter<W>,
+    before: &str,
+    text: &str,
+    behind: &str,
+) -> fmt::Result
+    ensures writes { WritesOnOk W.write_str_gives f.old result
+        (before.now ++ (text.now ++ behind.now)) f.new }
+    ensures styled { WritesStyledOnOk W.write_str_gives f.old result
+        (before.now ++ (text.now ++ behind.now)) f.new }
+{
+    f.write_str(before)?;
+    f.write_str(text)?;
+    f.write_str(behind)
+}
+
 impl fmt::Display for MaxFailParseError {
     ghost output = { λ error. Some (told_text limit_fault_text (limit_fault error)) };
 
+    ghost styled_output = { λ error _. Some (told_text limit_fault_text (limit_fault error)) };
+
     fn fmt<W: fmt::Write>(&self, f: &mut fmt::Formatter<W>) -> fmt::Result {
         match self {
-            MaxFailParseError::Mode { text } => write!(
+            MaxFailParseError::Mode { text } => write_named(
                 f,
-                "invalid terminate mode '{text}', expected 'wait' or 'immediate'"
+                "invalid terminate mode '",
+                text.as_str(),
+                "', expected 'wait' or 'immediate'",
             ),
             MaxFailParseError::Count {
                 text: _,
@@ -294,15 +318,24 @@ impl fmt::Display for MaxFailParseError {
             MaxFailParseError::Count {
                 text,
                 reason: CountFault::InvalidDigit,
-            } => write!(f, "invalid digit found in string parsing '{text}'"),
+            } => {
+                let reason = "invalid digit found in string parsing '";
+                write_named(f, reason, text.as_str(), "'")
+            }
             MaxFailParseError::Count {
                 text,
                 reason: CountFault::TooLarge,
-            } => write!(f, "number too large to fit in target type parsing '{text}'"),
+            } => {
+                let reason = "number too large to fit in target type parsing '";
+                write_named(f, reason, text.as_str(), "'")
+            }
             MaxFailParseError::Count {
                 text,
                 reason: CountFault::TooSmall,
-            } => write!(f, "number too small to fit in target type parsing '{text}'"),
+            } => {
+                let reason = "number too small to fit in target type parsing '";
+                write_named(f, reason, text.as_str(), "'")
+            }
             MaxFailParseError::NotPositive => f.write_str("max-fail may not be <= 0"),
             MaxFailParseError::Memory => f.write_str("out of memory"),
         }

@@ -4,7 +4,7 @@ ghost use Rattle.std.specs.Prelude.{◌≡◌, ◌↔◌, [], ◌∷◌, codes, 
 ghost use Rattle.std.specs.Duration.{as_nanos};
 ghost use Rattle.toml.specs.Data.{integer};
 ghost use Rattle.toml.specs.View.{table_view, view};
-ghost use Rattle.nextest_config_values.specs.Read.{broken_rule, custom, fault_at, Refuses, RefusesAs, RefusesOne, WantsMemory, words_text};
+ghost use Rattle.nextest_config_values.specs.Read.{broken_rule, custom, fault_at, Refuses, RefusesAs, RefusesOne, WantsMemory, words_text, wrong_value};
 ghost use Rattle.nextest_config_elements.specs.RetryPolicy.{backoff_key, backoff_reads_back, backoff_word, BackoffFaults, backoffs_in_order, count_of, ExponentialRuleFaults, fail_message, HasKeysOf, KeepsExponentialRules, keys_beside, MeansBackoff, MeansRetryNumber, MeansRetryPolicySetting, MeansRetryTable, OtherKeyFaults, retry_policy_of, RetryNumberFaults, RetryPolicyFaults, RetryTableFaults, without_delay};
 ghost use Rattle.nextest_config_elements.specs.UnknownKeys.{IsOneOf};
 
@@ -94,7 +94,7 @@ pub fn deserialize_retry_policy(
         (WantsMemory (MeansRetryPolicySetting (view value.now)) false)) }
 {
     if let Some(number) = value.as_integer() {
-        let policy = read_number(alloc, value, number, at)?;
+        let policy = read_number(alloc, number, at)?;
         return Ok(Some(policy));
     }
     match value.as_table() {
@@ -107,24 +107,25 @@ pub fn deserialize_retry_policy(
 }
 
 // The policy that an integer means.
-fn read_number(
-    alloc: Global,
-    value: &Value,
-    number: i64,
-    at: &str,
-) -> Result<RetryPolicy, ReadFault>
-    requires { view value.now ≡ integer number }
+fn read_number(alloc: Global, number: i64, at: &str) -> Result<RetryPolicy, ReadFault>
     ensures meant { IfOk result (λ policy. MeansRetryNumber number (retry_policy_of policy)) }
     ensures refused { IfErr result (Refuses (RetryNumberFaults number at.now)
         (WantsMemory (λ policy. MeansRetryNumber number (retry_policy_of policy)) false)) }
 {
     if number < 0 {
-        return Err(ReadFault::invalid_value(alloc, value, at, EXPECTED));
+        return Err(out_of_range(alloc, number, at, EXPECTED));
     }
     match u32::try_from(number) {
         Ok(count) => Ok(RetryPolicy::new_without_delay(count)),
-        Err(_) => Err(ReadFault::invalid_value(alloc, value, at, "a u32")),
+        Err(_) => Err(out_of_range(alloc, number, at, "a u32")),
     }
+}
+
+// The fault of an integer that is no number of retries.
+fn out_of_range(alloc: Global, number: i64, at: &str, expected: &'static str) -> ReadFault
+    ensures { RefusesAs (wrong_value (integer number) at.now expected.now) result }
+{
+    ReadFault::invalid_value(alloc, &Value::Integer(number), at, expected)
 }
 
 // The policy that a table means.

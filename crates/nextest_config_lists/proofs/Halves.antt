@@ -13,9 +13,6 @@ total_joined join neutral laws [] ys = sym (laws.neutral_first (total join neutr
 total_joined join neutral laws (x ∷ xs) ys = ap (join x) (total_joined join neutral laws xs ys) ∙ sym (laws.associative x (total join neutral xs) (total join neutral ys))
 
 module _ {Source Piece Seen : Type 0} (join : Seen → Seen → Seen) (neutral : Seen) (seen : Piece → Seen) (piece : Source → Piece → Type 0) (laws : IsMonoid join neutral) where
-  pub of_none : (joined : Seen) → joined ≡ neutral → IsJoinOfPieces join neutral seen piece [] joined
-  of_none joined is = ([], tt, is)
-
   pub of_one : (source : Source) (a : Piece) → piece source a → IsJoinOfPieces join neutral seen piece (source ∷ []) (seen a)
   of_one source a read = (a ∷ [], (read, tt), sym (laws.neutral_last (seen a)))
 
@@ -27,9 +24,6 @@ module _ {Source Piece Seen : Type 0} (join : Seen → Seen → Seen) (neutral :
       (us ++ vs, zip_joined piece xs us ys vs read more_read, joins ∙ ap (join first) (laws.neutral_last second) ∙ ap₂ join is more ∙ sym parts ∙ ap (total join neutral) (sym (map-append seen us vs)))
 
 module _ {Source Piece Told : Type 0} (piece : Source → Piece → Type 0) (wrong : Source → Told → Type 0) where
-  pub wrong_alone : (source : Source) (position : ℕ) (error : Told) → position ≡ 0 → wrong source error → IsFirstWrong piece wrong (source ∷ []) position error
-  wrong_alone source position error first refused = record { before = []; source = source; after = []; whole = refl; place = sym first; read = ([], tt); refused = refused }
-
   pub wrong_in_first : (xs ys : List Source) (position : ℕ) (error : Told) → IsFirstWrong piece wrong xs position error → IsFirstWrong piece wrong (xs ++ ys) position error
   wrong_in_first xs ys position error first = record {
     before = first.before;
@@ -64,10 +58,6 @@ none_wrong seen piece wrong laws sources position error (pieces, read) first =
     laws.never_both first.source found.0 error found.1 first.refused
 
 module _ {Source Piece Error Told : Type 0} (told : Error → Told) (piece : Source → Piece → Type 0) (wrong : Source → Told → Type 0) where
-  pub refused_alone : (source : Source) (r : PieceRefusal Error) → IsRefusalOfOne told wrong source r → IsRefusalOfPieces told piece wrong (source ∷ []) r
-  refused_alone source (refusals.Refused position error) (first, refused) = wrong_alone piece wrong source position (told error) first refused
-  refused_alone source refusals.Memory refused = tt
-
   pub refused_in_first : (xs ys : List Source) (r : PieceRefusal Error) → IsRefusalOfPieces told piece wrong xs r → IsRefusalOfPieces told piece wrong (xs ++ ys) r
   refused_in_first xs ys (refusals.Refused position error) first = wrong_in_first piece wrong xs ys position (told error) first
   refused_in_first xs ys refusals.Memory first = tt
@@ -75,11 +65,6 @@ module _ {Source Piece Error Told : Type 0} (told : Error → Told) (piece : Sou
   pub refused_in_second : (xs ys : List Source) (r : PieceRefusal Error) → HavePieces piece xs → IsRefusalOfPieces told piece wrong ys r → IsRefusalOfPieces told piece wrong (xs ++ ys) (behind (length xs) r)
   refused_in_second xs ys (refusals.Refused position error) read first = wrong_in_second piece wrong xs ys position (told error) read first
   refused_in_second xs ys refusals.Memory read first = tt
-
-  -- the position stays in range
-  pub fits_behind : (xs ys : List Source) (r : PieceRefusal Error) → length (xs ++ ys) < 2 ^ 64 → IsRefusalOfPieces told piece wrong ys r → FitsBehind (length xs) r
-  fits_behind xs ys (refusals.Refused position error) small first = omega (arith, length-append xs ys, within piece wrong ys position (told error) first)
-  fits_behind xs ys refusals.Memory small first = tt
 
   -- where every source has a piece, only memory can be wanting
   pub only_memory : {Seen : Type 0} (seen : Piece → Seen) → IsReadingOne seen piece wrong → (sources : List Source) {X : Type 0} (result : Result X (PieceRefusal Error)) → HavePieces piece sources → IfErr result (IsRefusalOfPieces told piece wrong sources)

@@ -23,9 +23,6 @@ zip_middle R [] x rest (y ∷ ys) h = (y, h.0)
 zip_middle R (z ∷ xs) x rest [] h = absurd h
 zip_middle R (z ∷ xs) x rest (y ∷ ys) h = zip_middle R xs x rest ys h.1
 
-pub map-take_more : {X Y : Type 0} (f : X → Y) (xs : List X) (i : ℕ) (x : X) → i < length xs → x ≡ get_or xs i x → map f (take (i + 1) xs) ≡ map f (take i xs) ++ (f x ∷ [])
-map-take_more f xs i x within here = rw (take_more xs i x within, ← here) (map-append f (take i xs) (x ∷ []))
-
 -- the images before an element, its own, and those after it
 pub map-around : {X Y : Type 0} (f : X → Y) (xs : List X) (i : ℕ) (x : X) → i < length xs → x ≡ get_or xs i x → map f xs ≡ map f (take i xs) ++ (f x ∷ map f (drop (i + 1) xs))
 map-around f xs i x within here =

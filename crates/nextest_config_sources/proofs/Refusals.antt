@@ -23,7 +23,7 @@ wrong_in_part kind step refused = fault_mapped (wrong_of kind) refused (λ memor
 
 pub wrong_setting : (P : Fault → Type 0) (Q : Wrong → Type 0) (V : Type 0) (fault : ReadFault) (kind : ConfigParseErrorKind) → ((f : Fault) → P f → Q (setting f)) → Refuses P V fault → IsSettingKind fault kind → RefusesSource Q kind
 wrong_setting P Q V fault kind step refused made =
-    told_twice (fault_of fault) refused made (λ memory told. rw (told memory.0.1) refl) (λ f faulty told. rw told (step f faulty))
+    told_twice (fault_of fault) refused made (λ memory told. rw told refl) (λ f faulty told. rw told (step f faulty))
 
 -- what a key with a default means, seen through a part of the results
 pub seen_or : {X Y : Type 0} (part : X → Y) (means : Data → Y → Type 0) (default : X) (plain : Y) (found : Option Data) (x : X) → part default ≡ plain → MeansOr default (λ value y. means value (part y)) found x

@@ -2,7 +2,14 @@
 
 ghost use Rattle.std.specs.Prelude.{◌≡◌, ◌↔◌, ℕ, List};
 ghost use Rattle.semver.specs.Parse.{Parts};
-ghost use Rattle.nextest_config_sources.specs.NextestVersion.{IsEnough, IsEnoughByNumbers, IsVersionText, Numbers, plain};
+ghost use Rattle.nextest_config_sources.specs.NextestVersion.{given_of, IsEnough, IsEnoughByNumbers, IsVersionText, Numbers, place_of, plain};
+ghost use Rattle.nextest_config_sources.specs.NextestVersion.Source.{repository_given, tool_given};
+ghost use Rattle.nextest_config_values.specs.Equality.{IsCopy, IsEquality, IsEqualityBy};
+
+use crate::nextest_version::{
+    ConfigExperimental, ConfigSource, ConfigSourceKind, Edition, RepositoryText, SourceText,
+    ToolText,
+};
 
 /// No text has two versions.
 pub fn law_version_once()
@@ -15,4 +22,21 @@ pub fn law_version_once()
 pub fn law_enough()
     ensures { (current : Parts) (asked : Numbers)
         → IsEnough current (plain asked) ↔ IsEnoughByNumbers current asked }
+{}
+
+/// Features, editions and sources are equal exactly where they say the same.
+pub fn law_equality()
+    ensures feature { IsEquality ⟦<ConfigExperimental as PartialEq>⟧.eq }
+    ensures edition { IsEquality ⟦<Edition as PartialEq>⟧.eq }
+    ensures source_kind { IsEquality ⟦<ConfigSourceKind as PartialEq>⟧.eq }
+    ensures source { IsEqualityBy place_of ⟦<ConfigSource as PartialEq>⟧.eq }
+    ensures text { IsEqualityBy given_of ⟦<SourceText as PartialEq>⟧.eq }
+    ensures tool { IsEqualityBy tool_given ⟦<ToolText as PartialEq>⟧.eq }
+    ensures repository { IsEqualityBy repository_given ⟦<RepositoryText as PartialEq>⟧.eq }
+{}
+
+/// A copy is the value that it is made of.
+pub fn law_copies()
+    ensures feature { IsCopy ⟦<ConfigExperimental as Clone>⟧.is_clone }
+    ensures edition { IsCopy ⟦<Edition as Clone>⟧.is_clone }
 {}

@@ -40,4 +40,4 @@ pub refused_name : {Flaw X : Type 0} (IsFlaw : List ℕ → Flaw → Type 0) (re
 refused_name IsFlaw reason means value text at (Some name) of_memory kind fault is_text flawed_so kind_is refused =
     refused_as means _ (fault_at at (reason name)) fault (inr (text, is_text, (name, flawed_so, refl))) (rw kind_is at refused)
 refused_name IsFlaw reason means value text at None of_memory kind fault is_text flawed_so kind_is refused =
-    refused_memory _ fault ((rw kind_is at refused) refl) (λ x m. refl)
+    refused_memory _ fault (rw kind_is at refused) (λ x m. refl)

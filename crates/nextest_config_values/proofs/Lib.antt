@@ -3,10 +3,12 @@ pub mod Components
 pub mod Durations
 pub mod Elements
 pub mod Faults
+pub mod Fields
 pub mod Joined
 pub mod Keys
 pub mod Paths
 pub mod Runs
+pub mod Styled
 pub mod Texts
 pub mod Units
 pub mod Words

@@ -1,5 +1,6 @@
 pub mod Characters
 pub mod Duration
+pub mod Equality
 pub mod Helpers
 pub mod Identifier
 pub mod Read

@@ -6,7 +6,7 @@ pub mod Plain
 pub mod Word
 pub mod Field
 pub mod Readings
-pub use Fault.{array_form, broken_rule, BrokenRule, build_metadata, count_zero, custom, delay_zero, fault_at, fault_of, fault_text, identifier, IsMemory, IsNameKind, jitter_without_delay, kind_text, max_delay_below_delay, max_delay_zero, missing, not_version, path_of, path_text, pre_release, Reason, reason_of, reason_text, Refuses, RefusesAs, RefusesKind, RefusesOne, required_above_recommended, rule_text, tool_name, unknown_key, unknown_word, wrong_type, wrong_value}
+pub use Fault.{array_form, broken_rule, BrokenRule, build_metadata, count_zero, custom, delay_zero, fault_at, fault_of, fault_text, identifier, IsMemory, IsNameKind, jitter_without_delay, kind_text, max_delay_below_delay, max_delay_zero, missing, not_version, path_of, path_text, pre_release, Reason, reason_of, reason_text, Refuses, RefusesAs, RefusesKind, RefusesOne, required_above_recommended, rule_text, styled_kind_text, styled_rule_text, tool_name, unknown_key, unknown_word, wrong_type, wrong_value}
 pub use Text.{escaped, FaultOrMemory, found_text, joined, quoted_texts, told_text, unnamed}
 unfoldable pub use Text.{quoted_text}
 pub use FromToml.{equality, FaultsAs, FaultsKind, IsReading, MeansAs, MeansKind, MeansNothing, reading_as, reading_on, text_expected, WantsMemory, WrongKind}

@@ -1,10 +1,24 @@
 //! Laws of the definitions, for every value. They call nothing.
 
-ghost use Rattle.std.specs.Prelude.{◌≡◌, ℕ, List};
+ghost use Rattle.std.specs.Prelude.{◌≡◌, ◌↔◌, ℕ, IsTrue, List};
+ghost use Rattle.std.specs.Cmp.Lexicographic.{slice_cmp};
+ghost use Rattle.std.specs.Hash as fed;
+ghost use Rattle.std.specs.Ordering.{nat_cmp};
 ghost use Rattle.nextest_config_values.specs.Duration.{IsDuration, IsDurationFault, Item, Spells};
 ghost use Rattle.nextest_config_values.specs.declared.duration.DurationFault.{DurationFault};
-ghost use Rattle.nextest_config_values.specs.Identifier.{AnswersAlike, IdentifierFlaw, IsIdentifier, IsIdentifierFault, IsToolName, IsToolNameFault, NameFault, normal_chars, ToolNameFlaw};
-ghost use Rattle.nextest_config_values.specs.ToolConfig.{Argument, ArgumentFault, IsArgumentFault, IsToolArgument};
+ghost use Rattle.nextest_config_values.specs.Equality.{IsCopy, IsEquality, IsEqualityBy, IsEqualityOfTold};
+ghost use Rattle.nextest_config_values.specs.Identifier.{AnswersAlike, identifier_fault, IdentifierFlaw, IsIdentifier, IsIdentifierFault, IsToolName, IsToolNameFault, NameFault, normal_chars, tool_name_fault, ToolNameFlaw};
+ghost use Rattle.nextest_config_values.specs.Read.{broken_rule, fault_of, reason_of};
+ghost use Rattle.nextest_config_values.specs.ToolConfig.{Argument, argument_fault, argument_of, ArgumentFault, IsArgumentFault, IsToolArgument};
+ghost use Rattle.nextest_config_values.specs.declared.track_default.TrackDefault.{TrackDefault};
+
+use crate::duration::DurationFault;
+use crate::helpers::InvalidIdentifierKind;
+use crate::identifier::{ConfigIdentifier, InvalidIdentifier, InvalidToolName, ToolName};
+use crate::read::{FaultKind, NonZeroCount, ReadFault, Rule};
+use crate::tool_config::{ToolConfigFile, ToolConfigFileParseError};
+use crate::track_default::TrackDefault;
+use std::hash::Hash;
 
 /// No text has two identifiers, two faults as one, or both.
 pub fn law_identifier_once()
@@ -34,6 +48,16 @@ pub fn law_argument_once()
         → IsToolArgument text a → IsArgumentFault text f → ⊥ }
 {}
 
+/// Identifiers and tool names are ordered, compared and hashed as their texts are.
+pub fn law_name_order()
+    ensures identifier_order { (a b : List ℕ) → ⟦<ConfigIdentifier as Ord>⟧.cmp a b ≡ slice_cmp nat_cmp a b }
+    ensures identifier_equality { (a b : List ℕ) → IsTrue (⟦<ConfigIdentifier as PartialEq>⟧.eq a b) ↔ (a ≡ b) }
+    ensures identifier_hash { (a : List ℕ) → ⟦<ConfigIdentifier as Hash>⟧.hash_input a ≡ fed.str a }
+    ensures tool_name_order { (a b : List ℕ) → ⟦<ToolName as Ord>⟧.cmp a b ≡ slice_cmp nat_cmp a b }
+    ensures tool_name_equality { (a b : List ℕ) → IsTrue (⟦<ToolName as PartialEq>⟧.eq a b) ↔ (a ≡ b) }
+    ensures tool_name_hash { (a : List ℕ) → ⟦<ToolName as Hash>⟧.hash_input a ≡ fed.str a }
+{}
+
 /// Texts with the same Normalization Form C are the same identifier, or have the same fault as one,
 /// and so for tool names.
 pub fn law_same_normal_form()
@@ -53,4 +77,32 @@ pub fn law_duration_once()
         → IsDurationFault text e → IsDurationFault text f → e ≡ f }
     ensures never_both { (text : List ℕ) (nanoseconds : ℕ) (f : DurationFault)
         → IsDuration text nanoseconds → IsDurationFault text f → ⊥ }
+{}
+
+/// Values are equal exactly where they say the same. Of refusals that may hold one of a name this is
+/// said where they tell a fault.
+pub fn law_equality()
+    ensures duration_fault { IsEquality ⟦<DurationFault as PartialEq>⟧.eq }
+    ensures identifier_kind { IsEquality ⟦<InvalidIdentifierKind as PartialEq>⟧.eq }
+    ensures identifier_refusal { IsEqualityBy identifier_fault ⟦<InvalidIdentifier as PartialEq>⟧.eq }
+    ensures tool_name_refusal { IsEqualityBy tool_name_fault ⟦<InvalidToolName as PartialEq>⟧.eq }
+    ensures argument { IsEqualityBy argument_of ⟦<ToolConfigFile as PartialEq>⟧.eq }
+    ensures argument_refusal { IsEqualityOfTold argument_fault ⟦<ToolConfigFileParseError as PartialEq>⟧.eq }
+    ensures count { IsEquality ⟦<NonZeroCount as PartialEq>⟧.eq }
+    ensures rule { IsEqualityBy broken_rule ⟦<Rule as PartialEq>⟧.eq }
+    ensures kind { IsEqualityOfTold reason_of ⟦<FaultKind as PartialEq>⟧.eq }
+    ensures fault { IsEqualityOfTold fault_of ⟦<ReadFault as PartialEq>⟧.eq }
+{}
+
+/// A copy is the value that it is made of.
+pub fn law_copies()
+    ensures duration_fault { IsCopy ⟦<DurationFault as Clone>⟧.is_clone }
+    ensures identifier_kind { IsCopy ⟦<InvalidIdentifierKind as Clone>⟧.is_clone }
+    ensures count { IsCopy ⟦<NonZeroCount as Clone>⟧.is_clone }
+{}
+
+/// Marked values are equal where the values and the marks are.
+pub fn law_tracked_equality<T: PartialEq>()
+    ensures { (a b : TrackDefault T) → IsTrue (⟦<TrackDefault<T> as PartialEq>⟧.eq a b)
+        ↔ (IsTrue (T.eq a.value b.value) × (a.is_deserialized ≡ b.is_deserialized)) }
 {}

@@ -1,5 +1,5 @@
 -- Changes of a board, one after the other, and what they leave in each slot.
-use Rattle.std.specs.Prelude.{◌≡◌, ◌≢◌, ◌⊎◌, ℕ, List, [], ◌∷◌, ◌++◌, replicate, Option, Some, None}
+use Rattle.std.specs.Prelude.{◌≡◌, ◌≢◌, ◌⊎◌, ℕ, List, [], ◌∷◌, ◌++◌, replicate, set, Option, Some, None}
 use Rattle.std.specs.List.{AllByRecursion}
 use Rattle.nextest_config.specs.Board.Slots.{asked_at, BoardState, IsChanged, IsPut}
 use Rattle.nextest_config_sources.specs.NextestVersion.Source.{Source}
@@ -30,10 +30,19 @@ ChangesInTurn (command ∷ commands) old new = (between : BoardState) × Changes
 abbrev pub empty_board : ℕ → BoardState
 empty_board n = record { slots = replicate n None; selections = 0 }
 
+-- the source that the command leaves in its slot
+abbrev pub source_left : Command → Option Source
+source_left (put slot source) = Some source
+source_left (withdraw slot) = None
+
+-- the slot holds the versions that the source asks, and nothing where there is none
+abbrev pub HoldsSource : Option Source → Option Asked → Type 0
+HoldsSource None held = held ≡ None
+HoldsSource (Some source) held = (ask : Ask) × IsRead source ask × (held ≡ Some (asked_at source.place ask.versions))
+
 -- the command leaves this in its slot
 abbrev pub Leaves : Command → Option Asked → Type 0
-Leaves (put slot source) held = (ask : Ask) × IsRead source ask × (held ≡ Some (asked_at source.place ask.versions))
-Leaves (withdraw slot) held = held ≡ None
+Leaves command = HoldsSource (source_left command)
 
 -- the command changes another slot
 abbrev pub IsOfOther : ℕ → Command → Type 0
@@ -52,3 +61,16 @@ pub record IsLeft (commands : List Command) (slot : ℕ) (held : Option Asked) :
 -- the slot holds what its last command leaves, and nothing where it has no command
 abbrev pub HoldsLast : List Command → ℕ → Option Asked → Type 0
 HoldsLast commands slot held = IsLeft commands slot held ⊎ (AllByRecursion (IsOfOther slot) commands × (held ≡ None))
+
+-- ---- the sources themselves
+
+-- the sources that the slots hold after the commands, of those that they held before
+abbrev pub sources_after : List Command → List (Option Source) → List (Option Source)
+sources_after [] held = held
+sources_after (command ∷ commands) held = sources_after commands (set held (slot_in command) (source_left command))
+
+-- the sources that are there, in the order of the slots
+abbrev pub present : List (Option Source) → List Source
+present [] = []
+present (None ∷ held) = present held
+present (Some source ∷ held) = source ∷ present held

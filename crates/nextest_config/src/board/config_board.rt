@@ -1,12 +1,13 @@
 //! A board of sources, with the verdict of the sources as they are.
 
-ghost use Rattle.std.specs.Prelude.{◌≡◌, ◌<◌, IfOk, IfErr, OnOk, OnErr, None, length, map, option_map, replicate};
+ghost use Rattle.std.specs.Prelude.{◌≡◌, ◌<◌, IfOk, IfErr, IsOk, OnOk, OnErr, None, length, map, option_map, replicate};
+ghost use Rattle.std.specs.List.{AllByRecursion};
 ghost use Rattle.semver.specs.Identifiers.{parts_of};
 ghost use Rattle.nextest_config.specs.Board.RolePair.{pair_in};
 ghost use Rattle.nextest_config.specs.Board.Slots.{AreHeld, board_list, BoardState, IsChanged, IsHeld, IsPut, IsReadInto, kept_in, slot_of, slots_of};
 ghost use Rattle.nextest_config.specs.Board.Refusals.{IsNoSlot, IsRefusedPut, IsRefusedSource};
 ghost use Rattle.nextest_config_sources.specs.NextestVersion.{source_of};
-ghost use Rattle.nextest_config.specs.NextestVersion.{alone, IsSelected, kept_from, unmet, verdict_of};
+ghost use Rattle.nextest_config.specs.NextestVersion.{alone, IsSatisfied, IsSelected, kept_from, unmet, verdict_of};
 
 use super::refusal::BoardRefusal;
 use super::role_pair::{AskedAt, RolePair, Tally};
@@ -23,7 +24,7 @@ use std::marker::Model;
 
 /// Slots that each hold a source or are empty. A board keeps the versions that its sources ask, and
 /// tells the verdict of the sources as they are.
-#[derive(Drop)]
+#[derive(Debug, Drop)]
 pub struct ConfigBoard {
     alloc: Global,
     sources: Vec<Option<ConfigSource>>,
@@ -55,20 +56,30 @@ impl ConfigBoard {
         })
     }
 
-    /// The verdict on the current version, of the sources as they are.
+    /// The verdict on the current version, of the sources as they are. Where all are satisfied it takes
+    /// no memory.
     pub fn eval(
         &self,
         alloc: Global,
         current: &Version,
         override_version_check: bool,
     ) -> Result<NextestVersionEval, AllocError>
-        ensures { IfOk result (λ eval. IsSelected
+        ensures selected { IfOk result (λ eval. IsSelected
             (map (alone (parts_of current.now) override_version_check) (board_list self.now.slots))
             (verdict_of eval)) }
+        ensures satisfied { AllByRecursion IsSatisfied
+            (map (alone (parts_of current.now) override_version_check) (board_list self.now.slots))
+            → IsOk result }
     {
-        let chosen = self.tree.whole();
-        let required = unmet_in(&self.sources, chosen.required, current);
-        let recommended = unmet_in(&self.sources, chosen.recommended, current);
+        let ConfigBoard {
+            alloc: _,
+            sources,
+            tree,
+            tally: _,
+        } = self;
+        let chosen = tree.whole();
+        let required = unmet_in(sources, chosen.required, current);
+        let recommended = unmet_in(sources, chosen.recommended, current);
         NextestVersionEval::judged(
             alloc,
             borrowed(&required),
@@ -209,6 +220,3 @@ fn borrowed<'a>(
         None => None,
     }
 }
-
-#[cfg(test)]
-mod tests;

@@ -10,7 +10,7 @@ use semver::Version;
 use std::cmp::Ordering;
 
 /// A version by its numbers, and the slot of the source that asks for it.
-#[derive(Clone, Copy)]
+#[derive(Clone, Copy, Debug)]
 pub(super) struct AskedAt {
     pub numbers: (u64, u64, u64),
     pub slot: usize,
@@ -55,14 +55,14 @@ fn later_of(earlier: Option<AskedAt>, later: Option<AskedAt>) -> Option<AskedAt>
 }
 
 /// What is chosen in each role.
-#[derive(Clone, Copy)]
+#[derive(Clone, Copy, Debug)]
 pub(super) struct RolePair {
     pub required: Option<AskedAt>,
     pub recommended: Option<AskedAt>,
 }
 
 /// How many choices were made.
-#[derive(Drop)]
+#[derive(Debug, Drop)]
 pub(super) struct Tally {
     pub choices: usize,
 }

@@ -62,7 +62,8 @@ impl ExperimentalConfig {
 
     /// The features that some source enables.
     pub fn known(&self) -> &BTreeSet<ConfigExperimental>
-        ensures { result.now.keys ≡ (experimental_of self.now).known }
+        ensures value { result.now.keys ≡ (experimental_of self.now).known }
+        ensures in_order { FeaturesInOrder result.now.keys }
     {
         &self.known
     }

@@ -5,6 +5,7 @@ use nextest_config::nextest_version::Edition;
 use semver::Version;
 use std::alloc::{AllocError, Global};
 use std::io::{self, ErrorKind, Read, Write};
+use std::process::Abort;
 use std::test::Fail;
 
 // Runs of the program: its words, its input, its status, its output and its complaint. A line feed is
@@ -68,10 +69,17 @@ x.y --override | x = 1¶ | 2 | (nothing) | not a version: x.y¶
 --override --table-only | x = 1¶ | 2 | (nothing) | not a version: --override¶
 "#;
 
-// Sizes around powers of two, and some thousands.
-const SIZES: [usize; 24] = [
-    1, 2, 3, 7, 8, 9, 31, 32, 33, 63, 64, 65, 127, 128, 129, 255, 256, 257, 1023, 1024, 1025, 2048,
-    4096, 5000,
+// Sizes above 200, around powers of two, and some thousands.
+const SIZES: [usize; 9] = [255, 256, 257, 1023, 1024, 1025, 2048, 4096, 5000];
+
+// What an odd call of a writer answers: how many bytes it takes at most, or why it fails.
+type Odd = Result<usize, ErrorKind>;
+
+const ODD: [Odd; 4] = [
+    Ok(0),
+    Ok(1),
+    Err(ErrorKind::Interrupted),
+    Err(ErrorKind::BrokenPipe),
 ];
 
 // A reader that gives `step` bytes a call and fails at the end, if it is to.
@@ -96,45 +104,52 @@ impl Read for Pieces<'_> {
     }
 }
 
-// A writer that keeps what it takes, `step` bytes a call, and fails at one call, if it is to. Calls
-// are counted from 0, with the flushes among them. Behind the failure it takes more.
+// A writer that keeps what it takes, `step` bytes a call, but for one call that may be odd. Calls are
+// counted from 0, with the flushes among them. Behind a failure it takes more.
 #[derive(Drop)]
 struct Watched {
     kept: Vec<u8>,
     step: usize,
     calls: usize,
-    fails_at: Option<usize>,
+    odd: Option<(usize, Odd)>,
     is_flushed: bool,
 }
 
 impl Watched {
-    fn new(alloc: Global, step: usize, fails_at: Option<usize>) -> Self {
+    fn new(alloc: Global, step: usize, odd: Option<(usize, Odd)>) -> Self {
         Watched {
             kept: Vec::new(alloc),
             step,
             calls: 0,
-            fails_at,
+            odd,
             is_flushed: true,
         }
     }
 
-    fn count_call(&mut self) -> io::Result<()> {
+    // How many bytes the next call takes at most.
+    fn next_call(&mut self) -> io::Result<usize> {
         let call = self.calls;
         self.calls = call.saturating_add(1);
-        if self.fails_at == Some(call) {
-            return Err(io::Error::from(ErrorKind::BrokenPipe));
+        match self.odd {
+            Some((at, Ok(count))) if at == call => Ok(count),
+            Some((at, Err(kind))) if at == call => Err(io::Error::from(kind)),
+            _ => Ok(self.step),
         }
-        Ok(())
     }
 
-    // What was kept, as text, and whether it was passed on.
+    // What was kept, as text, and whether it was passed on. Each call but a few is to take a byte.
     fn told(&self, alloc: Global) -> Result<String, Fail> {
-        if self.kept.is_empty() {
-            return Ok(String::from_str(alloc, "(nothing)")?);
-        }
-        let mut told = String::from_str(alloc, str::from_utf8(&self.kept).unwrap_or("no text"))?;
+        let kept = if self.kept.is_empty() {
+            "(nothing)"
+        } else {
+            str::from_utf8(&self.kept).unwrap_or("no text")
+        };
+        let mut told = String::from_str(alloc, kept)?;
         if !self.is_flushed {
             told.push_str("(not flushed)")?;
+        }
+        if self.calls > self.kept.len().saturating_add(5) {
+            told.push_str("(called in vain)")?;
         }
         Ok(told)
     }
@@ -142,15 +157,14 @@ impl Watched {
 
 impl Write for Watched {
     fn write(&mut self, buf: &[u8]) -> io::Result<usize> {
-        self.count_call()?;
-        let count = self.step.min(buf.len());
+        let count = self.next_call()?.min(buf.len());
         self.kept.extend_from_slice(&buf[..count])?;
-        self.is_flushed = false;
+        self.is_flushed = self.is_flushed && count == 0;
         Ok(count)
     }
 
     fn flush(&mut self) -> io::Result<()> {
-        self.count_call()?;
+        self.next_call()?;
         self.is_flushed = true;
         Ok(())
     }
@@ -262,26 +276,6 @@ fn writes_nothing_if_the_reader_fails(rt: HostRuntime) -> Result<(), Fail> {
 }
 
 #[test]
-fn complains_if_the_writer_fails(rt: HostRuntime) -> Result<(), Fail> {
-    let alloc = rt.alloc();
-    for (fails_at, want) in [
-        (0, "3 | (nothing) | cannot write output\n"),
-        (1, "3 | ref(not flushed) | cannot write output\n"),
-        (2, "3 | refuse(not flushed) | cannot write output\n"),
-        (
-            12,
-            "3 | refused: line 1 isn't a source line\n(not flushed) | cannot write output\n",
-        ),
-    ] {
-        let writer = Watched::new(alloc, 3, Some(fails_at));
-        let faults = Watched::new(alloc, 3, None);
-        let line = served(alloc, "1.0.0", &mut &b"x = 1\n"[..], writer, faults)?;
-        assert_eq!(rt; line.as_str(), want);
-    }
-    Ok(())
-}
-
-#[test]
 fn fails_with_the_reader_at_each_call(rt: HostRuntime) -> Result<(), Fail> {
     let alloc = rt.alloc();
     let input = b"=== explicit a.toml\nnextest-version = 1\n";
@@ -299,36 +293,69 @@ fn fails_with_the_reader_at_each_call(rt: HostRuntime) -> Result<(), Fail> {
     Ok(())
 }
 
+// Whether a text is written though one call is odd, and what is then told of its writer, which takes
+// `step` bytes at each other call. An interrupted write is tried again; a flush isn't.
+fn written_oddly(
+    alloc: Global,
+    text: &str,
+    step: usize,
+    call: usize,
+    odd: Odd,
+) -> Result<(bool, String), AllocError> {
+    let front = text.get(..call.saturating_mul(step)).unwrap_or(text);
+    let is_write = front.len() < text.len();
+    let goes_on = match odd {
+        Ok(count) => !is_write || count > 0,
+        Err(kind) => is_write && kind == ErrorKind::Interrupted,
+    };
+    let told = if goes_on {
+        String::from_str(alloc, text)?
+    } else if front.is_empty() {
+        String::from_str(alloc, "(nothing)")?
+    } else {
+        format!(in alloc; "{front}(not flushed)")?
+    };
+    Ok((goes_on, told))
+}
+
 #[test]
-fn fails_with_the_writer_at_each_call(rt: HostRuntime) -> Result<(), Fail> {
+fn writes_a_report_through_an_odd_call(rt: HostRuntime) -> Result<(), Fail> {
     let alloc = rt.alloc();
     let report = "refused: line 1 isn't a source line\n";
-    for calls in 1..=report.len() {
-        let writer = Watched::new(alloc, 1, Some(calls));
-        let faults = Watched::new(alloc, 1, None);
-        let line = served(alloc, "1.0.0", &mut &b"x = 1\n"[..], writer, faults)?;
-        let front = report.get(..calls).unwrap_or("");
-        assert_eq!(rt;
-            line,
-            format!(in alloc; "3 | {front}(not flushed) | cannot write output\n")?
-        );
+    for (step, calls) in [(1, 36), (3, 12), (5000, 1)] {
+        for call in 0..=calls {
+            for odd in ODD {
+                let (goes_on, told) = written_oddly(alloc, report, step, call, odd)?;
+                let (status, complaint) = if goes_on {
+                    (2, "(nothing)")
+                } else {
+                    (3, "cannot write output\n")
+                };
+                let want = format!(in alloc; "{status} | {told} | {complaint}")?;
+                let writer = Watched::new(alloc, step, Some((call, odd)));
+                let faults = Watched::new(alloc, step, None);
+                let line = served(alloc, "1.0.0", &mut &b"x = 1\n"[..], writer, faults)?;
+                assert_eq!(rt; line, want);
+            }
+        }
     }
     Ok(())
 }
 
 #[test]
-fn keeps_the_status_if_faults_fail(rt: HostRuntime) -> Result<(), Fail> {
+fn complains_through_an_odd_call(rt: HostRuntime) -> Result<(), Fail> {
     let alloc = rt.alloc();
-    for (fails_at, want) in [
-        (0, "2 | (nothing) | (nothing)"),
-        (1, "2 | (nothing) | not a version: (not flushed)"),
-        (2, "2 | (nothing) | not a version: x.y(not flushed)"),
-        (3, "2 | (nothing) | not a version: x.y\n(not flushed)"),
-    ] {
-        let writer = Watched::new(alloc, 4096, None);
-        let faults = Watched::new(alloc, 4096, Some(fails_at));
-        let line = served(alloc, "x.y", &mut io::empty(), writer, faults)?;
-        assert_eq!(rt; line.as_str(), want);
+    for (step, calls) in [(1, 19), (3, 7)] {
+        for call in 0..=calls {
+            for odd in ODD {
+                let (_, told) = written_oddly(alloc, "not a version: x.y\n", step, call, odd)?;
+                let want = format!(in alloc; "2 | (nothing) | {told}")?;
+                let writer = Watched::new(alloc, step, None);
+                let faults = Watched::new(alloc, step, Some((call, odd)));
+                let line = served(alloc, "x.y", &mut io::empty(), writer, faults)?;
+                assert_eq!(rt; line, want);
+            }
+        }
     }
     Ok(())
 }
@@ -342,7 +369,7 @@ fn tells_which_stream_failed(rt: HostRuntime) -> Result<(), Fail> {
         step: 1,
         end: Some(ErrorKind::Other),
     };
-    let mut writer = Watched::new(alloc, 4096, Some(0));
+    let mut writer = Watched::new(alloc, 4096, Some((0, Err(ErrorKind::BrokenPipe))));
     let outcome = run(
         alloc,
         &mut reader,
@@ -383,27 +410,43 @@ fn long_path(alloc: Global, size: usize) -> Result<(String, String), AllocError>
     Ok((input, report))
 }
 
+// Runs the program on a word, a version, a path and a list of this size.
+fn run_at(rt: &(impl Abort + AllocGlobal), size: usize) -> Result<(), Fail> {
+    let alloc = rt.alloc();
+    let word = "x".repeat(alloc, size)?;
+    let line = run_in_pieces(alloc, word.as_str(), "", 4096)?;
+    assert_eq!(rt;
+        line,
+        format!(in alloc; "2 | (nothing) | not a version: {word}\n")?
+    );
+
+    let current = format!(in alloc; "1.0.0-{word}")?;
+    let line = run_in_pieces(alloc, current.as_str(), "", 4096)?;
+    assert_eq!(rt;
+        line,
+        format!(in alloc; "0 | satisfied: {current}\nknown: none\n | (nothing)")?
+    );
+
+    let (input, want) = long_path(alloc, size)?;
+    let line = run_in_pieces(alloc, "1.0.0", input.as_str(), 4096)?;
+    assert_eq!(rt; line, want);
+
+    let sources = "=== explicit a\n#\n".repeat(alloc, size)?;
+    let line = run_in_pieces(alloc, "1.0.0", sources.as_str(), 4096)?;
+    assert_eq!(rt;
+        line.as_str(),
+        "0 | satisfied: 1.0.0\nknown: none\n | (nothing)"
+    );
+    Ok(())
+}
+
 #[test]
 fn reports_at_every_size(rt: HostRuntime) -> Result<(), Fail> {
-    let alloc = rt.alloc();
+    for size in 1..=200 {
+        run_at(&rt, size)?;
+    }
     for size in SIZES {
-        let word = "x".repeat(alloc, size)?;
-        let line = run_in_pieces(alloc, word.as_str(), "", 4096)?;
-        assert_eq!(rt;
-            line,
-            format!(in alloc; "2 | (nothing) | not a version: {word}\n")?
-        );
-
-        let (input, want) = long_path(alloc, size)?;
-        let line = run_in_pieces(alloc, "1.0.0", input.as_str(), 4096)?;
-        assert_eq!(rt; line, want);
-
-        let sources = "=== explicit a\n#\n".repeat(alloc, size)?;
-        let line = run_in_pieces(alloc, "1.0.0", sources.as_str(), 4096)?;
-        assert_eq!(rt;
-            line.as_str(),
-            "0 | satisfied: 1.0.0\nknown: none\n | (nothing)"
-        );
+        run_at(&rt, size)?;
     }
     Ok(())
 }

@@ -1,5 +1,5 @@
 -- The fail limit, and when it is reached.
-use Rattle.std.specs.Prelude.{◌≡◌, ℕ, ◌≤◌, Bool, true, false, List, ◌++◌, codes}
+use Rattle.std.specs.Prelude.{◌≡◌, ℕ, ◌≤◌, Bool, true, false, List, ◌++◌, codes, Option, Some, None}
 use Rattle.std.specs.Fmt.{decimal}
 use Rattle.nextest_config_elements.specs.declared.max_fail.MaxFail.{MaxFail}
 use Rattle.nextest_config_elements.specs.declared.max_fail.MaxFail.TheVariants.{Count, All}
@@ -26,3 +26,8 @@ abbrev pub limit_text : MaxFail → List ℕ
 limit_text All = codes "all"
 limit_text (Count max_fail Wait) = decimal max_fail
 limit_text (Count max_fail Immediate) = decimal max_fail ++ codes ":immediate"
+
+-- how it prints, whatever the format asks for: nothing is said of numbers
+abbrev pub styled_limit_text : MaxFail → Option (List ℕ)
+styled_limit_text All = Some (limit_text All)
+styled_limit_text (Count max_fail mode) = None

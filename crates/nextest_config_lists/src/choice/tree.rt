@@ -9,7 +9,7 @@ use std::alloc::{AllocError, Global};
 use std::marker::Model;
 
 /// Leaves in order, with the choice over all of them. The tree knows nothing of them but how to choose.
-#[derive(Drop)]
+#[derive(Debug, Drop)]
 pub struct ChoiceTree<K: Choose> {
     leaves: Vec<K>,
     nodes: Vec<K>,

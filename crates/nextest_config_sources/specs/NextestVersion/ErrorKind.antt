@@ -2,7 +2,6 @@
 use Rattle.std.specs.Prelude.{◌≡◌, ℕ, Bool, true, false, List, ◌++◌, Option, Some, None, option_map, map, codes, string_bytes}
 use Rattle.nextest_config_values.specs.Read.Fault.{Fault}
 use Rattle.nextest_config_values.specs.Read.{fault_of, fault_text, FaultOrMemory, kind_text, path_text, quoted_texts}
-use Rattle.nextest_config_values.specs.declared.read.fault.FaultKind.TheVariants as faults
 use Rattle.nextest_config_values.specs.declared.read.fault.ReadFault.{ReadFault}
 use Rattle.nextest_config_sources.specs.declared.nextest_version.error_kind.ConfigParseErrorKind.{ConfigParseErrorKind}
 use Rattle.nextest_config_sources.specs.declared.nextest_version.error_kind.ConfigParseErrorKind.TheVariants as kinds
@@ -33,7 +32,7 @@ RefusesSource IsSuch kind = FaultOrMemory (wrong_of kind) (kind ≡ kinds.Memory
 
 -- what the refusal of a setting makes of its source
 abbrev pub IsSettingKind : ReadFault → ConfigParseErrorKind → Type 0
-IsSettingKind refused kind = FaultOrMemory (fault_of refused) (refused.kind ≡ faults.Memory → kind ≡ kinds.Memory) (λ fault. wrong_of kind ≡ Some (setting fault))
+IsSettingKind refused kind = FaultOrMemory (fault_of refused) (kind ≡ kinds.Memory) (λ fault. wrong_of kind ≡ Some (setting fault))
 
 -- how it prints
 abbrev pub wrong_text : Wrong → List ℕ

@@ -129,6 +129,17 @@ fault_text fault = path_text fault.path ++ reason_text fault.reason
 abbrev pub kind_text : FaultKind → List ℕ
 kind_text kind = told_text reason_text (reason_of kind)
 
+-- how a broken rule prints, whatever the format asks for: nothing is said of numbers
+abbrev pub styled_rule_text : BrokenRule → Option (List ℕ)
+styled_rule_text (required_above_recommended required recommended) = None
+styled_rule_text (priority_outside priority) = None
+styled_rule_text rule = Some (rule_text rule)
+
+-- how a kind of fault prints, whatever the format asks for
+abbrev pub styled_kind_text : FaultKind → Option (List ℕ)
+styled_kind_text (kinds.Custom rule) = styled_rule_text (broken_rule rule)
+styled_kind_text kind = Some (kind_text kind)
+
 -- ---- the faults of a value at a path
 
 -- a value whose kind isn't the expected one
@@ -172,7 +183,7 @@ RefusesOne IsFault = Refuses IsFault ((fault : Fault) × IsFault fault)
 
 -- the refusal of this kind at a path
 abbrev pub RefusesKind : List ℕ → FaultKind → ReadFault → Type 0
-RefusesKind at kind fault = FaultOrMemory (reason_of kind) (kind ≡ kinds.Memory → IsMemory fault) (λ reason. RefusesAs (fault_at at reason) fault)
+RefusesKind at kind fault = FaultOrMemory (reason_of kind) (IsMemory fault) (λ reason. RefusesAs (fault_at at reason) fault)
 
 -- the kind of the refusal of a name: want of memory is that of the whole
 abbrev pub IsNameKind : {Flaw : Type 0} → (NameFault Flaw → Reason) → Option (NameFault Flaw) → FaultKind → Type 0

@@ -1,14 +1,15 @@
 -- The texts of values in refusals.
-use Rattle.std.specs.Prelude.{ℕ, ◌==◌, false, Option, Some, None, List, [], ◌∷◌, ◌++◌, map, flat_map, codes, encode_utf8, if◌then◌else◌}
+use Rattle.std.specs.Prelude.{ℕ, ◌==◌, Option, Some, None, List, [], ◌∷◌, ◌++◌, map, flat_map, codes, encode_utf8, if◌then◌else◌}
 use Rattle.std.specs.Char.{is_control}
-use Rattle.std.specs.Fmt.{digits, signed_decimal}
+use Rattle.std.specs.Char.Escape.{escape_unicode}
+use Rattle.std.specs.Fmt.{signed_decimal}
 use Rattle.std.specs.Str.{chars}
 use Rattle.toml.specs.Data.{Data, string, integer, float, boolean, datetime, array, table}
 use Rattle.nextest_config_values.specs.Characters.{backslash, carriage_return, double_quote, line_feed, nul, tab}
 
--- a character with no escape of its own: its code in lower case hexadecimal, where it is a control character (U+0000 to U+001F, U+007F to U+009F)
+-- a character with no escape of its own: as `\u{..}` with its code in lower case hexadecimal, where it is a control character (U+0000 to U+001F, U+007F to U+009F)
 abbrev pub unnamed : ℕ → List ℕ
-unnamed c = if is_control c then codes "\\u{" ++ (digits 16 false c ++ codes "}") else encode_utf8 c
+unnamed c = if is_control c then flat_map encode_utf8 (escape_unicode c) else encode_utf8 c
 
 -- a character between the quotes
 abbrev pub escaped : ℕ → List ℕ

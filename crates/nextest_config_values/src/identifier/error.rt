@@ -1,8 +1,9 @@
 //! Why a text was refused as an identifier or as a tool name.
 
-ghost use Rattle.std.specs.Prelude.{◌≡◌, [], Some, string_bytes};
+ghost use Rattle.std.specs.Prelude.{◌≡◌, ◌++◌, [], Some, string_bytes};
+ghost use Rattle.std.specs.Fmt.{WritesOnOk, WritesStyledOnOk};
 ghost use Rattle.nextest_config_values.specs.Identifier.{flawed, identifier_fault, identifier_fault_text, tool_name_fault, tool_name_fault_text};
-ghost use Rattle.nextest_config_values.specs.Read.{told_text};
+ghost use Rattle.nextest_config_values.specs.Read.{quoted_text, told_text};
 ghost use Rattle.nextest_config_values.specs.declared.helpers.identifiers.InvalidIdentifierKind.TheVariants as kinds;
 ghost use Rattle.nextest_config_values.specs.declared.identifier.error.IdentifierFlaw.TheVariants as identifiers;
 ghost use Rattle.nextest_config_values.specs.declared.identifier.error.ToolNameFlaw.TheVariants as names;
@@ -10,7 +11,7 @@ ghost use Rattle.nextest_config_values.specs.declared.identifier.error.ToolNameF
 use crate::helpers::InvalidIdentifierKind;
 use crate::read::QuotedText;
 use std::alloc::AllocError;
-use std::fmt;
+use std::fmt::{self, Display};
 
 /// Why a text is no identifier. The text that is named is in Normalization Form C.
 #[derive(Debug, PartialEq, Eq, Drop)]
@@ -100,46 +101,61 @@ impl ToolNameFlaw {
 impl fmt::Display for InvalidIdentifier {
     ghost output = { λ error. Some (told_text identifier_fault_text (identifier_fault error)) };
 
+    ghost styled_output = { λ error _. Some (told_text identifier_fault_text (identifier_fault error)) };
+
     fn fmt<W: fmt::Write>(&self, f: &mut fmt::Formatter<W>) -> fmt::Result {
         match self {
             InvalidIdentifier::Empty => f.write_str("identifier is empty"),
-            InvalidIdentifier::InvalidXid(text) => {
-                write!(f, "invalid identifier {}", QuotedText(text.as_str()))
+            InvalidIdentifier::InvalidXid(text) => write_named(
+                f,
+                "invalid identifier ",
+                text.as_str(),
+            ),
+            InvalidIdentifier::ToolIdentifierInvalidFormat(text) => {
+                write_named(
+                    f,
+                    "tool identifier isn't @tool:name:identifier: ",
+                    text.as_str(),
+                )
             }
-            InvalidIdentifier::ToolIdentifierInvalidFormat(text) => write!(
-                f,
-                "tool identifier isn't @tool:name:identifier: {}",
-                QuotedText(text.as_str())
-            ),
-            InvalidIdentifier::ToolComponentEmpty(text) => write!(
-                f,
-                "tool identifier has an empty component: {}",
-                QuotedText(text.as_str())
-            ),
+            InvalidIdentifier::ToolComponentEmpty(text) => {
+                write_named(f, "tool identifier has an empty component: ", text.as_str())
+            }
             InvalidIdentifier::ToolIdentifierInvalidXid(text) => {
-                write!(f, "invalid tool identifier {}", QuotedText(text.as_str()))
+                write_named(f, "invalid tool identifier ", text.as_str())
             }
             InvalidIdentifier::Memory => f.write_str("out of memory"),
         }
     }
 }
 
+// The reason, and the refused text between quotes.
+fn write_named<W: fmt::Write>(f: &mut fmt::Formatter<W>, reason: &str, text: &str) -> fmt::Result
+    ensures writes { WritesOnOk W.write_str_gives f.old result
+        (reason.now ++ quoted_text text.now) f.new }
+    ensures styled { WritesStyledOnOk W.write_str_gives f.old result
+        (reason.now ++ quoted_text text.now) f.new }
+{
+    f.write_str(reason)?;
+    QuotedText(text).fmt(f)
+}
+
 impl fmt::Display for InvalidToolName {
     ghost output = { λ error. Some (told_text tool_name_fault_text (tool_name_fault error)) };
+
+    ghost styled_output = { λ error _. Some (told_text tool_name_fault_text (tool_name_fault error)) };
 
     fn fmt<W: fmt::Write>(&self, f: &mut fmt::Formatter<W>) -> fmt::Result {
         match self {
             InvalidToolName::Empty => f.write_str("tool name is empty"),
             InvalidToolName::StartsWithToolPrefix(text) => {
-                write!(
-                    f,
-                    "tool name begins with @tool: {}",
-                    QuotedText(text.as_str())
-                )
+                write_named(f, "tool name begins with @tool: ", text.as_str())
             }
-            InvalidToolName::InvalidXid(text) => {
-                write!(f, "invalid tool name {}", QuotedText(text.as_str()))
-            }
+            InvalidToolName::InvalidXid(text) => write_named(
+                f,
+                "invalid tool name ",
+                text.as_str(),
+            ),
             InvalidToolName::Memory => f.write_str("out of memory"),
         }
     }

@@ -1,15 +1,16 @@
 //! Why a TOML value was refused, and where.
 
-ghost use Rattle.std.specs.Prelude.{◌≡◌, ◌↔◌, ◌++◌, IfOk, IsTrue, Some, string_bytes};
+ghost use Rattle.std.specs.Prelude.{◌≡◌, ◌++◌, IfOk, is_none, option_map, Some, string_bytes};
+ghost use Rattle.std.specs.Fmt.{WritesOnOk, WritesStyledOnOk};
 ghost use Rattle.toml.specs.View.{view};
-ghost use Rattle.nextest_config_values.specs.Read.{broken_rule, IsMemory, kind_text, missing, path_of, path_text, RefusesAs, RefusesKind, rule_text, unknown_key, unknown_word, wrong_type, wrong_value};
+ghost use Rattle.nextest_config_values.specs.Read.{broken_rule, fault_of, IsMemory, kind_text, missing, path_of, path_text, reason_of, RefusesAs, RefusesKind, rule_text, styled_kind_text, styled_rule_text, unknown_key, unknown_word, wrong_type, wrong_value};
 ghost use Rattle.nextest_config_values.specs.declared.read.fault.FaultKind.TheVariants.{Memory};
 
 use super::text::{QuotedText, found_text};
 use crate::identifier::{InvalidIdentifier, InvalidToolName};
 use semver::Version;
 use std::alloc::{AllocError, Global};
-use std::fmt;
+use std::fmt::{self, Display};
 use toml::Value;
 
 /// A refused TOML value: the path of its key, empty for the value that was handed in, and the reason.
@@ -91,16 +92,17 @@ pub enum Rule {
 }
 
 impl ReadFault {
-    /// The fault of this kind at this path, or `Memory` where the path finds no room.
+    /// The fault of this kind at this path, or `Memory` where the kind says that memory was refused or
+    /// the path finds no room.
     pub fn new(alloc: Global, at: &str, kind: FaultKind) -> ReadFault
         ensures { RefusesKind at.now kind result }
     {
-        match kind {
-            FaultKind::Memory => ReadFault::memory(alloc),
-            kind => match String::from_str(alloc, at) {
-                Ok(path) => ReadFault { path, kind },
-                Err(AllocError) => ReadFault::memory(alloc),
-            },
+        if kind.is_memory() {
+            return ReadFault::memory(alloc);
+        }
+        match String::from_str(alloc, at) {
+            Ok(path) => ReadFault { path, kind },
+            Err(AllocError) => ReadFault::memory(alloc),
         }
     }
 
@@ -161,19 +163,9 @@ impl ReadFault {
 
     /// Whether a request for memory was refused.
     pub fn is_memory(&self) -> bool
-        ensures { IsTrue result ↔ (self.now.kind ≡ Memory) }
+        ensures { result ≡ is_none (fault_of self.now) }
     {
-        match self.kind {
-            FaultKind::Memory => true,
-            FaultKind::InvalidType { .. }
-            | FaultKind::InvalidValue { .. }
-            | FaultKind::UnknownVariant { .. }
-            | FaultKind::UnknownField { .. }
-            | FaultKind::MissingField { .. }
-            | FaultKind::Custom(_)
-            | FaultKind::Identifier(_)
-            | FaultKind::ToolName(_) => false,
-        }
+        self.kind.is_memory()
     }
 
     /// The fault of a value whose reading was refused memory, at the empty path: it says nothing of
@@ -184,6 +176,27 @@ impl ReadFault {
         ReadFault {
             path: String::new(alloc),
             kind: FaultKind::Memory,
+        }
+    }
+}
+
+impl FaultKind {
+    /// Whether a request for memory was refused, that of a name included.
+    pub fn is_memory(&self) -> bool
+        ensures { result ≡ is_none (reason_of self.now) }
+    {
+        match self {
+            FaultKind::Memory
+            | FaultKind::Identifier(InvalidIdentifier::Memory)
+            | FaultKind::ToolName(InvalidToolName::Memory) => true,
+            FaultKind::InvalidType { .. }
+            | FaultKind::InvalidValue { .. }
+            | FaultKind::UnknownVariant { .. }
+            | FaultKind::UnknownField { .. }
+            | FaultKind::MissingField { .. }
+            | FaultKind::Custom(_)
+            | FaultKind::Identifier(_)
+            | FaultKind::ToolName(_) => false,
         }
     }
 }
@@ -238,44 +251,91 @@ impl From<InvalidToolName> for FaultKind {
 impl fmt::Display for ReadFault {
     ghost output = { λ fault. Some (path_text (string_bytes fault.path) ++ kind_text fault.kind) };
 
+    ghost styled_output = { λ fault _. option_map (λ text. path_text (string_bytes fault.path) ++ text)
+        (styled_kind_text fault.kind) };
+
     fn fmt<W: fmt::Write>(&self, f: &mut fmt::Formatter<W>) -> fmt::Result {
         if !self.path.is_empty() {
-            write!(f, "{}: ", self.path)?;
+            f.write_str(self.path.as_str())?;
+            f.write_str(": ")?;
         }
-        write!(f, "{}", self.kind)
+        self.kind.fmt(f)
     }
 }
 
 impl fmt::Display for FaultKind {
     ghost output = { λ kind. Some (kind_text kind) };
 
+    ghost styled_output = { λ kind _. styled_kind_text kind };
+
     fn fmt<W: fmt::Write>(&self, f: &mut fmt::Formatter<W>) -> fmt::Result {
         match self {
             FaultKind::InvalidType { found, expected } => {
-                write!(f, "invalid type: {found}, expected {expected}")
+                write_found(f, "invalid type: ", found.as_str(), ", expected ", expected)
             }
             FaultKind::InvalidValue { found, expected } => {
-                write!(f, "invalid value: {found}, expected {expected}")
+                write_found(
+                    f,
+                    "invalid value: ",
+                    found.as_str(),
+                    ", expected ",
+                    expected,
+                )
             }
             FaultKind::UnknownVariant { found, expected } => {
-                write!(f, "unknown variant `{found}`, expected {expected}")
+                write_found(
+                    f,
+                    "unknown variant `",
+                    found.as_str(),
+                    "`, expected ",
+                    expected,
+                )
             }
             FaultKind::UnknownField { found, expected } => {
-                write!(f, "unknown field `{found}`, expected {expected}")
+                write_found(
+                    f,
+                    "unknown field `",
+                    found.as_str(),
+                    "`, expected ",
+                    expected,
+                )
             }
             FaultKind::MissingField { key } => {
-                write!(f, "missing configuration field \"{key}\"")
+                f.write_str("missing configuration field \"")?;
+                f.write_str(key.as_str())?;
+                f.write_str("\"")
             }
-            FaultKind::Custom(rule) => write!(f, "{rule}"),
-            FaultKind::Identifier(error) => write!(f, "{error}"),
-            FaultKind::ToolName(error) => write!(f, "{error}"),
+            FaultKind::Custom(rule) => rule.fmt(f),
+            FaultKind::Identifier(error) => error.fmt(f),
+            FaultKind::ToolName(error) => error.fmt(f),
             FaultKind::Memory => f.write_str("out of memory"),
         }
     }
 }
 
+// What was found and what was expected, behind these texts.
+fn write_found<W: fmt::Write>(
+    f: &mut fmt::Formatter<W>,
+    reason: &str,
+    found: &str,
+    between: &str,
+    expected: &str,
+) -> fmt::Result
+    ensures writes { WritesOnOk W.write_str_gives f.old result
+        (reason.now ++ (found.now ++ (between.now ++ expected.now))) f.new }
+    ensures styled { WritesStyledOnOk W.write_str_gives f.old result
+        (reason.now ++ (found.now ++ (between.now ++ expected.now))) f.new }
+{
+    f.write_str(reason)?;
+    f.write_str(found)?;
+    f.write_str(between)?;
+    f.write_str(expected)
+}
+
 impl fmt::Display for Rule {
     ghost output = { λ rule. Some (rule_text (broken_rule rule)) };
+
+    ghost styled_output = { λ rule _. styled_rule_text (broken_rule rule) };
 
     fn fmt<W: fmt::Write>(&self, f: &mut fmt::Formatter<W>) -> fmt::Result {
         match self {
@@ -285,7 +345,10 @@ impl fmt::Display for Rule {
             Rule::BuildMetadata => {
                 f.write_str("build metadata is not supported in nextest-version")
             }
-            Rule::NotVersion { text } => write!(f, "invalid version {}", QuotedText(text.as_str())),
+            Rule::NotVersion { text } => {
+                f.write_str("invalid version ")?;
+                QuotedText(text.as_str()).fmt(f)
+            }
             Rule::RequiredAboveRecommended {
                 required,
                 recommended,

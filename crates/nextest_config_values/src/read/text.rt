@@ -1,7 +1,7 @@
 //! Texts of values, as refusals print them.
 
 ghost use Rattle.std.specs.Prelude.{◌≡◌, IfOk, Some, map, string_bytes};
-ghost use Rattle.std.specs.Fmt.{WritesOnOk};
+ghost use Rattle.std.specs.Fmt.{WritesOnOk, WritesStyledOnOk};
 ghost use Rattle.toml.specs.View.{view};
 ghost use Rattle.nextest_config_values.specs.Read.{escaped, found_text, quoted_text, quoted_texts, unnamed};
 
@@ -17,6 +17,8 @@ pub struct QuotedText<'a>(pub &'a str);
 impl fmt::Display for QuotedText<'_> {
     ghost output = { λ quoted. Some (quoted_text quoted.0.now) };
 
+    ghost styled_output = { λ quoted _. Some (quoted_text quoted.0.now) };
+
     fn fmt<W: fmt::Write>(&self, f: &mut fmt::Formatter<W>) -> fmt::Result {
         write_quoted(f, self.0)
     }
@@ -28,6 +30,8 @@ pub struct QuotedTexts<'a>(pub &'a BTreeSet<String>);
 
 impl fmt::Display for QuotedTexts<'_> {
     ghost output = { λ texts. Some (quoted_texts (map string_bytes texts.0.now.keys)) };
+
+    ghost styled_output = { λ texts _. Some (quoted_texts (map string_bytes texts.0.now.keys)) };
 
     fn fmt<W: fmt::Write>(&self, f: &mut fmt::Formatter<W>) -> fmt::Result {
         let mut separator = "";
@@ -41,7 +45,8 @@ impl fmt::Display for QuotedTexts<'_> {
 }
 
 fn write_quoted<W: fmt::Write>(f: &mut fmt::Formatter<W>, text: &str) -> fmt::Result
-    ensures { WritesOnOk W.write_str_gives f.old result (quoted_text text.now) f.new }
+    ensures writes { WritesOnOk W.write_str_gives f.old result (quoted_text text.now) f.new }
+    ensures styled { WritesStyledOnOk W.write_str_gives f.old result (quoted_text text.now) f.new }
 {
     f.write_str("\"")?;
     for c in text.chars() {
@@ -51,7 +56,8 @@ fn write_quoted<W: fmt::Write>(f: &mut fmt::Formatter<W>, text: &str) -> fmt::Re
 }
 
 fn write_escaped<W: fmt::Write>(f: &mut fmt::Formatter<W>, c: char) -> fmt::Result
-    ensures { WritesOnOk W.write_str_gives f.old result (escaped c) f.new }
+    ensures writes { WritesOnOk W.write_str_gives f.old result (escaped c) f.new }
+    ensures styled { WritesStyledOnOk W.write_str_gives f.old result (escaped c) f.new }
 {
     match c {
         '"' => f.write_str("\\\""),
@@ -66,14 +72,16 @@ fn write_escaped<W: fmt::Write>(f: &mut fmt::Formatter<W>, c: char) -> fmt::Resu
 
 // A character with no escape of its own.
 fn write_unnamed<W: fmt::Write>(f: &mut fmt::Formatter<W>, c: char) -> fmt::Result
-    ensures { WritesOnOk W.write_str_gives f.old result (unnamed c) f.new }
+    ensures writes { WritesOnOk W.write_str_gives f.old result (unnamed c) f.new }
+    ensures styled { WritesStyledOnOk W.write_str_gives f.old result (unnamed c) f.new }
 {
-    if c.is_control() {
-        let code = u32::from(c);
-        write!(f, "\\u{{{code:x}}}")
-    } else {
-        f.write_char(c)
+    if !c.is_control() {
+        return f.write_char(c);
     }
+    for mark in c.escape_unicode() {
+        f.write_char(mark)?;
+    }
+    Ok(())
 }
 
 /// The text between double quotes, as `QuotedText` prints it.

@@ -1,10 +1,11 @@
-use Rattle.std.proofs.Common.{◌≡◌, ◌∙◌, sym, ap, ap₂, map, option_map}
+use Rattle.std.proofs.Common.{◌≡◌, ◌∙◌, List, sym, ap, ap₂, map, option_map}
 use Rattle.semver.specs.Identifiers.{parts_of}
 use Rattle.semver.specs.Parse.{Parts}
 use Rattle.nextest_config.specs.Board.Slots.{board_list, BoardState, roles_in, slots_of}
 use Rattle.nextest_config.specs.NextestVersion.Verdict.{Verdict}
-use Rattle.nextest_config.specs.NextestVersion.{alone, judged, kept_from, verdict}
+use Rattle.nextest_config.specs.NextestVersion.{alone, IsSelected, judged, kept_from, verdict}
 use Rattle.nextest_config.proofs.Slots.{board_selects, selected_as, told_as}
+use Rattle.nextest_config.proofs.Verdicts.{satisfied_where_all}
 use Rattle.nextest_config.proofs.board.config_board.ConfigBoard.eval.Goals as goal
 
 pub returns : goal.returns
@@ -16,4 +17,9 @@ returns c =
     let recommended = c.borrowed-2.ensures ∙ (rw c.deref-2.ensures.value at c.unmet_in-recommended.ensures) in
     let told = ap₂ (λ first second. judged first second current c.args.override_version_check) required recommended in
     let v : Verdict = judged (option_map (λ unmet. kept_from unmet.0.now unmet.1.now) c.borrowed.result) (option_map (λ unmet. kept_from unmet.0.now unmet.1.now) c.borrowed-2.result) current c.args.override_version_check in
-    told_as c.judged.result (map (alone current c.args.override_version_check) (board_list c.args.self.now.slots)) v c.judged.ensures.value (selected_as (slots_of c.self.inside.sources.items c.self.inside.tree) c.args.self.now.slots (verdict (roles_in c.self.inside.sources.items c.whole-chosen.result) current c.args.override_version_check) v current c.args.override_version_check seen (sym told) all)
+    let verdicts : List Verdict = map (alone current c.args.override_version_check) (board_list c.args.self.now.slots) in
+    let selected : IsSelected verdicts v = selected_as (slots_of c.self.inside.sources.items c.self.inside.tree) c.args.self.now.slots (verdict (roles_in c.self.inside.sources.items c.whole-chosen.result) current c.args.override_version_check) v current c.args.override_version_check seen (sym told) all in
+    record {
+      selected = told_as c.judged.result verdicts v c.judged.ensures.value selected;
+      satisfied = λ each. c.judged.ensures.satisfied ((satisfied_where_all verdicts v selected).1 each);
+    }

@@ -3,7 +3,7 @@ use Rattle.std.proofs.lemmas.Result.{err_from_is_err_and}
 use Rattle.nextest_config_sources.specs.NextestVersion.{source_under}
 use Rattle.nextest_config.specs.NextestVersion.{configuration_of}
 use Rattle.nextest_config.proofs.Readings.{only_memory, refusal_of_list}
-use Rattle.nextest_config.proofs.Selection.{selects}
+use Rattle.nextest_config.proofs.Selection.{selects_for}
 use Rattle.nextest_config.proofs.Standing.{stands_for_all}
 use Rattle.nextest_config.proofs.nextest_version.version_only.VersionOnlyConfig.from_list_with.Goals as goal
 
@@ -26,6 +26,4 @@ returns-clause-reads c =
     (stands.0, stands.1)
 
 pub returns-clause-selected : goal.returns-clause-selected
-returns-clause-selected c =
-    let stands = returns-clause-stands c in
-    (stands.0, stands.1, selects stands.0 _ stands.2)
+returns-clause-selected c = selects_for _ _ (returns-clause-stands c)

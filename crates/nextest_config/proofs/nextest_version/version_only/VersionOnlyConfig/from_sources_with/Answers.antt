@@ -3,7 +3,7 @@ use mathlib.Core.List.{map-map}
 use Rattle.nextest_config_sources.specs.NextestVersion.{Given, under}
 use Rattle.nextest_config.specs.NextestVersion.{configuration_of, file_given, givens_of, IsRefusalOf, list_refusal, sources_under, StandsFor}
 use Rattle.nextest_config.proofs.Readings.{no_error_but_memory, refusal_of_list}
-use Rattle.nextest_config.proofs.Selection.{selects}
+use Rattle.nextest_config.proofs.Selection.{selects_for}
 use Rattle.nextest_config.proofs.Standing.{stands_for_all}
 use Rattle.nextest_config_sources.specs.declared.nextest_version.edition.Edition.{Edition}
 use Rattle.nextest_config.specs.declared.nextest_version.file.File.{File}
@@ -27,9 +27,7 @@ returns-in-Ok-clause-reads c =
     (stands.0, stands.1)
 
 pub returns-in-Ok-clause-selected : goal.returns-in-Ok-clause-selected
-returns-in-Ok-clause-selected c =
-    let stands = returns-in-Ok-clause-stands c in
-    (stands.0, stands.1, selects stands.0 _ stands.2)
+returns-in-Ok-clause-selected c = selects_for _ _ (returns-in-Ok-clause-stands c)
 
 pub returns-clause-refused : goal.returns-clause-refused
 returns-clause-refused c =

@@ -1,13 +1,22 @@
+use Rattle.std.proofs.Common.{refl}
+use Rattle.nextest_config_values.proofs.Styled.{styled_append}
 use Rattle.nextest_config_values.proofs.read.fault.FaultKindDisplay.fmt.Goals as goal
 
-pub returns-in-InvalidType-clause-writes : goal.returns-in-InvalidType-clause-writes
-returns-in-InvalidType-clause-writes g c = rw c.in-InvalidType.is c.write.ensures.writes
-
 pub returns-in-InvalidValue-clause-writes : goal.returns-in-InvalidValue-clause-writes
-returns-in-InvalidValue-clause-writes g c = rw c.in-InvalidValue.is c.write-in-InvalidValue.ensures.writes
+returns-in-InvalidValue-clause-writes g c = rw (c.in-InvalidValue.is, ← c.as_str-in-InvalidValue.ensures.value) c.write_found-in-InvalidValue.ensures.writes
 
 pub returns-in-UnknownVariant-clause-writes : goal.returns-in-UnknownVariant-clause-writes
-returns-in-UnknownVariant-clause-writes g c = rw c.in-UnknownVariant.is c.write-in-UnknownVariant.ensures.writes
+returns-in-UnknownVariant-clause-writes g c = rw (c.in-UnknownVariant.is, ← c.as_str-in-UnknownVariant.ensures.value) c.write_found-in-UnknownVariant.ensures.writes
+
+pub returns-in-UnknownVariant-clause-styled : goal.returns-in-UnknownVariant-clause-styled
+returns-in-UnknownVariant-clause-styled g c = rw (c.in-UnknownVariant.is, ← c.as_str-in-UnknownVariant.ensures.value) c.write_found-in-UnknownVariant.ensures.styled
 
 pub returns-in-UnknownField-clause-writes : goal.returns-in-UnknownField-clause-writes
-returns-in-UnknownField-clause-writes g c = rw c.in-UnknownField.is c.write-in-UnknownField.ensures.writes
+returns-in-UnknownField-clause-writes g c = rw (c.in-UnknownField.is, ← c.as_str-in-UnknownField.ensures.value) c.write_found-in-UnknownField.ensures.writes
+
+pub returns-in_ok-write_str-in-MissingField-2-clause-styled : goal.returns-in_ok-write_str-in-MissingField-2-clause-styled
+returns-in_ok-write_str-in-MissingField-2-clause-styled g c = rw (c.in-MissingField.is, ← c.as_str-in-MissingField.ensures.value) (λ flush ok.
+    let took = g.W.Write.write_str_gives in
+    let first = c.in_ok-write_str-in-MissingField.ensures.styled flush refl in
+    let second = c.in_ok-write_str-in-MissingField-2.ensures.styled first.flush refl in
+    styled_append took _ _ _ _ _ first (styled_append took _ _ _ _ _ second (c.write_str-in-MissingField-2.ensures.styled second.flush ok)))
