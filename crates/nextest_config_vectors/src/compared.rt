@@ -1,6 +1,7 @@
 //! Values beside one another: equality, copies and order.
 
 use crate::runner::ThisCrate;
+use nextest_config::board::BoardRefusal;
 use nextest_config::nextest_version::{
     ConfigExperimental, ConfigParseError, ConfigParseErrorKind, ConfigSource, ConfigSourceKind,
     ExperimentalConfig, ExperimentalDeserialize, ListRefusal, NextestVersionConfig,
@@ -17,6 +18,7 @@ pub(crate) struct Equality;
 impl Subject for Equality {
     fn answer(rt: &impl Runner, call: &str, input: &str) -> String {
         match call {
+            "BoardRefusal" => pair::<BoardRefusal, _>(rt, input),
             "ConfigParseError" => pair::<ConfigParseError, _>(rt, input),
             "ConfigParseErrorKind" => pair::<ConfigParseErrorKind, _>(rt, input),
             "ConfigSource" => pair::<ConfigSource, _>(rt, input),

@@ -2,6 +2,7 @@
 
 use crate::runner::ThisCrate;
 use crate::sources::listed;
+use nextest_config::board::BoardRefusal;
 use nextest_config::nextest_version::{
     ConfigParseError, ConfigParseErrorKind, ExperimentalConfig, ListRefusal, NextestVersionConfig,
     NextestVersionEval, NextestVersionReq, Severity, SourceText, VersionOnlyConfig,
@@ -125,5 +126,20 @@ impl FromRow<ThisCrate> for ListRefusal {
         }
         let (position, error) = both(rt, text, " ");
         ListRefusal::Refused { position, error }
+    }
+}
+
+/// Writes a number of slots, an error, or `Memory`.
+impl FromRow<ThisCrate> for BoardRefusal {
+    fn from_row(rt: &impl Runner, text: &str) -> Self {
+        let (name, rest) = word(text);
+        match name {
+            "NoSuchSlot" => BoardRefusal::NoSuchSlot {
+                slots: usize::from_row(rt, rest),
+            },
+            "Refused" => BoardRefusal::Refused(ConfigParseError::from_row(rt, rest)),
+            "Memory" => BoardRefusal::Memory,
+            _ => unknown(rt, name),
+        }
     }
 }

@@ -1,8 +1,11 @@
 //! Equal values, and values that differ in one part alone.
 
 use crate::compared::{Copies, Equality};
-use crate::runner::check;
+use crate::runner::{Test, check};
+use nextest_config::nextest_version::{ConfigExperimental, Edition, Severity};
+use nextest_config_rows::compared::plain;
 use nextest_config_rows::rows::Escaped;
+use std::process::Abort;
 
 const EQUAL_SOURCES: &str = r#"
 ConfigSourceKind | tool a ~ tool a | same
@@ -135,6 +138,15 @@ ListRefusal | 1 explicit: a => x = ~ 1 explicit: a => nextest-version = 1 | diff
 ListRefusal | 1 explicit: a => x = ~ 1 Memory | differ
 ListRefusal | Memory ~ 1 Memory | differ
 ListRefusal | Memory ~ Memory | same
+
+BoardRefusal | NoSuchSlot 1 ~ NoSuchSlot 1 | same
+BoardRefusal | NoSuchSlot 1 ~ NoSuchSlot 2 | differ
+BoardRefusal | NoSuchSlot 1 ~ Memory | differ
+BoardRefusal | Refused explicit: a => x = ~ Refused explicit: a => x = | same
+BoardRefusal | Refused explicit: a => x = ~ Refused explicit: b => x = | differ
+BoardRefusal | Refused explicit: a => x = ~ Refused explicit: a => nextest-version = 1 | differ
+BoardRefusal | Refused explicit: a => x = ~ Memory | differ
+BoardRefusal | Memory ~ Memory | same
 "#;
 
 const COPIES: &str = r#"
@@ -186,6 +198,28 @@ ConfigSource | tool a«-»: «x» | same
 #[test]
 fn sources_that_differ_in_one_part_are_unequal(rt: HostRuntime) {
     check::<Escaped<Equality>>(&rt, EQUAL_SOURCES);
+}
+
+fn test(rt: &(impl Abort + AllocGlobal)) {
+    let rt = &Test(rt);
+    plain(
+        rt,
+        ConfigExperimental::SetupScripts,
+        ConfigExperimental::WrapperScripts,
+    );
+    plain(
+        rt,
+        ConfigExperimental::WrapperScripts,
+        ConfigExperimental::Benchmarks,
+    );
+    plain(rt, Edition::ArrayAllowed, Edition::TableOnly);
+    plain(rt, Severity::Satisfied, Severity::Warn);
+    plain(rt, Severity::Warn, Severity::Error);
+}
+
+#[test]
+fn values_without_texts_are_copied_and_compared(rt: HostRuntime) {
+    test(&rt);
 }
 
 #[test]

@@ -41,6 +41,8 @@ variables | «V@=1 »NEXTEST_EXPERIMENTAL_BENCHMARKS=1«1»1 |  |
 setting | [«'x@',» 'benchmarks'] | known benchmarks; unknown« x@»; array
 setting | {«x@ = 1,» benchmarks = true } | known benchmarks; unknown« x@»
 setting | [«'x',» 1] | experimental[«#»]: invalid type: integer `1`, expected a string
+setting | {«k@ = 1,» benchmarks = 1«#» } | experimental.benchmarks: invalid type: integer `1«#»`, expected a boolean
+setting | 'x«x»' | experimental: invalid type: string "x«x»", expected a table ({ setup-scripts = true, benchmarks = true }) or an array (["setup-scripts", "benchmarks"])
 "#;
 
 const LISTS: &str = r#"
@@ -91,6 +93,8 @@ arrays | «repository: @.toml => experimental = [] && » | known«; repository @
 TableOnly: arrays | «repository: @.toml => experimental = {} && »repository: c.toml => experimental = [] | source «#»: repository c.toml: experimental: the array form of `experimental` isn't supported, use a table
 features | «repository: @.toml => experimental = ["x"] && » | known«; repository @.toml: x»
 features | repository: r.toml => experimental = ['a', «'x@',» 'benchmarks'] | known benchmarks; repository r.toml: a« x@»
+TableOnly: features | «repository: @.toml => experimental = { x = 1 } && » | known«; repository @.toml: x»
+features | tool t: /t.toml => experimental = [«'x@',» 'benchmarks'] | source 0: tool t (/t.toml): experimental features in a tool configuration: "benchmarks"«, "x@"»
 "#;
 
 pub(crate) struct Features;

@@ -10,6 +10,8 @@ mod compared;
 #[cfg(test)]
 mod configurations;
 #[cfg(test)]
+mod cuts;
+#[cfg(test)]
 mod equality;
 #[cfg(test)]
 mod features;
@@ -23,6 +25,7 @@ mod kinds;
 mod merge;
 #[cfg(test)]
 mod orders;
+pub mod pieces;
 #[cfg(test)]
 mod printed;
 #[cfg(test)]

@@ -33,6 +33,8 @@ arrays | repository: a.toml => experimental = ["benchmarks"] && repository: b.to
 # at every size
 features | «repository: @.toml => experimental = ["x"] // » | known«; repository @.toml: x»
 versions | «repository: @.toml => nextest-version = "0.9.50" // »repository: r.toml => nextest-version = "0.9.50" | 0.9.50 from repository r.toml, none
+arrays | «repository: @.toml => experimental = [] // » | known«; repository @.toml»
+features | repository: a.toml => experimental = [«'x@',» 'z'] // repository: b.toml => experimental = ['y'] | known; repository a.toml:« x@» z; repository b.toml: y
 "#;
 
 const REFUSED: &str = r#"

@@ -1,10 +1,11 @@
 //! Values that print, each as its text alone.
 
-use crate::runner::check;
+use crate::runner::{check, check_at, check_range};
+use nextest_config::board::BoardRefusal;
 use nextest_config::nextest_version::{
     ConfigExperimental, ConfigParseError, ConfigParseErrorKind, ConfigSource, ListRefusal,
 };
-use nextest_config_rows::printed::{Written, text};
+use nextest_config_rows::printed::{Written, error, text};
 use nextest_config_rows::rows::{Escaped, Runner, Subject, unknown};
 
 const ROWS: &str = r#"
@@ -43,16 +44,33 @@ ListRefusal | 18446744073709551615 repository: a => nextest-version = 1.5 | sour
 ListRefusal | 7 Memory | source 7: out of memory
 ListRefusal | Memory | out of memory
 
+BoardRefusal | NoSuchSlot 0 | no such slot: the board has 0
+BoardRefusal | NoSuchSlot 18446744073709551615 | no such slot: the board has 18446744073709551615
+BoardRefusal | Refused explicit: a.toml => x = | explicit a.toml: not a TOML document
+BoardRefusal | Refused tool a: /x => experimental = ['x'] | tool a (/x): experimental features in a tool configuration: "x"
+BoardRefusal | Memory | out of memory
+
 # at every size
+ConfigParseErrorKind | ExperimentalFeaturesInToolConfig «x@ »z | experimental features in a tool configuration: «"x@", »"z"
+"#;
+
+// Texts and numbers of every size.
+const GROWN: &str = r#"
 ConfigSource | tool a«a»: «x» | tool a«a» («x»)
 ConfigSource | explicit: a«x» | explicit a«x»
 ConfigSource | repository: a«x» | repository a«x»
 ConfigParseErrorKind | VersionOnlyDeserializeError p«p», Custom NotVersion «x» | p«p»: invalid version "«x»"
-ConfigParseErrorKind | ExperimentalFeaturesInToolConfig «x@ »z | experimental features in a tool configuration: «"x@", »"z"
+ConfigParseErrorKind | ExperimentalFeaturesInToolConfig x«x» y«y» | experimental features in a tool configuration: "x«x»", "y«y»"
 ConfigParseError | explicit: a«x» => x = | explicit a«x»: not a TOML document
 ConfigParseError | repository: a«x» => nextest-version = '«x»' | repository a«x»: nextest-version: invalid version "«x»"
+ConfigParseError | tool a«a»: x => experimental = ['x«x»'] | tool a«a» (x): experimental features in a tool configuration: "x«x»"
 ListRefusal | «#» explicit: a«x» => x = | source «#»: explicit a«x»: not a TOML document
+BoardRefusal | NoSuchSlot «#» | no such slot: the board has «#»
+BoardRefusal | Refused explicit: a«x» => x = | explicit a«x»: not a TOML document
 "#;
+
+// A size above a million.
+const MILLION: usize = 1_000_001;
 
 /// The text of a value.
 struct Printed;
@@ -60,11 +78,12 @@ struct Printed;
 impl Subject for Printed {
     fn answer(rt: &impl Runner, call: &str, input: &str) -> String {
         match call {
+            "BoardRefusal" => error::<BoardRefusal, _>(rt, input),
             "ConfigExperimental" => text::<ConfigExperimental, _>(rt, input),
             "ConfigParseError" => text::<ConfigParseError, _>(rt, input),
             "ConfigParseErrorKind" => text::<ConfigParseErrorKind, _>(rt, input),
             "ConfigSource" => text::<ConfigSource, _>(rt, input),
-            "ListRefusal" => text::<ListRefusal, _>(rt, input),
+            "ListRefusal" => error::<ListRefusal, _>(rt, input),
             _ => unknown(rt, call),
         }
     }
@@ -73,4 +92,11 @@ impl Subject for Printed {
 #[test]
 fn each_value_prints_its_text_alone(rt: HostRuntime) {
     check::<Escaped<Written<Printed>>>(&rt, ROWS);
+}
+
+#[test]
+fn texts_and_numbers_of_each_size_print_alone(rt: HostRuntime) {
+    check::<Printed>(&rt, GROWN);
+    check_range::<Printed>(&rt, GROWN, 1, 200);
+    check_at::<Printed>(&rt, GROWN, &[MILLION]);
 }

@@ -33,6 +33,16 @@ pub(crate) fn check_at<S: Subject>(rt: &(impl Abort + AllocGlobal), rows: &str, 
     rows::check_at::<S>(&Test(rt), rows, sizes);
 }
 
+/// Does the same at each size from the first to the last.
+pub(crate) fn check_range<S: Subject>(
+    rt: &(impl Abort + AllocGlobal),
+    rows: &str,
+    first: usize,
+    last: usize,
+) {
+    rows::check_range::<S>(&Test(rt), rows, first, last);
+}
+
 /// Tries values of each kind at readers.
 pub(crate) fn check_kinds<S: Subject>(rt: &(impl Abort + AllocGlobal), readers: &str) {
     wrong_kinds::check_kinds::<S>(&Test(rt), readers);

@@ -74,6 +74,8 @@ versions | «repository: @.toml && » | none, none
 0.9.49 | repository: r«r».toml => nextest-version = { recommended = "0.9.50" } | Warn: 0.9.50, repository r«r».toml, 0.9.49
 0.9.49 | «repository: r.toml => x = 1 && »repository: r.toml => x = | source «#»: repository r.toml: not a TOML document
 error | «repository: r.toml => x = 1 && »repository: r«r».toml => x = | TomlParseError, repository r«r».toml
+0.0.0 | repository: r.toml => nextest-version = "1.«#»" | Error: 1.«#».0, repository r.toml, 0.0.0
+0.9.49-a«a» --override | repository: r«r».toml => nextest-version = "0.9.50" | overridden Error: 0.9.50, repository r«r».toml, 0.9.49-a«a»
 "#;
 
 const ASKS: &str = r#"

@@ -52,6 +52,14 @@ p | '1.0.«x»' | p: invalid version "1.0.«x»"
 p | '20000000000000000000«0».0' | p: invalid version "20000000000000000000«0».0"
 p | '00«0».1' | p: invalid version "00«0».1"
 p | {«k@ = 1,» required = '0.9', recommended = '0.9.60' } | 0.9.0 0.9.60
+p | '1.«#».1«#»' | 1.«#».1«#» none
+p | { required = '1.«#»', recommended = '1.«#».«#»' } | 1.«#».0 1.«#».«#»
+p«p» | '1.0+a«a»' | p«p»: build metadata is not supported in nextest-version
+p«p» | { required = 'x«x»' } | p«p».required: invalid version "x«x»"
+p«p» | { recommended = '1+«x»' } | p«p».recommended: build metadata is not supported in nextest-version
+p«p» | { recommended = 1«#» } | p«p».recommended: invalid type: integer `1«#»`, expected a string
+p«p» | { required = '1«#».0', recommended = '0.«#»' } | p«p»: required version (1«#».0.0) must not be greater than recommended version (0.«#».0)
+p«p» | 1«#» | p«p»: invalid type: integer `1«#»`, expected a table ({ required = "0.9.20", recommended = "0.9.30" }) or a string ("0.9.50")
 "#;
 
 pub(crate) struct VersionValues;

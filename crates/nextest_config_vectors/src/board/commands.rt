@@ -79,6 +79,13 @@ const ROWS: &str = r#"
 6 slots | withdraw 0 && selections && withdraw 1 && selections && withdraw 2 && selections && withdraw 3 && selections && withdraw 4 && selections && withdraw 5 && selections | done; 2; done; 3; done; 3; done; 2; done; 3; done; 3
 7 slots | withdraw 0 && selections && withdraw 1 && selections && withdraw 2 && selections && withdraw 3 && selections && withdraw 6 && selections | done; 2; done; 3; done; 3; done; 3; done; 3
 1025 slots | withdraw 511 && selections && withdraw 512 && selections && withdraw 1024 && selections | done; 10; done; 10; done; 11
+# at every size
+«#» slots | eval 0.0.0 && selections | Satisfied; 0
+«#» slots | put «#» repository: a.toml && withdraw «#» | NoSuchSlot «#»; NoSuchSlot «#»
+20000 slots | put «#» repository: a.toml => nextest-version = "0.9.50" && eval 0.9.49 && withdraw «#» && eval 0.9.49 | done; Error: 0.9.50, repository a.toml, 0.9.49; done; Satisfied
+30000 slots | put 0 repository: a.toml => nextest-version = "0.9.50" && «put @ repository: b.toml && »eval 0.9.49 | done; «done; »Error: 0.9.50, repository a.toml, 0.9.49
+1 slots | put 0 tool t«t»: /a«a».toml => nextest-version = "0.9.50" && eval 0.9.49 | done; Error: 0.9.50, tool t«t» (/a«a».toml), 0.9.49
+1 slots | put 0 repository: a«a».toml => x = | Refused: repository a«a».toml: not a TOML document
 "#;
 
 /// Boards of so many slots.
