@@ -1,7 +1,7 @@
 //! Values beside one another: equality, copies, order and hashes.
 
 use crate::likeness::{likeness, order, sameness};
-use crate::rows::{Runner, done, written};
+use crate::rows::{Runner, compare, done, written};
 use crate::values::{FromRow, both};
 use nextest_config_values::identifier::{ConfigIdentifier, ToolName};
 use nextest_config_values::tool_config::ToolConfigFile;
@@ -18,6 +18,21 @@ pub fn pair<T: FromRow<By> + PartialEq + Debug + Drop, By>(
 ) -> String {
     let (left, right): (T, T) = both(rt, input, " ~ ");
     likeness(rt, &left, &right)
+}
+
+/// Ends the test where a copy of a value isn't the same, or the other value is.
+pub fn plain<T: Copy + Eq + Debug>(rt: &impl Runner, value: T, other: T) {
+    let copy = value;
+    let clone = done(rt, value.clone());
+    compare_both(rt, &value, &copy, "same");
+    compare_both(rt, &value, &clone, "same");
+    compare_both(rt, &value, &other, "differ");
+}
+
+fn compare_both<T: PartialEq + Debug>(rt: &impl Runner, left: &T, right: &T, wanted: &str) {
+    let row = written(rt, left);
+    let answer = likeness(rt, left, right);
+    compare(rt, row.as_str(), answer.as_str(), wanted);
 }
 
 /// A value with a copy of its own. `By` is who says so: `()` here, a type of their own in tests.

@@ -2,6 +2,7 @@
 
 use crate::rows::{Runner, Subject, shown, written};
 use crate::values::FromRow;
+use std::error::Error;
 use std::fmt::{Debug, Display};
 
 /// A subject whose calls may ask, by `written ` in front, how a source would write the answer.
@@ -21,6 +22,11 @@ impl<S: Subject> Subject for Written<S> {
 /// The text of the row's value.
 pub fn text<T: FromRow<By> + Display + Drop, By>(rt: &impl Runner, input: &str) -> String {
     shown(rt, &T::from_row(rt, input))
+}
+
+/// The text of the row's value, which is an error of std's.
+pub fn error<T: FromRow<By> + Error, By>(rt: &impl Runner, input: &str) -> String {
+    text::<T, By>(rt, input)
 }
 
 /// The value that a type has at first, as a source would write it.

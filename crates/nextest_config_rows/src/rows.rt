@@ -4,13 +4,14 @@
 //! is followed by ` |`. What a row can't ask for ends its test.
 
 use std::alloc::Global;
+use std::error::Error;
 use std::fmt::{Debug, Display};
 
-// Sizes around the powers of two, and some thousands.
-const SIZES: [usize; 37] = [
-    0, 1, 2, 3, 4, 5, 7, 8, 9, 15, 16, 17, 31, 32, 33, 63, 64, 65, 127, 128, 129, 255, 256, 257,
-    511, 512, 513, 1023, 1024, 1025, 2047, 2048, 2049, 4095, 4096, 4097, 5000,
-];
+// Every size below it is tried.
+const SMALL: usize = 131;
+
+// Around each of these are further sizes.
+const POWERS: [usize; 7] = [256, 512, 1024, 2048, 4096, 8192, 16384];
 
 /// What runs a test: it has memory, and can end the test.
 pub trait Runner {
@@ -42,7 +43,21 @@ impl<S: Subject> Subject for Escaped<S> {
 /// Asks for the answer of each row, and compares it. A row with `«PIECE»` is asked for at each size, that is
 /// with each piece that many times. A `@` in a piece is its number, in five digits. `«#»` is the size.
 pub fn check<S: Subject>(rt: &impl Runner, rows: &str) {
-    check_at::<S>(rt, rows, &SIZES);
+    let sizes = sizes(rt);
+    check_at::<S>(rt, rows, &sizes);
+}
+
+fn sizes(rt: &impl Runner) -> Vec<usize> {
+    let mut sizes = Vec::new(rt.alloc());
+    for size in 0..SMALL {
+        done(rt, sizes.push(size));
+    }
+    for power in &POWERS {
+        done(rt, sizes.push(power.saturating_sub(1)));
+        done(rt, sizes.push(*power));
+        done(rt, sizes.push(power.saturating_add(1)));
+    }
+    sizes
 }
 
 /// Does the same at sizes of its own.
@@ -51,6 +66,13 @@ pub fn check_at<S: Subject>(rt: &impl Runner, rows: &str, sizes: &[usize]) {
         if is_row(line) {
             check_sizes::<S>(rt, line, sizes);
         }
+    }
+}
+
+/// Does the same at each size from the first to the last.
+pub fn check_range<S: Subject>(rt: &impl Runner, rows: &str, first: usize, last: usize) {
+    for size in first..=last {
+        check_at::<S>(rt, rows, &[size]);
     }
 }
 
@@ -213,13 +235,18 @@ pub fn shown<T: Display>(rt: &impl Runner, value: &T) -> String {
     let text = done(rt, format!(in rt.alloc(); "{value}"));
     let formatted = done(
         rt,
-        format!(in rt.alloc(); "{value:>40}{value:*^60}{value:#}"),
+        format!(in rt.alloc(); "{value:>40}{value:*^60}{value:#}{value:.1}{value:+}"),
     );
-    if formatted == done(rt, text.repeat(rt.alloc(), 3)) {
+    if formatted == done(rt, text.repeat(rt.alloc(), 5)) {
         text
     } else {
         formatted
     }
+}
+
+/// What was answered, where a refusal is an error of std's.
+pub fn made_or_error<T: Debug + Drop, E: Error>(rt: &impl Runner, answer: Result<T, E>) -> String {
+    made(rt, answer)
 }
 
 /// What was answered: a value as a source would write it, or a refusal as it prints.

@@ -1,5 +1,7 @@
 //! Values beside one another: equality, copies, order and hashes.
 
+use nextest_config_elements::max_fail::MaxFailParseError;
+use nextest_config_elements::priority::TestPriority;
 use nextest_config_rows::compared::{copy, distinct, hashed, ordered, pair};
 use nextest_config_rows::rows::{Runner, Subject, unknown};
 use nextest_config_values::identifier::{
@@ -19,6 +21,7 @@ impl Subject for Equality {
             "InvalidIdentifier" => pair::<InvalidIdentifier, _>(rt, input),
             "InvalidToolName" => pair::<InvalidToolName, _>(rt, input),
             "FaultKind" => pair::<FaultKind, _>(rt, input),
+            "MaxFailParseError" => pair::<MaxFailParseError, _>(rt, input),
             "ReadFault" => pair::<ReadFault, _>(rt, input),
             "Rule" => pair::<Rule, _>(rt, input),
             "ToolConfigFile" => pair::<ToolConfigFile, _>(rt, input),
@@ -52,10 +55,13 @@ impl Subject for Orders {
     fn answer(rt: &impl Runner, call: &str, input: &str) -> String {
         match call {
             "ConfigIdentifier" => ordered::<ConfigIdentifier, _>(rt, input),
+            "TestPriority" => ordered::<TestPriority, _>(rt, input),
             "ToolName" => ordered::<ToolName, _>(rt, input),
             "set of ConfigIdentifier" => distinct::<ConfigIdentifier, _>(rt, input),
+            "set of TestPriority" => distinct::<TestPriority, _>(rt, input),
             "set of ToolName" => distinct::<ToolName, _>(rt, input),
             "hash of ConfigIdentifier" => hashed::<ConfigIdentifier, _>(rt, input),
+            "hash of TestPriority" => hashed::<TestPriority, _>(rt, input),
             "hash of ToolName" => hashed::<ToolName, _>(rt, input),
             _ => unknown(rt, call),
         }

@@ -2,7 +2,7 @@
 
 use crate::readers::read;
 use crate::runner::check;
-use nextest_config_rows::rows::{Escaped, Runner, Subject, made, unknown, written};
+use nextest_config_rows::rows::{Escaped, Runner, Subject, made_or_error, unknown, written};
 use nextest_config_values::duration::parse_duration;
 use nextest_config_values::track_default::TrackDefault;
 use std::time::Duration;
@@ -115,6 +115,15 @@ parse | « »1s« » | Ok(1s)
 parse | 1« »s | Ok(1s)
 parse | «0»1s | Ok(1s)
 parse | 1x«x» | Err(UnitUnknown { at: 1 })
+parse | 1«#»s | Ok(1«#»s)
+parse | « » | Err(Empty)
+parse | « »s | Err(NumberExpected { at: «#» })
+parse | « »18446744073709551616s | Err(NumberTooLarge { at: «#» })
+parse | 18446744073709551615s «1s »1s | Err(SumTooLarge)
+read | '«0»1s' | 1s
+read | '1x«x»' | p: invalid value: string "1x«x»", expected a duration
+read | 1«#» | p: invalid type: integer `1«#»`, expected a duration
+tracked | '1x«x»' | p: invalid value: string "1x«x»", expected a duration
 "#;
 
 pub(crate) struct Durations;
@@ -123,7 +132,7 @@ impl Subject for Durations {
     fn answer(rt: &impl Runner, call: &str, input: &str) -> String {
         match call {
             "parse" => written(rt, parse_duration(input)),
-            "printed" => made(rt, parse_duration(input)),
+            "printed" => made_or_error(rt, parse_duration(input)),
             "read" => read::<Duration>(rt, input),
             "tracked" => read::<TrackDefault<Duration>>(rt, input),
             _ => unknown(rt, call),

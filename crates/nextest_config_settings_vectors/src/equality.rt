@@ -56,6 +56,16 @@ ToolConfigFileParseError | EmptyConfigFile a ~ ConfigFileNotAbsolute a | differ
 ToolConfigFileParseError | InvalidFormat a ~ Memory | differ
 ToolConfigFileParseError | Memory ~ Memory | same
 
+MaxFailParseError | Mode a ~ Mode a | same
+MaxFailParseError | Mode a ~ Mode b | differ
+MaxFailParseError | Count TooLarge a ~ Count TooLarge a | same
+MaxFailParseError | Count TooLarge a ~ Count TooLarge b | differ
+MaxFailParseError | Count TooLarge a ~ Count TooSmall a | differ
+MaxFailParseError | Mode a ~ Count Empty a | differ
+MaxFailParseError | NotPositive ~ NotPositive | same
+MaxFailParseError | NotPositive ~ Memory | differ
+MaxFailParseError | Memory ~ Memory | same
+
 Rule | PreRelease ~ PreRelease | same
 Rule | PreRelease ~ BuildMetadata | differ
 Rule | BuildMetadata ~ BuildMetadata | same

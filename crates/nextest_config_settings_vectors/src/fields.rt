@@ -66,6 +66,10 @@ u32 k at p«p» | {} | p«p»: missing configuration field "p«p».k"
 u32 k«k» at p | {} | p: missing configuration field "p.k«k»"
 optional share at p«p» | { share = 101 } | p«p».share: invalid value: integer `101`, expected a percentage
 optional share at p | {«k@ = 1,» share = 40 } | Some(Percent { percent: 40 })
+u32 k at p«p» | { k = '«x»' } | p«p».k: invalid type: string "«x»", expected u32
+optional u32 k at p«p» | { k = -1«#» } | p«p».k: invalid value: integer `-1«#»`, expected u32
+or 7 k at p«p» | { k = -1«#» } | p«p».k: invalid value: integer `-1«#»`, expected u32
+or 7 k«k» at  | { k«k» = -1«#» } | k«k»: invalid value: integer `-1«#»`, expected u32
 "#;
 
 pub(crate) struct Fields;

@@ -96,6 +96,15 @@ identifier | a«-»! | InvalidXid a«-»!
 tool name | a«é» | a«é»
 plain | a«-» | Ok(())
 plain | a«-»! | Err(InvalidXid)
+identifier | a«e\u{301}» | a«é»
+identifier | a«e\u{301}»! | InvalidXid a«é»!
+identifier | @tool:a«-»:b«-» | @tool:a«-»:b«-»
+identifier | @tool:a«-» | ToolIdentifierInvalidFormat @tool:a«-»
+identifier | @tool::«x» | ToolComponentEmpty @tool::«x»
+identifier | @tool:a:b«-»! | ToolIdentifierInvalidXid @tool:a:b«-»!
+tool name | a«-» | a«-»
+tool name | a«é»! | InvalidXid a«é»!
+tool name | @tool«x» | StartsWithToolPrefix @tool«x»
 "#;
 
 const MEGABYTE: &str = r#"

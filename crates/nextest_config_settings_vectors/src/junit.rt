@@ -7,7 +7,9 @@ use nextest_config_elements::junit::{
 use nextest_config_elements::report_skip_policy::{MismatchReason, ReportSkipPolicy};
 use nextest_config_elements::retry_policy::FlakyResult;
 use nextest_config_rows::compared::{Copied, alike};
-use nextest_config_rows::rows::{Runner, Subject, copied, cut, done, made, unknown, written};
+use nextest_config_rows::rows::{
+    Runner, Subject, copied, cut, done, made, made_or_error, unknown, written,
+};
 use nextest_config_rows::told::{Told, tell};
 use nextest_config_rows::values::{FromRow, word};
 use nextest_config_values::helpers::join_path;
@@ -76,6 +78,18 @@ join a«a» | b«b» | a«a»/b«b»
 read j | { path = "«x»", report-name = "«y»" } | JunitImpl { path: Some("«x»"), report_name: Some("«y»"), store_success_output: None, store_failure_output: None, report_skipped: None, flaky_fail_status: None }
 read j«j» | { report-skipped = "x«x»" } | j«j».report-skipped: unknown variant `x«x»`, expected one of `none`, `ignored`, `all`
 report a«a» | { path = "«x»", report-name = "«y»", store-success-output = true, store-failure-output = false, report-skipped = "all", flaky-fail-status = "success" } | a«a»/«x» «y» true false All Success
+join a«a»/ | «b» | a«a»/«b»
+join a«a» | /«b» | /«b»
+read j | {«k@ = 1,» path = "a" } | JunitImpl { path: Some("a"), report_name: None, store_success_output: None, store_failure_output: None, report_skipped: None, flaky_fail_status: None }
+read j«j» | 'x«x»' | j«j»: invalid type: string "x«x»", expected a table
+read j«j» | { path = 1«#» } | j«j».path: invalid type: integer `1«#»`, expected a string
+read j«j» | { report-name = 1«#» } | j«j».report-name: invalid type: integer `1«#»`, expected a string
+read j«j» | { store-success-output = "x«x»" } | j«j».store-success-output: invalid type: string "x«x»", expected a boolean
+read j«j» | { store-failure-output = "x«x»" } | j«j».store-failure-output: invalid type: string "x«x»", expected a boolean
+read j«j» | { flaky-fail-status = "x«x»" } | j«j».flaky-fail-status: unknown variant `x«x»`, expected `failure` or `success`
+copy | { path = "«x»", report-name = "«y»", store-success-output = true, store-failure-output = false, report-skipped = "all", flaky-fail-status = "success" } | same
+copy of a table | { path = "«x»", report-name = "«y»" } | same
+copied report a«a» | { path = "«x»", report-name = "«y»", store-success-output = true, store-failure-output = false, report-skipped = "all", flaky-fail-status = "success" } | a«a»/«x» «y» true false All Success
 "#;
 
 const SKIPPED: &str = r#"
@@ -103,6 +117,10 @@ is substantive skip | NotBenchmark | false
 flaky fail | 2/3 | Some("test passed on attempt 2/3 but is configured to fail when flaky")
 flaky fail | 4294967295/0 | Some("test passed on attempt 4294967295/0 but is configured to fail when flaky")
 flaky pass | 2/3 | None
+# at every size
+flaky fail | «#»/«#» | Some("test passed on attempt «#»/«#» but is configured to fail when flaky")
+flaky fail | «#»/1«#» | Some("test passed on attempt «#»/1«#» but is configured to fail when flaky")
+flaky fail | 1«#»/«#» | Some("test passed on attempt 1«#»/«#» but is configured to fail when flaky")
 "#;
 
 pub(crate) struct Reports;
@@ -114,7 +132,7 @@ impl Subject for Reports {
             "join" => done(rt, join_path(rt.alloc(), rest, input)),
             "read" => read(rt, input, rest),
             "default" => written(rt, default_of(rt, input)),
-            "printed" => made(rt, default_of(rt, input)),
+            "printed" => made_or_error(rt, default_of(rt, input)),
             "report" | "copied" => tell(rt, call, DefaultJunitImpl::from_row(rt, input)),
             _ => copy(rt, call, input),
         }
@@ -166,7 +184,7 @@ impl FromRow<ThisCrate> for DefaultJunitImpl {
     }
 }
 
-// The report below the folder that a call names last.
+// The report of copied settings, below the folder that a call names last.
 impl Told<ThisCrate> for DefaultJunitImpl {
     fn told(&self, rt: &impl Runner, call: &str) -> String {
         let settings = JunitSettings {
@@ -177,6 +195,7 @@ impl Told<ThisCrate> for DefaultJunitImpl {
             report_skipped: self.report_skipped,
             flaky_fail_status: self.flaky_fail_status,
         };
+        let settings = done(rt, settings.clone());
         let folder = word(call.strip_prefix("copied ").unwrap_or(call)).1;
         tell(
             rt,

@@ -26,6 +26,8 @@ mod orders;
 #[cfg(test)]
 mod paths;
 #[cfg(test)]
+mod plain;
+#[cfg(test)]
 mod printed;
 #[cfg(test)]
 mod readers;

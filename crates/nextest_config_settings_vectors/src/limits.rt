@@ -2,13 +2,13 @@
 
 use crate::runner::{ThisCrate, check};
 use nextest_config_elements::leak_timeout::LeakTimeout;
-use nextest_config_elements::max_fail::{MaxFail, TerminateMode};
-use nextest_config_elements::priority::TestPriority;
+use nextest_config_elements::max_fail::{CountFault, MaxFail, MaxFailParseError, TerminateMode};
+use nextest_config_elements::priority::{TestPriority, TestPriorityOutOfRange};
 use nextest_config_elements::retry_policy::RetryPolicy;
 use nextest_config_elements::slow_timeout::SlowTimeout;
 use nextest_config_elements::threads_required::ThreadsRequired;
-use nextest_config_rows::rows::{Runner, Subject, done, shown, unknown, written};
-use nextest_config_rows::values::{FromRow, word};
+use nextest_config_rows::rows::{Runner, Subject, copied, done, shown, unknown, written};
+use nextest_config_rows::values::{FromRow, both, word};
 
 const ROWS: &str = r#"
 # the texts of fail limits
@@ -59,8 +59,6 @@ printed | 1x | invalid digit found in string parsing '1x'
 printed | 9223372036854775808 | number too large to fit in target type parsing '9223372036854775808'
 printed | -9223372036854775809 | number too small to fit in target type parsing '-9223372036854775809'
 printed | 0 | max-fail may not be <= 0
-printed none | wait | 0
-printed none | immediate | 0:immediate
 
 # when a limit is reached
 reached 4 | 5 | None
@@ -68,8 +66,8 @@ reached 5 | 5 | Some(Wait)
 reached 6 | 5:immediate | Some(Immediate)
 reached 18446744073709551615 | all | None
 reached 0 | 1 | None
-reached none | wait | Some(Wait)
-reached none | immediate | Some(Immediate)
+reached 0 | 0 wait | Some(Wait)
+reached 0 | 0 immediate | Some(Immediate)
 fail-fast | true | Count { max_fail: 1, terminate: Wait }
 fail-fast | false | All
 
@@ -83,9 +81,6 @@ priority | 100 | Ok(TestPriority(100)) 100
 priority | -100 | Ok(TestPriority(-100)) -100
 priority | 101 | Err(TestPriorityOutOfRange { priority: 101 }) priority 101 must be between -100 and 100
 priority | -101 | Err(TestPriorityOutOfRange { priority: -101 }) priority -101 must be between -100 and 100
-order 0 | 100 | Greater
-order 0 | -100 | Less
-order 100 | 100 | Equal
 sorted | 0 100 -100 | [TestPriority(100), TestPriority(0), TestPriority(-100)]
 
 # values that aren't read
@@ -100,6 +95,14 @@ max-fail | «0»5 | Ok(Count { max_fail: 5, terminate: Wait })
 max-fail | 1:x«x» | Err(Mode { text: "x«x»" })
 max-fail | x«x» | Err(Count { text: "x«x»", reason: InvalidDigit })
 printed | 1:x«x» | invalid terminate mode 'x«x»', expected 'wait' or 'immediate'
+max-fail | 1«#»:immediate | Ok(Count { max_fail: 1«#», terminate: Immediate })
+max-fail | 9223372036854775808«0» | Err(Count { text: "9223372036854775808«0»", reason: TooLarge })
+max-fail | -9223372036854775809«0» | Err(Count { text: "-9223372036854775809«0»", reason: TooSmall })
+max-fail | -1«#» | Err(NotPositive)
+max-fail | «0»0 | Err(NotPositive)
+mode | x«x» | Err(Mode { text: "x«x»" })
+printed | x«x» | invalid digit found in string parsing 'x«x»'
+printed | 1«#»:immediate | 1«#»:immediate
 "#;
 
 struct Limits;
@@ -110,43 +113,78 @@ impl Subject for Limits {
         match call {
             "max-fail" => written(rt, MaxFail::from_str(rt.alloc(), input)),
             "mode" => written(rt, TerminateMode::from_str(rt.alloc(), input)),
-            "printed" => printed(rt, given, input),
+            "printed" => printed(rt, input),
             "reached" => reached(rt, given, input),
             "fail-fast" => written(rt, MaxFail::from_fail_fast(input == "true")),
             "compute" => compute(rt, input),
             "priority" => priority(rt, i8::from_row(rt, input)),
-            "order" => order(rt, given, input),
             "sorted" => sorted(rt, input),
             _ => value(rt, input),
         }
     }
 }
 
-// The limit of no failure with this mode, which no text gives.
-fn no_failure(rt: &impl Runner, mode: &str) -> MaxFail {
-    MaxFail::Count {
-        max_fail: 0,
-        terminate: TerminateMode::from_row(rt, mode),
+/// Writes the limit's text, or its number and its mode, which may be a limit that no text has.
+impl FromRow<ThisCrate> for MaxFail {
+    fn from_row(rt: &impl Runner, text: &str) -> Self {
+        if !text.contains(' ') {
+            return done(rt, MaxFail::from_str(rt.alloc(), text));
+        }
+        let (max_fail, terminate) = both(rt, text, " ");
+        MaxFail::Count {
+            max_fail,
+            terminate,
+        }
     }
 }
 
-fn printed(rt: &impl Runner, given: &str, input: &str) -> String {
-    if given == "none" {
-        return shown(rt, &no_failure(rt, input));
+/// Writes a refusal by its name.
+impl FromRow<ThisCrate> for MaxFailParseError {
+    fn from_row(rt: &impl Runner, text: &str) -> Self {
+        let (name, text) = word(text);
+        match name {
+            "Mode" => MaxFailParseError::Mode {
+                text: copied(rt, text),
+            },
+            "Count" => count(rt, text),
+            "NotPositive" => MaxFailParseError::NotPositive,
+            "Memory" => MaxFailParseError::Memory,
+            _ => unknown(rt, name),
+        }
     }
+}
+
+// The refusal of a count, for a reason.
+fn count(rt: &impl Runner, text: &str) -> MaxFailParseError {
+    let (reason, text) = word(text);
+    MaxFailParseError::Count {
+        text: copied(rt, text),
+        reason: CountFault::from_row(rt, reason),
+    }
+}
+
+impl FromRow<ThisCrate> for CountFault {
+    fn from_row(rt: &impl Runner, text: &str) -> Self {
+        match text {
+            "Empty" => CountFault::Empty,
+            "InvalidDigit" => CountFault::InvalidDigit,
+            "TooLarge" => CountFault::TooLarge,
+            "TooSmall" => CountFault::TooSmall,
+            _ => unknown(rt, text),
+        }
+    }
+}
+
+fn printed(rt: &impl Runner, input: &str) -> String {
     match MaxFail::from_str(rt.alloc(), input) {
         Ok(limit) => shown(rt, &limit),
         Err(error) => shown(rt, &error),
     }
 }
 
-fn reached(rt: &impl Runner, given: &str, input: &str) -> String {
-    let limit = if given == "none" {
-        no_failure(rt, input)
-    } else {
-        done(rt, MaxFail::from_str(rt.alloc(), input))
-    };
-    written(rt, limit.is_exceeded(given.parse().unwrap_or(0)))
+fn reached(rt: &impl Runner, failed: &str, input: &str) -> String {
+    let limit = MaxFail::from_row(rt, input);
+    written(rt, limit.is_exceeded(usize::from_row(rt, failed)))
 }
 
 fn compute(rt: &impl Runner, input: &str) -> String {
@@ -173,9 +211,12 @@ impl FromRow<ThisCrate> for TestPriority {
     }
 }
 
-fn order(rt: &impl Runner, left: &str, right: &str) -> String {
-    let left = TestPriority::from_row(rt, left);
-    written(rt, left.cmp(&TestPriority::from_row(rt, right)))
+impl FromRow<ThisCrate> for TestPriorityOutOfRange {
+    fn from_row(rt: &impl Runner, text: &str) -> Self {
+        TestPriorityOutOfRange {
+            priority: i8::from_row(rt, text),
+        }
+    }
 }
 
 fn sorted(rt: &impl Runner, input: &str) -> String {

@@ -38,6 +38,14 @@ ToolName | a ~ aa | Less
 ToolName | Z ~ a | Less
 ToolName | z ~ \u{e9} | Less
 
+# the greater priority comes first
+TestPriority | 0 ~ 100 | Greater
+TestPriority | 0 ~ -100 | Less
+TestPriority | 100 ~ 100 | Equal
+TestPriority | -100 ~ 100 | Greater
+TestPriority | 1 ~ -1 | Less
+TestPriority | 0 ~ 1 | Greater
+
 hash of ConfigIdentifier | e\u{301} ~ \u{e9} | same
 hash of ConfigIdentifier | a ~ b | differ
 hash of ConfigIdentifier | e\u{301}e\u{301}e\u{301}e\u{301}e\u{301}e\u{301}e\u{301}e\u{301}e\u{301}e\u{301}e\u{301}e\u{301} ~ \u{e9}\u{e9}\u{e9}\u{e9}\u{e9}\u{e9}\u{e9}\u{e9}\u{e9}\u{e9}\u{e9}\u{e9} | same
@@ -47,10 +55,13 @@ hash of ToolName | a-b ~ a-b | same
 hash of ToolName | aaaaaaaaaaaaaaaaaaaaaaaa ~ aaaaaaaaaaaaaaaaaaaaaaaa | same
 hash of ToolName | \u{212b} ~ \u{c5} | same
 hash of ToolName | a-b ~ aa | differ
+hash of TestPriority | 100 ~ 100 | same
+hash of TestPriority | 1 ~ -1 | differ
 
 # a set holds equal values once
 set of ConfigIdentifier | e\u{301} ~ \u{e9} ~ e | 2
 set of ToolName | a-b ~ aa ~ a-b | 2
+set of TestPriority | 0 ~ 100 ~ -100 ~ 0 ~ 100 | 3
 "#;
 
 const DEFAULTS: &str = r#"

@@ -30,6 +30,9 @@ at p | 1 | p: invalid type: integer `1`, expected a string
 # at every size
 at p | 'a«/b»' | a«/b»
 at p«p» | 'a«/b»/..' | p«p»: invalid value: string "a«/b»/..", expected a relative path with no parent components
+at p | '«x»' | «x» |
+at p«p» | '/«x»' | p«p»: invalid value: string "/«x»", expected a relative path with no parent components
+at p«p» | 1«#» | p«p»: invalid type: integer `1«#»`, expected a string
 "#;
 
 pub(crate) struct Paths;

@@ -1,8 +1,11 @@
 //! Values that print, each as its text alone.
 
-use crate::runner::check;
-use nextest_config_elements::max_fail::TerminateMode;
-use nextest_config_rows::printed::{Written, text};
+use crate::durations::Durations;
+use crate::runner::{check, check_at, check_range};
+use crate::texts::Texts;
+use nextest_config_elements::max_fail::{MaxFail, MaxFailParseError, TerminateMode};
+use nextest_config_elements::priority::TestPriorityOutOfRange;
+use nextest_config_rows::printed::{Written, error, text};
 use nextest_config_rows::rows::{Escaped, Runner, Subject, unknown};
 use nextest_config_values::identifier::{
     ConfigIdentifier, InvalidIdentifier, InvalidToolName, ToolName,
@@ -98,10 +101,28 @@ written ReadFault | "p".\u{1}, Custom PreRelease | "\"p\".\u{1}: pre-release ide
 TerminateMode | wait | wait
 TerminateMode | immediate | immediate
 
-# at every size
+MaxFail | all | all
+MaxFail | 0 wait | 0
+MaxFail | 0 immediate | 0:immediate
+MaxFail | 18446744073709551615 wait | 18446744073709551615
+MaxFail | 18446744073709551615 immediate | 18446744073709551615:immediate
+
+MaxFailParseError | Mode  | invalid terminate mode '', expected 'wait' or 'immediate'
+MaxFailParseError | Count Empty  | cannot parse integer from empty string parsing ''
+MaxFailParseError | NotPositive | max-fail may not be <= 0
+MaxFailParseError | Memory | out of memory
+
+TestPriorityOutOfRange | -128 | priority -128 must be between -100 and 100
+TestPriorityOutOfRange | 0 | priority 0 must be between -100 and 100
+"#;
+
+// Texts and numbers of every size.
+const GROWN: &str = r#"
 ConfigIdentifier | a«a» | a«a»
 ConfigIdentifier | @tool:a«a»:b«b» | @tool:a«a»:b«b»
+ConfigIdentifier | é«é» | é«é»
 ToolName | a«a» | a«a»
+ToolName | é«é» | é«é»
 InvalidIdentifier | InvalidXid «"» | invalid identifier "«\"»"
 InvalidIdentifier | ToolIdentifierInvalidFormat «x» | tool identifier isn't @tool:name:identifier: "«x»"
 InvalidIdentifier | ToolComponentEmpty «x» | tool identifier has an empty component: "«x»"
@@ -114,14 +135,48 @@ ToolConfigFileParseError | EmptyConfigFile a«x» | tool configuration file with
 ToolConfigFileParseError | ConfigFileNotAbsolute a«x» | tool configuration file isn't an absolute path: a«x»
 Rule | NotVersion «x» | invalid version "«x»"
 Rule | RequiredAboveRecommended 1.0.0-a«a» 0.0.0+b«b» | required version (1.0.0-a«a») must not be greater than recommended version (0.0.0+b«b»)
+Rule | RequiredAboveRecommended «#».«#».«#» 0.0.«#» | required version («#».«#».«#») must not be greater than recommended version (0.0.«#»)
 FaultKind | InvalidType «x» / a boolean | invalid type: «x», expected a boolean
 FaultKind | InvalidValue «x» / a boolean | invalid value: «x», expected a boolean
 FaultKind | UnknownVariant «x» / a boolean | unknown variant `«x»`, expected a boolean
 FaultKind | UnknownField «x» / a boolean | unknown field `«x»`, expected a boolean
 FaultKind | MissingField «x» | missing configuration field "«x»"
+FaultKind | Custom NotVersion «x» | invalid version "«x»"
+FaultKind | Identifier InvalidXid «x» | invalid identifier "«x»"
+FaultKind | ToolName InvalidXid «x» | invalid tool name "«x»"
 ReadFault | p«p», Custom PreRelease | p«p»: pre-release identifiers are not supported in nextest-version
 ReadFault | p«p», MissingField «x» | p«p»: missing configuration field "«x»"
+ReadFault | p«p», InvalidValue «x» / a boolean | p«p»: invalid value: «x», expected a boolean
+MaxFail | «#» wait | «#»
+MaxFail | «#» immediate | «#»:immediate
+MaxFailParseError | Mode x«x» | invalid terminate mode 'x«x»', expected 'wait' or 'immediate'
+MaxFailParseError | Count InvalidDigit «x» | invalid digit found in string parsing '«x»'
+MaxFailParseError | Count TooLarge «9» | number too large to fit in target type parsing '«9»'
+MaxFailParseError | Count TooSmall -«9» | number too small to fit in target type parsing '-«9»'
+DurationFault | « »x | a number is expected at byte «#»
+DurationFault | « »18446744073709551616s | the number at byte «#» is too large
+QuotedText | a«x» | "a«x»"
+QuotedText | é«\» | "é«\\»"
+QuotedTexts | x«x» y«y» | "x«x»", "y«y»"
 "#;
+
+// Offsets from 1 on: the empty text has another fault.
+const OFFSETS: &str = r#"
+DurationFault | «0» | a unit is missing at byte «#»
+DurationFault | «0»x | the unit at byte «#» is unknown
+"#;
+
+// Numbers of an i8, with either sign.
+const SIGNED: &str = r#"
+Rule | Priority «#» | priority «#» must be between -100 and 100
+Rule | Priority -«#» | priority -«#» must be between -100 and 100
+FaultKind | Custom Priority -«#» | priority -«#» must be between -100 and 100
+TestPriorityOutOfRange | «#» | priority «#» must be between -100 and 100
+TestPriorityOutOfRange | -«#» | priority -«#» must be between -100 and 100
+"#;
+
+// A size above a million.
+const MILLION: usize = 1_000_001;
 
 /// The text of a value.
 struct Printed;
@@ -130,13 +185,19 @@ impl Subject for Printed {
     fn answer(rt: &impl Runner, call: &str, input: &str) -> String {
         match call {
             "ConfigIdentifier" => text::<ConfigIdentifier, _>(rt, input),
+            "DurationFault" => Durations::answer(rt, "printed", input),
             "FaultKind" => text::<FaultKind, _>(rt, input),
             "InvalidIdentifier" => text::<InvalidIdentifier, _>(rt, input),
             "InvalidToolName" => text::<InvalidToolName, _>(rt, input),
+            "MaxFail" => text::<MaxFail, _>(rt, input),
+            "MaxFailParseError" => text::<MaxFailParseError, _>(rt, input),
+            "QuotedText" => Texts::answer(rt, "quoted", input),
+            "QuotedTexts" => Texts::answer(rt, "texts", input),
             "ReadFault" => text::<ReadFault, _>(rt, input),
             "Rule" => text::<Rule, _>(rt, input),
             "TerminateMode" => text::<TerminateMode, _>(rt, input),
-            "ToolConfigFileParseError" => text::<ToolConfigFileParseError, _>(rt, input),
+            "TestPriorityOutOfRange" => error::<TestPriorityOutOfRange, _>(rt, input),
+            "ToolConfigFileParseError" => error::<ToolConfigFileParseError, _>(rt, input),
             "ToolName" => text::<ToolName, _>(rt, input),
             _ => unknown(rt, call),
         }
@@ -146,4 +207,14 @@ impl Subject for Printed {
 #[test]
 fn each_value_prints_its_text_alone(rt: HostRuntime) {
     check::<Escaped<Written<Printed>>>(&rt, ROWS);
+}
+
+#[test]
+fn texts_and_numbers_of_each_size_print_alone(rt: HostRuntime) {
+    check::<Printed>(&rt, GROWN);
+    check_range::<Printed>(&rt, GROWN, 1, 200);
+    check_range::<Printed>(&rt, OFFSETS, 1, 200);
+    check_range::<Printed>(&rt, SIGNED, 1, 127);
+    check_at::<Printed>(&rt, GROWN, &[MILLION]);
+    check_at::<Printed>(&rt, OFFSETS, &[MILLION]);
 }

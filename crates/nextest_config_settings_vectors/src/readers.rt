@@ -84,6 +84,27 @@ FlakyResult | 'x«x»' | p: unknown variant `x«x»`, expected `fail` or `pass`
 ConfigIdentifier | 'a«é»' | ConfigIdentifier { text: "a«é»" }
 ConfigIdentifier | '@tool:a«a»' | p: tool identifier isn't @tool:name:identifier: "@tool:a«a»"
 ToolName | 'a«é»' | ToolName { text: "a«é»" }
+bool | 1«#» | p: invalid type: integer `1«#»`, expected a boolean
+u32 | -1«#» | p: invalid value: integer `-1«#»`, expected u32
+u32 | 9999999999«#» | p: invalid value: integer `9999999999«#»`, expected u32
+u32 | '«x»' | p: invalid type: string "«x»", expected u32
+String | 1«#» | p: invalid type: integer `1«#»`, expected a string
+NonZeroCount | -1«#» | p: invalid value: integer `-1«#»`, expected a nonzero usize
+NonZeroCount | '«x»' | p: invalid type: string "«x»", expected a nonzero usize
+TrackDefault u32 | '«x»' | p: invalid type: string "«x»", expected u32
+FlakyResult | 1«#» | p: invalid type: integer `1«#»`, expected a string
+JunitFlakyFailStatus | 'x«x»' | p: unknown variant `x«x»`, expected `failure` or `success`
+LeakTimeoutResult | 'x«x»' | p: unknown variant `x«x»`, expected `fail` or `pass`
+ReportSkipPolicy | 'x«x»' | p: unknown variant `x«x»`, expected one of `none`, `ignored`, `all`
+SlowTimeoutResult | 'x«x»' | p: unknown variant `x«x»`, expected `fail` or `pass`
+TerminateMode | 'x«x»' | p: unknown variant `x«x»`, expected `wait` or `immediate`
+ConfigIdentifier | 1«#» | p: invalid type: integer `1«#»`, expected a string
+ConfigIdentifier | 'a«é»!' | p: invalid identifier "a«é»!"
+ConfigIdentifier | '@tool::«x»' | p: tool identifier has an empty component: "@tool::«x»"
+ConfigIdentifier | '@tool:a:b«-»!' | p: invalid tool identifier "@tool:a:b«-»!"
+ToolName | 1«#» | p: invalid type: integer `1«#»`, expected a string
+ToolName | 'a«é»!' | p: invalid tool name "a«é»!"
+ToolName | '@tool«x»' | p: tool name begins with @tool: "@tool«x»"
 "#;
 
 pub(crate) struct Readers;

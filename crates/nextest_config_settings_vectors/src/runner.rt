@@ -9,8 +9,9 @@ use std::process::Abort;
 /// This crate, in impls of its library's traits for other crates' types.
 pub(crate) struct ThisCrate;
 
+/// The runtime of a test.
 #[derive(Drop)]
-struct Test<'r, R>(&'r R);
+pub(crate) struct Test<'r, R>(pub(crate) &'r R);
 
 impl<R: Abort + AllocGlobal> Runner for Test<'_, R> {
     fn alloc(&self) -> Global {
@@ -30,6 +31,16 @@ pub(crate) fn check<S: Subject>(rt: &(impl Abort + AllocGlobal), rows: &str) {
 /// Does the same at sizes of its own.
 pub(crate) fn check_at<S: Subject>(rt: &(impl Abort + AllocGlobal), rows: &str, sizes: &[usize]) {
     rows::check_at::<S>(&Test(rt), rows, sizes);
+}
+
+/// Does the same at each size from the first to the last.
+pub(crate) fn check_range<S: Subject>(
+    rt: &(impl Abort + AllocGlobal),
+    rows: &str,
+    first: usize,
+    last: usize,
+) {
+    rows::check_range::<S>(&Test(rt), rows, first, last);
 }
 
 /// Tries values of each kind at readers.

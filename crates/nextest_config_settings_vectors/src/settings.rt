@@ -62,6 +62,26 @@ global g | ["30s"] | g: invalid type: sequence, expected a duration
 global g | { period = "30s" } | g: invalid type: map, expected a duration
 global g | 1.5 | g: invalid type: floating point, expected a duration
 global g | 1979-05-27 | g: invalid type: datetime, expected a duration
+# at every size
+slow s | '«0»1s' | Some(SlowTimeout { period: 1s, terminate_after: None, grace_period: 10s, on_timeout: Fail })
+slow s | {«k@ = 1,» period = "1«#»s", terminate-after = 1«#», grace-period = "2«#»s", on-timeout = "pass" } | Some(SlowTimeout { period: 1«#»s, terminate_after: Some(NonZeroCount { count: 1«#» }), grace_period: 2«#»s, on_timeout: Pass })
+slow s«s» | 1«#» | s«s»: invalid type: integer `1«#»`, expected a table ({ period = "60s", terminate-after = 2 }) or a string ("60s")
+slow s«s» | 'x«x»' | s«s»: invalid value: string "x«x»", expected a duration
+slow s«s» | {«k@ = 1,»} | s«s»: missing configuration field "s«s».period"
+slow s«s» | { period = "x«x»" } | s«s».period: invalid value: string "x«x»", expected a duration
+slow s«s» | { period = "1s", terminate-after = -1«#» } | s«s».terminate-after: invalid value: integer `-1«#»`, expected a nonzero usize
+slow s«s» | { period = "1s", grace-period = "x«x»" } | s«s».grace-period: invalid value: string "x«x»", expected a duration
+slow s«s» | { period = "1s", on-timeout = "x«x»" } | s«s».on-timeout: unknown variant `x«x»`, expected `fail` or `pass`
+leak l | '«0»5s' | Some(LeakTimeout { period: 5s, result: Pass })
+leak l | {«k@ = 1,» period = "1«#»s", result = "fail" } | Some(LeakTimeout { period: 1«#»s, result: Fail })
+leak l«l» | 1«#» | l«l»: invalid type: integer `1«#»`, expected a table ({ period = "500ms", result = "fail" }) or a string ("100ms")
+leak l«l» | 'x«x»' | l«l»: invalid value: string "x«x»", expected a duration
+leak l«l» | {«k@ = 1,»} | l«l»: missing configuration field "l«l».period"
+leak l«l» | { period = "x«x»" } | l«l».period: invalid value: string "x«x»", expected a duration
+leak l«l» | { period = "5s", result = "x«x»" } | l«l».result: unknown variant `x«x»`, expected `fail` or `pass`
+global g | '1«#»s' | GlobalTimeout { period: 1«#»s }
+global g«g» | 1«#» | g«g»: invalid type: integer `1«#»`, expected a duration
+global g«g» | 'x«x»' | g«g»: invalid value: string "x«x»", expected a duration
 "#;
 
 const RETRIES: &str = r#"
@@ -99,6 +119,25 @@ retries r | true | r: invalid type: boolean `true`, expected a table ({ backoff 
 retries r | [] | r: invalid type: sequence, expected a table ({ backoff = "fixed", count = 5 }) or a number (5)
 retries r | 1.5 | r: invalid type: floating point, expected a table ({ backoff = "fixed", count = 5 }) or a number (5)
 retries r | 1979-05-27 | r: invalid type: datetime, expected a table ({ backoff = "fixed", count = 5 }) or a number (5)
+# at every size
+retries r | 1«#» | Some(Fixed { count: 1«#», delay: 0ns, jitter: false })
+retries r | { backoff = "fixed", count = 1«#», delay = "1«#»s", jitter = true } | Some(Fixed { count: 1«#», delay: 1«#»s, jitter: true })
+retries r | { backoff = "exponential", count = 1«#», delay = "1«#»s", max-delay = "2«#»s" } | Some(Exponential { count: 1«#», delay: 1«#»s, jitter: false, max_delay: Some(2«#»s) })
+retries r«r» | 'x«x»' | r«r»: invalid type: string "x«x»", expected a table ({ backoff = "fixed", count = 5 }) or a number (5)
+retries r«r» | -1«#» | r«r»: invalid value: integer `-1«#»`, expected a table ({ backoff = "fixed", count = 5 }) or a number (5)
+retries r«r» | 9999999999«#» | r«r»: invalid value: integer `9999999999«#»`, expected a u32
+retries r«r» | {} | r«r»: missing configuration field "r«r».backoff"
+retries r«r» | { backoff = "x«x»", count = 1 } | r«r».backoff: unknown variant `x«x»`, expected `fixed` or `exponential`
+retries r«r» | { backoff = "fixed", count = -1«#» } | r«r».count: invalid value: integer `-1«#»`, expected u32
+retries r«r» | { backoff = "fixed", count = 1, delay = "x«x»" } | r«r».delay: invalid value: string "x«x»", expected a duration
+retries r«r» | { backoff = "fixed", count = 1, delay = "1s", jitter = 1«#» } | r«r».jitter: invalid type: integer `1«#»`, expected a boolean
+retries r«r» | { backoff = "exponential", count = 1, delay = "1s", max-delay = "x«x»" } | r«r».max-delay: invalid value: string "x«x»", expected a duration
+retries r«r» | { backoff = "fixed", count = 1,«k@ = 1,» a«a» = 1 } | r«r»: unknown field `a«a»`, expected one of `count`, `delay`, `jitter`
+retries r«r» | { backoff = "fixed", count = 1«#», jitter = true } | r«r»: `jitter` cannot be true if `delay` isn't specified or is zero
+retries r«r» | { backoff = "exponential", count = 0, delay = "1«#»s" } | r«r»: `count` cannot be zero with exponential backoff
+retries r«r» | { backoff = "exponential", count = 1«#», delay = "«0»0s" } | r«r»: `delay` cannot be zero with exponential backoff
+retries r«r» | { backoff = "exponential", count = 1«#», delay = "1s", max-delay = "«0»0s" } | r«r»: `max-delay` cannot be zero with exponential backoff
+retries r«r» | { backoff = "exponential", count = 1«#», delay = "2«#»s", max-delay = "1«#»s" } | r«r»: `max-delay` cannot be less than delay with exponential backoff
 "#;
 
 const LIMITS: &str = r#"
@@ -113,25 +152,26 @@ fail-fast profile.custom.fail-fast | { max-fail = 1, terminate = "immediate" } |
 fail-fast profile.custom.fail-fast | { max-fail = 5, terminate = "immediate" } | Some(Count { max_fail: 5, terminate: Immediate })
 fail-fast profile.custom.fail-fast | { max-fail = "all", terminate = "immediate" } | Some(All)
 fail-fast f | { max-fail = 9223372036854775807, x = 1 } | Some(Count { max_fail: 9223372036854775807, terminate: Wait })
-fail-fast f | { max-fail = "all", terminate = "x" } | f.terminate: unknown variant `x`, expected `wait` or `immediate`
+fail-fast profile.custom.fail-fast | { max-fail = "all", terminate = "x" } | profile.custom.fail-fast.terminate: unknown variant `x`, expected `wait` or `immediate`
 fail-fast f | { max-fail = 0, terminate = "x" } | f.max-fail: invalid value: integer `0`, expected a positive integer or the string "all"
-fail-fast f | { max-fail = -1 } | f.max-fail: invalid value: integer `-1`, expected a positive integer or the string "all"
+fail-fast profile.custom.fail-fast | { max-fail = 0 } | profile.custom.fail-fast.max-fail: invalid value: integer `0`, expected a positive integer or the string "all"
+fail-fast profile.custom.fail-fast | { max-fail = -1 } | profile.custom.fail-fast.max-fail: invalid value: integer `-1`, expected a positive integer or the string "all"
 fail-fast profile.custom.fail-fast | { max-fail = "1" } | profile.custom.fail-fast.max-fail: invalid value: string "1", expected the string "all" (numbers must be specified without quotes)
-fail-fast f | { max-fail = "0" } | f.max-fail: invalid value: string "0", expected the string "all" (numbers must be positive and without quotes)
+fail-fast profile.custom.fail-fast | { max-fail = "0" } | profile.custom.fail-fast.max-fail: invalid value: string "0", expected the string "all" (numbers must be positive and without quotes)
 fail-fast f | { max-fail = "+5" } | f.max-fail: invalid value: string "+5", expected the string "all" (numbers must be specified without quotes)
 fail-fast f | { max-fail = "-0" } | f.max-fail: invalid value: string "-0", expected the string "all" (numbers must be positive and without quotes)
 fail-fast f | { max-fail = "-1" } | f.max-fail: invalid value: string "-1", expected the string "all" (numbers must be positive and without quotes)
 fail-fast f | { max-fail = "+" } | f.max-fail: invalid value: string "+", expected the string "all" or a positive integer
-fail-fast f | { max-fail = "" } | f.max-fail: invalid value: string "", expected the string "all" or a positive integer
+fail-fast profile.custom.fail-fast | { max-fail = "" } | profile.custom.fail-fast.max-fail: invalid value: string "", expected the string "all" or a positive integer
 fail-fast f | { max-fail = "ALL" } | f.max-fail: invalid value: string "ALL", expected the string "all" or a positive integer
-fail-fast f | { max-fail = "invalid" } | f.max-fail: invalid value: string "invalid", expected the string "all" or a positive integer
+fail-fast profile.custom.fail-fast | { max-fail = "invalid" } | profile.custom.fail-fast.max-fail: invalid value: string "invalid", expected the string "all" or a positive integer
 fail-fast f | { max-fail = "9223372036854775808" } | f.max-fail: invalid value: string "9223372036854775808", expected the string "all" or a positive integer
 fail-fast f | { max-fail = "9223372036854775807" } | f.max-fail: invalid value: string "9223372036854775807", expected the string "all" (numbers must be specified without quotes)
-fail-fast f | { max-fail = true } | f.max-fail: invalid type: boolean `true`, expected a positive integer or the string "all"
+fail-fast profile.custom.fail-fast | { max-fail = true } | profile.custom.fail-fast.max-fail: invalid type: boolean `true`, expected a positive integer or the string "all"
 fail-fast f | { max-fail = [] } | f.max-fail: invalid type: sequence, expected a positive integer or the string "all"
 fail-fast f | { max-fail = 1.5 } | f.max-fail: invalid type: floating point, expected a positive integer or the string "all"
 fail-fast profile.custom.fail-fast | { invalid-key = 1 } | profile.custom.fail-fast: missing configuration field "profile.custom.fail-fast.max-fail"
-fail-fast f | "true" | f: invalid type: string "true", expected a boolean or { max-fail = ... }
+fail-fast profile.custom.fail-fast | "true" | profile.custom.fail-fast: invalid type: string "true", expected a boolean or { max-fail = ... }
 fail-fast f | 1 | f: invalid type: integer `1`, expected a boolean or { max-fail = ... }
 fail-fast f | [] | f: invalid type: sequence, expected a boolean or { max-fail = ... }
 fail-fast f | 1.5 | f: invalid type: floating point, expected a boolean or { max-fail = ... }
@@ -166,6 +206,25 @@ priority r | [] | r: invalid type: sequence, expected i8
 priority r | {} | r: invalid type: map, expected i8
 priority r | 1.5 | r: invalid type: floating point, expected i8
 priority r | 1979-05-27 | r: invalid type: datetime, expected i8
+# at every size
+fail-fast f | {«k@ = 1,» max-fail = 1«#», terminate = "immediate" } | Some(Count { max_fail: 1«#», terminate: Immediate })
+fail-fast f«f» | 'x«x»' | f«f»: invalid type: string "x«x»", expected a boolean or { max-fail = ... }
+fail-fast f«f» | {«k@ = 1,»} | f«f»: missing configuration field "f«f».max-fail"
+fail-fast f«f» | { max-fail = -1«#» } | f«f».max-fail: invalid value: integer `-1«#»`, expected a positive integer or the string "all"
+fail-fast f«f» | { max-fail = [«1,»] } | f«f».max-fail: invalid type: sequence, expected a positive integer or the string "all"
+fail-fast f«f» | { max-fail = "x«x»" } | f«f».max-fail: invalid value: string "x«x»", expected the string "all" or a positive integer
+fail-fast f«f» | { max-fail = "«0»5" } | f«f».max-fail: invalid value: string "«0»5", expected the string "all" (numbers must be specified without quotes)
+fail-fast f«f» | { max-fail = "«0»0" } | f«f».max-fail: invalid value: string "«0»0", expected the string "all" (numbers must be positive and without quotes)
+fail-fast f«f» | { max-fail = "all", terminate = "x«x»" } | f«f».terminate: unknown variant `x«x»`, expected `wait` or `immediate`
+threads t | 1«#» | Count(1«#»)
+threads t«t» | [«1,»] | t«t»: invalid type: sequence, expected an integer, the string "num-cpus" or the string "num-test-threads"
+threads t«t» | -1«#» | t«t»: invalid value: integer `-1«#»`, expected an integer, the string "num-cpus" or the string "num-test-threads"
+threads t«t» | 'x«x»' | t«t»: invalid value: string "x«x»", expected an integer, the string "num-cpus" or the string "num-test-threads"
+priority r«r» | 'x«x»' | r«r»: invalid type: string "x«x»", expected i8
+priority r«r» | 1000000«#» | r«r»: invalid value: integer `1000000«#»`, expected i8
+priority r«r» | -200«#» | r«r»: invalid value: integer `-200«#»`, expected i8
+priority r«r» | 101 | r«r»: priority 101 must be between -100 and 100
+priority r«r» | -128 | r«r»: priority -128 must be between -100 and 100
 "#;
 
 pub(crate) struct Settings;

@@ -46,9 +46,13 @@ quoted | a«\u{1}» | "a«\u{1}»"
 quoted | «"» | "«\"»"
 texts | «x@ »z | «"x@", »"z"
 found | '«x»' | string "«x»"
+quoted | «x» | "«x»"
+found | 1«#» | integer `1«#»`
+found | [«1,»] | sequence
+found | {«k@ = 1,»} | map
 "#;
 
-struct Texts;
+pub(crate) struct Texts;
 
 impl Subject for Texts {
     fn answer(rt: &impl Runner, call: &str, input: &str) -> String {
