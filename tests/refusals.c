@@ -4,7 +4,8 @@
 // REFUSE_ONCE=1   refuses the Nth alone
 // REFUSE_WHOLE=1  counts from the program's first instruction to its end; else between the first lines
 //                 `call` and `answer` that it writes to standard output, each in one write
-// REFUSE_TOLD=FD  at the end writes there how many requests were counted, and how many refused
+// REFUSE_TOLD=FD  at the end writes there how many requests were counted, how many refused, and how many
+//                 blocks that were taken from the first instruction on haven't been freed
 
 #include <errno.h>
 #include <limits.h>
@@ -18,11 +19,13 @@ void *__libc_malloc(size_t size);
 void *__libc_calloc(size_t count, size_t size);
 void *__libc_realloc(void *old, size_t size);
 void *__libc_memalign(size_t alignment, size_t size);
+void __libc_free(void *block);
 
 enum window { BEFORE, WITHIN, BEHIND };
 
 static enum window window = BEFORE;
 static unsigned long from, counted, refused;
+static long kept;
 static int once, told = -1;
 
 static unsigned long setting(const char *name, unsigned long otherwise) {
@@ -39,9 +42,9 @@ __attribute__((constructor)) static void begin(void) {
 }
 
 __attribute__((destructor)) static void tell(void) {
-    char line[64];
+    char line[96];
     window = BEHIND;
-    int length = snprintf(line, sizeof line, "%lu %lu\n", counted, refused);
+    int length = snprintf(line, sizeof line, "%lu %lu %ld\n", counted, refused, kept);
     syscall(SYS_write, told, line, (size_t)length);
 }
 
@@ -56,20 +59,40 @@ static int refuses(void) {
     return 1;
 }
 
+static void *taken(void *block) {
+    if (block)
+        kept++;
+    return block;
+}
+
+void free(void *block) {
+    if (block)
+        kept--;
+    __libc_free(block);
+}
+
 void *malloc(size_t size) {
-    return refuses() ? NULL : __libc_malloc(size);
+    return refuses() ? NULL : taken(__libc_malloc(size));
 }
 
 void *calloc(size_t count, size_t size) {
-    return refuses() ? NULL : __libc_calloc(count, size);
+    return refuses() ? NULL : taken(__libc_calloc(count, size));
 }
 
+// Of size 0 it frees.
 void *realloc(void *old, size_t size) {
-    return refuses() ? NULL : __libc_realloc(old, size);
+    if (refuses())
+        return NULL;
+    void *block = __libc_realloc(old, size);
+    if (!old)
+        return taken(block);
+    if (size == 0)
+        kept--;
+    return block;
 }
 
 void *memalign(size_t alignment, size_t size) {
-    return refuses() ? NULL : __libc_memalign(alignment, size);
+    return refuses() ? NULL : taken(__libc_memalign(alignment, size));
 }
 
 void *aligned_alloc(size_t alignment, size_t size) {

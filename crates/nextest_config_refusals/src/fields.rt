@@ -1,4 +1,4 @@
-//! The field `k` of a table at the path `p`.
+//! The field `k` of a table at the path that a call names, or at `p`.
 
 use crate::announced::{Runner, begin, made};
 use crate::inputs::FromInput;
@@ -6,13 +6,14 @@ use nextest_config_values::read::{FromToml, field_or, optional_field, required_f
 use std::fmt::Debug;
 use toml::{Table, Value};
 
-/// Asks for the field by a call, as the type that is named.
+/// Asks for the field by a call, as the type that is named first.
 pub(crate) fn ask(rt: &impl Runner, call: &str, name: &str, input: &str) -> Option<()> {
+    let (name, at) = name.split_once(' ').unwrap_or((name, "p"));
     let value = Value::from_input(rt, input)?;
     let table = value.as_table()?;
     match name {
-        "u32" => field(rt, call, table, 7_u32),
-        "String" => field(rt, call, table, String::from_input(rt, "default")?),
+        "u32" => field(rt, call, table, at, 7_u32),
+        "String" => field(rt, call, table, at, String::from_input(rt, "default")?),
         _ => None,
     }
 }
@@ -21,14 +22,15 @@ fn field<T: FromToml + Debug + Drop>(
     rt: &impl Runner,
     call: &str,
     table: &Table,
+    at: &str,
     default: T,
 ) -> Option<()> {
     let alloc = rt.alloc();
     begin(rt);
     match call {
-        "optional_field" => made(rt, optional_field::<T>(alloc, table, "k", "p")),
-        "required_field" => made(rt, required_field::<T>(alloc, table, "k", "p")),
-        "field_or" => made(rt, field_or(alloc, table, "k", "p", default)),
+        "optional_field" => made(rt, optional_field::<T>(alloc, table, "k", at)),
+        "required_field" => made(rt, required_field::<T>(alloc, table, "k", at)),
+        "field_or" => made(rt, field_or(alloc, table, "k", at, default)),
         _ => None,
     }
 }

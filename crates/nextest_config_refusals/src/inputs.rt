@@ -7,6 +7,8 @@ use nextest_config::nextest_version::{
     RepositoryText, SourceText, ToolText, VersionOnlyConfig,
 };
 use nextest_config_elements::junit::{DefaultJunitImpl, JunitImpl};
+use nextest_config_elements::max_fail::{MaxFail, TerminateMode};
+use nextest_config_elements::priority::TestPriority;
 use nextest_config_values::identifier::{ConfigIdentifier, ToolName};
 use nextest_config_values::read::FromToml;
 use nextest_config_values::tool_config::ToolConfigFile;
@@ -35,6 +37,30 @@ impl FromInput for Value {
 impl FromInput for Version {
     fn from_input(rt: &impl Runner, text: &str) -> Option<Self> {
         Version::parse(rt.alloc(), text).ok()
+    }
+}
+
+impl FromInput for TestPriority {
+    fn from_input(_rt: &impl Runner, text: &str) -> Option<Self> {
+        TestPriority::new(text.parse().ok()?).ok()
+    }
+}
+
+/// Writes `all`, or a number, perhaps with `:immediate` behind it.
+impl FromInput for MaxFail {
+    fn from_input(_rt: &impl Runner, text: &str) -> Option<Self> {
+        if text == "all" {
+            return Some(MaxFail::All);
+        }
+        let (count, terminate) = match text.strip_suffix(":immediate") {
+            Some(count) => (count, TerminateMode::Immediate),
+            None => (text, TerminateMode::Wait),
+        };
+        let max_fail = count.parse().ok()?;
+        Some(MaxFail::Count {
+            max_fail,
+            terminate,
+        })
     }
 }
 

@@ -12,6 +12,7 @@ mod faults;
 mod fields;
 mod inputs;
 mod joins;
+mod parts;
 mod plain;
 mod readers;
 mod sources;
@@ -72,9 +73,19 @@ fn others(rt: &impl Runner, group: &str, name: &str, input: &str) -> Option<()> 
         "list" => sources::read(rt, name, input),
         "empty" => sources::empty(rt, name),
         "plain" => plain::ask(rt, name, input),
+        "parts" => parts::ask(rt, name, input),
+        "order" => parts::order(rt, name, input),
+        "compare" => parts::compare(rt, name, input),
         "board" => boards::ask(rt, name, input),
         "tree" => trees::ask(rt, name, input),
+        _ => on_texts(rt, group, name, input),
+    }
+}
+
+fn on_texts(rt: &impl Runner, group: &str, name: &str, input: &str) -> Option<()> {
+    match group {
         "name" => texts::name(rt, name, input),
+        "name_of_value" => texts::name_of_value(rt, name, input),
         "text" => texts::ask(rt, name, input),
         _ => None,
     }

@@ -6,7 +6,8 @@ use crate::told::Told;
 use nextest_config::merge::{ReadPiece, read_halves};
 use nextest_config::nextest_version::{
     ConfigParseError, Edition, ExperimentalConfig, ExperimentalDeserialize, ListRefusal,
-    NextestVersionConfig, RepositoryText, SourceText, ToolText, VersionOnlyConfig,
+    NextestVersionConfig, NextestVersionReq, RepositoryText, SourceText, ToolText,
+    VersionOnlyConfig,
 };
 use semver::Version;
 use std::alloc::Global;
@@ -105,6 +106,8 @@ pub(crate) fn empty(rt: &impl Runner, name: &str) -> Option<()> {
         "neutral" => made_empty(rt, <VersionOnlyConfig as ReadPiece>::neutral(alloc)),
         "ExperimentalConfig" => made_empty(rt, ExperimentalConfig::new(alloc)),
         "ExperimentalDeserialize" => made_empty(rt, ExperimentalDeserialize::new(alloc)),
+        "NextestVersionConfig" => made_empty(rt, NextestVersionConfig::default()),
+        "NextestVersionReq" => made_empty(rt, NextestVersionReq::default()),
         _ => None,
     }
 }

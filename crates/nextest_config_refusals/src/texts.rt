@@ -34,6 +34,12 @@ pub(crate) fn name(rt: &impl Runner, name: &str, input: &str) -> Option<()> {
     }
 }
 
+/// Makes the value of a type that the text of a TOML value names.
+pub(crate) fn name_of_value(rt: &impl Runner, of: &str, input: &str) -> Option<()> {
+    let value = Value::from_input(rt, input)?;
+    name(rt, of, value.as_str()?)
+}
+
 /// Makes a text, or what holds one.
 pub(crate) fn ask(rt: &impl Runner, name: &str, input: &str) -> Option<()> {
     match name {
@@ -42,6 +48,7 @@ pub(crate) fn ask(rt: &impl Runner, name: &str, input: &str) -> Option<()> {
         "join_path" => join(rt, input),
         "from_env" => enabled(rt, input),
         "fail_message" => say_flaky(rt, input),
+        "MaxFail" => print_limit(rt, input),
         "JunitConfig::new" => report(rt, input),
         "JunitConfig::clone" => copy_report(rt, input),
         _ => None,
@@ -74,14 +81,24 @@ fn join(rt: &impl Runner, input: &str) -> Option<()> {
     }
 }
 
-// The features that a variable, written `NAME=VALUE`, enables.
+// The features that a variable enables, written `NAME=VALUE`, or that none does.
 fn enabled(rt: &impl Runner, input: &str) -> Option<()> {
-    let (name, value) = input.split_once('=')?;
     let mut variables = BTreeMap::new(rt.alloc());
-    let value = String::from_input(rt, value)?;
-    variables.insert(String::from_input(rt, name)?, value).ok()?;
+    if let Some((name, value)) = input.split_once('=') {
+        let value = String::from_input(rt, value)?;
+        variables.insert(String::from_input(rt, name)?, value).ok()?;
+    }
     begin(rt);
     made(rt, ConfigExperimental::from_env(rt.alloc(), &variables))
+}
+
+fn print_limit(rt: &impl Runner, input: &str) -> Option<()> {
+    let limit = MaxFail::from_input(rt, input)?;
+    begin(rt);
+    match limit.to_string(rt.alloc()) {
+        Ok(text) => printed(rt, text),
+        Err(error) => printed(rt, error),
+    }
 }
 
 fn say_flaky(rt: &impl Runner, input: &str) -> Option<()> {
@@ -94,8 +111,8 @@ fn say_flaky(rt: &impl Runner, input: &str) -> Option<()> {
     made(rt, result.fail_message(rt.alloc(), 2, 3))
 }
 
-// The settings of a report.
-fn settings(junit: &DefaultJunitImpl) -> JunitSettings<'_> {
+/// The settings of a report.
+pub(crate) fn settings(junit: &DefaultJunitImpl) -> JunitSettings<'_> {
     JunitSettings {
         path: junit.path.as_deref(),
         report_name: junit.report_name.as_str(),
