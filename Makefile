@@ -1,4 +1,5 @@
-# make test     the whole gate: every proof from nothing, the edits that must fail, the tests, the runs and the rounds of tests/
+# make test     the whole gate: every proof from nothing, the edits that must fail, the tests, the runs and the rounds of tests/,
+#               and the programs of bench/ on small inputs
 # make run      runs the program on examples/sources.txt, before its proof
 # make build    leaves the proved program at bin/nextest_config_check
 # make install  copies it and scripts/check-nextest-config to PREFIX/bin (PREFIX=/usr/local)
@@ -7,6 +8,7 @@ PREFIX ?= /usr/local
 PROGRAM := nextest_config_check
 CRATE := crates/$(PROGRAM)
 REFUSALS := nextest_config_refusals
+BENCH := crates/nextest_config_bench/out/nextest_config_bench
 
 .PHONY: test run build install toolchain
 
@@ -15,6 +17,10 @@ test: toolchain
 	tests/run $(CRATE)/out/$(PROGRAM)
 	tests/random $(CRATE)/out/$(PROGRAM)
 	tests/refusals crates/$(REFUSALS)/out/$(REFUSALS) $(CRATE)/out/$(PROGRAM)
+	bench/measure --small --program $(CRATE)/out/$(PROGRAM) --alone $(BENCH)
+	bench/measure-durations --small --alone $(BENCH)
+	bench/measure-hostile --small --program $(CRATE)/out/$(PROGRAM) --alone $(BENCH)
+	bench/measure-board --small --alone $(BENCH)
 	tests/wrong-itself
 	tests/wrong --proved
 

@@ -1,0 +1,32 @@
+//! What the scripts of `bench/` measure. The words say what is done; where it fails, the status is 1:
+//!
+//! - `toml` reads the sources on standard input with `toml` and nothing else, and lets each document go;
+//! - `duration` reads standard input as one duration;
+//! - `sources SIZE CHANGES` makes so many sources of one version each, `list` reads them as a list, too, and
+//!   `board` puts them on a board and makes so many changes there, each with the verdict behind it. The
+//!   verdict has to be an error that names the greatest version.
+#![tactic(auto)]
+
+mod alone;
+mod board;
+
+use std::env;
+use std::process::ExitCode;
+
+fn main(rt: HostRuntime) -> ExitCode {
+    match run(&rt) {
+        Some(()) => ExitCode::SUCCESS,
+        None => ExitCode::FAILURE,
+    }
+}
+
+fn run(rt: &HostRuntime) -> Option<()> {
+    let words: Vec<String> = env::args(rt).ok()?.skip(1).collect(rt.alloc()).ok()?;
+    match words.as_slice() {
+        [what] => alone::read(rt, what),
+        [what, size, changes] => {
+            board::run(rt.alloc(), what, size.parse().ok()?, changes.parse().ok()?)
+        }
+        _ => None,
+    }
+}
