@@ -2,12 +2,14 @@
 
 ghost use Rattle.std.specs.Prelude.{◌≡◌, ℕ, Bool, List};
 ghost use Rattle.semver.specs.Parse.{Parts};
+ghost use Rattle.nextest_config_values.specs.Equality.{IsCopy, IsEquality};
 ghost use Rattle.nextest_config_sources.specs.NextestVersion.Source.{Given};
 ghost use Rattle.nextest_config_sources.specs.declared.nextest_version.edition.Edition.{Edition};
 ghost use Rattle.nextest_config_check.specs.Layout.{AreBlocks, IsFaultyLine};
 ghost use Rattle.nextest_config_check.specs.Report.{IsReport};
 
 use crate::report::Outcome;
+use crate::streams::RunFault;
 
 /// An input is laid out in at most one way, has at most one faulty line, and never both.
 pub fn law_layout_once()
@@ -26,4 +28,12 @@ pub fn law_report_once()
         → IsReport input current overridden edition text outcome
         → IsReport input current overridden edition other another
         → (text ≡ other) × (outcome ≡ another) }
+{}
+
+/// Outcomes and faults of a run are equal exactly where they are the same, and a copy is what it is made of.
+pub fn law_equality()
+    ensures outcome { IsEquality ⟦<Outcome as PartialEq>⟧.eq }
+    ensures fault { IsEquality ⟦<RunFault as PartialEq>⟧.eq }
+    ensures outcome_copies { IsCopy ⟦<Outcome as Clone>⟧.is_clone }
+    ensures fault_copies { IsCopy ⟦<RunFault as Clone>⟧.is_clone }
 {}

@@ -52,6 +52,19 @@ fail_message results.Pass attempt total_attempts = None
 fail_message results.Fail attempt total_attempts =
     Some (codes "test passed on attempt " ++ (decimal attempt ++ (codes "/" ++ (decimal total_attempts ++ codes " but is configured to fail when flaky"))))
 
+-- ---- the words of the results of flaky tests
+
+abbrev pub flaky_results : List FlakyResult
+flaky_results = results.Fail ∷ results.Pass ∷ []
+
+abbrev pub flaky_result_word : FlakyResult → List ℕ
+flaky_result_word results.Fail = codes "fail"
+flaky_result_word results.Pass = codes "pass"
+
+pub flaky_result_reads_back : (result : FlakyResult) → value_of flaky_result_word flaky_results (flaky_result_word result) ≡ Some result
+flaky_result_reads_back results.Fail = refl
+flaky_result_reads_back results.Pass = refl
+
 -- ---- the words of the kinds of backoff
 
 abbrev pub backoffs_in_order : List Backoff

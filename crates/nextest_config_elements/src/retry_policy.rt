@@ -1,11 +1,11 @@
 //! Retries.
 
-ghost use Rattle.std.specs.Prelude.{◌≡◌, ◌↔◌, [], ◌∷◌, codes, refl, false, IfOk, IfErr, IsOk, IsTrue, OnOk, option_map, string_bytes};
+ghost use Rattle.std.specs.Prelude.{◌≡◌, ◌↔◌, ◌∷◌, false, IfOk, IfErr, IsOk, IsTrue, OnOk, option_map, string_bytes};
 ghost use Rattle.std.specs.Duration.{as_nanos};
 ghost use Rattle.toml.specs.Data.{integer};
 ghost use Rattle.toml.specs.View.{table_view, view};
 ghost use Rattle.nextest_config_values.specs.Read.{broken_rule, custom, fault_at, Refuses, RefusesAs, RefusesOne, WantsMemory, words_text, wrong_value};
-ghost use Rattle.nextest_config_elements.specs.RetryPolicy.{backoff_key, backoff_reads_back, backoff_word, BackoffFaults, backoffs_in_order, count_of, ExponentialRuleFaults, fail_message, HasKeysOf, KeepsExponentialRules, keys_beside, MeansBackoff, MeansRetryNumber, MeansRetryPolicySetting, MeansRetryTable, OtherKeyFaults, retry_policy_of, RetryNumberFaults, RetryPolicyFaults, RetryTableFaults, without_delay};
+ghost use Rattle.nextest_config_elements.specs.RetryPolicy.{backoff_key, backoff_reads_back, backoff_word, BackoffFaults, backoffs_in_order, count_of, ExponentialRuleFaults, fail_message, flaky_result_reads_back, flaky_result_word, flaky_results, HasKeysOf, KeepsExponentialRules, keys_beside, MeansBackoff, MeansRetryNumber, MeansRetryPolicySetting, MeansRetryTable, OtherKeyFaults, retry_policy_of, RetryNumberFaults, RetryPolicyFaults, RetryTableFaults, without_delay};
 ghost use Rattle.nextest_config_elements.specs.UnknownKeys.{IsOneOf};
 
 use nextest_config_values::read::{
@@ -339,13 +339,11 @@ impl Default for FlakyResult {
 }
 
 impl Word for FlakyResult {
-    ghost use Rattle.nextest_config_elements.specs.declared.retry_policy.FlakyResult.TheVariants.{Fail, Pass};
+    ghost all = { flaky_results };
 
-    ghost all = { Fail ∷ Pass ∷ [] };
+    ghost word = { flaky_result_word };
 
-    ghost word = { elim [ Fail ↦ codes "fail" | Pass ↦ codes "pass" ] };
-
-    ghost reads_back = { elim [ Fail ↦ refl | Pass ↦ refl ] };
+    ghost reads_back = { flaky_result_reads_back };
 
     fn all() -> &'static [Self] {
         &[FlakyResult::Fail, FlakyResult::Pass]

@@ -25,8 +25,13 @@ pub fn plain<T: Copy + Eq + Debug>(rt: &impl Runner, value: T, other: T) {
     let copy = value;
     let clone = done(rt, value.clone());
     compare_both(rt, &value, &copy, "same");
-    compare_both(rt, &value, &clone, "same");
-    compare_both(rt, &value, &other, "differ");
+    told_apart(rt, &value, &clone, &other);
+}
+
+/// Ends the test where the second value isn't the same as the first, or the third is.
+pub fn told_apart<T: PartialEq + Debug>(rt: &impl Runner, value: &T, same: &T, other: &T) {
+    compare_both(rt, value, same, "same");
+    compare_both(rt, value, other, "differ");
 }
 
 fn compare_both<T: PartialEq + Debug>(rt: &impl Runner, left: &T, right: &T, wanted: &str) {

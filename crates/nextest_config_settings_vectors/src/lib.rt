@@ -14,6 +14,8 @@ mod faults;
 #[cfg(test)]
 mod fields;
 #[cfg(test)]
+mod findings;
+#[cfg(test)]
 mod identifiers;
 #[cfg(test)]
 mod junit;
@@ -21,6 +23,8 @@ mod junit;
 mod kinds;
 #[cfg(test)]
 mod limits;
+#[cfg(test)]
+mod lines;
 #[cfg(test)]
 mod orders;
 #[cfg(test)]

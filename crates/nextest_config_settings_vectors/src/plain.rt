@@ -15,7 +15,7 @@ use nextest_config_rows::rows::Runner;
 use nextest_config_rows::values::FromRow;
 use nextest_config_values::duration::DurationFault;
 use nextest_config_values::helpers::InvalidIdentifierKind;
-use nextest_config_values::read::NonZeroCount;
+use nextest_config_values::read::{NonZeroCount, QuotedText};
 use std::process::Abort;
 use std::time::Duration;
 
@@ -159,7 +159,8 @@ fn refusals(rt: &impl Runner) {
     );
 }
 
-fn duration_faults(rt: &impl Runner) {
+fn faults(rt: &impl Runner) {
+    plain(rt, QuotedText("a"), QuotedText("b"));
     plain(rt, DurationFault::Empty, DurationFault::SumTooLarge);
     plain(
         rt,
@@ -195,7 +196,7 @@ fn test(rt: &(impl Abort + AllocGlobal)) {
     timeouts(rt);
     retries(rt);
     refusals(rt);
-    duration_faults(rt);
+    faults(rt);
 }
 
 #[test]

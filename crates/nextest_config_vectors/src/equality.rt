@@ -2,8 +2,9 @@
 
 use crate::compared::{Copies, Equality};
 use crate::runner::{Test, check};
+use nextest_config::merge::PieceRefusal;
 use nextest_config::nextest_version::{ConfigExperimental, Edition, Severity};
-use nextest_config_rows::compared::plain;
+use nextest_config_rows::compared::{plain, told_apart};
 use nextest_config_rows::rows::Escaped;
 use std::process::Abort;
 
@@ -101,6 +102,9 @@ ExperimentalConfig | explicit: a => experimental = ['benchmarks', 'x'] ~ explici
 ExperimentalConfig | explicit: a => experimental = ['benchmarks', 'x'] ~ explicit: a => experimental = ['benchmarks', 'y'] | differ
 ExperimentalConfig | explicit: a => experimental = ['benchmarks', 'x'] ~ explicit: b => experimental = ['benchmarks', 'x'] | differ
 ExperimentalConfig | explicit: a => experimental = ['x'] ~ explicit: a => experimental = ['x'] && explicit: a => experimental = ['x'] | differ
+ExperimentalConfig | explicit: a => experimental = { x = 1 } ~ explicit: a => experimental = { x = 2 } | same
+ExperimentalConfig | explicit: a => experimental = { x = 1 } ~ explicit: b => experimental = { x = 1 } | differ
+ExperimentalConfig | explicit: a => experimental = { x = 1 } ~ explicit: a => experimental = { y = 1 } | differ
 ExperimentalConfig | explicit: a => nextest-version = '1.0' ~  | same
 
 VersionOnlyConfig | explicit: a => nextest-version = '1.0' && explicit: b => experimental = { benchmarks = true } ~ explicit: a => nextest-version = '1.0' && explicit: c => experimental = { benchmarks = true } | same
@@ -111,6 +115,8 @@ VersionOnlyConfig | explicit: a => nextest-version = '1.0' ~ explicit: b => next
 VersionOnlyConfig | explicit: a => nextest-version = { recommended = '1.0' } ~ explicit: a => nextest-version = { recommended = '1.1' } | differ
 VersionOnlyConfig | explicit: a => experimental = ['benchmarks'] ~ explicit: a => experimental = ['setup-scripts'] | differ
 VersionOnlyConfig | explicit: a => experimental = ['x'] ~ explicit: a => experimental = ['y'] | differ
+VersionOnlyConfig | explicit: a => experimental = { x = 1 } ~ explicit: b => experimental = { x = 1 } | differ
+VersionOnlyConfig | explicit: a => experimental = { x = 1 } ~ explicit: a => experimental = { y = 1 } | differ
 VersionOnlyConfig | explicit: a => x = 1 ~  | same
 
 ConfigParseErrorKind | TomlParseError ~ TomlParseError | same
@@ -200,6 +206,10 @@ fn sources_that_differ_in_one_part_are_unequal(rt: HostRuntime) {
     check::<Escaped<Equality>>(&rt, EQUAL_SOURCES);
 }
 
+fn refused(position: usize, error: usize) -> PieceRefusal<usize> {
+    PieceRefusal::Refused { position, error }
+}
+
 fn test(rt: &(impl Abort + AllocGlobal)) {
     let rt = &Test(rt);
     plain(
@@ -215,6 +225,10 @@ fn test(rt: &(impl Abort + AllocGlobal)) {
     plain(rt, Edition::ArrayAllowed, Edition::TableOnly);
     plain(rt, Severity::Satisfied, Severity::Warn);
     plain(rt, Severity::Warn, Severity::Error);
+    let refusal = refused(1, 2);
+    told_apart(rt, &refusal, &refused(1, 2), &refused(1, 3));
+    told_apart(rt, &refusal, &refused(1, 2), &refused(2, 2));
+    told_apart(rt, &refusal, &refused(1, 2), &PieceRefusal::Memory);
 }
 
 #[test]
