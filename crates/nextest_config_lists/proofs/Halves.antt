@@ -1,8 +1,8 @@
 -- What is read of two lists, as what is read of both in a row.
-use Rattle.std.proofs.Common.{◌≡◌, ℕ, ◌+◌, ◌^◌, ◌<◌, List, [], ◌∷◌, ◌++◌, length, length-append, map, refl, sym, ap, ap₂, ◌∙◌, subst, append_assoc, arith, get_or, Result, Ok, Err, IfErr}
+use Rattle.std.proofs.Common.{◌≡◌, ℕ, ◌+◌, ◌<◌, List, [], ◌∷◌, ◌++◌, length, length-append, map, refl, sym, ap, ap₂, ◌∙◌, subst, append_assoc, arith, get_or, Result, Ok, Err, IfErr}
 use Rattle.std.proofs.lemmas.List.{map-append}
 use Rattle.std.specs.List.{AllZip}
-use Rattle.nextest_config_lists.specs.Merge.{behind, FitsBehind, HavePieces, IsFirstWrong, IsJoinOfPieces, IsMonoid, IsReadingOne, IsRefusalOfOne, IsRefusalOfPieces, total}
+use Rattle.nextest_config_lists.specs.Merge.{behind, HavePieces, IsFirstWrong, IsJoinOfPieces, IsMonoid, IsReadingOne, IsRefusalOfPieces, total}
 use Rattle.nextest_config_lists.specs.declared.merge.PieceRefusal.{PieceRefusal}
 use Rattle.nextest_config_lists.specs.declared.merge.PieceRefusal.TheVariants as refusals
 use Rattle.nextest_config_lists.proofs.Lists.{zip_joined, zip_middle}

@@ -1,8 +1,8 @@
-use Rattle.std.proofs.Common.{◌≡◌, ◌+◌, ◌<◌, ◌≤◌, ℕ, List, [], ◌∷◌, length, length-append, map, take, Option, Some, refl, sym, ap, subst, ◌∙◌, arith}
+use Rattle.std.proofs.Common.{◌≡◌, ◌+◌, ◌<◌, ◌≤◌, ℕ, List, [], ◌∷◌, length, length-append, map, take, Some, refl, sym, ap, subst, ◌∙◌, arith}
 use Rattle.std.specs.List.{AllByRecursion}
 use Rattle.nextest_config_sources.specs.NextestVersion.{source_under}
 use Rattle.nextest_config_sources.specs.NextestVersion.Source.{Source}
-use Rattle.nextest_config.specs.NextestVersion.{AreRead, configuration_of, Configuration, IsFirstRefused, IsFirstRefusedAmong, IsJoinOf, IsRefusalOf, join_configurations, neutral_seen, Reads, Refusal, refusal_of, seen_configuration, SeenConfiguration, StandsFor}
+use Rattle.nextest_config.specs.NextestVersion.{configuration_of, Configuration, IsFirstRefused, IsFirstRefusedAmong, IsJoinOf, IsRefusalOf, join_configurations, neutral_seen, Reads, Refusal, refusal_of, seen_configuration, SeenConfiguration}
 use Rattle.nextest_config.specs.declared.nextest_version.error.ConfigParseError.{ConfigParseError}
 use Rattle.nextest_config.specs.declared.nextest_version.error.ListRefusal.{ListRefusal}
 use Rattle.nextest_config.specs.declared.nextest_version.error.ListRefusal.TheVariants.{Refused}
