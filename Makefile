@@ -7,7 +7,7 @@
 PREFIX ?= /usr/local
 PROGRAM := nextest_config_check
 CRATE := crates/$(PROGRAM)
-REFUSALS := nextest_config_refusals
+REFUSALS := $(foreach name,nextest_config_settings_refusals nextest_config_refusals,crates/$(name)/out/$(name))
 BENCH := crates/nextest_config_bench/out/nextest_config_bench
 
 .PHONY: test run build install toolchain
@@ -16,7 +16,7 @@ test: toolchain
 	rt ci
 	tests/run $(CRATE)/out/$(PROGRAM)
 	tests/random $(CRATE)/out/$(PROGRAM)
-	tests/refusals crates/$(REFUSALS)/out/$(REFUSALS) $(CRATE)/out/$(PROGRAM)
+	tests/refusals $(REFUSALS) $(CRATE)/out/$(PROGRAM)
 	bench/measure --small --program $(CRATE)/out/$(PROGRAM) --alone $(BENCH)
 	bench/measure-durations --small --alone $(BENCH)
 	bench/measure-hostile --small --program $(CRATE)/out/$(PROGRAM) --alone $(BENCH)

@@ -8,7 +8,7 @@ ghost use Rattle.nextest_config_check.specs.CommandLine.{IfCheck, IfComplaint, a
 ghost use Rattle.nextest_config_check.specs.Streams.{AddsFront, IsChecked, IsCutShort, Writes, run_fault_text};
 ghost use Rattle.nextest_config_check.specs.Report.{IsReport};
 
-use crate::command_line::{WordsFault, parse_words};
+use crate::command_line::{Check, WordsFault, parse_words};
 pub use crate::report::Outcome;
 use crate::report::report_on;
 use nextest_config::nextest_version::Edition;
@@ -108,10 +108,28 @@ pub fn serve<R: Read, W: Write, E: Write>(
         (R.remaining reader.new) (W.contents writer.old) (W.contents writer.new)
         (E.contents faults.old) (E.contents faults.new)) }
 {
-    let check = match parse_words(alloc, words) {
-        Ok(check) => check,
-        Err(fault) => return refuse(faults, fault),
-    };
+    match parse_words(alloc, words) {
+        Ok(check) => make(alloc, &check, reader, writer, faults),
+        Err(fault) => refuse(faults, fault),
+    }
+}
+
+// Makes the check, says why if there is no outcome, and answers the status that the program ends with.
+fn make<R: Read, W: Write, E: Write>(
+    alloc: Global,
+    check: &Check,
+    reader: &mut R,
+    writer: &mut W,
+    faults: &mut E,
+) -> u8
+    ensures checked { (result ≡ 3) ⊎ IsChecked (R.remaining reader.old) (parts_of check.now.current)
+        check.now.override_version_check check.now.edition result
+        (W.contents writer.old) (W.contents writer.new) }
+    ensures drained { result ≢ 3 → IsAtEnd (R.remaining reader.new) }
+    ensures quiet { result ≢ 3 → Keeps (E.contents faults.old) (E.contents faults.new) }
+    ensures cut_short { result ≡ 3 → IsCutShort (R.remaining reader.new) (W.contents writer.old)
+        (W.contents writer.new) (E.contents faults.old) (E.contents faults.new) }
+{
     match run(
         alloc,
         reader,

@@ -1,16 +1,18 @@
 //! Boards. A board is told before and after a put, which leaves it as it was where memory is refused, and the
 //! put is made once more with it.
 
-use crate::announced::{Runner, answered, begin, end, tell, written};
-use crate::inputs::{FromInput, listed};
-use crate::told::Told;
+use crate::inputs::ThisCrate;
+use crate::told::{Told, answered, tell};
 use nextest_config::board::{BoardRefusal, ConfigBoard};
 use nextest_config::nextest_version::SourceText;
+use nextest_config_calls::announced::{Runner, begin, end, written};
+use nextest_config_calls::asked::parted;
+use nextest_config_calls::inputs::{FromInput, listed};
 use semver::Version;
 
 /// Makes the call that is named.
 pub(crate) fn ask(rt: &impl Runner, words: &str, input: &str) -> Option<()> {
-    let (name, current) = words.split_once(' ').unwrap_or((words, ""));
+    let (name, current) = parted(words, "");
     match name {
         "new" => make(rt, input),
         "put" => put_twice(rt, input),
@@ -36,7 +38,7 @@ struct Put {
 }
 
 /// Writes `SLOT SOURCE`.
-impl FromInput for Put {
+impl FromInput<ThisCrate> for Put {
     fn from_input(rt: &impl Runner, text: &str) -> Option<Self> {
         let (slot, source) = text.split_once(' ')?;
         let source = SourceText::from_input(rt, source)?;
@@ -46,7 +48,7 @@ impl FromInput for Put {
 }
 
 /// Writes `SLOTS: PUTS`.
-impl FromInput for ConfigBoard {
+impl FromInput<ThisCrate> for ConfigBoard {
     fn from_input(rt: &impl Runner, text: &str) -> Option<Self> {
         let (slots, puts) = text.split_once(": ")?;
         let mut board = ConfigBoard::new(rt.alloc(), slots.parse().ok()?).ok()?;
@@ -91,7 +93,7 @@ fn tell_changed(
 }
 
 fn eval(rt: &impl Runner, words: &str, input: &str) -> Option<()> {
-    let (current, flag) = words.split_once(' ').unwrap_or((words, ""));
+    let (current, flag) = parted(words, "");
     let board = ConfigBoard::from_input(rt, input)?;
     let current = Version::from_input(rt, current)?;
     let alloc = rt.alloc();

@@ -1,164 +1,81 @@
 //! Copies of values.
 
-use crate::announced::{Runner, begin, end};
-use crate::inputs::FromInput;
+use crate::inputs::ThisCrate;
 use nextest_config::nextest_version::{
     ConfigSource, ConfigSourceKind, ExperimentalConfig, ExperimentalDeserialize,
     NextestVersionConfig, NextestVersionDeserialize, NextestVersionEval, NextestVersionReq,
     VersionOnlyConfig,
 };
-use nextest_config_elements::junit::{DefaultJunitImpl, JunitImpl};
-use nextest_config_values::identifier::{ConfigIdentifier, ToolName};
-use nextest_config_values::tool_config::ToolConfigFile;
-use nextest_config_values::track_default::TrackDefault;
+use nextest_config_calls::announced::Runner;
+use nextest_config_calls::copies::{Copied, copy_of};
 use std::alloc::{AllocError, Global};
-use std::fmt::Debug;
 
-// A type whose values are copied into memory.
-trait Copied: Sized {
-    fn copied(&self, alloc: Global) -> Result<Self, AllocError>;
-}
-
-impl Copied for ConfigIdentifier {
+impl Copied<ThisCrate> for ConfigSourceKind {
     fn copied(&self, alloc: Global) -> Result<Self, AllocError> {
         self.clone(alloc)
     }
 }
 
-impl Copied for ToolName {
+impl Copied<ThisCrate> for ConfigSource {
     fn copied(&self, alloc: Global) -> Result<Self, AllocError> {
         self.clone(alloc)
     }
 }
 
-impl Copied for ToolConfigFile {
+impl Copied<ThisCrate> for NextestVersionDeserialize {
     fn copied(&self, alloc: Global) -> Result<Self, AllocError> {
         self.clone(alloc)
     }
 }
 
-impl Copied for JunitImpl {
+impl Copied<ThisCrate> for ExperimentalDeserialize {
     fn copied(&self, alloc: Global) -> Result<Self, AllocError> {
         self.clone(alloc)
     }
 }
 
-impl Copied for DefaultJunitImpl {
+impl Copied<ThisCrate> for NextestVersionReq {
     fn copied(&self, alloc: Global) -> Result<Self, AllocError> {
         self.clone(alloc)
     }
 }
 
-impl Copied for ConfigSourceKind {
+impl Copied<ThisCrate> for NextestVersionConfig {
     fn copied(&self, alloc: Global) -> Result<Self, AllocError> {
         self.clone(alloc)
     }
 }
 
-impl Copied for ConfigSource {
+impl Copied<ThisCrate> for NextestVersionEval {
     fn copied(&self, alloc: Global) -> Result<Self, AllocError> {
         self.clone(alloc)
     }
 }
 
-impl Copied for NextestVersionDeserialize {
+impl Copied<ThisCrate> for ExperimentalConfig {
     fn copied(&self, alloc: Global) -> Result<Self, AllocError> {
         self.clone(alloc)
     }
 }
 
-impl Copied for ExperimentalDeserialize {
+impl Copied<ThisCrate> for VersionOnlyConfig {
     fn copied(&self, alloc: Global) -> Result<Self, AllocError> {
         self.clone(alloc)
-    }
-}
-
-impl Copied for NextestVersionReq {
-    fn copied(&self, alloc: Global) -> Result<Self, AllocError> {
-        self.clone(alloc)
-    }
-}
-
-impl Copied for NextestVersionConfig {
-    fn copied(&self, alloc: Global) -> Result<Self, AllocError> {
-        self.clone(alloc)
-    }
-}
-
-impl Copied for NextestVersionEval {
-    fn copied(&self, alloc: Global) -> Result<Self, AllocError> {
-        self.clone(alloc)
-    }
-}
-
-impl Copied for ExperimentalConfig {
-    fn copied(&self, alloc: Global) -> Result<Self, AllocError> {
-        self.clone(alloc)
-    }
-}
-
-impl Copied for VersionOnlyConfig {
-    fn copied(&self, alloc: Global) -> Result<Self, AllocError> {
-        self.clone(alloc)
-    }
-}
-
-impl Copied for TrackDefault<String> {
-    fn copied(&self, _alloc: Global) -> Result<Self, AllocError> {
-        self.clone()
     }
 }
 
 /// Copies the value, and tells whether the copy is the same.
 pub(crate) fn copy(rt: &impl Runner, name: &str, input: &str) -> Option<()> {
     match name {
-        "ConfigIdentifier" => copy_of::<ConfigIdentifier>(rt, input),
-        "ToolName" => copy_of::<ToolName>(rt, input),
-        "ToolConfigFile" => copy_of::<ToolConfigFile>(rt, input),
-        "JunitImpl" => copy_of::<JunitImpl>(rt, input),
-        "DefaultJunitImpl" => copy_of::<DefaultJunitImpl>(rt, input),
-        "TrackDefault<String>" => copy_of::<TrackDefault<String>>(rt, input),
-        "ConfigSourceKind" => copy_of::<ConfigSourceKind>(rt, input),
-        "ConfigSource" => copy_of::<ConfigSource>(rt, input),
-        _ => copy_of_asked(rt, name, input),
-    }
-}
-
-fn copy_of_asked(rt: &impl Runner, name: &str, input: &str) -> Option<()> {
-    match name {
-        "NextestVersionDeserialize" => copy_of::<NextestVersionDeserialize>(rt, input),
-        "ExperimentalDeserialize" => copy_of::<ExperimentalDeserialize>(rt, input),
-        "NextestVersionReq" => copy_of::<NextestVersionReq>(rt, input),
-        "NextestVersionConfig" => copy_of::<NextestVersionConfig>(rt, input),
-        "NextestVersionEval" => copy_of::<NextestVersionEval>(rt, input),
-        "ExperimentalConfig" => copy_of::<ExperimentalConfig>(rt, input),
-        "VersionOnlyConfig" => copy_of::<VersionOnlyConfig>(rt, input),
+        "ConfigSourceKind" => copy_of::<ConfigSourceKind, _>(rt, input),
+        "ConfigSource" => copy_of::<ConfigSource, _>(rt, input),
+        "NextestVersionDeserialize" => copy_of::<NextestVersionDeserialize, _>(rt, input),
+        "ExperimentalDeserialize" => copy_of::<ExperimentalDeserialize, _>(rt, input),
+        "NextestVersionReq" => copy_of::<NextestVersionReq, _>(rt, input),
+        "NextestVersionConfig" => copy_of::<NextestVersionConfig, _>(rt, input),
+        "NextestVersionEval" => copy_of::<NextestVersionEval, _>(rt, input),
+        "ExperimentalConfig" => copy_of::<ExperimentalConfig, _>(rt, input),
+        "VersionOnlyConfig" => copy_of::<VersionOnlyConfig, _>(rt, input),
         _ => None,
     }
-}
-
-fn copy_of<T: FromInput + Copied + Debug + Drop>(rt: &impl Runner, input: &str) -> Option<()> {
-    let value = T::from_input(rt, input)?;
-    begin(rt);
-    let copy = value.copied(rt.alloc());
-    compared(rt, &value, copy)
-}
-
-/// Tells whether a copy is the same, as both are written, or why there is none.
-pub(crate) fn compared<T: Debug + Drop>(
-    rt: &impl Runner,
-    value: &T,
-    copy: Result<T, AllocError>,
-) -> Option<()> {
-    end(rt);
-    match copy {
-        Ok(copy) => println!(rt; "{}", same(rt, value, &copy)?).ok(),
-        Err(error) => println!(rt; "{error}").ok(),
-    }
-}
-
-fn same<T: Debug>(rt: &impl Runner, value: &T, copy: &T) -> Option<&'static str> {
-    let value = format!(in rt.alloc(); "{value:?}").ok()?;
-    let copy = format!(in rt.alloc(); "{copy:?}").ok()?;
-    Some(if value == copy { "same" } else { "differs" })
 }

@@ -1,114 +1,27 @@
 //! Values that inputs write.
 
-use crate::announced::Runner;
 use nextest_config::nextest_version::{
     ConfigSource, ConfigSourceKind, ExperimentalConfig, ExperimentalDeserialize,
     NextestVersionConfig, NextestVersionDeserialize, NextestVersionEval, NextestVersionReq,
     RepositoryText, SourceText, ToolText, VersionOnlyConfig,
 };
-use nextest_config_elements::junit::{DefaultJunitImpl, JunitImpl};
-use nextest_config_elements::max_fail::{MaxFail, TerminateMode};
-use nextest_config_elements::priority::TestPriority;
-use nextest_config_values::identifier::{ConfigIdentifier, ToolName};
-use nextest_config_values::read::FromToml;
+use nextest_config_calls::announced::Runner;
+use nextest_config_calls::inputs::{FromInput, listed, read};
+use nextest_config_values::identifier::ToolName;
 use nextest_config_values::tool_config::ToolConfigFile;
-use nextest_config_values::track_default::TrackDefault;
 use semver::Version;
-use toml::Value;
 
-/// A type whose values inputs write.
-pub(crate) trait FromInput: Sized {
-    /// The value that the text writes, if it writes one.
-    fn from_input(rt: &impl Runner, text: &str) -> Option<Self>;
-}
+/// This crate, in impls of its library's traits for other crates' types.
+pub(crate) struct ThisCrate;
 
-impl FromInput for String {
-    fn from_input(rt: &impl Runner, text: &str) -> Option<Self> {
-        String::from_str(rt.alloc(), text).ok()
-    }
-}
-
-impl FromInput for Value {
-    fn from_input(rt: &impl Runner, text: &str) -> Option<Self> {
-        Value::from_str(rt.alloc(), text).ok()
-    }
-}
-
-impl FromInput for Version {
+impl FromInput<ThisCrate> for Version {
     fn from_input(rt: &impl Runner, text: &str) -> Option<Self> {
         Version::parse(rt.alloc(), text).ok()
     }
 }
 
-impl FromInput for TestPriority {
-    fn from_input(_rt: &impl Runner, text: &str) -> Option<Self> {
-        TestPriority::new(text.parse().ok()?).ok()
-    }
-}
-
-/// Writes `all`, or a number, perhaps with `:immediate` behind it.
-impl FromInput for MaxFail {
-    fn from_input(_rt: &impl Runner, text: &str) -> Option<Self> {
-        if text == "all" {
-            return Some(MaxFail::All);
-        }
-        let (count, terminate) = match text.strip_suffix(":immediate") {
-            Some(count) => (count, TerminateMode::Immediate),
-            None => (text, TerminateMode::Wait),
-        };
-        let max_fail = count.parse().ok()?;
-        Some(MaxFail::Count {
-            max_fail,
-            terminate,
-        })
-    }
-}
-
-impl FromInput for ConfigIdentifier {
-    fn from_input(rt: &impl Runner, text: &str) -> Option<Self> {
-        ConfigIdentifier::new(rt.alloc(), text).ok()
-    }
-}
-
-impl FromInput for ToolName {
-    fn from_input(rt: &impl Runner, text: &str) -> Option<Self> {
-        ToolName::new(rt.alloc(), text).ok()
-    }
-}
-
-/// Writes `NAME:PATH`.
-impl FromInput for ToolConfigFile {
-    fn from_input(rt: &impl Runner, text: &str) -> Option<Self> {
-        ToolConfigFile::from_str(rt.alloc(), text).ok()
-    }
-}
-
-// The value that a reader gives for what the text writes.
-fn read<T: FromToml>(rt: &impl Runner, text: &str) -> Option<T> {
-    let value = Value::from_input(rt, text)?;
-    T::read(rt.alloc(), &value, "p").ok()
-}
-
-impl FromInput for TrackDefault<String> {
-    fn from_input(rt: &impl Runner, text: &str) -> Option<Self> {
-        read(rt, text)
-    }
-}
-
-impl FromInput for JunitImpl {
-    fn from_input(rt: &impl Runner, text: &str) -> Option<Self> {
-        read(rt, text)
-    }
-}
-
-impl FromInput for DefaultJunitImpl {
-    fn from_input(rt: &impl Runner, text: &str) -> Option<Self> {
-        DefaultJunitImpl::for_default_profile(read(rt, text)?).ok()
-    }
-}
-
 /// Writes the required and the recommended version.
-impl FromInput for NextestVersionDeserialize {
+impl FromInput<ThisCrate> for NextestVersionDeserialize {
     fn from_input(rt: &impl Runner, text: &str) -> Option<Self> {
         let (required, recommended) = text.split_once(' ')?;
         let required = Some(Version::from_input(rt, required)?);
@@ -120,14 +33,14 @@ impl FromInput for NextestVersionDeserialize {
     }
 }
 
-impl FromInput for ExperimentalDeserialize {
+impl FromInput<ThisCrate> for ExperimentalDeserialize {
     fn from_input(rt: &impl Runner, text: &str) -> Option<Self> {
         read(rt, text)
     }
 }
 
 /// Writes `tool NAME`, `explicit` or `repository`.
-impl FromInput for ConfigSourceKind {
+impl FromInput<ThisCrate> for ConfigSourceKind {
     fn from_input(rt: &impl Runner, text: &str) -> Option<Self> {
         match text {
             "explicit" => Some(ConfigSourceKind::ExplicitRepository),
@@ -141,7 +54,7 @@ impl FromInput for ConfigSourceKind {
 }
 
 /// Writes `KIND: PATH`.
-impl FromInput for ConfigSource {
+impl FromInput<ThisCrate> for ConfigSource {
     fn from_input(rt: &impl Runner, text: &str) -> Option<Self> {
         let (kind, path) = text.split_once(": ")?;
         let path = String::from_input(rt, path)?;
@@ -159,7 +72,7 @@ fn parts<'t>(rt: &impl Runner, text: &'t str) -> (&'t str, Option<String>) {
 }
 
 /// Writes `SOURCE => CONTENTS`, or the source alone.
-impl FromInput for SourceText {
+impl FromInput<ThisCrate> for SourceText {
     fn from_input(rt: &impl Runner, text: &str) -> Option<Self> {
         let (source, contents) = parts(rt, text);
         let source = ConfigSource::from_input(rt, source)?;
@@ -168,7 +81,7 @@ impl FromInput for SourceText {
 }
 
 /// Writes a tool's source and its contents.
-impl FromInput for ToolText {
+impl FromInput<ThisCrate> for ToolText {
     fn from_input(rt: &impl Runner, text: &str) -> Option<Self> {
         let (source, contents) = parts(rt, text);
         let (tool, path) = source.strip_prefix("tool ")?.split_once(": ")?;
@@ -180,7 +93,7 @@ impl FromInput for ToolText {
 }
 
 /// Writes a repository's source and its contents.
-impl FromInput for RepositoryText {
+impl FromInput<ThisCrate> for RepositoryText {
     fn from_input(rt: &impl Runner, text: &str) -> Option<Self> {
         let (source, contents) = parts(rt, text);
         let (kind, path) = source.split_once(": ")?;
@@ -193,30 +106,15 @@ impl FromInput for RepositoryText {
     }
 }
 
-/// What a text lists, with this mark between one and the next.
-pub(crate) fn listed<T: FromInput + Drop>(
-    rt: &impl Runner,
-    text: &str,
-    mark: &str,
-) -> Option<Vec<T>> {
-    let mut values = Vec::new(rt.alloc());
-    for part in text.split(mark) {
-        if !part.is_empty() {
-            values.push(T::from_input(rt, part)?).ok()?;
-        }
-    }
-    Some(values)
-}
-
 /// Writes sources.
-impl FromInput for VersionOnlyConfig {
+impl FromInput<ThisCrate> for VersionOnlyConfig {
     fn from_input(rt: &impl Runner, text: &str) -> Option<Self> {
         let sources: Vec<SourceText> = listed(rt, text, " && ")?;
         VersionOnlyConfig::from_list(rt.alloc(), &sources).ok()
     }
 }
 
-impl FromInput for NextestVersionConfig {
+impl FromInput<ThisCrate> for NextestVersionConfig {
     fn from_input(rt: &impl Runner, text: &str) -> Option<Self> {
         let config = VersionOnlyConfig::from_input(rt, text)?;
         config.nextest_version().clone(rt.alloc()).ok()
@@ -224,14 +122,14 @@ impl FromInput for NextestVersionConfig {
 }
 
 /// Writes the sources of a required version.
-impl FromInput for NextestVersionReq {
+impl FromInput<ThisCrate> for NextestVersionReq {
     fn from_input(rt: &impl Runner, text: &str) -> Option<Self> {
         let config = NextestVersionConfig::from_input(rt, text)?;
         config.required.clone(rt.alloc()).ok()
     }
 }
 
-impl FromInput for ExperimentalConfig {
+impl FromInput<ThisCrate> for ExperimentalConfig {
     fn from_input(rt: &impl Runner, text: &str) -> Option<Self> {
         let config = VersionOnlyConfig::from_input(rt, text)?;
         config.experimental().clone(rt.alloc()).ok()
@@ -239,7 +137,7 @@ impl FromInput for ExperimentalConfig {
 }
 
 /// Writes `CURRENT: SOURCES`.
-impl FromInput for NextestVersionEval {
+impl FromInput<ThisCrate> for NextestVersionEval {
     fn from_input(rt: &impl Runner, text: &str) -> Option<Self> {
         let (current, sources) = text.split_once(": ")?;
         let current = Version::from_input(rt, current)?;

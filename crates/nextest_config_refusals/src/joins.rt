@@ -1,14 +1,15 @@
 //! Calls that change what they are lent. It is told before and after a call that leaves it as it was where
 //! memory is refused, and the call is made once more with it.
 
-use crate::announced::{Runner, begin, end, tell};
-use crate::inputs::{FromInput, listed};
-use crate::told::Told;
+use crate::inputs::ThisCrate;
+use crate::told::{Told, tell};
 use nextest_config::merge::{Merge, merge_all};
 use nextest_config::nextest_version::{
     ConfigSource, ExperimentalConfig, NextestVersionConfig, NextestVersionDeserialize,
     NextestVersionReq, VersionOnlyConfig,
 };
+use nextest_config_calls::announced::{Runner, begin, end};
+use nextest_config_calls::inputs::{FromInput, listed};
 use std::alloc::AllocError;
 use std::fmt::Debug;
 
@@ -25,7 +26,7 @@ pub(crate) fn merge(rt: &impl Runner, name: &str, input: &str) -> Option<()> {
 
 fn merge_two<T>(rt: &impl Runner, input: &str) -> Option<()>
 where
-    T: Merge + FromInput + Told + Debug + Drop,
+    T: Merge + FromInput<ThisCrate> + Told + Debug + Drop,
 {
     let (into, later) = input.split_once(" // ")?;
     let mut into = T::from_input(rt, into)?;
@@ -81,7 +82,7 @@ struct Ask {
 }
 
 /// Writes `SOURCE => VALUE`.
-impl FromInput for Ask {
+impl FromInput<ThisCrate> for Ask {
     fn from_input(rt: &impl Runner, text: &str) -> Option<Self> {
         let (source, versions) = text.split_once(" => ")?;
         let source = ConfigSource::from_input(rt, source)?;

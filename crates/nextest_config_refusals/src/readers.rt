@@ -1,94 +1,25 @@
-//! Readers of TOML values, at the path that a call names, or at `p`.
+//! Readers of what a source asks, at the path that a call names, or at `p`.
 
-use crate::announced::{Runner, answered, begin, made};
-use crate::inputs::FromInput;
-use crate::told::Told;
+use crate::told::{Told, answered};
 use nextest_config::nextest_version::{ExperimentalDeserialize, NextestVersionDeserialize};
-use nextest_config_elements::global_timeout::GlobalTimeout;
-use nextest_config_elements::junit::{JunitFlakyFailStatus, JunitImpl};
-use nextest_config_elements::leak_timeout::{LeakTimeoutResult, deserialize_leak_timeout};
-use nextest_config_elements::max_fail::{TerminateMode, deserialize_fail_fast};
-use nextest_config_elements::priority::TestPriority;
-use nextest_config_elements::report_skip_policy::ReportSkipPolicy;
-use nextest_config_elements::retry_policy::{FlakyResult, deserialize_retry_policy};
-use nextest_config_elements::slow_timeout::{SlowTimeoutResult, deserialize_slow_timeout};
-use nextest_config_elements::threads_required::ThreadsRequired;
-use nextest_config_values::helpers::deserialize_relative_path;
-use nextest_config_values::identifier::{ConfigIdentifier, ToolName};
-use nextest_config_values::read::{FromToml, NonZeroCount};
-use nextest_config_values::track_default::TrackDefault;
-use std::fmt::Debug;
-use std::time::Duration;
+use nextest_config_calls::announced::{Runner, begin};
+use nextest_config_calls::asked::parted;
+use nextest_config_calls::inputs::FromInput;
+use nextest_config_values::read::FromToml;
 use toml::Value;
 
 /// Reads a value by the reader of a type.
 pub(crate) fn read(rt: &impl Runner, name: &str, input: &str) -> Option<()> {
-    let (name, at) = name.split_once(' ').unwrap_or((name, "p"));
+    let (name, at) = parted(name, "p");
     let value = Value::from_input(rt, input)?;
-    read_plain(rt, name, &value, at)
-}
-
-fn read_plain(rt: &impl Runner, name: &str, value: &Value, at: &str) -> Option<()> {
     match name {
-        "bool" => read_as::<bool>(rt, value, at),
-        "u32" => read_as::<u32>(rt, value, at),
-        "String" => read_as::<String>(rt, value, at),
-        "NonZeroCount" => read_as::<NonZeroCount>(rt, value, at),
-        "Duration" => read_as::<Duration>(rt, value, at),
-        "TrackDefault<u32>" => read_as::<TrackDefault<u32>>(rt, value, at),
-        "TrackDefault<String>" => read_as::<TrackDefault<String>>(rt, value, at),
-        "ConfigIdentifier" => read_as::<ConfigIdentifier>(rt, value, at),
-        "ToolName" => read_as::<ToolName>(rt, value, at),
-        _ => read_setting(rt, name, value, at),
-    }
-}
-
-fn read_setting(rt: &impl Runner, name: &str, value: &Value, at: &str) -> Option<()> {
-    match name {
-        "GlobalTimeout" => read_as::<GlobalTimeout>(rt, value, at),
-        "JunitImpl" => read_as::<JunitImpl>(rt, value, at),
-        "TestPriority" => read_as::<TestPriority>(rt, value, at),
-        "ThreadsRequired" => read_as::<ThreadsRequired>(rt, value, at),
-        "NextestVersionDeserialize" => read_asked::<NextestVersionDeserialize>(rt, value, at),
-        "ExperimentalDeserialize" => read_asked::<ExperimentalDeserialize>(rt, value, at),
-        _ => read_word(rt, name, value, at),
-    }
-}
-
-fn read_word(rt: &impl Runner, name: &str, value: &Value, at: &str) -> Option<()> {
-    match name {
-        "FlakyResult" => read_as::<FlakyResult>(rt, value, at),
-        "JunitFlakyFailStatus" => read_as::<JunitFlakyFailStatus>(rt, value, at),
-        "LeakTimeoutResult" => read_as::<LeakTimeoutResult>(rt, value, at),
-        "ReportSkipPolicy" => read_as::<ReportSkipPolicy>(rt, value, at),
-        "SlowTimeoutResult" => read_as::<SlowTimeoutResult>(rt, value, at),
-        "TerminateMode" => read_as::<TerminateMode>(rt, value, at),
+        "NextestVersionDeserialize" => read_as::<NextestVersionDeserialize>(rt, &value, at),
+        "ExperimentalDeserialize" => read_as::<ExperimentalDeserialize>(rt, &value, at),
         _ => None,
     }
 }
 
-fn read_as<T: FromToml + Debug + Drop>(rt: &impl Runner, value: &Value, at: &str) -> Option<()> {
-    begin(rt);
-    made(rt, T::read(rt.alloc(), value, at))
-}
-
-fn read_asked<T: FromToml + Told + Drop>(rt: &impl Runner, value: &Value, at: &str) -> Option<()> {
+fn read_as<T: FromToml + Told + Drop>(rt: &impl Runner, value: &Value, at: &str) -> Option<()> {
     begin(rt);
     answered(rt, T::read(rt.alloc(), value, at))
-}
-
-/// Reads a value by a setting's own reader.
-pub(crate) fn deserialize(rt: &impl Runner, name: &str, input: &str) -> Option<()> {
-    let (name, at) = name.split_once(' ').unwrap_or((name, "p"));
-    let alloc = rt.alloc();
-    let value = Value::from_input(rt, input)?;
-    begin(rt);
-    match name {
-        "fail_fast" => made(rt, deserialize_fail_fast(alloc, &value, at)),
-        "leak_timeout" => made(rt, deserialize_leak_timeout(alloc, &value, at)),
-        "relative_path" => made(rt, deserialize_relative_path(alloc, &value, at)),
-        "retry_policy" => made(rt, deserialize_retry_policy(alloc, &value, at)),
-        "slow_timeout" => made(rt, deserialize_slow_timeout(alloc, &value, at)),
-        _ => None,
-    }
 }

@@ -1,20 +1,21 @@
 //! Lists of sources, and verdicts on them.
 
-use crate::announced::{Runner, answered, begin, end, tell};
-use crate::inputs::{FromInput, listed};
-use crate::told::Told;
+use crate::told::{Told, answered, tell};
 use nextest_config::merge::{ReadPiece, read_halves};
 use nextest_config::nextest_version::{
     ConfigParseError, Edition, ExperimentalConfig, ExperimentalDeserialize, ListRefusal,
     NextestVersionConfig, NextestVersionReq, RepositoryText, SourceText, ToolText,
     VersionOnlyConfig,
 };
+use nextest_config_calls::announced::{Runner, begin, end};
+use nextest_config_calls::asked::parted;
+use nextest_config_calls::inputs::{FromInput, listed};
 use semver::Version;
 use std::alloc::Global;
 
 /// Reads a list by the call that is named, under the edition behind its name if there is one.
 pub(crate) fn read(rt: &impl Runner, words: &str, input: &str) -> Option<()> {
-    let (name, edition) = words.split_once(' ').unwrap_or((words, "ArrayAllowed"));
+    let (name, edition) = parted(words, "ArrayAllowed");
     let edition = edition_of(edition)?;
     if name.starts_with("from_sources") {
         return read_files(rt, name, edition, input);
@@ -90,7 +91,7 @@ fn files_with(
 
 /// Judges a current version, with the override where the input says so.
 pub(crate) fn eval(rt: &impl Runner, words: &str, input: &str) -> Option<()> {
-    let (current, flag) = words.split_once(' ').unwrap_or((words, ""));
+    let (current, flag) = parted(words, "");
     let config = NextestVersionConfig::from_input(rt, input)?;
     let current = Version::from_input(rt, current)?;
     begin(rt);

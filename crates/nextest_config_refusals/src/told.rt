@@ -1,10 +1,10 @@
 //! What is told of configurations and verdicts.
 
-use crate::announced::Runner;
 use nextest_config::nextest_version::{
     ExperimentalConfig, ExperimentalDeserialize, NextestVersionConfig, NextestVersionDeserialize,
     NextestVersionEval, NextestVersionReq, VersionOnlyConfig,
 };
+use nextest_config_calls::announced::{Runner, end};
 use semver::Version;
 use std::collections::BTreeSet;
 use std::fmt::Display;
@@ -12,6 +12,24 @@ use std::fmt::Display;
 /// A value that is told within a line.
 pub(crate) trait Told {
     fn tell(&self, rt: &impl Runner) -> Option<()>;
+}
+
+/// Tells a value, or a refusal as it prints.
+pub(crate) fn answered<T: Told + Drop, E: Display + Drop>(
+    rt: &impl Runner,
+    answer: Result<T, E>,
+) -> Option<()> {
+    end(rt);
+    match answer {
+        Ok(value) => tell(rt, &value),
+        Err(error) => println!(rt; "{error}").ok(),
+    }
+}
+
+/// Tells a value on a line.
+pub(crate) fn tell<T: Told>(rt: &impl Runner, value: &T) -> Option<()> {
+    value.tell(rt)?;
+    println!(rt).ok()
 }
 
 impl Told for NextestVersionReq {

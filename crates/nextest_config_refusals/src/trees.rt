@@ -4,8 +4,8 @@ ghost use Rattle.std.specs.Prelude.{◌<◌, ◌≤◌, length};
 ghost use Rattle.nextest_config_refusals.specs.Trees.{first_leaf, leaves_join};
 ghost use Rattle.nextest_config_refusals.specs.declared.trees.Leaf.TheVariants.{Nothing};
 
-use crate::announced::{Runner, begin, end, made, written};
 use nextest_config::board::{ChoiceTree, Choose};
+use nextest_config_calls::announced::{Runner, begin, end, made, written};
 
 // A leaf that is chosen if there is something in it.
 #[derive(Clone, Copy, Debug)]

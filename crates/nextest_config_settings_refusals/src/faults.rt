@@ -1,7 +1,7 @@
 //! Makers of faults, at the path `p`.
 
-use crate::announced::{Runner, begin, printed};
-use crate::inputs::FromInput;
+use nextest_config_calls::announced::{Runner, begin, printed};
+use nextest_config_calls::inputs::FromInput;
 use nextest_config_values::read::{FaultKind, ReadFault, Rule};
 use toml::Value;
 

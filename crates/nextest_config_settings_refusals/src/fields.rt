@@ -1,14 +1,15 @@
 //! The field `k` of a table at the path that a call names, or at `p`.
 
-use crate::announced::{Runner, begin, made};
-use crate::inputs::FromInput;
+use nextest_config_calls::announced::{Runner, begin, made};
+use nextest_config_calls::asked::parted;
+use nextest_config_calls::inputs::FromInput;
 use nextest_config_values::read::{FromToml, field_or, optional_field, required_field};
 use std::fmt::Debug;
 use toml::{Table, Value};
 
 /// Asks for the field by a call, as the type that is named first.
 pub(crate) fn ask(rt: &impl Runner, call: &str, name: &str, input: &str) -> Option<()> {
-    let (name, at) = name.split_once(' ').unwrap_or((name, "p"));
+    let (name, at) = parted(name, "p");
     let value = Value::from_input(rt, input)?;
     let table = value.as_table()?;
     match name {
