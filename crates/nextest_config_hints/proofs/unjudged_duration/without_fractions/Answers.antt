@@ -1,0 +1,11 @@
+use Rattle.std.proofs.Common.{sym}
+use Rattle.nextest_config_hints.proofs.Fractions.{fraction_step}
+use Rattle.nextest_config_hints.proofs.Runs.{first_and_rest}
+use Rattle.nextest_config_hints.proofs.unjudged_duration.without_fractions.Goals as goal
+
+pub loop-rest-preserved-then-begins_with_digit : goal.loop-rest-preserved-then-begins_with_digit
+loop-rest-preserved-then-begins_with_digit c =
+    let rest = c.loop-rest.rest.now in
+    let parts = first_and_rest rest c.first-item.result c.in-len1-up.len_at_least c.first-item.is in
+    fraction_step c.loop-rest.kept.items _ rest _ c.split_digits.result.0.now c.split_digits.result.1.now c.loop-rest.behind_digit c.first-item.result c.loop-rest.invariant c.if-behind_digit.true parts
+    c.if-first-eq46.true (sym c.if-begins_with_digit.ensures) c.split_digits.ensures.whole c.split_digits.ensures.is_run

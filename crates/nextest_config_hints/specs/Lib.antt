@@ -1,0 +1,2 @@
+pub mod NearestWord
+pub mod UnjudgedDuration

@@ -1,0 +1,129 @@
+//! Durations that the grammar doesn't take, and a more generous one may.
+
+ghost use Rattle.std.specs.Prelude.{◌≡◌, ◌↔◌, ◌++◌, IfOk, IsTrue, chars, encode_utf8_all, not, position, string_bytes};
+ghost use Rattle.std.specs.Char.{is_ascii_digit, is_whitespace};
+ghost use Rattle.nextest_config_values.specs.Duration.{IsRun};
+ghost use Rattle.nextest_config_hints.specs.UnjudgedDuration.{begins_with_digit, MayBeDuration, tidied, without_fractions, without_gaps};
+
+use nextest_config_values::duration::parse_duration;
+use std::alloc::{AllocError, Global};
+
+/// Whether the text is a bare `0`, or a duration once two things are left out of it: each dot
+/// between two digits with the digits behind it, and then the white space between two digits.
+pub fn may_be_duration(alloc: Global, text: &str) -> Result<bool, AllocError>
+    ensures { IfOk result (λ answer. IsTrue answer ↔ MayBeDuration text.now) }
+{
+    if text == "0" {
+        return Ok(true);
+    }
+    let tidied = tidied(alloc, text)?;
+    Ok(parse_duration(tidied.as_str()).is_ok())
+}
+
+// The text without fractions and gaps.
+fn tidied(alloc: Global, text: &str) -> Result<String, AllocError>
+    ensures { IfOk result (λ tidy. string_bytes tidy ≡ tidied text.now) }
+{
+    let characters = characters(alloc, text)?;
+    let whole = without_fractions(alloc, characters.as_slice())?;
+    let tidied = without_gaps(alloc, whole.as_slice())?;
+    text_of(alloc, tidied.as_slice())
+}
+
+// The characters of the text.
+fn characters(alloc: Global, text: &str) -> Result<Vec<char>, AllocError>
+    ensures { IfOk result (λ characters. characters.items ≡ chars text.now) }
+{
+    text.chars().collect(alloc)
+}
+
+// The text of the characters.
+fn text_of(alloc: Global, characters: &[char]) -> Result<String, AllocError>
+    ensures { IfOk result (λ text. string_bytes text ≡ encode_utf8_all characters.now) }
+{
+    characters.iter().copied().collect(alloc)
+}
+
+// The text without each dot between two digits and the digits behind it.
+fn without_fractions(alloc: Global, text: &[char]) -> Result<Vec<char>, AllocError>
+    ensures { IfOk result (λ kept. kept.items ≡ without_fractions text.now) }
+{
+    let mut kept = Vec::new(alloc);
+    let mut behind_digit = false;
+    let mut rest = text;
+    while let [first, behind @ ..] = rest {
+        if behind_digit && *first == '.' && begins_with_digit(behind) {
+            let (_, after) = split_digits(behind);
+            rest = after;
+        } else {
+            kept.push(*first)?;
+            behind_digit = first.is_ascii_digit();
+            rest = behind;
+        }
+    }
+    Ok(kept)
+}
+
+// The text without the white space between two digits.
+fn without_gaps(alloc: Global, text: &[char]) -> Result<Vec<char>, AllocError>
+    ensures { IfOk result (λ kept. kept.items ≡ without_gaps text.now) }
+{
+    let mut kept = Vec::new(alloc);
+    let mut behind_digit = false;
+    let mut rest = text;
+    while let [first, behind @ ..] = rest {
+        if behind_digit && first.is_whitespace() {
+            let (space, after) = split_space(rest);
+            if !begins_with_digit(after) {
+                kept.extend_from_slice(space)?;
+            }
+            behind_digit = false;
+            rest = after;
+        } else {
+            kept.push(*first)?;
+            behind_digit = first.is_ascii_digit();
+            rest = behind;
+        }
+    }
+    Ok(kept)
+}
+
+// Whether a digit comes next.
+fn begins_with_digit(text: &[char]) -> bool
+    ensures { result ≡ begins_with_digit text.now }
+{
+    match text.first() {
+        Some(first) => first.is_ascii_digit(),
+        None => false,
+    }
+}
+
+// The digits at the beginning of the text, and what stands behind them.
+fn split_digits(text: &[char]) -> (&[char], &[char])
+    ensures whole { text.now ≡ result.0.now ++ result.1.now }
+    ensures is_run { IsRun is_ascii_digit result.0.now result.1.now }
+{
+    text.split_at(first_behind_digits(text).unwrap_or(text.len()))
+}
+
+// The white space at the beginning of the text, and what stands behind it.
+fn split_space(text: &[char]) -> (&[char], &[char])
+    ensures whole { text.now ≡ result.0.now ++ result.1.now }
+    ensures is_run { IsRun is_whitespace result.0.now result.1.now }
+{
+    text.split_at(first_behind_space(text).unwrap_or(text.len()))
+}
+
+// The place of the first character that is no digit.
+fn first_behind_digits(text: &[char]) -> Option<usize>
+    ensures { result ≡ position (λ c. not (is_ascii_digit c)) text.now }
+{
+    text.iter().position(|c| !c.is_ascii_digit())
+}
+
+// The place of the first character that is no white space.
+fn first_behind_space(text: &[char]) -> Option<usize>
+    ensures { result ≡ position (λ c. not (is_whitespace c)) text.now }
+{
+    text.iter().position(|c| !c.is_whitespace())
+}

@@ -1,0 +1,4 @@
+pub mod Line
+pub mod Search
+pub mod Statements
+pub mod Step
