@@ -1,2 +1,12 @@
-pub mod Cuts
-pub mod Steps
+pub mod Accepted
+pub mod AllFound
+pub mod FindingsOnce
+pub mod FoundKinds
+pub mod FoundLists
+pub mod Fronts
+pub mod Keys
+pub mod Lists
+pub mod NoDuration
+pub mod Places
+pub mod WarnedReads
+pub mod Warnings

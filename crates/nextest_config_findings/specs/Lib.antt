@@ -1,3 +1,11 @@
+pub mod Document
+pub mod Faults
+pub mod Features
+pub mod File
 pub mod Finding
-pub mod Line
-pub mod Step
+pub mod FindingsLaws
+pub mod Found
+pub mod Judged
+pub mod Place
+pub mod PlaceLaws
+pub mod Unknown

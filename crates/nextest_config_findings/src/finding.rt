@@ -4,7 +4,7 @@ ghost use Rattle.std.specs.Prelude.{◌≡◌, Some};
 ghost use Rattle.std.specs.Fmt.{WritesOnOk};
 ghost use Rattle.nextest_config_findings.specs.Finding.{finding_kind_text, finding_text, hint_text, severity_of};
 
-use crate::step::{PathText, Step};
+use nextest_config_lines::{PathText, Step};
 use nextest_config_values::read::{FaultKind, QuotedText, QuotedTexts};
 use std::collections::BTreeSet;
 use std::fmt::{self, Display};

@@ -1,10 +1,17 @@
 //! What is wrong in a whole configuration file, each with its line.
 #![tactic(auto)]
 
+mod document;
+mod faults;
+mod features;
+mod file;
 mod finding;
-mod line;
-mod step;
+mod judged;
+pub mod laws;
+mod place;
+mod unknown;
 
+pub use document::findings;
+pub use file::{LocatedFinding, located};
 pub use finding::{Finding, FindingKind, Hint, Severity};
-pub use line::line_of;
-pub use step::{PathText, Step};
+pub use nextest_config_lines::{PathText, Step, line_of};

@@ -14,8 +14,6 @@ mod faults;
 #[cfg(test)]
 mod fields;
 #[cfg(test)]
-mod findings;
-#[cfg(test)]
 mod identifiers;
 #[cfg(test)]
 mod junit;
@@ -23,8 +21,6 @@ mod junit;
 mod kinds;
 #[cfg(test)]
 mod limits;
-#[cfg(test)]
-mod lines;
 #[cfg(test)]
 mod orders;
 #[cfg(test)]

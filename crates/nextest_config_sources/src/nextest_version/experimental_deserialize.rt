@@ -52,14 +52,14 @@ impl ExperimentalDeserialize {
     }
 
     /// Whether no feature is named.
-    pub(crate) fn is_empty(&self) -> bool
+    pub fn is_empty(&self) -> bool
         ensures { IsTrue result ↔ (features_of self.now ≡ no_features) }
     {
         self.known.is_empty() && self.unknown.is_empty()
     }
 
     /// The names of the known features and of the unknown ones.
-    pub(crate) fn feature_names(&self, alloc: Global) -> Result<BTreeSet<String>, AllocError>
+    pub fn feature_names(&self, alloc: Global) -> Result<BTreeSet<String>, AllocError>
         ensures { IfOk result (λ names. AreNames (features_of self.now) (map string_bytes names.keys)) }
     {
         let mut names = known_words(alloc, &self.known)?;

@@ -1,0 +1,61 @@
+-- What is found of a fault.
+use Rattle.std.proofs.Common.{◌≡◌, ◌↔◌, ℕ, Bool, true, false, IfSome, IsTrue, List, Option, None, Some, ap, inl, inr, is_none, option_map, refl, subst, sym, ◌∙◌}
+use Rattle.toml.specs.Data.{Data}
+use Rattle.nextest_config_values.specs.Read.Fault.{Fault}
+use Rattle.nextest_config_values.specs.Read.{fault_at, fault_of, FaultOrMemory, IsMemory, Reason, Refuses}
+use Rattle.nextest_config_values.specs.declared.read.fault.ReadFault.{ReadFault}
+use Rattle.nextest_config_sources.specs.declared.nextest_version.edition.Edition.{Edition}
+use Rattle.nextest_config_lines.specs.Step.{PathStep, printed_path}
+use Rattle.nextest_config_findings.specs.Faults.{Added, added_step, IsFaultFound, IsFoundKind, IsFoundOf, IsUnjudged, led_to, with_added}
+use Rattle.nextest_config_findings.specs.Found.{Found, found_at, found_of, FoundKind, refused, unjudged}
+use Rattle.nextest_config_findings.specs.Judged.{JudgedValue}
+use Rattle.nextest_config_findings.specs.Place.{PlaceFaults}
+use Rattle.nextest_config_findings.specs.declared.finding.Finding.{Finding}
+
+-- a kind of finding that is told so
+abbrev pub IsToldKind : Data → Option Reason → Option FoundKind → Type 0
+IsToldKind value told finding = (reason : Reason) × (kind : FoundKind) × (told ≡ Some reason) × IsFoundKind value reason kind × (finding ≡ Some kind)
+
+pub kind_unjudged : (value : Data) (told : Option Reason) (answer : Bool) → false ≡ is_none told → IfSome told (λ reason. IsTrue answer ↔ IsUnjudged value reason) → IsTrue answer → IsToldKind value told (Some unjudged)
+kind_unjudged value None answer some is told_so = absurd (cc some)
+kind_unjudged value (Some reason) answer some is told_so = (reason, unjudged, refl, inl (is.0 told_so, refl), refl)
+
+pub kind_refused : (value : Data) (told : Option Reason) (answer : Bool) → false ≡ is_none told → IfSome told (λ reason. IsTrue answer ↔ IsUnjudged value reason) → false ≡ answer → IsToldKind value told (option_map refused told)
+kind_refused value None answer some is told_not = absurd (cc some)
+kind_refused value (Some reason) answer some is told_not =
+    let none : IsUnjudged value reason → ⊥ = λ u. (let told_so : answer ≡ true = is.1 u in cc (told_so, told_not)) in
+    (reason, refused reason, refl, inr (none, refl), refl)
+
+-- what is told of a fault at its path, from its kind
+pub finding_told : (path : List PathStep) (value : Data) (fault_path : List ℕ) (added : Option Added) (told : Option Reason) (kind : Option FoundKind) (found_path : List PathStep)
+    → added_step value (printed_path path) fault_path ≡ added → found_path ≡ with_added path added → IsToldKind (led_to value added) told kind
+    → (fault : Fault) × (found : Found) × (option_map (fault_at fault_path) told ≡ Some fault) × IsFoundOf path value fault found × (option_map (found_at found_path) kind ≡ Some found)
+finding_told path value fault_path added told kind found_path is path_is (reason, told_kind, told_is, found, kind_is) = (
+  fault_at fault_path reason,
+  found_at found_path told_kind,
+  ap (option_map (fault_at fault_path)) told_is,
+  record {
+    path_is = path_is ∙ ap (with_added path) (sym is);
+    kind_is = subst (λ (step : Option Added). IsFoundKind (led_to value step) reason told_kind) (sym is) found;
+  },
+  ap (option_map (found_at found_path)) kind_is,
+)
+
+-- the step that was found is the one that the definition gives
+pub added_is : {M : Type 0} (tells : M → Added) (result : Option M) (value : Data) (at printed path text : List ℕ) → option_map tells result ≡ added_step value at path → at ≡ printed → path ≡ text
+    → (expected : Option Added) → option_map tells result ≡ expected → added_step value printed text ≡ expected
+added_is tells result value at printed path text is at_is path_is expected found = rw (← at_is, ← path_is) (sym is ∙ found)
+
+-- a finding that is told of a refusal
+abbrev pub IsToldFinding : List PathStep → Data → ReadFault → Finding → Type 0
+IsToldFinding path value refusal finding = (fault : Fault) × (found : Found) × (fault_of refusal ≡ Some fault) × IsFoundOf path value fault found × (found_of finding ≡ Some found)
+
+-- a refusal that tells a fault, and what is found of it
+pub refused_found : (edition : Edition) (judged : JudgedValue) (refusal : ReadFault) (finding : Finding)
+    → Refuses (PlaceFaults edition judged.place judged.value (printed_path judged.path)) (Unit {0}) refusal
+    → IsToldFinding judged.path judged.value refusal finding
+    → (here : Option Found) × IsFaultFound edition judged here × (Some (found_of finding) ≡ option_map Some here)
+refused_found edition judged refusal finding refuses (fault, found, told, is_found, finding_is) =
+    let is_fault : PlaceFaults edition judged.place judged.value (printed_path judged.path) fault =
+    subst (λ (t : Option Fault). FaultOrMemory t (IsMemory refusal × Unit {0}) (PlaceFaults edition judged.place judged.value (printed_path judged.path))) told refuses in
+    (Some found, (fault, is_fault, is_found), ap Some finding_is)

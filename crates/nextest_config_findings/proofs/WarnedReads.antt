@@ -1,0 +1,103 @@
+-- A document of which only warnings are found asks something.
+use Rattle.std.specs.Prelude.{◌≡◌, ℕ, zero, suc, List, [], ◌∷◌, flat_map, Option, Some, None}
+use Rattle.std.proofs.Common.{refl, inl, inr}
+use Rattle.std.specs.List.{AllByRecursion}
+use Rattle.toml.specs.Data.{Data, get_member, Members}
+use Rattle.toml.specs.Parse.{parse_document}
+use Rattle.nextest_config_values.proofs.Elements.{all_left, all_right, all_weaker}
+use Rattle.nextest_config_sources.specs.NextestVersion.{Ask, Asks, AsksFeatures, AsksVersions, experimental_key, FeatureSetting, KeepsForm, KeepsToolRule, MeansFeatures, MeansVersions, no_feature_setting, no_features, no_versions, TextAsks, version_key, Versions}
+use Rattle.nextest_config_sources.specs.declared.nextest_version.edition.Edition.{Edition}
+use Rattle.nextest_config_sources.specs.declared.nextest_version.edition.Edition.TheVariants.{ArrayAllowed, TableOnly}
+use Rattle.nextest_config_sources.specs.declared.nextest_version.source.ConfigSourceKind.{ConfigSourceKind}
+use Rattle.nextest_config_sources.specs.declared.nextest_version.source.ConfigSourceKind.TheVariants.{DiscoveredRepository, ExplicitRepository, Tool}
+use Rattle.nextest_config_lines.specs.Step.{key, printed_path}
+use Rattle.nextest_config_findings.proofs.NoDuration.{experimental_no_duration, versions_no_duration}
+use Rattle.nextest_config_findings.proofs.Warnings.{warned_in}
+use Rattle.nextest_config_findings.specs.Document.{AreFindings}
+use Rattle.nextest_config_findings.specs.FindingsLaws.{IsJudgedWell, IsWarning, NamesNothingForTool}
+use Rattle.nextest_config_findings.specs.Found.{Found}
+use Rattle.nextest_config_findings.specs.Judged.{at_known_key, below_table, deepest, from_table, if_there, judged_at, judged_in, JudgedValue}
+use Rattle.nextest_config_findings.specs.Place.{rows_of}
+use Rattle.nextest_config_findings.specs.declared.place.Place.TheVariants.{Experimental, NextestVersion, Top}
+use Rattle.nextest_config_findings.specs.declared.place.TheConstants.{TOP}
+
+-- ---- what holds of each judged value holds at the keys of the top
+
+of_each : {X A : Type 0} (P : A → Type 0) (f : X → List A) (xs : List X) → AllByRecursion P (flat_map f xs) → AllByRecursion (λ x. AllByRecursion P (f x)) xs
+of_each P f [] h = tt
+of_each P f (x ∷ xs) h = (all_left P (f x) (flat_map f xs) h, of_each P f xs (all_right P (f x) (flat_map f xs) h))
+
+of_itself : (P : JudgedValue → Type 0) (depth : ℕ) (judged : JudgedValue) → AllByRecursion P (judged_in depth judged) → P judged
+of_itself P zero judged h = h.0
+of_itself P (suc depth) judged h = h.0
+
+at_top : (P : JudgedValue → Type 0) (members : Members) → AllByRecursion P (from_table members)
+    → AllByRecursion (λ known. AllByRecursion P (at_known_key [] members known)) (rows_of TOP.now)
+at_top P members h = of_each P (at_known_key [] members) (rows_of TOP.now)
+    (all_weaker (λ judged. AllByRecursion P (judged_in deepest judged)) P (of_itself P deepest) (below_table Top [] members)
+    (of_each P (judged_in deepest) (below_table Top [] members) h))
+
+-- ---- `nextest-version`
+
+versions_well : (edition : Edition) (value : Data) → IsJudgedWell edition (judged_at [] (key version_key) NextestVersion value)
+    → (versions : Versions) × MeansVersions value versions
+versions_well edition value (inl means) = means
+versions_well edition value (inr (fault, faulty, (of_duration, text))) =
+    absurd (versions_no_duration value (printed_path (key version_key ∷ [])) fault faulty of_duration)
+
+versions_asked : (edition : Edition) (found : Option Data) → AllByRecursion (IsJudgedWell edition) (if_there [] (key version_key) NextestVersion found)
+    → (versions : Versions) × AsksVersions found versions
+versions_asked edition None h = (no_versions, refl)
+versions_asked edition (Some value) h = versions_well edition value h.0
+
+-- ---- `experimental`
+
+features_well : (edition : Edition) (value : Data) → IsJudgedWell edition (judged_at [] (key experimental_key) Experimental value)
+    → KeepsForm edition (Some value) × ((named : FeatureSetting) × MeansFeatures value named)
+features_well edition value (inl means) = means
+features_well edition value (inr (fault, faulty, (of_duration, text))) =
+    absurd (experimental_no_duration edition value (printed_path (key experimental_key ∷ [])) fault faulty of_duration)
+
+no_form : (edition : Edition) → KeepsForm edition None
+no_form ArrayAllowed = tt
+no_form TableOnly = refl
+
+no_name : (kind : ConfigSourceKind) → KeepsToolRule kind no_features
+no_name (Tool name) = refl
+no_name ExplicitRepository = tt
+no_name DiscoveredRepository = tt
+
+-- the features that are asked, in a form that is taken, and by a file that may name them
+record AskedFeatures (edition : Edition) (kind : ConfigSourceKind) (found : Option Data) : Type 0 where
+  named : FeatureSetting
+  of_form : KeepsForm edition found
+  of_features : AsksFeatures found named
+  of_tool : KeepsToolRule kind named.features
+
+features_asked : (edition : Edition) (kind : ConfigSourceKind) (found : Option Data)
+    → AllByRecursion (IsJudgedWell edition) (if_there [] (key experimental_key) Experimental found) → NamesNothingForTool edition kind found
+    → AskedFeatures edition kind found
+features_asked edition kind None h may = record { named = no_feature_setting; of_form = no_form edition; of_features = refl; of_tool = no_name kind }
+features_asked edition kind (Some value) h may =
+    let well = features_well edition value h.0 in
+    record { named = well.1.0; of_form = well.0; of_features = well.1.1; of_tool = may well.0 well.1.0 well.1.1 }
+
+-- ---- the document
+
+asks : (edition : Edition) (kind : ConfigSourceKind) (members : Members) → AllByRecursion (IsJudgedWell edition) (from_table members)
+    → NamesNothingForTool edition kind (get_member experimental_key members) → (ask : Ask) × Asks edition kind members ask
+asks edition kind members well may =
+    let top = at_top (IsJudgedWell edition) members well in
+    let versions = versions_asked edition (get_member version_key members) top.0 in
+    let asked = features_asked edition kind (get_member experimental_key members) top.1.0 may in (
+      record { versions = versions.0; features = asked.named.features; array = asked.named.array },
+      record { of_versions = versions.1; of_form = asked.of_form; of_features = asked.of_features; of_tool = asked.of_tool },
+    )
+
+pub warned_reads : (edition : Edition) (kind : ConfigSourceKind) (text : List ℕ) (members : Members) (founds : List Found)
+    → parse_document text ≡ Some members → AreFindings edition kind members founds → AllByRecursion IsWarning founds
+    → (ask : Ask) × TextAsks edition kind (Some text) ask
+warned_reads edition kind text members founds is are warned =
+    let well = (warned_in edition kind members founds are).0 warned in
+    let asked = asks edition kind members well.0 well.1 in
+    (asked.0, (members, is, asked.1))

@@ -1,0 +1,15 @@
+use Rattle.std.proofs.Common.{◌≡◌, ◌≢◌, [], ◌∷◌, ap, inr, map, refl, rules, string_bytes, ◌∙◌}
+use Rattle.nextest_config_sources.specs.NextestVersion.{features_of, no_features}
+use Rattle.nextest_config_findings.specs.Features.{features_path}
+use Rattle.nextest_config_findings.specs.Found.{found_at, found_of, tool_names}
+use Rattle.nextest_config_findings.proofs.features.tool_features.Goals as goal
+
+pub returns : goal.returns
+returns c =
+    let names = map string_bytes c.in_ok-features.features.keys in
+    let some : features_of c.args.named.now ≢ no_features = λ none. (let is = c.is_empty.ensures.1 none in cc (is, c.if-is_empty.false)) in
+    let pushed : c.push.new.self.items ≡ c.in_ok-finding_at.field-0 ∷ [] = search rules in (
+      found_at features_path (tool_names names) ∷ [],
+      inr (some, (names, c.in_ok-features.ensures, refl)),
+      ap (map found_of) pushed ∙ ap (λ f. f ∷ []) c.in_ok-finding_at.ensures,
+    )

@@ -1,0 +1,18 @@
+use Rattle.std.proofs.Common.{rules}
+use Rattle.std.proofs.lemmas.List.Sorted.{answers_always}
+use Rattle.nextest_config_findings.proofs.file.located_in_document.Goals as goal
+
+pub returns : goal.returns
+returns c =
+    let found = c.in_ok-findings.ensures in
+    record {
+      founds = found.0;
+      are_findings = found.1;
+      before = c.in_ok-located.located.items;
+      at_lines = c.in_ok-located.ensures found.0 found.2;
+      sorted = record {
+        same = c.in_ok-sort_by_key.ensures.permutation;
+        by_line = c.in_ok-sort_by_key.ensures.sorted (λ located. located.line) (search (rules, answers_always));
+        stable = c.in_ok-sort_by_key.ensures.stable (λ located. located.line) (search (rules, answers_always));
+      };
+    }

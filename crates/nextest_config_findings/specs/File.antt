@@ -1,0 +1,108 @@
+-- All that is found in a file, each with its line.
+use Rattle.std.specs.Prelude.{◌≡◌, ◌≢◌, ◌⊎◌, ℕ, suc, ◌≤◌, ◌+◌, ◌||◌, ◌==◌, Bool, List, [], ◌∷◌, ◌++◌, IsUtf8, count_by, if◌then◌else◌, length, map, nat_lt, nat_le, Option, Some, None, take}
+use Rattle.std.specs.List.{AllByRecursion}
+use Rattle.std.specs.List.Sorted.{IsPermutation, IsSortedByKey, IsStableByKey}
+use Rattle.std.specs.Ordering.{nat_cmp}
+use Rattle.std.specs.Str.Lossy.{utf8_valid_len}
+use Rattle.toml.specs.Data.{Members}
+use Rattle.toml.specs.Parse.{parse_document}
+use Rattle.nextest_config_values.specs.Characters.{line_feed}
+use Rattle.nextest_config_sources.specs.declared.nextest_version.edition.Edition.{Edition}
+use Rattle.nextest_config_sources.specs.declared.nextest_version.source.ConfigSourceKind.{ConfigSourceKind}
+use Rattle.nextest_config_lines.specs.Line.{EndsLine, HasNoLine, IsLine, line_behind}
+use Rattle.nextest_config_lines.specs.Step.{key, PathStep}
+use Rattle.nextest_config_findings.specs.Document.{AreFindings}
+use Rattle.nextest_config_findings.specs.Found.{Found, found_at, FoundKind, found_of, not_toml, not_utf8, unknown_key}
+use Rattle.nextest_config_findings.specs.declared.file.LocatedFinding.{LocatedFinding}
+
+-- what a located finding tells: its line, its column, if it has one, and what is found
+abbrev pub Told : Type 0
+Told = ℕ × Option ℕ × Option Found
+
+abbrev pub located_told : LocatedFinding → Told
+located_told located = (located.line, located.column, found_of located.finding)
+
+-- ---- a file that is no document
+
+-- the byte ends no line
+abbrev pub IsInLine : ℕ → Type 0
+IsInLine byte = byte ≢ line_feed
+
+-- the byte begins a character
+abbrev pub begins_character : ℕ → Bool
+begins_character byte = nat_lt byte 128 || nat_le 192 byte
+
+-- the column, from 1, of what stands behind this front of a text: in its last line, as many characters further
+pub record IsColumn (front : List ℕ) (column : ℕ) : Type 0 where
+  pub before : List ℕ
+  pub last : List ℕ
+  pub whole : front ≡ before ++ last
+  pub begins : EndsLine before ⊎ (before ≡ [])
+  pub one_line : AllByRecursion IsInLine last
+  pub column_is : column ≡ suc (count_by begins_character last)
+
+-- the column behind one byte more
+abbrev pub column_after : ℕ → ℕ → ℕ
+column_after column byte = if byte == line_feed then 1 else if begins_character byte then column + 1 else column
+
+-- the file isn't UTF-8, at the line of its first bad byte
+abbrev pub IsNotUtf8 : List ℕ → List LocatedFinding → Type 0
+IsNotUtf8 contents located = map located_told located ≡ (line_behind (take (utf8_valid_len contents) contents), None, Some (found_at [] not_utf8)) ∷ []
+
+-- the file isn't a document, at a place in it, with a message
+pub record IsNotToml (contents : List ℕ) (located : List LocatedFinding) : Type 0 where
+  pub place : ℕ
+  pub within : place ≤ length contents
+  pub column : ℕ
+  pub column_is : IsColumn (take place contents) column
+  pub message : List ℕ
+  pub told : map located_told located ≡ (line_behind (take place contents), Some column, Some (found_at [] (not_toml message))) ∷ []
+
+-- ---- the findings of a document
+
+-- the path that a finding is located by: for an unknown key that of the key
+abbrev pub path_behind : List PathStep → FoundKind → List PathStep
+path_behind path (unknown_key name hint) = path ++ (key name ∷ [])
+path_behind path kind = path
+
+abbrev pub line_path : Found → List PathStep
+line_path found = path_behind found.path found.kind
+
+-- the line of a path, or the first one where it has none
+abbrev pub IsLineOrFirst : List ℕ → List PathStep → ℕ → Type 0
+IsLineOrFirst contents path line = IsLine contents path line ⊎ (HasNoLine contents path × (line ≡ 1))
+
+-- a finding at its line
+pub record IsAtLine (contents : List ℕ) (found : Found) (located : LocatedFinding) : Type 0 where
+  pub told : found_of located.finding ≡ Some found
+  pub no_column : located.column ≡ None
+  pub at_line : IsLineOrFirst contents (line_path found) located.line
+
+-- each finding at its line
+abbrev pub AreAtLines : List ℕ → List Found → List LocatedFinding → Type 0
+AreAtLines contents [] located = located ≡ []
+AreAtLines contents (found ∷ founds) located = (first : LocatedFinding) × (rest : List LocatedFinding) × (located ≡ first ∷ rest) × IsAtLine contents found first × AreAtLines contents founds rest
+
+-- the same findings by their lines, those of one line as they were
+pub record AreSorted (before sorted : List LocatedFinding) : Type 0 where
+  pub same : IsPermutation before sorted
+  pub by_line : IsSortedByKey (λ located. located.line) nat_cmp sorted
+  pub stable : IsStableByKey (λ located. located.line) nat_cmp before sorted
+
+-- the findings of a document, by their lines
+pub record AreLocatedIn (edition : Edition) (kind : ConfigSourceKind) (contents : List ℕ) (members : Members) (located : List LocatedFinding) : Type 0 where
+  pub founds : List Found
+  pub are_findings : AreFindings edition kind members founds
+  pub before : List LocatedFinding
+  pub at_lines : AreAtLines contents founds before
+  pub sorted : AreSorted before located
+
+-- what is found in a file, if it is a document
+abbrev pub AreInText : Edition → ConfigSourceKind → List ℕ → Option Members → List LocatedFinding → Type 0
+AreInText edition kind contents None located = IsNotToml contents located
+AreInText edition kind contents (Some members) located = AreLocatedIn edition kind contents members located
+
+-- what is found in a file
+abbrev pub AreLocated : Edition → ConfigSourceKind → List ℕ → List LocatedFinding → Type 0
+AreLocated edition kind contents located =
+    (IsUtf8 contents × AreInText edition kind contents (parse_document contents) located) ⊎ ((IsUtf8 contents → ⊥) × IsNotUtf8 contents located)

@@ -1,0 +1,41 @@
+-- Words of the laws of findings.
+use Rattle.std.specs.Prelude.{◌≡◌, ◌⊎◌, Option, Some, None}
+use Rattle.toml.specs.Data.{Data}
+use Rattle.nextest_config_values.specs.Read.Fault.{Fault}
+use Rattle.nextest_config_sources.specs.NextestVersion.{FeatureSetting, KeepsForm, KeepsToolRule, MeansFeatures}
+use Rattle.nextest_config_sources.specs.declared.nextest_version.edition.Edition.{Edition}
+use Rattle.nextest_config_sources.specs.declared.nextest_version.source.ConfigSourceKind.{ConfigSourceKind}
+use Rattle.nextest_config_lines.specs.Step.{printed_path}
+use Rattle.nextest_config_findings.specs.Faults.{added_step, IsUnjudged, led_to}
+use Rattle.nextest_config_findings.specs.Found.{Found, gravity}
+use Rattle.nextest_config_findings.specs.Judged.{JudgedValue}
+use Rattle.nextest_config_findings.specs.Place.{MeansSomething, PlaceFaults}
+use Rattle.nextest_config_findings.specs.declared.finding.Severity.TheVariants.{Warning}
+
+-- the finding is a warning
+abbrev pub IsWarning : Found → Type 0
+IsWarning found = gravity found.kind ≡ Warning
+
+-- the value that has the fault: the judged one, or one right below it
+abbrev pub faulty_value : JudgedValue → Fault → Data
+faulty_value judged fault =
+    led_to judged.value (added_step judged.value (printed_path judged.path) fault.path)
+
+-- the value has a fault of a duration that isn't judged, since it may be one for nextest
+abbrev pub IsUnjudgedValue : Edition → JudgedValue → Type 0
+IsUnjudgedValue edition judged =
+    (fault : Fault)
+    × PlaceFaults edition judged.place judged.value (printed_path judged.path) fault
+    × IsUnjudged (faulty_value judged fault) fault.reason
+
+-- the value means something at its place, or is a duration that isn't judged
+abbrev pub IsJudgedWell : Edition → JudgedValue → Type 0
+IsJudgedWell edition judged =
+    MeansSomething edition judged.place judged.value ⊎ IsUnjudgedValue edition judged
+
+-- the value of `experimental`, if there is one, names no feature where the file is that of a tool
+abbrev pub NamesNothingForTool : Edition → ConfigSourceKind → Option Data → Type 0
+NamesNothingForTool edition kind None = Unit {0}
+NamesNothingForTool edition kind (Some value) =
+    KeepsForm edition (Some value)
+    → (named : FeatureSetting) → MeansFeatures value named → KeepsToolRule kind named.features

@@ -1,0 +1,246 @@
+//! All that is found in a file, each with its line.
+
+ghost use Rattle.std.specs.Prelude.{◌≡◌, ◌<◌, ◌^◌, [], ◌∷◌, IfOk, List, None, OnOk, Some, map, option_map};
+ghost use Rattle.toml.specs.Errors.{IsMemory, IsWithin};
+ghost use Rattle.toml.specs.Parse.{parse_document};
+ghost use Rattle.toml.specs.View.{table_view};
+ghost use Rattle.nextest_config_lines.specs.Line.{line_behind};
+ghost use Rattle.nextest_config_lines.specs.Step.{step_of};
+ghost use Rattle.nextest_config_findings.specs.File.{AreAtLines, AreInText, AreLocated, AreLocatedIn, column_after, IsAtLine, IsColumn, IsLineOrFirst, IsNotToml, located_told, path_behind};
+ghost use Rattle.nextest_config_findings.specs.Found.{Found, found_at, found_of, FoundKind, kind_told, not_utf8, Tells};
+
+use crate::document::findings;
+use crate::finding::{Finding, FindingKind};
+use nextest_config_lines::{Step, line_of};
+use nextest_config_sources::nextest_version::{ConfigSourceKind, Edition};
+use std::alloc::{AllocError, Global};
+use toml::Table;
+use toml::de::Error;
+
+/// What is found in a file, at its line, from 1. The error of a text that is no document has a column, too: in
+/// characters, from 1.
+#[derive(Debug, PartialEq, Eq, Drop)]
+pub struct LocatedFinding {
+    pub line: usize,
+    pub column: Option<usize>,
+    pub finding: Finding,
+}
+
+/// All that is wrong in the file of a source of this kind, by its lines; what is found on one line stands in
+/// the order of `findings`. A file that isn't UTF-8 or no TOML document has one error, and nothing else is
+/// judged.
+pub fn located(
+    alloc: Global,
+    source: &ConfigSourceKind,
+    edition: Edition,
+    contents: &[u8],
+) -> Result<Vec<LocatedFinding>, AllocError>
+    ensures { IfOk result (λ located. AreLocated edition source.now contents.now located.items) }
+{
+    match str::from_utf8(contents) {
+        Ok(text) => {
+            let located = located_in_text(alloc, source, edition, text)?;
+            Ok(located)
+        }
+        Err(error) => {
+            let located = not_utf8(alloc, &contents[..error.valid_up_to()])?;
+            Ok(located)
+        }
+    }
+}
+
+// The file isn't UTF-8 behind this front.
+fn not_utf8(alloc: Global, front: &[u8]) -> Result<Vec<LocatedFinding>, AllocError>
+    ensures { IfOk result (λ located. map located_told located.items
+        ≡ (line_behind front.now, None, Some (found_at [] not_utf8)) ∷ []) }
+{
+    let line = line_behind(front);
+    let located = alone(alloc, line, None, FindingKind::NotUtf8)?;
+    Ok(located)
+}
+
+// A finding of the whole file, and no other.
+fn alone(
+    alloc: Global,
+    line: usize,
+    column: Option<usize>,
+    kind: FindingKind,
+) -> Result<Vec<LocatedFinding>, AllocError>
+    ensures { IfOk result (λ located. map located_told located.items
+        ≡ (line, column, option_map (found_at []) (kind_told kind)) ∷ []) }
+{
+    let path = Vec::new(alloc);
+    let finding = Finding { path, kind };
+    let mut located = Vec::new(alloc);
+    located.push(LocatedFinding {
+        line,
+        column,
+        finding,
+    })?;
+    Ok(located)
+}
+
+// The number of the line, from 1, that goes on behind this front of a text.
+fn line_behind(front: &[u8]) -> usize
+    ensures { result ≡ line_behind front.now }
+{
+    front.iter().filter(|byte| **byte == b'\n').count() + 1
+}
+
+// The column, from 1, of what stands behind this front of a text.
+fn column_behind(front: &[u8]) -> usize
+    ensures { IsColumn front.now result }
+{
+    let mut column = 1;
+    for byte in front {
+        column = column_after(column, *byte);
+    }
+    column
+}
+
+// The column behind one byte more.
+fn column_after(column: usize, byte: u8) -> usize
+    requires { column < 2 ^ 63 }
+    ensures { result ≡ column_after column byte }
+{
+    if byte == b'\n' {
+        1
+    } else if byte < 128 || byte >= 192 {
+        column + 1
+    } else {
+        column
+    }
+}
+
+// What is found in a text.
+fn located_in_text(
+    alloc: Global,
+    source: &ConfigSourceKind,
+    edition: Edition,
+    text: &str,
+) -> Result<Vec<LocatedFinding>, AllocError>
+    ensures { IfOk result (λ located.
+        AreInText edition source.now text.now (parse_document text.now) located.items) }
+{
+    match toml::table_from_str(alloc, text) {
+        Ok(document) => {
+            let located = located_in_document(alloc, source, edition, text, &document)?;
+            Ok(located)
+        }
+        Err(error) => {
+            let located = not_toml(alloc, text.as_bytes(), &error)?;
+            Ok(located)
+        }
+    }
+}
+
+// The text isn't a document.
+fn not_toml(alloc: Global, text: &[u8], error: &Error) -> Result<Vec<LocatedFinding>, AllocError>
+    requires { IsWithin text.now error.now }
+    ensures memory { OnOk result (¬ IsMemory error.now) }
+    ensures told { IfOk result (λ located. IsNotToml text.now located.items) }
+{
+    let Some(span) = error.span() else {
+        return Err(AllocError);
+    };
+    let front = &text[..span.start];
+    let message = String::from_str(alloc, error.message())?;
+    let column = Some(column_behind(front));
+    let located = alone(
+        alloc,
+        line_behind(front),
+        column,
+        FindingKind::NotToml { message },
+    )?;
+    Ok(located)
+}
+
+// What is found in a document, by its lines.
+fn located_in_document(
+    alloc: Global,
+    source: &ConfigSourceKind,
+    edition: Edition,
+    text: &str,
+    document: &Table,
+) -> Result<Vec<LocatedFinding>, AllocError>
+    ensures { IfOk result (λ located.
+        AreLocatedIn edition source.now text.now (table_view document.now) located.items) }
+{
+    let findings = findings(alloc, source, edition, document)?;
+    let mut located = at_lines(alloc, text, findings)?;
+    located.sort_by_key(|it| it.line)?;
+    Ok(located)
+}
+
+// Each finding with its line.
+fn at_lines(
+    alloc: Global,
+    text: &str,
+    findings: Vec<Finding>,
+) -> Result<Vec<LocatedFinding>, AllocError>
+    ensures { IfOk result (λ located. (founds : List Found) → Tells findings.items founds
+        → AreAtLines text.now founds located.items) }
+{
+    let mut located = Vec::new(alloc);
+    for finding in findings {
+        located.push(at_line(alloc, text, finding)?)?;
+    }
+    Ok(located)
+}
+
+// A finding with its line.
+fn at_line(alloc: Global, text: &str, finding: Finding) -> Result<LocatedFinding, AllocError>
+    ensures { IfOk result (λ located. (found : Found) → found_of finding ≡ Some found
+        → IsAtLine text.now found located) }
+{
+    let path = line_path(alloc, &finding)?;
+    let line = line_or_first(alloc, text, path.as_slice())?;
+    Ok(LocatedFinding {
+        line,
+        column: None,
+        finding,
+    })
+}
+
+// The line of a path, or the first one where it has none.
+fn line_or_first(alloc: Global, text: &str, path: &[Step]) -> Result<usize, AllocError>
+    ensures { IfOk result (IsLineOrFirst text.now (map step_of path.now)) }
+{
+    match line_of(alloc, text, path)? {
+        Some(line) => Ok(line),
+        None => Ok(1),
+    }
+}
+
+// The path that a finding is located by.
+fn line_path(alloc: Global, finding: &Finding) -> Result<Vec<Step>, AllocError>
+    ensures { IfOk result (λ path. (kind : FoundKind) → kind_told finding.now.kind ≡ Some kind
+        → map step_of path.items ≡ path_behind (map step_of finding.now.path.items) kind) }
+{
+    let mut path = copy_of(alloc, finding.path.as_slice())?;
+    if let FindingKind::UnknownKey { key, .. } = &finding.kind {
+        path.push(Step::Key(String::from_str(alloc, key.as_str())?))?;
+    }
+    Ok(path)
+}
+
+// A copy of a path.
+fn copy_of(alloc: Global, path: &[Step]) -> Result<Vec<Step>, AllocError>
+    ensures { IfOk result (λ copy. map step_of copy.items ≡ map step_of path.now) }
+{
+    let mut copy = Vec::new(alloc);
+    for step in path {
+        copy.push(copy_of_step(alloc, step)?)?;
+    }
+    Ok(copy)
+}
+
+// A copy of a step.
+fn copy_of_step(alloc: Global, step: &Step) -> Result<Step, AllocError>
+    ensures { IfOk result (λ copy. step_of copy ≡ step_of step.now) }
+{
+    match step {
+        Step::Key(key) => Ok(Step::Key(String::from_str(alloc, key.as_str())?)),
+        Step::Index(index) => Ok(Step::Index(*index)),
+    }
+}
