@@ -7,7 +7,7 @@
 PREFIX ?= /usr/local
 PROGRAM := nextest_config_check
 CRATE := crates/$(PROGRAM)
-REFUSALS := $(foreach name,nextest_config_settings_refusals nextest_config_refusals,crates/$(name)/out/$(name))
+REFUSALS := $(foreach name,nextest_config_settings_refusals nextest_config_findings_refusals nextest_config_refusals,crates/$(name)/out/$(name))
 BENCH := crates/nextest_config_bench/out/nextest_config_bench
 
 .PHONY: test run build install toolchain
@@ -21,6 +21,7 @@ test: toolchain
 	bench/measure-durations --small --alone $(BENCH)
 	bench/measure-hostile --small --program $(CRATE)/out/$(PROGRAM) --alone $(BENCH)
 	bench/measure-board --small --alone $(BENCH)
+	bench/measure-findings --small --alone $(BENCH)
 	tests/wrong-itself
 	tests/wrong --proved
 

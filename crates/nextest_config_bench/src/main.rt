@@ -2,6 +2,8 @@
 //!
 //! - `toml` reads the sources on standard input with `toml` and nothing else, and lets each document go;
 //! - `duration` reads standard input as one duration;
+//! - `findings` and `located` judge standard input as a configuration file, the first without its lines, and
+//!   print how much is found;
 //! - `sources SIZE CHANGES` makes so many sources of one version each, `list` reads them as a list, too, and
 //!   `board` puts them on a board and makes so many changes there, each with the verdict behind it. The
 //!   verdict has to be an error that names the greatest version.
@@ -9,6 +11,7 @@
 
 mod alone;
 mod board;
+mod files;
 
 use std::env;
 use std::process::ExitCode;
@@ -23,7 +26,10 @@ fn main(rt: HostRuntime) -> ExitCode {
 fn run(rt: &HostRuntime) -> Option<()> {
     let words: Vec<String> = env::args(rt).ok()?.skip(1).collect(rt.alloc()).ok()?;
     match words.as_slice() {
-        [what] => alone::read(rt, what),
+        [what] => match what.as_str() {
+            "findings" | "located" => files::judge(rt, what),
+            _ => alone::read(rt, what),
+        },
         [what, size, changes] => {
             board::run(rt.alloc(), what, size.parse().ok()?, changes.parse().ok()?)
         }
