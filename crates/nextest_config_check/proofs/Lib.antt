@@ -1,7 +1,6 @@
 pub mod Lines
-pub mod LinesInRow
 pub mod Blocks
-pub mod Fronts
+pub mod CutShort
 pub mod Versions
 pub mod SourceLines
 pub mod Layouts

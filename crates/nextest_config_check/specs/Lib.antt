@@ -1,5 +1,4 @@
 pub mod CommandLine
 pub mod Layout
 pub mod Report
-pub mod ReportLines
 pub mod Streams

@@ -8,8 +8,8 @@ use Rattle.nextest_config.specs.NextestVersion.{Configuration, error, IsFirstRef
 use Rattle.nextest_config.specs.NextestVersion.ExperimentalConfig.{Experimental}
 use Rattle.nextest_config_sources.specs.NextestVersion.Source.{Given, under}
 use Rattle.nextest_config_sources.specs.declared.nextest_version.edition.Edition.{Edition}
+use Rattle.nextest_config_report.specs.Lines.{read_text}
 use Rattle.nextest_config_check.specs.Layout.{AreBlocks, IsFaultyLine}
-use Rattle.nextest_config_check.specs.ReportLines.{read_text}
 use Rattle.nextest_config_check.specs.declared.report.Outcome.{Outcome}
 use Rattle.nextest_config_check.specs.declared.report.Report.{Report}
 use Rattle.nextest_config_check.specs.declared.report.Outcome.TheVariants.{Passed, Failed, Refused}

@@ -3,6 +3,7 @@ use Rattle.std.specs.Prelude.{◌≡◌, ℕ, Bool, List, ◌++◌, codes, Optio
 use Rattle.std.specs.Io.KnownBytes.{Appends, IsAtEnd, Keeps}
 use Rattle.semver.specs.Parse.{Parts}
 use Rattle.nextest_config_sources.specs.declared.nextest_version.edition.Edition.{Edition}
+use Rattle.nextest_config_report.specs.Streams.{AddsFront}
 use Rattle.nextest_config_check.specs.Report.{IsReport, status_of}
 use Rattle.nextest_config_check.specs.declared.streams.RunFault.{RunFault}
 use Rattle.nextest_config_check.specs.declared.streams.RunFault.TheVariants as faults
@@ -24,16 +25,6 @@ Writes old new faults.Memory = Keeps old new
 abbrev pub IsChecked : Option (List ℕ) → Parts → Bool → Edition → ℕ → Option (List ℕ) → Option (List ℕ) → Type 0
 IsChecked known current overridden edition status old new =
     (outcome : Outcome) × (status ≡ status_of outcome) × IfSome known (λ input. (text : List ℕ) × IsReport input current overridden edition text outcome × Appends old new text)
-
--- known bytes stay, and what stands before this rest of the text comes behind them
-pub record AddsUpTo (old new : Option (List ℕ)) (text rest : List ℕ) : Type 0 where
-  pub front : List ℕ
-  pub cut : text ≡ front ++ rest
-  pub added : Appends old new front
-
--- known bytes stay, and a front of the text comes behind them
-abbrev pub AddsFront : Option (List ℕ) → Option (List ℕ) → List ℕ → Type 0
-AddsFront old new text = (rest : List ℕ) × AddsUpTo old new text rest
 
 -- what stands of the input and the output after this fault: nothing was written, or all was read
 abbrev pub Leaves : RunFault → Option (List ℕ) → Option (List ℕ) → Option (List ℕ) → Type 0

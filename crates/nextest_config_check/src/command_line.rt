@@ -6,8 +6,8 @@ ghost use Rattle.semver.specs.Parse.{version_parts};
 ghost use Rattle.nextest_config_check.specs.CommandLine.{AsksCheck, IsWordsFault, asked_by, check_of, flags_of, words_fault_text, words_status};
 ghost use Rattle.nextest_config_check.specs.declared.command_line.WordsFault.TheVariants.{Memory, Usage};
 
-use crate::streams::NO_OUTCOME;
 use nextest_config::nextest_version::Edition;
+use nextest_config_report::streams::{NO_OUTCOME, NOT_VERSION, OUT_OF_MEMORY};
 use semver::Version;
 use std::alloc::{AllocError, Global};
 use std::io::{self, ErrorKind};
@@ -55,8 +55,8 @@ impl<'a> WordsFault<'a> {
     {
         match self {
             WordsFault::Usage => (USAGE, ""),
-            WordsFault::NotVersion(word) => ("not a version: ", word),
-            WordsFault::Memory => ("out of memory", ""),
+            WordsFault::NotVersion(word) => (NOT_VERSION, word),
+            WordsFault::Memory => (OUT_OF_MEMORY, ""),
         }
     }
 

@@ -7,7 +7,6 @@ mod command_line;
 pub mod laws;
 mod layout;
 mod report;
-mod report_lines;
 pub mod streams;
 
 use command_line::WordsFault;

@@ -7,10 +7,10 @@ ghost use Rattle.nextest_config.specs.NextestVersion.{configuration_of, experime
 ghost use Rattle.nextest_config_check.specs.Report.{IsReportFor, IsReportForSources, IsReportOf, outcome_of, status_of};
 
 use crate::layout::{self, LayoutFault};
-use crate::report_lines::{push_arrays, push_known, push_unknown, verdict_line};
 use nextest_config::nextest_version::{
     Edition, ExperimentalConfig, ListRefusal, NextestVersionEval, SourceText, VersionOnlyConfig,
 };
+use nextest_config_report::lines::report_text;
 use semver::Version;
 use std::alloc::{AllocError, Global};
 use std::str;
@@ -128,12 +128,7 @@ fn report_on_eval(
     ensures { IfOk result (IsReportOf (parts_of current.now) (verdict_of eval.now)
         (experimental_of experimental.now)) }
 {
-    let mut text = verdict_line(alloc, eval, current)?;
-    text.push_str("\nknown: ")?;
-    push_known(&mut text, experimental.known())?;
-    text.push_str("\n")?;
-    push_unknown(&mut text, experimental.source_errors())?;
-    push_arrays(&mut text, experimental.array_sources())?;
+    let text = report_text(alloc, eval, current, experimental)?;
     let outcome = verdict_outcome(eval);
     Ok(Report { text, outcome })
 }

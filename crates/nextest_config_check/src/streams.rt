@@ -4,14 +4,18 @@ ghost use Rattle.std.specs.Prelude.{◌≡◌, ◌≢◌, ◌↔◌, ◌⊎◌, 
 ghost use Rattle.std.specs.IoError.{error_kind};
 ghost use Rattle.std.specs.Io.KnownBytes.{Appends, IsAtEnd, Keeps};
 ghost use Rattle.semver.specs.Identifiers.{parts_of};
+ghost use Rattle.nextest_config_report.specs.Streams.{AddsFront};
 ghost use Rattle.nextest_config_check.specs.CommandLine.{IfCheck, IfComplaint, asked_by, words_fault_text, words_status};
-ghost use Rattle.nextest_config_check.specs.Streams.{AddsFront, IsChecked, IsCutShort, Writes, run_fault_text};
+ghost use Rattle.nextest_config_check.specs.Streams.{IsChecked, IsCutShort, Writes, run_fault_text};
 ghost use Rattle.nextest_config_check.specs.Report.{IsReport};
 
 use crate::command_line::{Check, WordsFault, parse_words};
 pub use crate::report::Outcome;
 use crate::report::report_on;
 use nextest_config::nextest_version::Edition;
+use nextest_config_report::streams::{
+    CANNOT_WRITE, NO_OUTCOME, OUT_OF_MEMORY, complain, write_report,
+};
 use semver::Version;
 use std::alloc::{AllocError, Global};
 use std::fmt;
@@ -19,9 +23,6 @@ use std::io::{self, ErrorKind, Read, Write};
 
 #[cfg(test)]
 mod tests;
-
-/// The status of a program whose check gave no outcome.
-pub const NO_OUTCOME: u8 = 3;
 
 /// Why a check gave no outcome.
 #[derive(Clone, Copy, Debug, PartialEq, Eq)]
@@ -52,8 +53,8 @@ impl RunFault {
     {
         match self {
             RunFault::Read => "cannot read input",
-            RunFault::Write => "cannot write output",
-            RunFault::Memory => "out of memory",
+            RunFault::Write => CANNOT_WRITE,
+            RunFault::Memory => OUT_OF_MEMORY,
         }
     }
 }
@@ -158,37 +159,6 @@ pub(crate) fn refuse<E: Write>(faults: &mut E, fault: WordsFault<'_>) -> u8
     fault.status()
 }
 
-// Writes a complaint and the word that it is about as a line.
-fn complain<E: Write>(faults: &mut E, complaint: &str, word: &str) -> io::Result<()>
-    ensures { AddsFront (E.contents faults.old) (E.contents faults.new)
-        ((complaint.now ++ word.now) ++ codes "\n") }
-{
-    write_text(faults, complaint)?;
-    write_text(faults, word)?;
-    write_text(faults, "\n")?;
-    faults.flush()
-}
-
-// Writes the text; where that fails, a front of it may have been written.
-fn write_text<E: Write>(faults: &mut E, text: &str) -> io::Result<()>
-    ensures whole { OnOk result (Appends (E.contents faults.old) (E.contents faults.new) text.now) }
-    ensures front { AddsFront (E.contents faults.old) (E.contents faults.new) text.now }
-{
-    let mut rest = text.as_bytes();
-    for _ in 0..u64::MAX {
-        if rest.is_empty() {
-            return Ok(());
-        }
-        match faults.write(rest) {
-            Ok(0) => return Err(io::Error::from(ErrorKind::WriteZero)),
-            Ok(count) => rest = &rest[count..],
-            Err(error) if error.kind() == ErrorKind::Interrupted => {}
-            Err(error) => return Err(error),
-        }
-    }
-    Err(io::Error::from(ErrorKind::Interrupted))
-}
-
 /// Reads the whole input, its sources under the edition, and then writes the report on it.
 pub fn run<R: Read, W: Write>(
     alloc: Global,
@@ -214,12 +184,4 @@ pub fn run<R: Read, W: Write>(
         return Err(RunFault::Write);
     };
     Ok(report.outcome)
-}
-
-// Writes the text, with nothing left in the writer's buffers.
-fn write_report<W: Write>(writer: &mut W, text: &[u8]) -> io::Result<()>
-    ensures { OnOk result (Appends (W.contents writer.old) (W.contents writer.new) text.now) }
-{
-    writer.write_all(text)?;
-    writer.flush()
 }

@@ -1,5 +1,5 @@
 use Rattle.nextest_config_check.specs.CommandLine.{asked_by}
-use Rattle.nextest_config_check.proofs.Fronts.{words_cut_short}
+use Rattle.nextest_config_check.proofs.CutShort.{words_cut_short}
 use Rattle.nextest_config_check.proofs.streams.serve.Goals as goal
 
 pub returns-in-Err-clause-cut_short : goal.returns-in-Err-clause-cut_short

@@ -1,0 +1,17 @@
+use Rattle.std.proofs.Common.{string_bytes, rules}
+use Rattle.std.proofs.lemmas.Iterator.Consumers.{YieldsList-end, YieldsList-from_first}
+use Rattle.nextest_config_sources.specs.NextestVersion.{place_of}
+use Rattle.nextest_config.specs.NextestVersion.{arrays_left}
+use Rattle.nextest_config_report.specs.Lines.{array_line}
+use Rattle.nextest_config_report.proofs.LinesInRow.{one_more_line}
+use Rattle.nextest_config_report.proofs.lines.push_arrays.Goals as goal
+
+pub loop-source-preserved : goal.loop-source-preserved
+loop-source-preserved c =
+    one_more_line array_line (λ source. place_of source.now) (string_bytes c.args.text.now) (string_bytes c.loop-source.text) (string_bytes c.writeln.new.self)
+    c.loop-source.yielded c.in-Some.source c.loop-source.invariant c.in_ok-writeln.ensures.bytes
+
+pub returns : goal.returns
+returns c =
+    let all = YieldsList-end (YieldsList-from_first (λ source. place_of source.now) arrays_left (arrays_left c.args.arrays) (search rules)) c.loop-source.yielded _ c.loop-source.yielded_by _ c.next.new.self c.in-None.is c.next.ensures.steps in
+    rw (← all.0) c.loop-source.invariant

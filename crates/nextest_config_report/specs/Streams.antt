@@ -1,0 +1,13 @@
+-- What is written to a stream.
+use Rattle.std.specs.Prelude.{◌≡◌, ℕ, List, ◌++◌, Option}
+use Rattle.std.specs.Io.KnownBytes.{Appends}
+
+-- known bytes stay, and what stands before this rest of the text comes behind them
+pub record AddsUpTo (old new : Option (List ℕ)) (text rest : List ℕ) : Type 0 where
+  pub front : List ℕ
+  pub cut : text ≡ front ++ rest
+  pub added : Appends old new front
+
+-- known bytes stay, and a front of the text comes behind them
+abbrev pub AddsFront : Option (List ℕ) → Option (List ℕ) → List ℕ → Type 0
+AddsFront old new text = (rest : List ℕ) × AddsUpTo old new text rest

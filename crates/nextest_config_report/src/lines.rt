@@ -1,0 +1,157 @@
+//! The lines of a report on a list that reads.
+
+ghost use Rattle.std.specs.Prelude.{◌≡◌, ◌++◌, IfOk, OnOk, flat_map, string_bytes};
+ghost use Rattle.semver.specs.Identifiers.{parts_of};
+ghost use Rattle.nextest_config_sources.specs.NextestVersion.{place_of};
+ghost use Rattle.nextest_config.specs.NextestVersion.{arrays_left, errors_left, experimental_of, verdict_of};
+ghost use Rattle.nextest_config_report.specs.Lines.{array_line, features_text, known_text, read_text, shortfall_text, unknown_line, verdict_text};
+
+use nextest_config::nextest_version::{
+    ArraySources, ConfigExperimental, ConfigSource, ExperimentalConfig, NextestVersionEval,
+    SourceErrors,
+};
+use nextest_config_values::read::QuotedTexts;
+use semver::Version;
+use std::alloc::{AllocError, Global};
+use std::collections::BTreeSet;
+use std::fmt::Write;
+
+/// The lines of a list that reads: that of the verdict on the current version, and those of the
+/// features.
+pub fn report_text(
+    alloc: Global,
+    eval: &NextestVersionEval,
+    current: &Version,
+    experimental: &ExperimentalConfig,
+) -> Result<String, AllocError>
+    ensures { IfOk result (λ text. string_bytes text ≡ read_text (parts_of current.now)
+        (verdict_of eval.now) (experimental_of experimental.now)) }
+{
+    let mut text = verdict_line(alloc, eval, current)?;
+    text.push_str("\n")?;
+    push_features(&mut text, experimental)?;
+    Ok(text)
+}
+
+// The line of a verdict on the current version, without its end.
+fn verdict_line(
+    alloc: Global,
+    eval: &NextestVersionEval,
+    current: &Version,
+) -> Result<String, AllocError>
+    ensures { IfOk result (λ text. string_bytes text
+        ≡ verdict_text (parts_of current.now) (verdict_of eval.now)) }
+{
+    match eval {
+        NextestVersionEval::Satisfied => format!(in alloc; "satisfied: {current}"),
+        NextestVersionEval::Error {
+            required,
+            current,
+            source,
+        } => shortfall_line(alloc, "error", required, "required", source, current),
+        NextestVersionEval::Warn {
+            recommended,
+            current,
+            source,
+        } => shortfall_line(
+            alloc,
+            "warning",
+            recommended,
+            "recommended",
+            source,
+            current,
+        ),
+        NextestVersionEval::ErrorOverride {
+            required,
+            current,
+            source,
+        } => shortfall_line(
+            alloc,
+            "error (overridden)",
+            required,
+            "required",
+            source,
+            current,
+        ),
+        NextestVersionEval::WarnOverride {
+            recommended,
+            current,
+            source,
+        } => shortfall_line(
+            alloc,
+            "warning (overridden)",
+            recommended,
+            "recommended",
+            source,
+            current,
+        ),
+    }
+}
+
+// The line of a verdict that the current version isn't enough for the one that is asked in a role.
+fn shortfall_line(
+    alloc: Global,
+    says: &str,
+    asked: &Version,
+    asks: &str,
+    source: &ConfigSource,
+    current: &Version,
+) -> Result<String, AllocError>
+    ensures { IfOk result (λ text. string_bytes text ≡ shortfall_text says.now
+        (parts_of asked.now) asks.now (place_of source.now) (parts_of current.now)) }
+{
+    format!(in alloc; "{says}: {asked} {asks} by {source}, current {current}")
+}
+
+/// Pushes the lines of the features: the words of the known ones, or that there is none, then a
+/// line for each source that has names of no feature, and then one for each that names its features
+/// in an array. Where memory is refused, some of it may have been pushed.
+pub fn push_features(text: &mut String, experimental: &ExperimentalConfig) -> Result<(), AllocError>
+    ensures { OnOk result (string_bytes text.new
+        ≡ string_bytes text.old ++ features_text (experimental_of experimental.now)) }
+{
+    text.push_str("known: ")?;
+    push_known(text, experimental.known())?;
+    text.push_str("\n")?;
+    push_unknown(text, experimental.source_errors())?;
+    push_arrays(text, experimental.array_sources())
+}
+
+// Pushes the words of the features, or that there is none.
+fn push_known(text: &mut String, known: &BTreeSet<ConfigExperimental>) -> Result<(), AllocError>
+    ensures { OnOk result (string_bytes text.new
+        ≡ string_bytes text.old ++ known_text known.now.keys) }
+{
+    if known.is_empty() {
+        return text.push_str("none");
+    }
+    let mut separator = "";
+    for feature in known {
+        text.push_str(separator)?;
+        text.push_str(feature.as_word())?;
+        separator = ", ";
+    }
+    Ok(())
+}
+
+// Pushes a line for each source that has names of no feature.
+fn push_unknown(text: &mut String, errors: SourceErrors<'_>) -> Result<(), AllocError>
+    ensures { OnOk result (string_bytes text.new
+        ≡ string_bytes text.old ++ flat_map unknown_line (errors_left errors.entry)) }
+{
+    for (source, names) in errors {
+        writeln!(text, "unknown in {source}: {}", QuotedTexts(names))?;
+    }
+    Ok(())
+}
+
+// Pushes a line for each source that names its features in an array.
+fn push_arrays(text: &mut String, arrays: ArraySources<'_>) -> Result<(), AllocError>
+    ensures { OnOk result (string_bytes text.new
+        ≡ string_bytes text.old ++ flat_map array_line (arrays_left arrays.entry)) }
+{
+    for source in arrays {
+        writeln!(text, "deprecated array form in {source}")?;
+    }
+    Ok(())
+}
