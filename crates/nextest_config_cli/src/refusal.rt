@@ -1,0 +1,113 @@
+//! Why the words of the command line ask for nothing, and what is said of it.
+
+use clap::error::ErrorKind as ClapKind;
+use nextest_config_report::streams::{
+    CANNOT_WRITE, NO_OUTCOME, NOT_VERSION, OUT_OF_MEMORY, complain, write_report,
+};
+use nextest_config_values::tool_config::ToolConfigFileParseError;
+use std::alloc::{AllocError, Global};
+use std::io::{self, ErrorKind, Write};
+
+// The status where words are refused.
+const REFUSED: u8 = 2;
+
+/// Why the words ask for nothing.
+#[derive(Debug, Drop)]
+pub(crate) enum Refusal<'a> {
+    /// What `clap` says of them: what is wrong, or the help or the version that they ask for.
+    Clap(clap::Error),
+    /// This is wrong with all of them.
+    Words(&'static str),
+    /// This word is no version.
+    NotVersion(&'a str),
+    /// A word names no tool's file.
+    Tool(ToolConfigFileParseError),
+    /// A request for memory was refused.
+    Memory,
+}
+
+impl Refusal<'_> {
+    /// Why the words can't be had.
+    pub fn of_read(error: &io::Error) -> Self {
+        match error.kind() {
+            ErrorKind::OutOfMemory => Refusal::Memory,
+            _ => Refusal::Words("the words of the command line aren't UTF-8"),
+        }
+    }
+}
+
+impl From<AllocError> for Refusal<'_> {
+    fn from(_error: AllocError) -> Self {
+        Refusal::Memory
+    }
+}
+
+impl From<clap::Error> for Refusal<'_> {
+    fn from(error: clap::Error) -> Self {
+        match error.kind() {
+            ClapKind::OutOfMemory => Refusal::Memory,
+            _ => Refusal::Clap(error),
+        }
+    }
+}
+
+impl From<ToolConfigFileParseError> for Refusal<'_> {
+    fn from(error: ToolConfigFileParseError) -> Self {
+        match error {
+            ToolConfigFileParseError::Memory => Refusal::Memory,
+            error => Refusal::Tool(error),
+        }
+    }
+}
+
+/// Says why the words ask for nothing, or what they ask `clap` for, and answers the status.
+pub(crate) fn refuse<W: Write, E: Write>(
+    alloc: Global,
+    refusal: &Refusal<'_>,
+    writer: &mut W,
+    faults: &mut E,
+) -> u8 {
+    match refusal {
+        Refusal::Clap(error) if !error.use_stderr() => show(alloc, error, writer, faults),
+        Refusal::Clap(error) => match error.to_string(alloc) {
+            Ok(said) => {
+                let _ = write_report(faults, said.as_bytes());
+                REFUSED
+            }
+            Err(AllocError) => give_up(faults, OUT_OF_MEMORY),
+        },
+        Refusal::Words(said) => misused(faults, said, ""),
+        Refusal::NotVersion(word) => misused(faults, NOT_VERSION, word),
+        Refusal::Tool(error) => match error.to_string(alloc) {
+            Ok(said) => misused(faults, said.as_str(), ""),
+            Err(AllocError) => give_up(faults, OUT_OF_MEMORY),
+        },
+        Refusal::Memory => give_up(faults, OUT_OF_MEMORY),
+    }
+}
+
+// Shows help or the version.
+fn show<W: Write, E: Write>(
+    alloc: Global,
+    shown: &clap::Error,
+    writer: &mut W,
+    faults: &mut E,
+) -> u8 {
+    match shown.to_string(alloc) {
+        Ok(text) => match write_report(writer, text.as_bytes()) {
+            Ok(()) => 0,
+            Err(_) => give_up(faults, CANNOT_WRITE),
+        },
+        Err(AllocError) => give_up(faults, OUT_OF_MEMORY),
+    }
+}
+
+fn misused<E: Write>(faults: &mut E, complaint: &str, word: &str) -> u8 {
+    let _ = complain(faults, complaint, word);
+    REFUSED
+}
+
+fn give_up<E: Write>(faults: &mut E, complaint: &str) -> u8 {
+    let _ = complain(faults, complaint, "");
+    NO_OUTCOME
+}

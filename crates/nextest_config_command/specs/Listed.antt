@@ -1,0 +1,56 @@
+-- What files ask as a list of sources.
+use Rattle.std.specs.Prelude.{◌⊎◌, ℕ, List, IsUtf8, map, Some}
+use Rattle.std.specs.List.{AllByRecursion}
+use Rattle.nextest_config_sources.specs.NextestVersion.Source.{Given, Source, under}
+use Rattle.nextest_config_sources.specs.declared.nextest_version.edition.Edition.{Edition}
+use Rattle.nextest_config.specs.NextestVersion.{Configuration, configuration_of, IsFirstRefused, Refusal, SelectsFor, StandsFor}
+use Rattle.nextest_config.specs.declared.nextest_version.version_only.VersionOnlyConfig.{VersionOnlyConfig}
+use Rattle.nextest_config_command.specs.Files.{File}
+
+-- a file is UTF-8
+abbrev pub IsText : File → Type 0
+IsText file = IsUtf8 file.contents
+
+-- each file is UTF-8
+abbrev pub AreTexts : List File → Type 0
+AreTexts files = AllByRecursion IsText files
+
+-- the file as a source
+abbrev pub given_file : File → Given
+given_file file = record { place = file.place; contents = Some file.contents }
+
+-- the files as sources, read under an edition
+abbrev pub sources_of : Edition → List File → List Source
+sources_of edition files = map (under edition) (map given_file files)
+
+-- ---- lists of texts
+
+-- one of them is refused
+abbrev pub IsRefusedBy : List Source → Type 0
+IsRefusedBy sources = (position : ℕ) × (refusal : Refusal) × IsFirstRefused sources position refusal
+
+-- the configuration stands for them, and its verdicts are selected from theirs
+abbrev pub IsReadAs : List Source → Configuration → Type 0
+IsReadAs sources configuration = StandsFor sources configuration × SelectsFor sources configuration.roles
+
+-- ---- lists of files
+
+-- a file isn't UTF-8, or one is outside its grammar
+abbrev pub IsRefusedList : Edition → List File → Type 0
+IsRefusedList edition files = ¬ AreTexts files ⊎ (AreTexts files × IsRefusedBy (sources_of edition files))
+
+-- each file is UTF-8, and this configuration stands for all
+abbrev pub IsListedAs : Edition → List File → Configuration → Type 0
+IsListedAs edition files configuration = AreTexts files × IsReadAs (sources_of edition files) configuration
+
+abbrev pub IsListed : Edition → List File → VersionOnlyConfig → Type 0
+IsListed edition files config = IsListedAs edition files (configuration_of config)
+
+-- ---- one step
+
+-- the configuration of these texts, under an edition
+abbrev pub IsRefusedUnder : Edition → List Given → Type 0
+IsRefusedUnder edition givens = IsRefusedBy (map (under edition) givens)
+
+abbrev pub IsReadUnder : Edition → List Given → VersionOnlyConfig → Type 0
+IsReadUnder edition givens config = IsReadAs (map (under edition) givens) (configuration_of config)
