@@ -1,43 +1,76 @@
 # make test     the whole gate: every proof from nothing, the edits that must fail, the tests, the runs and the rounds of tests/,
 #               and the programs of bench/ on small inputs
-# make run      runs the program on examples/sources.txt, before its proof
-# make build    leaves the proved program at bin/nextest_config_check
-# make install  copies it and scripts/check-nextest-config to PREFIX/bin (PREFIX=/usr/local)
+# make run      runs both programs on the examples, before their proof
+# make build    leaves the proved programs at bin/nextest-config and bin/nextest_config_check
+# make install  copies them and scripts/check-nextest-config to PREFIX/bin (PREFIX=/usr/local)
+# make dist     makes an archive of the three with its checksum, in dist/
 
 PREFIX ?= /usr/local
-PROGRAM := nextest_config_check
-CRATE := crates/$(PROGRAM)
+CHECK := crates/nextest_config_check
+COMMAND := crates/nextest_config_cli
+PROGRAM := $(CHECK)/out/nextest_config_check
 REFUSALS := $(foreach name,nextest_config_settings_refusals nextest_config_findings_refusals nextest_config_refusals,crates/$(name)/out/$(name))
 BENCH := crates/nextest_config_bench/out/nextest_config_bench
+BUILT := bin/nextest-config bin/nextest_config_check
+SCRIPT := scripts/check-nextest-config
+# Where rt isn't there, what was built before counts.
+SOURCES := $(if $(shell command -v rt 2> /dev/null),crates.txt $(shell find crates -name out -prune -o \( -name '*.rt' -o -name '*.antt' \) -print))
 
-.PHONY: test run build install toolchain
+.PHONY: help test run run-list run-lint build install dist toolchain
+
+help:
+	@sed -n 's/^# //p; /^$$/q' Makefile
 
 test: toolchain
 	rt ci
-	tests/run $(CRATE)/out/$(PROGRAM)
-	tests/random $(CRATE)/out/$(PROGRAM)
-	tests/refusals $(REFUSALS) $(CRATE)/out/$(PROGRAM)
-	bench/measure --small --program $(CRATE)/out/$(PROGRAM) --alone $(BENCH)
+	! command -v shellcheck > /dev/null || shellcheck $(SCRIPT)
+	tests/run $(PROGRAM) $(COMMAND)/out/nextest_config_cli
+	tests/random $(PROGRAM)
+	tests/refusals $(REFUSALS) $(PROGRAM)
+	bench/measure --small --program $(PROGRAM) --alone $(BENCH)
 	bench/measure-durations --small --alone $(BENCH)
-	bench/measure-hostile --small --program $(CRATE)/out/$(PROGRAM) --alone $(BENCH)
+	bench/measure-hostile --small --program $(PROGRAM) --alone $(BENCH)
 	bench/measure-board --small --alone $(BENCH)
 	bench/measure-findings --small --alone $(BENCH)
 	tests/wrong-itself
 	tests/wrong --proved
 
 run: toolchain
-	@cd $(CRATE) && rt try -- 0.9.55 --override < ../../examples/sources.txt
-	@echo "This run came before the proof. It is of the same source that make test proves."
+	@$(MAKE) --no-print-directory --jobs=2 --output-sync run-list run-lint
+	@echo "These runs came before the proofs. They are of the same sources that make test proves."
 
-# A first run, on no source, leaves the program behind.
-build: toolchain
-	@cd $(CRATE) && rt run -- 0.0.0 < /dev/null > /dev/null
-	@mkdir -p bin && cp $(CRATE)/out/$(PROGRAM) bin/$(PROGRAM)
-	@echo "bin/$(PROGRAM)"
+run-list:
+	@echo "nextest_config_check 0.9.55 --override < examples/sources.txt"
+	@cd $(CHECK) && rt try -- 0.9.55 --override < ../../examples/sources.txt
 
-install: build
+# The status of a lint that finds errors is 1.
+run-lint:
+	@echo "cd examples/repository && nextest-config lint"
+	@cd $(COMMAND) && rt try --data .config/nextest.toml=../../examples/repository/.config/nextest.toml -- lint || [ $$? -eq 1 ]
+
+build: $(BUILT)
+
+# A first run, which asks for little, leaves the program behind.
+bin/nextest_config_check: $(SOURCES)
+	@$(MAKE) --no-print-directory toolchain
+	cd $(CHECK) && rt run -- 0.0.0 < /dev/null > /dev/null
+	@mkdir -p bin && cp $(PROGRAM) $@
+
+bin/nextest-config: $(SOURCES) | bin/nextest_config_check
+	@$(MAKE) --no-print-directory toolchain
+	cd $(COMMAND) && rt run -- --version > /dev/null
+	@mkdir -p bin && cp $(COMMAND)/out/nextest_config_cli $@
+
+install: $(BUILT)
 	install -d $(DESTDIR)$(PREFIX)/bin
-	install -m 755 bin/$(PROGRAM) scripts/check-nextest-config $(DESTDIR)$(PREFIX)/bin
+	install -m 755 $(BUILT) $(SCRIPT) $(DESTDIR)$(PREFIX)/bin
+
+dist: $(BUILT)
+	@rm -rf dist && mkdir dist
+	@archive=nextest-config-$$(bin/nextest-config --version | cut -d ' ' -f 2)-linux-$$(uname -m).tar.gz && \
+	tar --create --file=dist/$$archive --use-compress-program='gzip -n' --transform='s,.*/,bin/,' --mode=755 \
+		--owner=0 --group=0 --numeric-owner --mtime=@0 $(BUILT) $(SCRIPT) && \
+	cd dist && sha256sum $$archive > $$archive.sha256 && cat $$archive.sha256
 
 toolchain:
 	@command -v rt > /dev/null || { echo "rt, the command of the Rattle toolchain, isn't on the PATH: put the folder that holds it there" >&2; exit 1; }
