@@ -24,6 +24,7 @@ help:
 test: toolchain
 	rt ci
 	! command -v shellcheck > /dev/null || shellcheck $(SCRIPT)
+	tests/calling
 	tests/run $(PROGRAM) $(COMMAND)/out/nextest_config_cli
 	tests/random $(PROGRAM)
 	tests/refusals $(REFUSALS) $(PROGRAM)
