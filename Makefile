@@ -27,7 +27,7 @@ test: toolchain
 	tests/calling
 	tests/run $(PROGRAM) $(COMMAND)/out/nextest_config_cli
 	tests/random $(PROGRAM)
-	tests/refusals $(REFUSALS) $(PROGRAM)
+	tests/refusals $(REFUSALS) $(PROGRAM) $(COMMAND)/out/nextest_config_cli
 	bench/measure --small --program $(PROGRAM) --alone $(BENCH)
 	bench/measure-durations --small --alone $(BENCH)
 	bench/measure-hostile --small --program $(PROGRAM) --alone $(BENCH)
