@@ -17,19 +17,31 @@ const USUAL_PATH: &str = ".config/nextest.toml";
 
 // The subcommands, and the names of what they take.
 const CHECK: &str = "check";
+
 const LINT: &str = "lint";
+
 const SHOW: &str = "show";
+
 const CURRENT: &str = "current";
+
 const OVERRIDE: &str = "override";
+
 const TABLE_ONLY: &str = "table-only";
+
 const STRICT: &str = "strict";
+
 const FORMAT: &str = "format";
+
 const CONFIG_FILE: &str = "config-file";
+
 const TOOL_CONFIG_FILE: &str = "tool-config-file";
+
 const DIR: &str = "DIR";
 
 const HUMAN: &str = "human";
+
 const GITHUB: &str = "github";
+
 const FORMATS: [&str; 2] = [HUMAN, GITHUB];
 
 /// What the words ask for, the first of which is the program's name.
@@ -61,11 +73,7 @@ fn check_command<'a>(alloc: Global) -> Result<Command<'a>, AllocError> {
     let command = Command::new(alloc, CHECK)
         .about("Says whether the current version is enough, and what is wrong in the files")
         .arg(current)?
-        .arg(flag(
-            alloc,
-            OVERRIDE,
-            "Pass where the version isn't enough, too",
-        ))?
+        .arg(flag(alloc, OVERRIDE, "Pass where the version isn't enough, too"))?
         .arg(table_only(alloc))?
         .arg(strict(alloc))?;
     with_files(alloc, command)
@@ -128,11 +136,7 @@ fn with_files<'a>(alloc: Global, command: Command<'a>) -> Result<Command<'a>, Al
 }
 
 // What a subcommand asks for.
-fn asked<'a>(
-    alloc: Global,
-    name: &str,
-    matches: &ArgMatches<'a>,
-) -> Result<Asked, Refusal<'a>> {
+fn asked<'a>(alloc: Global, name: &str, matches: &ArgMatches<'a>) -> Result<Asked, Refusal<'a>> {
     let task = task(alloc, name, matches)?;
     let tools = tools(alloc, matches.get_strs(TOOL_CONFIG_FILE).unwrap_or(&[]))?;
     let repository = repository(alloc, matches.get_str(CONFIG_FILE), matches.get_str(DIR))?;

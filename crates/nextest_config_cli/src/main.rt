@@ -10,9 +10,8 @@ use command_line::parse;
 use file_system::FileSystem;
 use nextest_config_command::serve;
 use refusal::{Refusal, refuse};
-use std::env;
-use std::io;
 use std::process::ExitCode;
+use std::{env, io};
 
 fn main(rt: HostRuntime) -> ExitCode {
     let status = match words(&rt) {
