@@ -1,4 +1,4 @@
--- A mapped list: one element more, and around one element.
+-- A mapped list, one element more.
 use Rattle.std.proofs.Common.{◌≡◌, ◌∙◌, ℕ, ◌+◌, ◌<◌, List, [], ◌∷◌, ◌++◌, ap, get_or, length, map, sym, take}
 use Rattle.std.proofs.lemmas.List.{map_push, take_more}
 
