@@ -5,6 +5,8 @@
 # make install  copies them and scripts/check-nextest-config to PREFIX/bin (PREFIX=/usr/local)
 # make dist     makes an archive of the three with its checksum, in dist/
 
+SHELL := bash
+.SHELLFLAGS := -o pipefail -c
 PREFIX ?= /usr/local
 CHECK := crates/nextest_config_check
 COMMAND := crates/nextest_config_cli
@@ -22,9 +24,10 @@ help:
 	@sed -n 's/^# //p; /^$$/q' Makefile
 
 test: toolchain
-	rt ci
 	! command -v shellcheck > /dev/null || shellcheck $(SCRIPT)
 	tests/calling
+	tests/wrong-itself
+	rt ci | tests/wrong --behind
 	tests/run $(PROGRAM) $(COMMAND)/out/nextest_config_cli
 	tests/random $(PROGRAM)
 	tests/refusals $(REFUSALS) $(PROGRAM) $(COMMAND)/out/nextest_config_cli
@@ -33,8 +36,6 @@ test: toolchain
 	bench/measure-hostile --small --program $(PROGRAM) --alone $(BENCH)
 	bench/measure-board --small --alone $(BENCH)
 	bench/measure-findings --small --alone $(BENCH)
-	tests/wrong-itself
-	tests/wrong --proved
 
 run: toolchain
 	@$(MAKE) --no-print-directory --jobs=2 --output-sync run-list run-lint
