@@ -1,5 +1,6 @@
 -- What configuration sources ask of the nextest version, the experimental features that they name, and what follows for a current version.
 pub mod File
+pub mod Later
 pub mod KeptVersions
 pub mod KeptVersionsLaws
 pub mod Verdict

@@ -3,8 +3,8 @@ use Rattle.std.specs.Prelude.{◌≡◌, ℕ, List, [], ◌∷◌, Option, Some,
 use Rattle.std.proofs.Common.{ap, inl, inr}
 use Rattle.toml.specs.Data.{as_array, as_bool, as_str, as_table, Data, get_member, Members}
 use Rattle.nextest_config_values.specs.Read.Fault.{BrokenRule, Fault}
-use Rattle.nextest_config_values.specs.Read.{custom, fault_at, FaultsAs, FaultsKind, FaultsThen, OptionalFaults, path_of, WrongKind, wrong_type}
-use Rattle.nextest_config_sources.specs.NextestVersion.{all_features, FeatureArrayFaults, FeaturesFaults, FirstSwitchFaults, item_path, MeansRole, MeansSwitch, OrderFaults, recommended_key, required_key, RoleFaults, SwitchFaults, VersionFaults, VersionsFaults, VersionTableFaults, VersionTextFaults, word_of}
+use Rattle.nextest_config_values.specs.Read.{custom, fault_at, FaultsAs, FaultsKind, FaultsThen, OptionalFaults, OptionalKey, OptionalKeyFaults, path_of, WrongKind, wrong_type}
+use Rattle.nextest_config_sources.specs.NextestVersion.{all_features, FeatureArrayFaults, FeaturesFaults, FirstSwitchFaults, item_path, MeansSwitch, MeansVersion, OrderFaults, recommended_key, required_key, SwitchFaults, VersionFaults, VersionsFaults, VersionTableFaults, VersionTextFaults, word_of}
 use Rattle.nextest_config_sources.specs.declared.nextest_version.edition.Edition.{Edition}
 use Rattle.nextest_config_sources.specs.declared.nextest_version.experimental.ConfigExperimental.{ConfigExperimental}
 use Rattle.nextest_config_findings.specs.Faults.{IsNoDuration}
@@ -54,7 +54,7 @@ version_text text at fault (rule, broken, is) = of_rule at rule fault is
 version : NeverDuration VersionFaults
 version = of_held as_str _ (λ text value. VersionTextFaults text) (λ text value. version_text text)
 
-role : (key : List ℕ) → NeverDuration (RoleFaults key)
+role : (key : List ℕ) → NeverDuration (OptionalKeyFaults key VersionFaults)
 role key held at = if_any VersionFaults version (get_member key held) (path_of at key)
 
 order : (required recommended : Option _) → NeverDuration {D = Members} (λ held. OrderFaults required recommended)
@@ -62,11 +62,11 @@ order (Some required) (Some recommended) held at fault a = of_rule at _ fault a.
 order (Some required) None held at fault a = absurd a
 order None recommended held at fault a = absurd a
 
-recommended : (required : Option _) → NeverDuration (FaultsThen (MeansRole recommended_key) (RoleFaults recommended_key) (λ recommended held. OrderFaults required recommended))
-recommended required = in_turn (MeansRole recommended_key) (RoleFaults recommended_key) _ (role recommended_key) (order required)
+recommended : (required : Option _) → NeverDuration (FaultsThen (OptionalKey recommended_key MeansVersion) (OptionalKeyFaults recommended_key VersionFaults) (λ recommended held. OrderFaults required recommended))
+recommended required = in_turn (OptionalKey recommended_key MeansVersion) (OptionalKeyFaults recommended_key VersionFaults) _ (role recommended_key) (order required)
 
 table : NeverDuration VersionTableFaults
-table = in_turn (MeansRole required_key) (RoleFaults required_key) _ (role required_key) recommended
+table = in_turn (OptionalKey required_key MeansVersion) (OptionalKeyFaults required_key VersionFaults) _ (role required_key) recommended
 
 pub versions_no_duration : NeverDuration VersionsFaults
 versions_no_duration value = by_kind VersionTextFaults _ version_text (λ other. by_kind VersionTableFaults _ table (wrong _) (as_table other) other) (as_str value) value

@@ -11,7 +11,7 @@ ghost use Rattle.nextest_config_findings.specs.Found.{Found, found_at, found_of,
 
 use crate::document::findings;
 use crate::finding::{Finding, FindingKind};
-use nextest_config_lines::{Step, line_of};
+use nextest_config_lines::{Step, line_behind, line_of};
 use nextest_config_sources::nextest_version::{ConfigSourceKind, Edition};
 use std::alloc::{AllocError, Global};
 use toml::Table;
@@ -78,13 +78,6 @@ fn alone(
         finding,
     })?;
     Ok(located)
-}
-
-// The number of the line, from 1, that goes on behind this front of a text.
-fn line_behind(front: &[u8]) -> usize
-    ensures { result ≡ line_behind front.now }
-{
-    front.iter().filter(|byte| **byte == b'\n').count() + 1
 }
 
 // The column, from 1, of what stands behind this front of a text.

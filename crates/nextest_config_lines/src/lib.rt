@@ -4,5 +4,5 @@
 mod line;
 mod step;
 
-pub use line::line_of;
+pub use line::{line_behind, line_of};
 pub use step::{PathText, Step};

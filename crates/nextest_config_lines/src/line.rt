@@ -55,7 +55,7 @@ fn line_by_halves(
     let mut high = place;
     'halves: loop {
         let Some(end) = line_end_between(contents, floor, high) else {
-            return Ok(line_behind(contents, low));
+            return Ok(line_behind(&contents.as_bytes()[..low]));
         };
         match last_that_reads(alloc, contents, path, floor, end)? {
             Some((front, true)) => high = front,
@@ -144,19 +144,11 @@ fn first_line_end(contents: &str, floor: usize, high: usize) -> Option<usize>
     None
 }
 
-// The number of the line, from 1, that begins at this place.
-fn line_behind(contents: &str, place: usize) -> usize
-    requires { place ≤ length contents.now }
-    ensures { result ≡ line_behind (take place contents.now) }
+/// The number of the line, from 1, that goes on behind this front of a text.
+pub fn line_behind(front: &[u8]) -> usize
+    ensures { result ≡ line_behind front.now }
 {
-    let bytes = contents.as_bytes();
-    let mut line = 1;
-    for at in 0..place {
-        if bytes[at] == b'\n' {
-            line += 1;
-        }
-    }
-    line
+    front.iter().filter(|byte| **byte == b'\n').count() + 1
 }
 
 // Whether the path leads to a value in the document that the text is, if it is one.

@@ -3,9 +3,9 @@ use Rattle.std.proofs.Common.{◌≡◌, ◌∙◌, ℕ, List, Option, Some, Non
 use Rattle.semver.specs.Parse.{Parts}
 use Rattle.toml.specs.Data.{Data, Members}
 use Rattle.nextest_config_values.specs.Read.Fault.{Fault}
-use Rattle.nextest_config_values.specs.Read.{fault_of, FaultOrMemory, MeansOr, Refuses}
+use Rattle.nextest_config_values.specs.Read.{fault_of, FaultOrMemory, MeansOr, OptionalKey, OptionalKeyFaults, Refuses}
 use Rattle.nextest_config_values.specs.declared.read.fault.ReadFault.{ReadFault}
-use Rattle.nextest_config_sources.specs.NextestVersion.{IsSettingKind, MeansRole, recommended_key, RefusesSource, required_key, RoleFaults, setting, VersionTableFaults, Wrong, wrong_of}
+use Rattle.nextest_config_sources.specs.NextestVersion.{IsSettingKind, MeansVersion, recommended_key, RefusesSource, required_key, setting, VersionFaults, VersionTableFaults, Wrong, wrong_of}
 use Rattle.nextest_config_sources.specs.declared.nextest_version.error_kind.ConfigParseErrorKind.{ConfigParseErrorKind}
 use Rattle.nextest_config_values.proofs.Faults.{fault_mapped, refused_mapped}
 
@@ -14,8 +14,8 @@ pub told_twice : {F A B C : Type 0} {P Q : F → Type 0} (told : Option F) → F
 told_twice (Some fault) h k f g = g fault h k
 told_twice None h k f g = f h k
 
-pub refuses_recommended : (table : Members) (at : List ℕ) (required : Option Parts) (fault : ReadFault) → MeansRole required_key table required
-    → Refuses (RoleFaults recommended_key table at) (Unit {0}) fault → Refuses (VersionTableFaults table at) (Unit {0}) fault
+pub refuses_recommended : (table : Members) (at : List ℕ) (required : Option Parts) (fault : ReadFault) → OptionalKey required_key MeansVersion table required
+    → Refuses (OptionalKeyFaults recommended_key VersionFaults table at) (Unit {0}) fault → Refuses (VersionTableFaults table at) (Unit {0}) fault
 refuses_recommended table at required fault meant refused = refused_mapped fault refused (λ memory. memory) (λ f faulty. inr (required, meant, inl faulty))
 
 pub wrong_in_part : {P Q : Wrong → Type 0} (kind : ConfigParseErrorKind) → ((wrong : Wrong) → P wrong → Q wrong) → RefusesSource P kind → RefusesSource Q kind

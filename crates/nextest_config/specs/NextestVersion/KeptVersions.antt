@@ -1,12 +1,12 @@
 -- What is kept of all asks.
-use Rattle.std.specs.Prelude.{◌≡◌, Option, Some, None, option_map, if◌then◌else◌}
+use Rattle.std.specs.Prelude.{◌≡◌, Option, Some, None, option_map}
 use Rattle.semver.specs.Identifiers.{parts_of}
 use Rattle.semver.specs.Parse.{Parts}
 use Rattle.semver.specs.declared.Version.{Version}
 use Rattle.nextest_config_sources.specs.NextestVersion.NextestVersionDeserialize.{Versions}
-use Rattle.nextest_config_sources.specs.NextestVersion.Precedence.{is_below}
 use Rattle.nextest_config_sources.specs.NextestVersion.Source.{Place, place_of}
 use Rattle.nextest_config_sources.specs.declared.nextest_version.source.ConfigSource.{ConfigSource}
+use Rattle.nextest_config.specs.NextestVersion.Later.{later_of}
 use Rattle.nextest_config.specs.declared.nextest_version.kept_versions.NextestVersionReq.{NextestVersionReq}
 use Rattle.nextest_config.specs.declared.nextest_version.kept_versions.NextestVersionReq.TheVariants as kept_as
 use Rattle.nextest_config.specs.declared.nextest_version.kept_versions.NextestVersionConfig.{NextestVersionConfig}
@@ -52,9 +52,7 @@ roles_from place versions = record { required = asked_from place versions.requir
 
 -- the join of two kept versions: the later one, unless its version is below the earlier one's
 abbrev pub join_kept : Option Kept → Option Kept → Option Kept
-join_kept None later = later
-join_kept (Some earlier) None = Some earlier
-join_kept (Some earlier) (Some later) = if is_below later.version earlier.version then Some earlier else Some later
+join_kept = later_of kept_version
 
 -- the join of each role
 abbrev pub join_roles : Roles → Roles → Roles

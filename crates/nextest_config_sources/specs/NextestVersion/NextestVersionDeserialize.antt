@@ -3,9 +3,9 @@ use Rattle.std.specs.Prelude.{◌≡◌, ℕ, List, codes, Option, Some, None, o
 use Rattle.std.proofs.Common.{refl}
 use Rattle.semver.specs.Identifiers.{parts_of}
 use Rattle.semver.specs.Parse.{Parts}
-use Rattle.toml.specs.Data.{Data, Members, as_str, as_table, get_member}
+use Rattle.toml.specs.Data.{Data, Members, as_str, as_table}
 use Rattle.nextest_config_values.specs.Read.Fault.{Fault}
-use Rattle.nextest_config_values.specs.Read.{at_key, custom, fault_at, FaultsKind, FaultsThen, IsReading, kind_reading, made_of, MeansKind, MeansNothing, MeansOptional, nothing_wrong, optional_reading, OptionalFaults, path_of, reading_on, required_above_recommended, rule_reading, said_as, then_reading, wrong_kind, WrongKind}
+use Rattle.nextest_config_values.specs.Read.{at_key, custom, fault_at, FaultsKind, FaultsThen, IsReading, kind_reading, made_of, MeansKind, MeansNothing, nothing_wrong, optional_reading, OptionalKey, OptionalKeyFaults, reading_on, required_above_recommended, rule_reading, said_as, then_reading, wrong_kind, WrongKind}
 use Rattle.nextest_config_sources.specs.NextestVersion.Precedence.{IsBelow}
 use Rattle.nextest_config_sources.specs.NextestVersion.VersionText.{HasVersion, MeansVersion, VersionFaults, VersionTextFaults}
 use Rattle.nextest_config_sources.specs.NextestVersion.VersionTextLaws.{text_reading, version_reading}
@@ -43,14 +43,6 @@ required_key = codes "required"
 abbrev pub recommended_key : List ℕ
 recommended_key = codes "recommended"
 
--- the version at a key of the table, if the key is there
-abbrev pub MeansRole : List ℕ → Members → Option Parts → Type 0
-MeansRole key members = MeansOptional MeansVersion (get_member key members)
-
--- what is wrong with it, at the path of the key
-abbrev pub RoleFaults : List ℕ → Members → List ℕ → Fault → Type 0
-RoleFaults key members at = OptionalFaults VersionFaults (get_member key members) (path_of at key)
-
 -- where both stand, the required version isn't above the recommended one
 abbrev pub KeepsOrder : Option Parts → Option Parts → Type 0
 KeepsOrder (Some required) (Some recommended) = ¬ IsBelow recommended required
@@ -63,14 +55,14 @@ OrderFaults _ _ at fault = ⊥
 
 -- the table asks for the versions at its two keys; other keys don't count
 pub record MeansVersionTable (members : Members) (asked : Versions) : Type 0 where
-  pub of_required : MeansRole required_key members asked.required
-  pub of_recommended : MeansRole recommended_key members asked.recommended
+  pub of_required : OptionalKey required_key MeansVersion members asked.required
+  pub of_recommended : OptionalKey recommended_key MeansVersion members asked.recommended
   pub in_order : KeepsOrder asked.required asked.recommended
 
 -- what is wrong with the table: at `required`, behind it at `recommended`, and behind both in their order
 abbrev pub VersionTableFaults : Members → List ℕ → Fault → Type 0
-VersionTableFaults = FaultsThen (MeansRole required_key) (RoleFaults required_key) (λ required.
-    FaultsThen (MeansRole recommended_key) (RoleFaults recommended_key) (λ recommended members. OrderFaults required recommended))
+VersionTableFaults = FaultsThen (OptionalKey required_key MeansVersion) (OptionalKeyFaults required_key VersionFaults) (λ required.
+    FaultsThen (OptionalKey recommended_key MeansVersion) (OptionalKeyFaults recommended_key VersionFaults) (λ recommended members. OrderFaults required recommended))
 
 -- the text asks this: its version is required
 abbrev pub MeansVersionText : List ℕ → Versions → Type 0
@@ -90,7 +82,7 @@ VersionsFaults value = FaultsKind VersionTextFaults (λ other. FaultsKind Versio
 
 -- ---- its law
 
-role : (key : List ℕ) → IsReading (MeansRole key) (RoleFaults key) (λ a b. a ≡ b)
+role : (key : List ℕ) → IsReading (OptionalKey key MeansVersion) (OptionalKeyFaults key VersionFaults) (λ a b. a ≡ b)
 role key = at_key key (optional_reading version_reading)
 
 order : (required recommended : Option Parts) → IsReading {D = Members} (λ members asked. KeepsOrder required recommended × (asked ≡ versions required recommended)) (λ members. OrderFaults required recommended) (λ a b. a ≡ b)

@@ -3,8 +3,8 @@
 ghost use Rattle.std.specs.Prelude.{◌≡◌, true, IfOk, IfErr, OnOk, option_map};
 ghost use Rattle.semver.specs.Identifiers.{parts_of};
 ghost use Rattle.toml.specs.View.{table_view};
-ghost use Rattle.nextest_config_values.specs.Read.{Refuses};
-ghost use Rattle.nextest_config_sources.specs.NextestVersion.{KeepsOrder, MeansRole, MeansVersions, MeansVersionTable, no_versions, OrderFaults, RoleFaults, versions, versions_of, versions_reading, VersionsAlike, VersionsFaults, VersionTableFaults};
+ghost use Rattle.nextest_config_values.specs.Read.{OptionalKey, OptionalKeyFaults, Refuses};
+ghost use Rattle.nextest_config_sources.specs.NextestVersion.{KeepsOrder, MeansVersion, MeansVersions, MeansVersionTable, no_versions, OrderFaults, versions, versions_of, versions_reading, VersionFaults, VersionsAlike, VersionsFaults, VersionTableFaults};
 
 use super::version_text::{VersionText, read_version};
 use nextest_config_values::read::{FaultKind, FromToml, ReadFault, Rule, optional_field};
@@ -134,9 +134,9 @@ fn read_role(
     at: &str,
 ) -> Result<Option<Version>, ReadFault>
     ensures meant { IfOk result (λ found.
-        MeansRole key.now (table_view table.now) (option_map parts_of found)) }
+        OptionalKey key.now MeansVersion (table_view table.now) (option_map parts_of found)) }
     ensures refused { IfErr result (Refuses
-        (RoleFaults key.now (table_view table.now) at.now) (Unit {0})) }
+        (OptionalKeyFaults key.now VersionFaults (table_view table.now) at.now) (Unit {0})) }
 {
     let found: Option<VersionText> = optional_field(alloc, table, key, at)?;
     match found {
