@@ -1,7 +1,8 @@
 //! Tables of rows, each a line `CALL | INPUT | ANSWER`.
 //!
 //! A blank line is no row, nor is one that begins with `#`. An answer that is empty or ends in a space
-//! is followed by ` |`. What a row can't ask for ends its test.
+//! is followed by ` |`. A `- ` in front of a row says that the call takes no memory, which `tests/refusals`
+//! checks. What a row can't ask for ends its test.
 
 use std::alloc::Global;
 use std::error::Error;
@@ -96,7 +97,7 @@ fn check_grown<S: Subject>(rt: &impl Runner, row: &str, size: usize) {
 }
 
 fn check_row<S: Subject>(rt: &impl Runner, row: &str) {
-    let (call, input, wanted) = parts(rt, row);
+    let (call, input, wanted) = parts(rt, row.strip_prefix("- ").unwrap_or(row));
     let answer = S::answer(rt, call, input);
     compare(rt, row, answer.as_str(), wanted);
 }

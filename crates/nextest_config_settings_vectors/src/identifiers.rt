@@ -12,10 +12,10 @@ use nextest_config_values::identifier::{
 
 const ROWS: &str = r#"
 # identifiers are kept
-identifier | foo | foo
-identifier | foo-bar | foo-bar
-identifier | Δabc | Δabc
-identifier | @tool:foo:bar | @tool:foo:bar
+- identifier | foo | foo
+- identifier | foo-bar | foo-bar
+- identifier | Δabc | Δabc
+- identifier | @tool:foo:bar | @tool:foo:bar
 identifier | @tool:Δabc_def-ghi:foo-bar | @tool:Δabc_def-ghi:foo-bar
 
 # other texts break one rule of identifiers
@@ -53,7 +53,7 @@ identifier | \u{301} | InvalidXid \u{301}
 printed | a\u{0} | invalid identifier "a\0"
 
 # up to 23 bytes are kept within the value, more in a String
-identifier | aaaaaaaaaaaaaaaaaaaaaaa | aaaaaaaaaaaaaaaaaaaaaaa
+- identifier | aaaaaaaaaaaaaaaaaaaaaaa | aaaaaaaaaaaaaaaaaaaaaaa
 identifier | aaaaaaaaaaaaaaaaaaaaaaaa | aaaaaaaaaaaaaaaaaaaaaaaa
 components | @tool:abcdefgh:ijklmnop | abcdefgh and ijklmnop
 components | @tool:abcdefgh:ijklmnopq | abcdefgh and ijklmnopq
@@ -62,17 +62,17 @@ bytes | e\u{301}e\u{301}e\u{301}e\u{301}e\u{301}e\u{301}e\u{301}e\u{301}e\u{301}
 identifier | e\u{301}e\u{301}e\u{301}e\u{301}e\u{301}e\u{301}e\u{301}e\u{301}e\u{301}e\u{301}e\u{301}e\u{301} | éééééééééééé
 bytes | e\u{301}e\u{301}e\u{301}e\u{301}e\u{301}e\u{301}e\u{301}e\u{301}e\u{301}e\u{301}e\u{301}e\u{301} | c3 a9 c3 a9 c3 a9 c3 a9 c3 a9 c3 a9 c3 a9 c3 a9 c3 a9 c3 a9 c3 a9 c3 a9
 identifier | aaaaaaaaaaaaaaaaaaaaaaa! | InvalidXid aaaaaaaaaaaaaaaaaaaaaaa!
-tool name | aaaaaaaaaaaaaaaaaaaaaaa | aaaaaaaaaaaaaaaaaaaaaaa
+- tool name | aaaaaaaaaaaaaaaaaaaaaaa | aaaaaaaaaaaaaaaaaaaaaaa
 tool name | aaaaaaaaaaaaaaaaaaaaaaaa | aaaaaaaaaaaaaaaaaaaaaaaa
 tool name | e\u{301}e\u{301}e\u{301}e\u{301}e\u{301}e\u{301}e\u{301}e\u{301}e\u{301}e\u{301}e\u{301}a | éééééééééééa
 tool name | e\u{301}e\u{301}e\u{301}e\u{301}e\u{301}e\u{301}e\u{301}e\u{301}e\u{301}e\u{301}e\u{301}e\u{301} | éééééééééééé
 
 # tool names are kept or break one rule
-tool name | foo | foo
-tool name | foo-bar | foo-bar
-tool name | Δabc | Δabc
-tool name | my-tool | my-tool
-tool name | myTool123 | myTool123
+- tool name | foo | foo
+- tool name | foo-bar | foo-bar
+- tool name | Δabc | Δabc
+- tool name | my-tool | my-tool
+- tool name | myTool123 | myTool123
 tool name |  | Empty
 tool name | foo bar | InvalidXid foo bar
 tool name | _ | InvalidXid _

@@ -116,7 +116,7 @@ is substantive skip | NotBenchmark | false
 # what is said of a flaky test
 flaky fail | 2/3 | Some("test passed on attempt 2/3 but is configured to fail when flaky")
 flaky fail | 4294967295/0 | Some("test passed on attempt 4294967295/0 but is configured to fail when flaky")
-flaky pass | 2/3 | None
+- flaky pass | 2/3 | None
 # at every size
 flaky fail | «#»/«#» | Some("test passed on attempt «#»/«#» but is configured to fail when flaky")
 flaky fail | «#»/1«#» | Some("test passed on attempt «#»/1«#» but is configured to fail when flaky")

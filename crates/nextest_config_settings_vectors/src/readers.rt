@@ -27,10 +27,10 @@ NonZeroCount | 0 | p: invalid value: integer `0`, expected a nonzero usize
 NonZeroCount | true | p: invalid type: boolean `true`, expected a nonzero usize
 
 # values within their range are read
-bool | true | true
-u32 | 4294967295 | 4294967295
+- bool | true | true
+- u32 | 4294967295 | 4294967295
 String | "a\nb" | "a\nb"
-NonZeroCount | 9223372036854775807 | NonZeroCount { count: 9223372036854775807 }
+- NonZeroCount | 9223372036854775807 | NonZeroCount { count: 9223372036854775807 }
 NonZeroCount::new | 0 | None
 NonZeroCount::new | 1 | Some(1)
 NonZeroCount::new | 9223372036854775807 | Some(9223372036854775807)
@@ -57,11 +57,11 @@ JunitFlakyFailStatus | 'failure' | Failure failure
 JunitFlakyFailStatus | 'success' | Success success
 
 # what was read is marked
-TrackDefault u32 | 5 | TrackDefault { value: 5, is_deserialized: true }
+- TrackDefault u32 | 5 | TrackDefault { value: 5, is_deserialized: true }
 TrackDefault bool | [] | p: invalid type: sequence, expected a boolean
 
 # names are read or refused
-ConfigIdentifier | 'a' | ConfigIdentifier { text: "a" }
+- ConfigIdentifier | 'a' | ConfigIdentifier { text: "a" }
 ConfigIdentifier | '' | p: identifier is empty
 ConfigIdentifier | 'foo bar' | p: invalid identifier "foo bar"
 ConfigIdentifier | "a\u0000" | p: invalid identifier "a\0"
@@ -69,7 +69,7 @@ ConfigIdentifier | '@tool:a' | p: tool identifier isn't @tool:name:identifier: "
 ConfigIdentifier | '@tool::a' | p: tool identifier has an empty component: "@tool::a"
 ConfigIdentifier | '@tool:a:_' | p: invalid tool identifier "@tool:a:_"
 ConfigIdentifier | 1 | p: invalid type: integer `1`, expected a string
-ToolName | 'a' | ToolName { text: "a" }
+- ToolName | 'a' | ToolName { text: "a" }
 ToolName | '' | p: tool name is empty
 ToolName | '@tool' | p: tool name begins with @tool: "@tool"
 ToolName | 'a:b' | p: invalid tool name "a:b"

@@ -15,11 +15,11 @@ use toml::Value;
 
 const TIMEOUTS: &str = r#"
 # slow timeouts
-slow s | { period = "60s", terminate-after = 3, grace-period = "1s" } | Some(SlowTimeout { period: 60s, terminate_after: Some(NonZeroCount { count: 3 }), grace_period: 1s, on_timeout: Fail })
-slow s | '' | None
-slow s | '30s' | Some(SlowTimeout { period: 30s, terminate_after: None, grace_period: 10s, on_timeout: Fail })
-slow s | { period = "60s", on-timeout = "pass" } | Some(SlowTimeout { period: 60s, terminate_after: None, grace_period: 10s, on_timeout: Pass })
-slow s | { period = "60s", x = 1 } | Some(SlowTimeout { period: 60s, terminate_after: None, grace_period: 10s, on_timeout: Fail })
+- slow s | { period = "60s", terminate-after = 3, grace-period = "1s" } | Some(SlowTimeout { period: 60s, terminate_after: Some(NonZeroCount { count: 3 }), grace_period: 1s, on_timeout: Fail })
+- slow s | '' | None
+- slow s | '30s' | Some(SlowTimeout { period: 30s, terminate_after: None, grace_period: 10s, on_timeout: Fail })
+- slow s | { period = "60s", on-timeout = "pass" } | Some(SlowTimeout { period: 60s, terminate_after: None, grace_period: 10s, on_timeout: Pass })
+- slow s | { period = "60s", x = 1 } | Some(SlowTimeout { period: 60s, terminate_after: None, grace_period: 10s, on_timeout: Fail })
 slow s | ' ' | s: invalid value: string " ", expected a duration
 slow s | '5' | s: invalid value: string "5", expected a duration
 slow s | { period = "" } | s.period: invalid value: string "", expected a duration
@@ -38,9 +38,9 @@ slow s | 1.5 | s: invalid type: floating point, expected a table ({ period = "60
 slow s | 1979-05-27 | s: invalid type: datetime, expected a table ({ period = "60s", terminate-after = 2 }) or a string ("60s")
 
 # leak timeouts
-leak l | '5s' | Some(LeakTimeout { period: 5s, result: Pass })
-leak l | { period = "5s" } | Some(LeakTimeout { period: 5s, result: Pass })
-leak l | { period = "1s", result = "fail" } | Some(LeakTimeout { period: 1s, result: Fail })
+- leak l | '5s' | Some(LeakTimeout { period: 5s, result: Pass })
+- leak l | { period = "5s" } | Some(LeakTimeout { period: 5s, result: Pass })
+- leak l | { period = "1s", result = "fail" } | Some(LeakTimeout { period: 1s, result: Fail })
 leak l | '' | l: invalid value: string "", expected a duration
 leak l | { period = "" } | l.period: invalid value: string "", expected a duration
 leak l | { period = "5s", result = "x" } | l.result: unknown variant `x`, expected `fail` or `pass`
@@ -52,9 +52,9 @@ leak l | 1.5 | l: invalid type: floating point, expected a table ({ period = "50
 leak l | 1979-05-27 | l: invalid type: datetime, expected a table ({ period = "500ms", result = "fail" }) or a string ("100ms")
 
 # global timeouts
-global g | '30y' | GlobalTimeout { period: 946728000s }
-global g | '30s' | GlobalTimeout { period: 30s }
-global g | '60s' | GlobalTimeout { period: 60s }
+- global g | '30y' | GlobalTimeout { period: 946728000s }
+- global g | '30s' | GlobalTimeout { period: 30s }
+- global g | '60s' | GlobalTimeout { period: 60s }
 global g | '' | g: invalid value: string "", expected a duration
 global g | 30 | g: invalid type: integer `30`, expected a duration
 global g | true | g: invalid type: boolean `true`, expected a duration
@@ -85,14 +85,14 @@ global g«g» | 'x«x»' | g«g»: invalid value: string "x«x»", expected a du
 "#;
 
 const RETRIES: &str = r#"
-retries r | 0 | Some(Fixed { count: 0, delay: 0ns, jitter: false })
-retries r | 4294967295 | Some(Fixed { count: 4294967295, delay: 0ns, jitter: false })
+- retries r | 0 | Some(Fixed { count: 0, delay: 0ns, jitter: false })
+- retries r | 4294967295 | Some(Fixed { count: 4294967295, delay: 0ns, jitter: false })
 retries r | 4294967296 | r: invalid value: integer `4294967296`, expected a u32
 retries r | -1 | r: invalid value: integer `-1`, expected a table ({ backoff = "fixed", count = 5 }) or a number (5)
-retries r | { backoff = "fixed", count = 5 } | Some(Fixed { count: 5, delay: 0ns, jitter: false })
-retries r | { backoff = "fixed", count = 5, delay = "1s", jitter = true } | Some(Fixed { count: 5, delay: 1s, jitter: true })
-retries r | { backoff = "exponential", count = 2, delay = "1s" } | Some(Exponential { count: 2, delay: 1s, jitter: false, max_delay: None })
-retries r | { backoff = "exponential", count = 2, delay = "2s", max-delay = "2s", jitter = true } | Some(Exponential { count: 2, delay: 2s, jitter: true, max_delay: Some(2s) })
+- retries r | { backoff = "fixed", count = 5 } | Some(Fixed { count: 5, delay: 0ns, jitter: false })
+- retries r | { backoff = "fixed", count = 5, delay = "1s", jitter = true } | Some(Fixed { count: 5, delay: 1s, jitter: true })
+- retries r | { backoff = "exponential", count = 2, delay = "1s" } | Some(Exponential { count: 2, delay: 1s, jitter: false, max_delay: None })
+- retries r | { backoff = "exponential", count = 2, delay = "2s", max-delay = "2s", jitter = true } | Some(Exponential { count: 2, delay: 2s, jitter: true, max_delay: Some(2s) })
 retries r | {} | r: missing configuration field "r.backoff"
 retries r | { count = 1 } | r: missing configuration field "r.backoff"
 retries r | { backoff = "fixed" } | r: missing configuration field "r.count"
@@ -142,16 +142,16 @@ retries r«r» | { backoff = "exponential", count = 1«#», delay = "2«#»s", m
 
 const LIMITS: &str = r#"
 # fail-fast
-fail-fast profile.custom.fail-fast | true | Some(Count { max_fail: 1, terminate: Wait })
-fail-fast profile.custom.fail-fast | false | Some(All)
-fail-fast profile.custom.fail-fast | { max-fail = 1 } | Some(Count { max_fail: 1, terminate: Wait })
-fail-fast profile.custom.fail-fast | { max-fail = 2 } | Some(Count { max_fail: 2, terminate: Wait })
-fail-fast profile.custom.fail-fast | { max-fail = "all" } | Some(All)
-fail-fast profile.custom.fail-fast | { max-fail = 1, terminate = "wait" } | Some(Count { max_fail: 1, terminate: Wait })
-fail-fast profile.custom.fail-fast | { max-fail = 1, terminate = "immediate" } | Some(Count { max_fail: 1, terminate: Immediate })
-fail-fast profile.custom.fail-fast | { max-fail = 5, terminate = "immediate" } | Some(Count { max_fail: 5, terminate: Immediate })
-fail-fast profile.custom.fail-fast | { max-fail = "all", terminate = "immediate" } | Some(All)
-fail-fast f | { max-fail = 9223372036854775807, x = 1 } | Some(Count { max_fail: 9223372036854775807, terminate: Wait })
+- fail-fast profile.custom.fail-fast | true | Some(Count { max_fail: 1, terminate: Wait })
+- fail-fast profile.custom.fail-fast | false | Some(All)
+- fail-fast profile.custom.fail-fast | { max-fail = 1 } | Some(Count { max_fail: 1, terminate: Wait })
+- fail-fast profile.custom.fail-fast | { max-fail = 2 } | Some(Count { max_fail: 2, terminate: Wait })
+- fail-fast profile.custom.fail-fast | { max-fail = "all" } | Some(All)
+- fail-fast profile.custom.fail-fast | { max-fail = 1, terminate = "wait" } | Some(Count { max_fail: 1, terminate: Wait })
+- fail-fast profile.custom.fail-fast | { max-fail = 1, terminate = "immediate" } | Some(Count { max_fail: 1, terminate: Immediate })
+- fail-fast profile.custom.fail-fast | { max-fail = 5, terminate = "immediate" } | Some(Count { max_fail: 5, terminate: Immediate })
+- fail-fast profile.custom.fail-fast | { max-fail = "all", terminate = "immediate" } | Some(All)
+- fail-fast f | { max-fail = 9223372036854775807, x = 1 } | Some(Count { max_fail: 9223372036854775807, terminate: Wait })
 fail-fast profile.custom.fail-fast | { max-fail = "all", terminate = "x" } | profile.custom.fail-fast.terminate: unknown variant `x`, expected `wait` or `immediate`
 fail-fast f | { max-fail = 0, terminate = "x" } | f.max-fail: invalid value: integer `0`, expected a positive integer or the string "all"
 fail-fast profile.custom.fail-fast | { max-fail = 0 } | profile.custom.fail-fast.max-fail: invalid value: integer `0`, expected a positive integer or the string "all"
@@ -178,10 +178,10 @@ fail-fast f | 1.5 | f: invalid type: floating point, expected a boolean or { max
 fail-fast f | 1979-05-27 | f: invalid type: datetime, expected a boolean or { max-fail = ... }
 
 # threads-required
-threads t | 2 | Count(2)
-threads t | 9223372036854775807 | Count(9223372036854775807)
-threads t | 'num-cpus' | NumCpus
-threads t | 'num-test-threads' | NumTestThreads
+- threads t | 2 | Count(2)
+- threads t | 9223372036854775807 | Count(9223372036854775807)
+- threads t | 'num-cpus' | NumCpus
+- threads t | 'num-test-threads' | NumTestThreads
 threads t | 0 | t: invalid value: integer `0`, expected an integer, the string "num-cpus" or the string "num-test-threads"
 threads t | -1 | t: invalid value: integer `-1`, expected an integer, the string "num-cpus" or the string "num-test-threads"
 threads t | 'x' | t: invalid value: string "x", expected an integer, the string "num-cpus" or the string "num-test-threads"
@@ -192,9 +192,9 @@ threads t | 1.5 | t: invalid type: floating point, expected an integer, the stri
 threads t | 1979-05-27 | t: invalid type: datetime, expected an integer, the string "num-cpus" or the string "num-test-threads"
 
 # priority
-priority r | -100 | TestPriority(-100)
-priority r | 0 | TestPriority(0)
-priority r | 100 | TestPriority(100)
+- priority r | -100 | TestPriority(-100)
+- priority r | 0 | TestPriority(0)
+- priority r | 100 | TestPriority(100)
 priority r | 101 | r: priority 101 must be between -100 and 100
 priority r | -101 | r: priority -101 must be between -100 and 100
 priority r | -128 | r: priority -128 must be between -100 and 100

@@ -6,7 +6,7 @@ use nextest_config_rows::rows::Escaped;
 
 const ROWS: &str = r#"
 # an empty list asks nothing
-0.9.50 |  | Satisfied
+- 0.9.50 |  | Satisfied
 versions |  | none, none
 
 # equal versions name the last source
@@ -26,7 +26,7 @@ versions |  | none, none
 
 # a pre-release falls short and build metadata does not count
 0.9.50-rc.1 | repository: 0.toml => nextest-version = "0.9.50" | Error: 0.9.50, repository 0.toml, 0.9.50-rc.1
-0.9.50+x | repository: 0.toml => nextest-version = "0.9.50" | Satisfied
+- 0.9.50+x | repository: 0.toml => nextest-version = "0.9.50" | Satisfied
 
 # the first refused source is named
 0.9.50 | repository: 0.toml => nextest-version = "0.9.50" && repository: 1.toml => x = && repository: 2.toml => nextest-version = 1 | source 1: repository 1.toml: not a TOML document
@@ -51,8 +51,8 @@ versions |  | none, none
 0.9.55 | repository: 0.toml => nextest-version = "0.9.60" && repository: 1.toml => nextest-version = { recommended = "0.9.50" } | Error: 0.9.60, repository 0.toml, 0.9.55
 
 # tables
-0.0.0 | repository: 0.toml => nextest-version = { extra = 1 } | Satisfied
-0.0.0 | repository: 0.toml => nextest-version = {} | Satisfied
+- 0.0.0 | repository: 0.toml => nextest-version = { extra = 1 } | Satisfied
+- 0.0.0 | repository: 0.toml => nextest-version = {} | Satisfied
 0.0.0 | repository: 0.toml => nextest-version = { required = "0.9.60", recommended = "0.9.60" } | Error: 0.9.60, repository 0.toml, 0.0.0
 0.0.0 | repository: 0.toml => nextest-version = { required = "0.9.60", recommended = "0.9.50" } | source 0: repository 0.toml: nextest-version: required version (0.9.60) must not be greater than recommended version (0.9.50)
 0.0.0 | repository: 0.toml => nextest-version = { required = "1", recommended = 2 } | source 0: repository 0.toml: nextest-version.required: invalid version "1"
