@@ -5,7 +5,7 @@ use Rattle.std.specs.Duration.{as_nanos}
 use Rattle.toml.specs.Data.{Data, string, Members, as_str, as_table}
 use Rattle.nextest_config_values.specs.Duration.{DurationFaults, MeansDuration, duration_meant}
 use Rattle.nextest_config_values.specs.Read.Fault.{Fault}
-use Rattle.nextest_config_values.specs.Read.{at_key, equality, FaultsKind, FaultsThen, IsReading, kind_reading, KeyOr, made_of, MeansKind, MeansNothing, MeansWordText, or_reading, reading_at, reading_each, reading_on, required_reading, RequiredKey, RequiredKeyFaults, OptionalKeyFaults, said_as, then_reading, value_of, word_reading, WordTextFaults, wrong_kind, WrongKind}
+use Rattle.nextest_config_values.specs.Read.{at_key, equality, FaultsKind, FaultsThen, IsReading, kind_reading, KeyOr, made_of, MeansKind, MeansMade, MeansNothing, MeansWordText, or_reading, reading_at, reading_each, reading_on, required_reading, RequiredKey, RequiredKeyFaults, OptionalKeyFaults, said_as, then_reading, value_of, word_reading, WordTextFaults, wrong_kind, WrongKind}
 use Rattle.nextest_config_elements.specs.Durations.{milliseconds}
 use Rattle.nextest_config_elements.specs.declared.leak_timeout.LeakTimeout.{LeakTimeout}
 use Rattle.nextest_config_elements.specs.declared.leak_timeout.LeakTimeoutResult.{LeakTimeoutResult}
@@ -73,17 +73,13 @@ MeansLeakTimeoutText text timeout = (period : ℕ) × MeansDuration (string text
 abbrev pub LeakTimeoutTextFaults : List ℕ → List ℕ → Fault → Type 0
 LeakTimeoutTextFaults text = DurationFaults (string text)
 
--- the table means some timeout
-abbrev pub MeansSomeLeakTimeout : Members → Option LeakTimeoutRecord → Type 0
-MeansSomeLeakTimeout members timeout = (meant : LeakTimeoutRecord) × MeansLeakTimeoutTable members meant × (timeout ≡ Some meant)
-
 -- what the setting takes
 abbrev pub leak_timeout_expected : List ℕ
 leak_timeout_expected = codes "a table ({ period = \"500ms\", result = \"fail\" }) or a string (\"100ms\")"
 
 -- the value means this timeout: as a text, or as a table
 abbrev pub MeansLeakTimeout : Data → Option LeakTimeoutRecord → Type 0
-MeansLeakTimeout value = MeansKind MeansLeakTimeoutText (λ other. MeansKind MeansSomeLeakTimeout MeansNothing (as_table other) other) (as_str value) value
+MeansLeakTimeout value = MeansKind MeansLeakTimeoutText (λ other. MeansKind (MeansMade Some MeansLeakTimeoutTable) MeansNothing (as_table other) other) (as_str value) value
 
 -- what is wrong with the value at a path
 abbrev pub LeakTimeoutFaults : Data → List ℕ → Fault → Type 0

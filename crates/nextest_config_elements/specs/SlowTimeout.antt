@@ -5,7 +5,7 @@ use Rattle.std.specs.Duration.{as_nanos}
 use Rattle.toml.specs.Data.{Data, string, Members, as_str, as_table}
 use Rattle.nextest_config_values.specs.Duration.{DurationFaults, MeansDuration, duration_meant}
 use Rattle.nextest_config_values.specs.Read.Fault.{Fault}
-use Rattle.nextest_config_values.specs.Read.{at_key, count_reading, CountFaults, equality, FaultsKind, FaultsThen, IsReading, kind_reading, KeyOr, made_of, MeansCount, MeansKind, MeansNothing, MeansWordText, only_this, optional_reading, OptionalKey, OptionalKeyFaults, or_reading, reading_at, reading_each, reading_on, required_reading, RequiredKey, RequiredKeyFaults, said_as, then_reading, value_of, word_reading, WordTextFaults, wrong_kind, WrongKind}
+use Rattle.nextest_config_values.specs.Read.{at_key, count_reading, CountFaults, equality, FaultsKind, FaultsThen, IsReading, kind_reading, KeyOr, made_of, MeansCount, MeansKind, MeansMade, MeansNothing, MeansWordText, only_this, optional_reading, OptionalKey, OptionalKeyFaults, or_reading, reading_at, reading_each, reading_on, required_reading, RequiredKey, RequiredKeyFaults, said_as, then_reading, value_of, word_reading, WordTextFaults, wrong_kind, WrongKind}
 use Rattle.nextest_config_elements.specs.Durations.{seconds}
 use Rattle.nextest_config_elements.specs.declared.slow_timeout.SlowTimeout.{SlowTimeout}
 use Rattle.nextest_config_elements.specs.declared.slow_timeout.SlowTimeoutResult.{SlowTimeoutResult}
@@ -88,17 +88,13 @@ abbrev pub SlowTimeoutTextFaults : List ℕ → List ℕ → Fault → Type 0
 SlowTimeoutTextFaults [] at fault = ⊥
 SlowTimeoutTextFaults (b ∷ rest) at fault = DurationFaults (string (b ∷ rest)) at fault
 
--- the table means some timeout
-abbrev pub MeansSomeSlowTimeout : Members → Option SlowTimeoutRecord → Type 0
-MeansSomeSlowTimeout members timeout = (meant : SlowTimeoutRecord) × MeansSlowTimeoutTable members meant × (timeout ≡ Some meant)
-
 -- what the setting takes
 abbrev pub slow_timeout_expected : List ℕ
 slow_timeout_expected = codes "a table ({ period = \"60s\", terminate-after = 2 }) or a string (\"60s\")"
 
 -- the value means this timeout, or none: as a text, or as a table
 abbrev pub MeansSlowTimeout : Data → Option SlowTimeoutRecord → Type 0
-MeansSlowTimeout value = MeansKind MeansSlowTimeoutText (λ other. MeansKind MeansSomeSlowTimeout MeansNothing (as_table other) other) (as_str value) value
+MeansSlowTimeout value = MeansKind MeansSlowTimeoutText (λ other. MeansKind (MeansMade Some MeansSlowTimeoutTable) MeansNothing (as_table other) other) (as_str value) value
 
 -- what is wrong with the value at a path
 abbrev pub SlowTimeoutFaults : Data → List ℕ → Fault → Type 0

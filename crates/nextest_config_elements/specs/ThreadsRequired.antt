@@ -1,9 +1,9 @@
 -- The setting `threads-required`: a positive integer, or one of two words.
-use Rattle.std.specs.Prelude.{◌≡◌, ◌≢◌, ℕ, ℤ, List, codes, Option, Some, None}
+use Rattle.std.specs.Prelude.{◌≡◌, ◌≢◌, ℕ, List, codes, Option, Some, None}
 use Rattle.std.proofs.Common.{sym, ◌∙◌, rules}
-use Rattle.toml.specs.Data.{Data, as_integer, as_str, integer, string}
+use Rattle.toml.specs.Data.{Data, as_integer, as_str, string}
 use Rattle.nextest_config_values.specs.Read.Fault.{Fault}
-use Rattle.nextest_config_values.specs.Read.{equality, FaultsKind, IsCount, IsReading, kind_reading, MeansKind, MeansNothing, MeansNumber, wrong_kind, wrong_value, WrongKind}
+use Rattle.nextest_config_values.specs.Read.{count_made, equality, FaultsKind, IsCount, IsNoCount, IsReading, kind_reading, MeansKind, MeansMade, MeansNothing, MeansNumber, wrong_kind, wrong_value, WrongKind}
 use Rattle.nextest_config_elements.specs.declared.threads_required.ThreadsRequired.{ThreadsRequired}
 use Rattle.nextest_config_elements.specs.declared.threads_required.ThreadsRequired.TheVariants.{Count, NumCpus, NumTestThreads}
 
@@ -23,14 +23,6 @@ threads_text NumTestThreads = Some (codes "num-test-threads")
 abbrev pub threads_expected : List ℕ
 threads_expected = codes "an integer, the string \"num-cpus\" or the string \"num-test-threads\""
 
--- the integer is this count
-abbrev pub MeansThreadCount : ℤ → ThreadsRequired → Type 0
-MeansThreadCount held threads = (count : ℕ) × MeansNumber IsCount held count × (threads ≡ Count count)
-
--- the integer is no count
-abbrev pub ThreadCountFaults : ℤ → List ℕ → Fault → Type 0
-ThreadCountFaults held at fault = ((count : ℕ) → ¬ (MeansNumber IsCount held count)) × (fault ≡ wrong_value (integer held) at threads_expected)
-
 -- the text is the word of this setting
 abbrev pub MeansThreadsText : List ℕ → ThreadsRequired → Type 0
 MeansThreadsText held threads = threads_text threads ≡ Some held
@@ -41,24 +33,16 @@ ThreadsTextFaults held at fault = ((threads : ThreadsRequired) → threads_text 
 
 -- the value means this: as an integer, or as a text
 abbrev pub MeansThreads : Data → ThreadsRequired → Type 0
-MeansThreads value = MeansKind MeansThreadCount (λ other. MeansKind MeansThreadsText MeansNothing (as_str other) other) (as_integer value) value
+MeansThreads value = MeansKind (MeansMade Count (MeansNumber IsCount)) (λ other. MeansKind MeansThreadsText MeansNothing (as_str other) other) (as_integer value) value
 
 -- what is wrong with the value at a path
 abbrev pub ThreadsFaults : Data → List ℕ → Fault → Type 0
-ThreadsFaults value = FaultsKind ThreadCountFaults (λ other. FaultsKind ThreadsTextFaults (WrongKind threads_expected) (as_str other) other) (as_integer value) value
+ThreadsFaults value = FaultsKind (IsNoCount threads_expected) (λ other. FaultsKind ThreadsTextFaults (WrongKind threads_expected) (as_str other) other) (as_integer value) value
 
 -- ---- its law
 
 one_word : (x y : ThreadsRequired) (held : List ℕ) → threads_text x ≡ Some held → threads_text y ≡ Some held → x ≡ y
 one_word x y held a b = search rules
-
-count : IsReading MeansThreadCount ThreadCountFaults (λ a b. a ≡ b)
-count = record {
-  equivalence = equality;
-  one_meaning = λ held x y a b. search rules;
-  one_fault = λ held at f g a b. a.1 ∙ sym b.1;
-  never_both = λ held at x f a b. b.0 a.0 a.1;
-}
 
 text : IsReading MeansThreadsText ThreadsTextFaults (λ a b. a ≡ b)
 text = record {
@@ -70,4 +54,4 @@ text = record {
 
 -- a value means one setting or has one fault, and not both
 pub threads_reading : IsReading MeansThreads ThreadsFaults (λ a b. a ≡ b)
-threads_reading = kind_reading count (kind_reading text (wrong_kind threads_expected) as_str) as_integer
+threads_reading = kind_reading (count_made Count threads_expected) (kind_reading text (wrong_kind threads_expected) as_str) as_integer

@@ -1,9 +1,9 @@
 -- The setting `fail-fast`: a boolean, or a table with a limit and a mode.
 use Rattle.std.specs.Prelude.{◌≡◌, ◌≢◌, ℕ, ℤ, pos, ◌≤ℤ◌, ◌<ℤ◌, Bool, List, [], ◌∷◌, codes, FitsSigned, ◌⊎◌, Option, Some}
 use Rattle.std.specs.Int.{w64}
-use Rattle.toml.specs.Data.{Data, Members, as_bool, as_integer, as_str, as_table, integer, string}
+use Rattle.toml.specs.Data.{Data, Members, as_bool, as_integer, as_str, as_table, string}
 use Rattle.nextest_config_values.specs.Read.Fault.{Fault}
-use Rattle.nextest_config_values.specs.Read.{FaultsKind, FaultsThen, IsCount, KeyOr, MeansKind, MeansNothing, MeansNumber, MeansWordText, OptionalKeyFaults, RequiredKey, RequiredKeyFaults, WordTextFaults, wrong_value, WrongKind}
+use Rattle.nextest_config_values.specs.Read.{FaultsKind, FaultsThen, IsCount, IsNoCount, KeyOr, MeansKind, MeansMade, MeansNothing, MeansNumber, MeansWordText, OptionalKeyFaults, RequiredKey, RequiredKeyFaults, WordTextFaults, wrong_value, WrongKind}
 use Rattle.nextest_config_elements.specs.MaxFail.Limit.{fail_fast_limit, mode_word}
 use Rattle.nextest_config_elements.specs.MaxFail.NumberText.{IsNumberText}
 use Rattle.nextest_config_elements.specs.declared.max_fail.MaxFail.{MaxFail}
@@ -29,14 +29,6 @@ max_fail_expected = codes "a positive integer or the string \"all\""
 
 -- ---- `max-fail`
 
--- the integer is this count
-abbrev pub MeansMaxFailNumber : ℤ → MaxFailCount → Type 0
-MeansMaxFailNumber held count = (number : ℕ) × MeansNumber IsCount held number × (count ≡ Count number)
-
--- the integer is no count
-abbrev pub MaxFailNumberFaults : ℤ → List ℕ → Fault → Type 0
-MaxFailNumberFaults held at fault = ((number : ℕ) → ¬ (MeansNumber IsCount held number)) × (fault ≡ wrong_value (integer held) at max_fail_expected)
-
 -- the text is `all`, in these letters
 abbrev pub MeansMaxFailText : List ℕ → MaxFailCount → Type 0
 MeansMaxFailText held count = (held ≡ codes "all") × (count ≡ All)
@@ -58,11 +50,11 @@ MaxFailTextFaults held at fault = (held ≢ codes "all") × (expected : List ℕ
 
 -- what the key holds
 abbrev pub MeansMaxFail : Data → MaxFailCount → Type 0
-MeansMaxFail value = MeansKind MeansMaxFailNumber (λ other. MeansKind MeansMaxFailText MeansNothing (as_str other) other) (as_integer value) value
+MeansMaxFail value = MeansKind (MeansMade Count (MeansNumber IsCount)) (λ other. MeansKind MeansMaxFailText MeansNothing (as_str other) other) (as_integer value) value
 
 -- what is wrong with it
 abbrev pub MaxFailFaults : Data → List ℕ → Fault → Type 0
-MaxFailFaults value = FaultsKind MaxFailNumberFaults (λ other. FaultsKind MaxFailTextFaults (WrongKind max_fail_expected) (as_str other) other) (as_integer value) value
+MaxFailFaults value = FaultsKind (IsNoCount max_fail_expected) (λ other. FaultsKind MaxFailTextFaults (WrongKind max_fail_expected) (as_str other) other) (as_integer value) value
 
 -- ---- `terminate`
 
@@ -108,7 +100,7 @@ MeansLimit value = MeansKind MeansFailFastTruth (λ other. MeansKind MeansFailFa
 
 -- a value that is all right always sets a limit
 abbrev pub MeansFailFast : Data → Option MaxFail → Type 0
-MeansFailFast value set = (limit : MaxFail) × MeansLimit value limit × (set ≡ Some limit)
+MeansFailFast = MeansMade Some MeansLimit
 
 -- what is wrong with the value at a path
 abbrev pub FailFastFaults : Data → List ℕ → Fault → Type 0

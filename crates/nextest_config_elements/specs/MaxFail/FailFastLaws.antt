@@ -2,12 +2,13 @@
 use Rattle.std.specs.Prelude.{◌≡◌, ℕ, ℤ, pos, negsuc, ◌≤ℤ◌, ◌<ℤ◌, List, [], ◌∷◌, Some}
 use Rattle.std.proofs.Common.{refl, sym, ap, ◌∙◌, subst, inl, inr, rules}
 use Rattle.toml.specs.Data.{as_bool, as_integer, as_str, as_table, string}
-use Rattle.nextest_config_values.specs.Read.{at_key, equality, IsReading, kind_reading, made_of, or_reading, required_reading, said_as, then_reading, value_of, word_reading, wrong_kind, wrong_value}
-use Rattle.nextest_config_elements.specs.MaxFail.Limit.{mode_word}
+use Rattle.nextest_config_values.specs.Read.{at_key, count_made, equality, IsReading, kind_reading, made_of, only_this, or_reading, reading_each, required_reading, said_as, then_reading, value_of, word_reading, wrong_kind, wrong_value}
+use Rattle.nextest_config_elements.specs.MaxFail.Limit.{fail_fast_limit, mode_word}
 use Rattle.nextest_config_elements.specs.MaxFail.NumberTextLaws.{one_number}
+use Rattle.nextest_config_elements.specs.declared.max_fail.fail_fast.MaxFailCount.TheVariants.{Count}
 use Rattle.nextest_config_elements.specs.declared.max_fail.TerminateMode.{TerminateMode}
 use Rattle.nextest_config_elements.specs.declared.max_fail.TerminateMode.TheVariants.{Wait, Immediate}
-use Rattle.nextest_config_elements.specs.MaxFail.FailFast.{fail_fast_expected, FailFastFaults, FailFastTableFaults, HasInteger, IsExpected, limit_of, max_fail_expected, max_fail_key, MaxFailFaults, MaxFailNumberFaults, MaxFailTextFaults, MeansFailFast, MeansFailFastTable, MeansFailFastTruth, MeansMaxFail, MeansMaxFailNumber, MeansMaxFailText, MeansTerminate, terminate_key, TerminateFaults, TruthFaults}
+use Rattle.nextest_config_elements.specs.MaxFail.FailFast.{fail_fast_expected, FailFastFaults, FailFastTableFaults, HasInteger, IsExpected, limit_of, max_fail_expected, max_fail_key, MaxFailFaults, MaxFailTextFaults, MeansFailFast, MeansFailFastTable, MeansFailFastTruth, MeansMaxFail, MeansMaxFailText, MeansTerminate, terminate_key, TerminateFaults, TruthFaults}
 
 not_both : (number : ℤ) → pos 0 <ℤ number → number ≤ℤ pos 0 → ⊥
 not_both (pos n) a b = search rules
@@ -17,23 +18,7 @@ one_sign : (held : List ℕ) (m n : ℤ) → HasInteger held m → HasInteger he
 one_sign held m n h k a b = not_both n (subst (λ x. pos 0 <ℤ x) (one_number held m n h.0 k.0) a) b
 
 one_expected : (held e f : List ℕ) → IsExpected held e → IsExpected held f → e ≡ f
-one_expected held e f (inl a) (inl b) = a.3 ∙ sym b.3
-one_expected held e f (inl a) (inr (inl b)) = absurd (one_sign held a.0 b.0 a.1 b.1 a.2 b.2)
-one_expected held e f (inl a) (inr (inr b)) = absurd (b.0 a.0 a.1)
-one_expected held e f (inr (inl a)) (inl b) = absurd (one_sign held b.0 a.0 b.1 a.1 b.2 a.2)
-one_expected held e f (inr (inl a)) (inr (inl b)) = a.3 ∙ sym b.3
-one_expected held e f (inr (inl a)) (inr (inr b)) = absurd (b.0 a.0 a.1)
-one_expected held e f (inr (inr a)) (inl b) = absurd (a.0 b.0 b.1)
-one_expected held e f (inr (inr a)) (inr (inl b)) = absurd (a.0 b.0 b.1)
-one_expected held e f (inr (inr a)) (inr (inr b)) = a.1 ∙ sym b.1
-
-number : IsReading MeansMaxFailNumber MaxFailNumberFaults (λ a b. a ≡ b)
-number = record {
-  equivalence = equality;
-  one_meaning = λ held x y a b. search rules;
-  one_fault = λ held at f g a b. a.1 ∙ sym b.1;
-  never_both = λ held at x f a b. b.0 a.0 a.1;
-}
+one_expected held e f a b = search (rules, one_sign)
 
 text : IsReading MeansMaxFailText MaxFailTextFaults (λ a b. a ≡ b)
 text = record {
@@ -44,7 +29,7 @@ text = record {
 }
 
 pub max_fail_reading : IsReading MeansMaxFail MaxFailFaults (λ a b. a ≡ b)
-max_fail_reading = kind_reading number (kind_reading text (wrong_kind max_fail_expected) as_str) as_integer
+max_fail_reading = kind_reading (count_made Count max_fail_expected) (kind_reading text (wrong_kind max_fail_expected) as_str) as_integer
 
 mode_reads_back : (mode : TerminateMode) → value_of mode_word (Wait ∷ Immediate ∷ []) (mode_word mode) ≡ Some mode
 mode_reads_back Wait = refl
@@ -58,12 +43,7 @@ table = said_as (λ members limit meant. (meant.count, meant.of_max_fail, (meant
     (then_reading (required_reading max_fail_reading max_fail_key) (λ count. made_of (limit_of count) (at_key terminate_key (or_reading terminate Wait))))
 
 truth : IsReading MeansFailFastTruth TruthFaults (λ a b. a ≡ b)
-truth = record {
-  equivalence = equality;
-  one_meaning = λ held x y a b. a ∙ sym b;
-  one_fault = λ held at f g a b. absurd a;
-  never_both = λ held at x f a b. b;
-}
+truth = reading_each equality (λ held. only_this equality (fail_fast_limit held))
 
 -- a value sets one limit or has one fault, and not both
 pub fail_fast_reading : IsReading MeansFailFast FailFastFaults (λ a b. a ≡ b)

@@ -21,6 +21,10 @@ pub record IsReading {D X : Type 0} (means : D → X → Type 0) (faults : D →
 abbrev pub WantsMemory : {X : Type 0} → (X → Type 0) → Bool → Type 0
 WantsMemory {X} means needs_memory = (x : X) → means x → IsTrue needs_memory
 
+-- a result that is made of what the value means
+abbrev pub MeansMade : {D X Y : Type 0} → (X → Y) → (D → X → Type 0) → D → Y → Type 0
+MeansMade {D} {X} make means value y = (x : X) × means value x × (y ≡ make x)
+
 -- ---- a value of one kind
 
 -- the value is of the kind that this accessor tells, and what it holds means this

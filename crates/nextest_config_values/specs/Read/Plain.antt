@@ -2,9 +2,10 @@
 use Rattle.std.specs.Prelude.{◌≡◌, ◌≢◌, ℕ, ◌<◌, ◌^◌, ℤ, pos, Bool, List, codes, String, string_bytes}
 use Rattle.std.proofs.Common.{sym, ◌∙◌}
 use Rattle.std.specs.declared.alloc.Global.{Global}
-use Rattle.toml.specs.Data.{Data, as_bool, as_integer, as_str}
+use Rattle.toml.specs.Data.{Data, as_bool, as_integer, as_str, integer}
 use Rattle.nextest_config_values.specs.Read.Fault.{Fault, wrong_value}
-use Rattle.nextest_config_values.specs.Read.FromToml.{FaultsAs, IsHeldReading, IsReading, MeansAs, equality, reading_as, reading_on, text_expected}
+use Rattle.nextest_config_values.specs.Read.FromToml.{FaultsAs, IsHeldReading, IsReading, MeansAs, MeansMade, equality, reading_as, reading_on, text_expected}
+use Rattle.nextest_config_values.specs.Read.Readings.{made_of, reading_of}
 
 -- what a value holds is all right
 abbrev pub HasNoFault : {K : Type 0} → K → Data → List ℕ → Fault → Type 0
@@ -76,6 +77,10 @@ MeansCount = MeansAs as_integer (MeansNumber IsCount)
 abbrev pub CountFaults : Data → List ℕ → Fault → Type 0
 CountFaults = FaultsAs as_integer count_expected (IsOutside IsCount count_expected)
 
+-- the integer is no count
+abbrev pub IsNoCount : List ℕ → ℤ → List ℕ → Fault → Type 0
+IsNoCount expected held = IsOutside IsCount expected held (integer held)
+
 -- ---- their laws
 
 held_itself : {K : Type 0} → IsHeldReading {K = K} (λ held x. x ≡ held) HasNoFault (λ x y. x ≡ y)
@@ -113,6 +118,10 @@ number_reading IsIn expected = reading_as as_integer expected (MeansNumber IsIn)
 -- the reading of a count
 pub count_reading : IsReading MeansCount CountFaults (λ x y. x ≡ y)
 count_reading = number_reading IsCount count_expected
+
+-- the reading of what is made of a count
+pub count_made : {X : Type 0} (make : ℕ → X) (expected : List ℕ) → IsReading (MeansMade make (MeansNumber IsCount)) (IsNoCount expected) (λ x y. x ≡ y)
+count_made make expected = made_of make (reading_of (λ (held : ℤ). (held, integer held)) (λ at. at) (held_number IsCount expected))
 
 -- the reading of a number that fits a u32
 pub u32_reading : IsReading MeansU32 U32Faults (λ x y. x ≡ y)

@@ -4,7 +4,7 @@ use Rattle.std.proofs.Common.{◌≡◌, sym, ap, ◌∙◌, subst, inl, inr, ru
 use Rattle.toml.specs.Data.{Data, get_member}
 use Rattle.nextest_config_values.specs.Read.Fault.{BrokenRule, Fault, custom, fault_at, path_of}
 use Rattle.nextest_config_values.specs.Read.Field.{FaultsBehind, FaultsThen, MeansOptional, MeansOr, MeansRequired, MeansThen, OptionalFaults, RequiredFaults, RuleFaults, RuleThen, Then}
-use Rattle.nextest_config_values.specs.Read.FromToml.{FaultsKind, IsEquivalence, IsHeldReading, IsReading, MeansKind, MeansNothing, WrongKind, equality}
+use Rattle.nextest_config_values.specs.Read.FromToml.{FaultsKind, IsEquivalence, IsHeldReading, IsReading, MeansKind, MeansMade, MeansNothing, WrongKind, equality}
 
 -- a meaning that says as much, with the same faults
 pub said_as : {D X : Type 0} {said means : D → X → Type 0} {faults : D → List ℕ → Fault → Type 0} {alike : X → X → Type 0} → ((value : D) (x : X) → said value x → means value x) → IsReading means faults alike
@@ -30,9 +30,8 @@ reading_of part path reading = record {
 pub held : {K X : Type 0} {means : K → X → Type 0} {faults : K → List ℕ → Fault → Type 0} {alike : X → X → Type 0} → IsReading means faults alike → IsHeldReading means (λ k value. faults k) alike
 held = reading_of (λ value. value.0) (λ at. at)
 
--- a result that is made of what is meant
 pub made_of : {D X Y : Type 0} {means : D → X → Type 0} {faults : D → List ℕ → Fault → Type 0} (make : X → Y) → IsReading means faults (λ x y. x ≡ y)
-    → IsReading (λ value y. (x : X) × means value x × (y ≡ make x)) faults (λ x y. x ≡ y)
+    → IsReading (MeansMade make means) faults (λ x y. x ≡ y)
 made_of make reading = record {
   equivalence = equality;
   one_meaning = λ value y z a b. a.2 ∙ ap make (reading.one_meaning value a.0 b.0 a.1 b.1) ∙ sym b.2;
