@@ -3,7 +3,6 @@ pub mod Components
 pub mod Durations
 pub mod Elements
 pub mod Faults
-pub mod Fields
 pub mod Joined
 pub mod Keys
 pub mod Paths

@@ -1,6 +1,6 @@
 //! The fields of a table.
 
-ghost use Rattle.std.specs.Prelude.{IfOk, IfErr};
+ghost use Rattle.std.specs.Prelude.{◌≡◌, IfOk, IfErr, option_map};
 ghost use Rattle.toml.specs.Data.{get_member};
 ghost use Rattle.toml.specs.View.{table_view, view};
 ghost use Rattle.nextest_config_values.specs.Read.{MeansOptional, MeansOr, MeansRequired, OptionalFaults, path_of, Refuses, RequiredFaults, WantsIfPresent, WantsIfRequired, WantsMemory};
@@ -22,7 +22,7 @@ pub fn optional_field<T: FromToml>(
         (OptionalFaults T.faults (get_member key.now (table_view table.now)) (path_of at.now key.now))
         (WantsIfPresent T.means T.needs_memory (get_member key.now (table_view table.now)))) }
 {
-    match table.get(key) {
+    match value_at(table, key) {
         Some(value) => {
             let x = read_field(alloc, value, key, at)?;
             Ok(Some(x))
@@ -43,7 +43,7 @@ pub fn required_field<T: FromToml>(
         (RequiredFaults T.faults key.now (get_member key.now (table_view table.now)) at.now)
         (WantsIfRequired T.means T.needs_memory (get_member key.now (table_view table.now)))) }
 {
-    match table.get(key) {
+    match value_at(table, key) {
         Some(value) => read_field(alloc, value, key, at),
         None => Err(ReadFault::missing_field(alloc, key, at)),
     }
@@ -62,10 +62,18 @@ pub fn field_or<T: FromToml + Drop>(
         (OptionalFaults T.faults (get_member key.now (table_view table.now)) (path_of at.now key.now))
         (WantsIfPresent T.means T.needs_memory (get_member key.now (table_view table.now)))) }
 {
-    match table.get(key) {
+    match value_at(table, key) {
         Some(value) => read_field(alloc, value, key, at),
         None => Ok(default),
     }
+}
+
+// The value at a key of the table.
+fn value_at<'v>(table: &'v Table, key: &str) -> Option<&'v Value>
+    ensures { option_map (λ value. view value.now) result
+        ≡ get_member key.now (table_view table.now) }
+{
+    table.get(key)
 }
 
 // Reads the value of a key. The path is put together only after a fault, and only where it isn't the
