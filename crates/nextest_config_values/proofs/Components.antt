@@ -10,12 +10,17 @@ use Rattle.nextest_config_values.specs.Helpers.Identifiers.{IsPlainIdentifier}
 use Rattle.nextest_config_values.specs.Identifier.{AreComponents, behind_mark, HasNoColon, IsIdentifierForm, IsKeptText, IsMarked, no_colon_uncut, normal_chars, normal_form, one_cut, plain_no_at_sign, plain_no_colon, tool_mark}
 use Rattle.nextest_config_values.proofs.Texts.{chars_behind, mark_plain, no_colon_bytes, no_colon_chars, not_behind, split_colon}
 
--- a text in its normal form has the characters of that form
-pub normal_decoded : (text kept : List ℕ) → IsUtf8 kept → kept ≡ normal_form text → normal_chars text ≡ chars kept
-normal_decoded text kept u e = chars_from_encodes (normal_chars text) kept u (sym e)
+-- a text that is kept in its normal form, and judged as it is shown
+module _ (text kept shown : List ℕ) (normal : kept ≡ normal_form text) (same : shown ≡ kept) (u : IsUtf8 shown) where
+  -- what is shown has the characters of the normal form
+  decoded : chars shown ≡ normal_chars text
+  decoded = sym (chars_from_encodes (normal_chars text) shown u (sym (same ∙ normal)))
 
-pub normal_kept : {IsInGrammar : List ℕ → Type 0} (text kept : List ℕ) → IsUtf8 kept → kept ≡ normal_form text → IsInGrammar (chars kept) → IsKeptText IsInGrammar kept
-normal_kept text kept u e form = record { form = form; normal = subst (λ cs. nfc cs ≡ cs) (normal_decoded text kept u e) (nfc_idem (chars text)) }
+  pub judged : (Holds : List ℕ → Type 0) → Holds (chars shown) → Holds (normal_chars text)
+  judged Holds = subst Holds decoded
+
+  pub judged_kept : {IsInGrammar : List ℕ → Type 0} → IsInGrammar (chars shown) → IsKeptText IsInGrammar kept
+  judged_kept {IsInGrammar} form = subst (IsKeptText IsInGrammar) same (record { form = form; normal = subst (λ cs. nfc cs ≡ cs) (sym decoded) (nfc_idem (chars text)) })
 
 pub empty_decoded : (kept : List ℕ) → IsUtf8 kept → chars kept ≡ [] → kept ≡ []
 empty_decoded kept u e = sym (encodes-chars kept u) ∙ ap encode_utf8_all e
