@@ -6,7 +6,7 @@ use Rattle.semver.specs.contracts.VersionPartialEq.TheImpl as version_eq
 use Rattle.semver.specs.declared.Version.{Version}
 use Rattle.nextest_config_values.specs.Read.{broken_rule, BrokenRule, custom, fault_at, fault_of, identifier, Reason, reason_of, required_above_recommended, tool_name}
 use Rattle.nextest_config_values.specs.Read.Fault.{Fault}
-use Rattle.nextest_config_values.specs.Identifier.{identifier_fault, IdentifierFlaw, NameFault, tool_name_fault, ToolNameFlaw}
+use Rattle.nextest_config_values.specs.Identifier.{identifier_fault, tool_name_fault}
 use Rattle.nextest_config_values.specs.contracts.identifier.error.InvalidIdentifierPartialEq.TheImpl as identifier_eq
 use Rattle.nextest_config_values.specs.contracts.identifier.error.InvalidToolNamePartialEq.TheImpl as tool_name_eq
 use Rattle.nextest_config_values.specs.contracts.read.fault.FaultKindPartialEq.TheImpl as kind_eq
@@ -31,27 +31,8 @@ two_versions a b c d = (
 )
 
 same_rule : (a b : Rule) → IsTrue ((rule_eq.ghosts).eq a b) ↔ (broken_rule a ≡ broken_rule b)
-same_rule broken.PreRelease b = search rules
-same_rule broken.BuildMetadata b = search rules
-same_rule (broken.NotVersion text) b = search rules
-same_rule (broken.RequiredAboveRecommended required recommended) broken.PreRelease = search rules
-same_rule (broken.RequiredAboveRecommended required recommended) broken.BuildMetadata = search rules
-same_rule (broken.RequiredAboveRecommended required recommended) (broken.NotVersion text) = search rules
-same_rule (broken.RequiredAboveRecommended required recommended) broken.ArrayForm = search rules
-same_rule (broken.RequiredAboveRecommended required recommended) broken.JitterWithoutDelay = search rules
-same_rule (broken.RequiredAboveRecommended required recommended) broken.CountZero = search rules
-same_rule (broken.RequiredAboveRecommended required recommended) broken.DelayZero = search rules
-same_rule (broken.RequiredAboveRecommended required recommended) broken.MaxDelayZero = search rules
-same_rule (broken.RequiredAboveRecommended required recommended) broken.MaxDelayBelowDelay = search rules
-same_rule (broken.RequiredAboveRecommended required recommended) (broken.Priority priority) = search rules
 same_rule (broken.RequiredAboveRecommended required recommended) (broken.RequiredAboveRecommended other more) = two_versions required recommended other more
-same_rule broken.ArrayForm b = search rules
-same_rule broken.JitterWithoutDelay b = search rules
-same_rule broken.CountZero b = search rules
-same_rule broken.DelayZero b = search rules
-same_rule broken.MaxDelayZero b = search rules
-same_rule broken.MaxDelayBelowDelay b = search rules
-same_rule (broken.Priority priority) b = search rules
+same_rule a b = search rules
 
 same_identifier : (a b : InvalidIdentifier) → IsTrue ((identifier_eq.ghosts).eq a b) ↔ (identifier_fault a ≡ identifier_fault b)
 same_identifier a b = search rules
@@ -59,61 +40,26 @@ same_identifier a b = search rules
 same_tool_name : (a b : InvalidToolName) → IsTrue ((tool_name_eq.ghosts).eq a b) ↔ (tool_name_fault a ≡ tool_name_fault b)
 same_tool_name a b = search rules
 
-one_identifier : (told other : Option (NameFault IdentifierFlaw)) → option_map identifier told ≡ option_map identifier other → told ≡ other
-one_identifier None None e = refl
-one_identifier None (Some b) e = cc e
-one_identifier (Some a) None e = cc e
-one_identifier (Some a) (Some b) e = cc e
-
-one_tool_name : (told other : Option (NameFault ToolNameFlaw)) → option_map tool_name told ≡ option_map tool_name other → told ≡ other
-one_tool_name None None e = refl
-one_tool_name None (Some b) e = cc e
-one_tool_name (Some a) None e = cc e
-one_tool_name (Some a) (Some b) e = cc e
+one_told : {F : Type 0} (reason : F → Reason) → ((a b : F) → reason a ≡ reason b → a ≡ b) → (told other : Option F) → option_map reason told ≡ option_map reason other → told ≡ other
+one_told reason one None None e = refl
+one_told reason one (Some a) (Some b) e = ap Some (one a b (cc e))
+one_told reason one told other e = cc e
 
 same_kind : (a b : FaultKind) (reason : Reason) → reason_of a ≡ Some reason → IsTrue ((kind_eq.ghosts).eq a b) ↔ (reason_of b ≡ Some reason)
-same_kind (kinds.InvalidType found expected) b reason is = search rules
-same_kind (kinds.InvalidValue found expected) b reason is = search rules
-same_kind (kinds.UnknownVariant found expected) b reason is = search rules
-same_kind (kinds.UnknownField found expected) b reason is = search rules
-same_kind (kinds.MissingField key) b reason is = search rules
-same_kind (kinds.Custom rule) (kinds.InvalidType found expected) reason is = search rules
-same_kind (kinds.Custom rule) (kinds.InvalidValue found expected) reason is = search rules
-same_kind (kinds.Custom rule) (kinds.UnknownVariant found expected) reason is = search rules
-same_kind (kinds.Custom rule) (kinds.UnknownField found expected) reason is = search rules
-same_kind (kinds.Custom rule) (kinds.MissingField key) reason is = search rules
 same_kind (kinds.Custom rule) (kinds.Custom other) reason is = (
   λ same. ap (λ (r : BrokenRule). Some (custom r)) (sym ((same_rule rule other).0 same)) ∙ is,
   λ told. (same_rule rule other).1 (cc (is, told)),
 )
-same_kind (kinds.Custom rule) (kinds.Identifier other) reason is = search rules
-same_kind (kinds.Custom rule) (kinds.ToolName other) reason is = search rules
-same_kind (kinds.Custom rule) kinds.Memory reason is = search rules
-same_kind (kinds.Identifier error) (kinds.InvalidType found expected) reason is = search rules
-same_kind (kinds.Identifier error) (kinds.InvalidValue found expected) reason is = search rules
-same_kind (kinds.Identifier error) (kinds.UnknownVariant found expected) reason is = search rules
-same_kind (kinds.Identifier error) (kinds.UnknownField found expected) reason is = search rules
-same_kind (kinds.Identifier error) (kinds.MissingField key) reason is = search rules
-same_kind (kinds.Identifier error) (kinds.Custom other) reason is = search rules
 same_kind (kinds.Identifier error) (kinds.Identifier other) reason is = (
   λ same. ap (option_map identifier) (sym ((same_identifier error other).0 same)) ∙ is,
-  λ told. (same_identifier error other).1 (one_identifier (identifier_fault error) (identifier_fault other) (is ∙ sym told)),
+  λ told. (same_identifier error other).1 (one_told identifier (λ a b e. cc e) (identifier_fault error) (identifier_fault other) (is ∙ sym told)),
 )
-same_kind (kinds.Identifier error) (kinds.ToolName other) reason is = search rules
-same_kind (kinds.Identifier error) kinds.Memory reason is = search rules
-same_kind (kinds.ToolName error) (kinds.InvalidType found expected) reason is = search rules
-same_kind (kinds.ToolName error) (kinds.InvalidValue found expected) reason is = search rules
-same_kind (kinds.ToolName error) (kinds.UnknownVariant found expected) reason is = search rules
-same_kind (kinds.ToolName error) (kinds.UnknownField found expected) reason is = search rules
-same_kind (kinds.ToolName error) (kinds.MissingField key) reason is = search rules
-same_kind (kinds.ToolName error) (kinds.Custom other) reason is = search rules
-same_kind (kinds.ToolName error) (kinds.Identifier other) reason is = search rules
 same_kind (kinds.ToolName error) (kinds.ToolName other) reason is = (
   λ same. ap (option_map tool_name) (sym ((same_tool_name error other).0 same)) ∙ is,
-  λ told. (same_tool_name error other).1 (one_tool_name (tool_name_fault error) (tool_name_fault other) (is ∙ sym told)),
+  λ told. (same_tool_name error other).1 (one_told tool_name (λ a b e. cc e) (tool_name_fault error) (tool_name_fault other) (is ∙ sym told)),
 )
-same_kind (kinds.ToolName error) kinds.Memory reason is = search rules
 same_kind kinds.Memory b reason is = cc is
+same_kind a b reason is = search rules
 
 same_text : (a b : String Global) → IsTrue (string_eq a b) ↔ (string_bytes a ≡ string_bytes b)
 same_text a b = search rules
