@@ -3,9 +3,9 @@ use Rattle.std.proofs.Common.{◌≡◌, ℕ, Bool, false, inr, List, Option, So
 use Rattle.std.specs.Prelude.{IsTrue}
 use Rattle.std.specs.Duration.{as_nanos}
 use Rattle.std.specs.declared.time.Duration.{Duration}
+use Rattle.toml.proofs.Lines.{data_of_table}
 use Rattle.toml.specs.Data.{as_table, Data, Members, table as data_table}
 use Rattle.nextest_config_values.proofs.Faults.{refused_mapped}
-use Rattle.nextest_config_values.specs.Read.Fault.{Fault}
 use Rattle.nextest_config_values.specs.Read.{IsReading, MeansWordText, Refuses, required_reading, RequiredKey, WantsMemory, word_reading, WordTextFaults}
 use Rattle.nextest_config_values.specs.declared.read.fault.ReadFault.{ReadFault}
 use Rattle.nextest_config_elements.specs.RetryPolicy.{backoff_key, backoff_reads_back, backoff_word, BackoffFaults, backoffs_in_order, ExponentialPolicy, FixedPolicy, MeansBackoff, MeansExponential, MeansFixed, MeansRetryPolicySetting, MeansRetryTable, retry_policy_of, RetryPolicyFaults, RetryTableFaults}
@@ -46,16 +46,11 @@ refuses_backoff table at backoff fault of_backoff refused = refused_mapped fault
 
 -- ---- a table as the value of the setting
 
-table_value : (value : Data) (members : Members) → Some members ≡ as_table value → value ≡ data_table members
-table_value (data_table held) these is_table = cc is_table
-table_value _ these is_table = cc is_table
-
 wants_at : (table : Members) → WantsMemory (λ policy. MeansRetryTable table (retry_policy_of policy)) false → (policy : Option RetryPolicy) → MeansRetryPolicySetting (data_table table) policy → IsTrue false
 wants_at table wanted None meant = absurd meant
 wants_at table wanted (Some policy) meant = wanted policy meant
 
-pub table_wants : (value : Data) (table : Members) → Some table ≡ as_table value → WantsMemory (λ policy. MeansRetryTable table (retry_policy_of policy)) false → WantsMemory (MeansRetryPolicySetting value) false
-table_wants value table is_table wanted = subst (λ (v : Data). WantsMemory (MeansRetryPolicySetting v) false) (sym (table_value value table is_table)) (wants_at table wanted)
-
-pub table_faults : (value : Data) (table : Members) (at : List ℕ) (f : Fault) → Some table ≡ as_table value → RetryTableFaults table at f → RetryPolicyFaults value at f
-table_faults value table at f is_table faulty = subst (λ (v : Data). RetryPolicyFaults v at f) (sym (table_value value table is_table)) faulty
+-- a refusal of the table is one of the setting
+pub refuses_table : (value : Data) (table : Members) (at : List ℕ) (fault : ReadFault) → Some table ≡ as_table value → Refuses (RetryTableFaults table at) (WantsMemory (λ policy. MeansRetryTable table (retry_policy_of policy)) false) fault
+    → Refuses (RetryPolicyFaults value at) (WantsMemory (MeansRetryPolicySetting value) false) fault
+refuses_table value table at fault is_table refused = rw (data_of_table value table (sym is_table)) (refused_mapped fault refused (wants_at table) (λ f faulty. faulty))

@@ -1,6 +1,6 @@
 //! Retries.
 
-ghost use Rattle.std.specs.Prelude.{◌≡◌, ◌↔◌, ◌∷◌, false, IfOk, IfErr, IsOk, IsTrue, OnOk, option_map, string_bytes};
+ghost use Rattle.std.specs.Prelude.{◌≡◌, ◌↔◌, ◌∷◌, ℕ, false, IfOk, IfErr, IsOk, IsTrue, List, MatchOption, OnOk, option_map, string_bytes};
 ghost use Rattle.std.specs.Duration.{as_nanos};
 ghost use Rattle.toml.specs.Data.{integer};
 ghost use Rattle.toml.specs.View.{table_view, view};
@@ -176,44 +176,38 @@ fn read_exponential(alloc: Global, table: &Table, at: &str) -> Result<RetryPolic
     let jitter = field_or(alloc, table, JITTER_KEY, at, false)?;
     let max_delay: Option<Duration> = optional_field(alloc, table, MAX_DELAY_KEY, at)?;
     Backoff::Exponential.check_keys(alloc, table, at)?;
-    check_exponential(alloc, count, delay, max_delay, at)?;
-    Ok(RetryPolicy::Exponential {
-        count,
-        delay,
-        jitter,
-        max_delay,
-    })
+    match first_broken(count, delay, max_delay) {
+        Some(rule) => Err(broken(alloc, at, rule)),
+        None => Ok(RetryPolicy::Exponential {
+            count,
+            delay,
+            jitter,
+            max_delay,
+        }),
+    }
 }
 
-// Refuses the first rule that an exponential backoff breaks.
-fn check_exponential(
-    alloc: Global,
-    count: u32,
-    delay: Duration,
-    max_delay: Option<Duration>,
-    at: &str,
-) -> Result<(), ReadFault>
-    ensures kept { OnOk result
-        (KeepsExponentialRules count (as_nanos delay) (option_map as_nanos max_delay)) }
-    ensures refused { IfErr result (RefusesOne
-        (ExponentialRuleFaults count (as_nanos delay) (option_map as_nanos max_delay) (tt {0}) at.now)) }
+// The first rule that an exponential backoff breaks.
+fn first_broken(count: u32, delay: Duration, max_delay: Option<Duration>) -> Option<Rule>
+    ensures { MatchOption result
+        (KeepsExponentialRules count (as_nanos delay) (option_map as_nanos max_delay))
+        (λ rule. (at : List ℕ) → ExponentialRuleFaults count (as_nanos delay)
+        (option_map as_nanos max_delay) (tt {0}) at (fault_at at (custom (broken_rule rule)))) }
 {
     if count == 0 {
-        return Err(broken(alloc, at, Rule::CountZero));
+        return Some(Rule::CountZero);
     }
     if delay.is_zero() {
-        return Err(broken(alloc, at, Rule::DelayZero));
+        return Some(Rule::DelayZero);
     }
-    let Some(max_delay) = max_delay else {
-        return Ok(());
-    };
+    let max_delay = max_delay?;
     if max_delay.is_zero() {
-        return Err(broken(alloc, at, Rule::MaxDelayZero));
+        return Some(Rule::MaxDelayZero);
     }
     if max_delay.as_nanos() < delay.as_nanos() {
-        return Err(broken(alloc, at, Rule::MaxDelayBelowDelay));
+        return Some(Rule::MaxDelayBelowDelay);
     }
-    Ok(())
+    None
 }
 
 // The fault of a table that breaks a rule.

@@ -1,11 +1,11 @@
 -- Keys of a table whose values are seen through a part of what a reader gives, and refusals that are passed on.
-use Rattle.std.proofs.Common.{◌≡◌, Bool, Option, Some, None, Result, option_map, ap, subst}
+use Rattle.std.proofs.Common.{◌≡◌, ℕ, Bool, List, Option, Some, None, Result, option_map, ap, ◌∙◌, subst}
 use Rattle.std.proofs.lemmas.Result.{err_from_is_err_and}
 use Rattle.std.specs.Result.{IfErr, IsErrAnd}
 use Rattle.std.specs.Prelude.{IsTrue}
 use Rattle.toml.specs.Data.{Data}
 use Rattle.nextest_config_values.specs.Read.Fault.{Fault}
-use Rattle.nextest_config_values.specs.Read.{MeansOptional, MeansOr, MeansRequired, Refuses, WantsIfPresent, WantsIfRequired}
+use Rattle.nextest_config_values.specs.Read.{IsReading, MeansOptional, MeansOr, MeansRequired, Refuses, RefusesOne, WantsIfPresent, WantsIfRequired, WantsMemory}
 use Rattle.nextest_config_values.specs.declared.read.fault.ReadFault.{ReadFault}
 use Rattle.nextest_config_values.proofs.Faults.{refused_mapped}
 
@@ -15,6 +15,11 @@ pub passed_on : {T : Type 0} {P Q : Fault → Type 0} {V W : Type 0} (result : R
 passed_on result fault err refused memory step =
     let passed = err_from_is_err_and result err in
     rw (passed.1, passed.2) (refused_mapped fault refused memory step)
+
+-- one that is passed on as a fault of a reading, which means nothing
+pub passed_as_one : {T D X : Type 0} {means : D → X → Type 0} {faults : D → List ℕ → Fault → Type 0} {alike : X → X → Type 0} {P : Fault → Type 0} (needs_memory : Bool) → IsReading means faults alike → (value : D) (at : List ℕ) (result : Result T ReadFault) (fault : ReadFault)
+    → IsErrAnd result (λ passed. passed ≡ fault) → RefusesOne P fault → ((f : Fault) → P f → faults value at f) → IfErr result (Refuses (faults value at) (WantsMemory (means value) needs_memory))
+passed_as_one needs_memory reading value at result fault err refused step = passed_on result fault err refused (λ one x meant. absurd (reading.never_both value at x one.0 meant (step one.0 one.1))) step
 
 -- memory is wanted for what a key that may be missing means where it is for its value
 pub present_wants : {X : Type 0} (means : Data → X → Type 0) (found : Option Data) (needs_memory : Bool) → WantsIfPresent means needs_memory found → (x : Option X) → MeansOptional means found x → IsTrue needs_memory
@@ -26,9 +31,9 @@ module _ {X Y : Type 0} (means : Data → Y → Type 0) (part : X → Y) where
   seen_required None x meant = meant
   seen_required (Some value) x meant = meant
 
-  pub seen_or : (default : X) (found : Option Data) (x : X) → MeansOr default (λ value x. means value (part x)) found x → MeansOr (part default) means found (part x)
-  seen_or default None x meant = ap part meant
-  seen_or default (Some value) x meant = meant
+  pub seen_or : (default : X) (plain : Y) (found : Option Data) (x : X) → part default ≡ plain → MeansOr default (λ value x. means value (part x)) found x → MeansOr plain means found (part x)
+  seen_or default plain None x same meant = ap part meant ∙ same
+  seen_or default plain (Some value) x same meant = meant
 
   pub seen_optional : (found : Option Data) (x : Option X) → MeansOptional (λ value x. means value (part x)) found x → MeansOptional means found (option_map part x)
   seen_optional None x meant = ap (option_map part) meant

@@ -1,14 +1,13 @@
-use Rattle.std.proofs.Common.{false, inl, inr, refl, rules, subst, sym}
+use Rattle.std.proofs.Common.{false, inl, inr, refl, rules}
 use Rattle.std.specs.Duration.{as_nanos}
 use Rattle.toml.specs.Data.{get_member}
 use Rattle.toml.specs.View.{table_view}
-use Rattle.nextest_config_values.proofs.Faults.{refused_mapped}
-use Rattle.nextest_config_values.proofs.Keys.{or_wants, passed_on, required_wants}
+use Rattle.nextest_config_values.proofs.Faults.{refused_by}
+use Rattle.nextest_config_values.proofs.Keys.{or_wants, passed_as_one, passed_on, required_wants}
 use Rattle.nextest_config_values.specs.Duration.{MeansDuration}
-use Rattle.nextest_config_values.specs.Read.Fault.{Fault}
-use Rattle.nextest_config_values.specs.Read.{custom, fault_at, jitter_without_delay, KeyOr, MeansBoolean, MeansU32}
+use Rattle.nextest_config_values.specs.Read.{custom, fault_at, jitter_without_delay, KeyOr, MeansBoolean, MeansU32, reading_on}
 use Rattle.nextest_config_elements.proofs.RetryPolicies.{fixed_parts}
-use Rattle.nextest_config_elements.specs.RetryPolicy.{backoff_reading, count_key, delay_key, FixedFaults, jitter_key, OtherKeyFaults, retry_policy_of}
+use Rattle.nextest_config_elements.specs.RetryPolicy.{backoff_reading, count_key, delay_key, jitter_key, retry_policy_of}
 use Rattle.nextest_config_elements.specs.declared.retry_policy.Backoff.TheVariants as backoffs
 use Rattle.nextest_config_elements.proofs.retry_policy.read_fixed.Goals as goal
 
@@ -37,32 +36,15 @@ returns-in_err-jitter-clause-refused c =
 pub returns-in_err-check_keys-clause-refused : goal.returns-in_err-check_keys-clause-refused
 returns-in_err-check_keys-clause-refused c =
     let members = table_view c.args.table.now in
-    let at = c.args.at.now in
     let delay : KeyOr delay_key 0 MeansDuration members (as_nanos c.in_ok-delay.delay) = search (rules, c.in_ok-delay.ensures.meant) in
-    let step : (f : Fault) → OtherKeyFaults backoffs.Fixed members at f → FixedFaults members at f =
-    λ f faulty. inr (c.in_ok-count.count, c.in_ok-count.ensures.meant, inr (as_nanos c.in_ok-delay.delay, delay, inr (c.in_ok-jitter.jitter, c.in_ok-jitter.ensures.meant, inl faulty))) in
-    passed_on c.from_residual-in_err-check_keys.result c.in_err-check_keys.field-0.0 c.from_residual-in_err-check_keys.ensures.1 c.in_err-check_keys.ensures.refused
-    (λ one policy meant. absurd ((backoff_reading backoffs.Fixed).never_both members at (retry_policy_of policy) one.0 meant (step one.0 one.1))) step
+    passed_as_one false (reading_on retry_policy_of (backoff_reading backoffs.Fixed)) members c.args.at.now
+    c.from_residual-in_err-check_keys.result c.in_err-check_keys.field-0.0 c.from_residual-in_err-check_keys.ensures.1 c.in_err-check_keys.ensures.refused
+    (λ f faulty. inr (c.in_ok-count.count, c.in_ok-count.ensures.meant, inr (as_nanos c.in_ok-delay.delay, delay, inr (c.in_ok-jitter.jitter, c.in_ok-jitter.ensures.meant, inl faulty))))
 
 pub returns-then-is_zero-clause-refused : goal.returns-then-is_zero-clause-refused
 returns-then-is_zero-clause-refused c =
     let members = table_view c.args.table.now in
-    let at = c.args.at.now in
     let delay : KeyOr delay_key 0 MeansDuration members (as_nanos c.in_ok-delay.delay) = search (rules, c.in_ok-delay.ensures.meant) in
-    let broken = fault_at at (custom jitter_without_delay) in
-    let faulty : FixedFaults members at broken =
-    inr (
-      c.in_ok-count.count,
-      c.in_ok-count.ensures.meant,
-      inr (
-        as_nanos c.in_ok-delay.delay,
-        delay,
-        inr (
-          c.in_ok-jitter.jitter,
-          c.in_ok-jitter.ensures.meant,
-          inr (c.in_ok-check_keys.ensures.kept, ((c.if-jitter.true, c.is_zero.ensures.0 c.if-is_zero.true), refl)),
-        ),
-      ),
-    ) in
-    refused_mapped c.broken.result c.broken.ensures
-    (λ wanted policy meant. absurd ((backoff_reading backoffs.Fixed).never_both members at (retry_policy_of policy) broken meant faulty)) (λ f same. subst (FixedFaults members at) (sym same) faulty)
+    refused_by false (reading_on retry_policy_of (backoff_reading backoffs.Fixed)) members c.args.at.now (fault_at c.args.at.now (custom jitter_without_delay)) c.broken.result
+    (inr (c.in_ok-count.count, c.in_ok-count.ensures.meant, inr (as_nanos c.in_ok-delay.delay, delay, inr (c.in_ok-jitter.jitter, c.in_ok-jitter.ensures.meant, inr (c.in_ok-check_keys.ensures.kept, ((c.if-jitter.true, c.is_zero.ensures.0 c.if-is_zero.true), refl))))))
+    c.broken.ensures

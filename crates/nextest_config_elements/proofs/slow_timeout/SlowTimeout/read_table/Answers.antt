@@ -35,7 +35,7 @@ pub returns-in_err-on_timeout-clause-refused : goal.returns-in_err-on_timeout-cl
 returns-in_err-on_timeout-clause-refused c =
     let members = table_view c.args.table.now in
     let period = seen_required MeansDuration as_nanos (get_member period_key members) c.in_ok-period.period c.in_ok-period.ensures.meant in
-    let grace_period = seen_or MeansDuration as_nanos c.default_grace_period.result (get_member grace_period_key members) c.in_ok-grace_period.grace_period c.in_ok-grace_period.ensures.meant in
+    let grace_period = seen_or MeansDuration as_nanos c.default_grace_period.result default_grace_period (get_member grace_period_key members) c.in_ok-grace_period.grace_period c.default_grace_period.ensures c.in_ok-grace_period.ensures.meant in
     passed_on c.from_residual-in_err-on_timeout.result c.in_err-on_timeout.field-0.0 c.from_residual-in_err-on_timeout.ensures.1 c.in_err-on_timeout.ensures.refused
     (λ wanted timeout meant. or_wants MeansOnTimeout (λ x. x) Fail (get_member on_timeout_key members) false wanted timeout.on_timeout meant.of_on_timeout)
     (λ f faulty. inr (
@@ -44,6 +44,6 @@ returns-in_err-on_timeout-clause-refused c =
       inr (
         c.in_ok-terminate_after.terminate_after,
         c.in_ok-terminate_after.ensures.meant,
-        inr (as_nanos c.in_ok-grace_period.grace_period, rw c.default_grace_period.ensures at grace_period, faulty),
+        inr (as_nanos c.in_ok-grace_period.grace_period, grace_period, faulty),
       ),
     ))
