@@ -10,10 +10,6 @@ use Rattle.nextest_config_elements.specs.declared.max_fail.fail_fast.MaxFailCoun
 use Rattle.nextest_config_elements.specs.declared.max_fail.TerminateMode.{TerminateMode}
 use Rattle.nextest_config_elements.specs.declared.max_fail.TerminateMode.TheVariants.{Wait}
 
--- what tells a text is a text
-is_text : (value : Data) (text : List ℕ) → as_str value ≡ Some text → value ≡ string text
-is_text value text e = search rules
-
 refused_text : (text at expected : List ℕ) (fault : ReadFault) → text ≢ codes "all" → IsExpected text expected → RefusesAs (wrong_value (string text) at expected) fault
     → Refuses (MaxFailFaults (string text) at) (WantsMemory (MeansMaxFail (string text)) false) fault
 refused_text text at expected fault other is_expected refused =
@@ -23,7 +19,7 @@ refused_text text at expected fault other is_expected refused =
 pub text_refused : (value : Data) (text at expected : List ℕ) (fault : ReadFault) → as_str value ≡ Some text → text ≢ codes "all" → IsExpected text expected → RefusesAs (wrong_value value at expected) fault
     → Refuses (MaxFailFaults value at) (WantsMemory (MeansMaxFail value) false) fault
 text_refused value text at expected fault held other is_expected refused =
-    let same = is_text value text held in
+    let same : value ≡ string text = search rules in
     rw same (refused_text text at expected fault other is_expected (rw same at refused))
 
 wanted_by_terminate : (found : Option Data) (mode : TerminateMode) → WantsIfPresent MeansTerminate false found → MeansOr Wait MeansTerminate found mode → IsTrue false

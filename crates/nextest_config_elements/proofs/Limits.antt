@@ -4,7 +4,7 @@ use Rattle.std.specs.Prelude.{◌≤ℤ◌, ◌<ℤ◌, neg_ℤ, FitsSigned, IfE
 use Rattle.std.specs.Int.{w64}
 use Rattle.std.specs.declared.result.Result.{Result}
 use Rattle.std.specs.declared.result.Result.TheVariants.{Err, Ok}
-use Rattle.nextest_config_values.specs.Identifier.{HasNoColon, IsCutAtColon, no_colon_uncut, one_cut}
+use Rattle.nextest_config_values.specs.Identifier.{HasNoColon, IsCutAtColon, same_cut, uncut}
 use Rattle.nextest_config_values.proofs.Faults.{fault_mapped}
 use Rattle.nextest_config_elements.specs.MaxFail.{bad_count, bad_mode, HasCount, IsAllText, IsBadCount, IsBadMode, IsCountFault, IsCountLimit, IsCountText, IsLimitFault, IsLimitText, IsNoMode, IsNotPositive, IsParted, limit_fault, LimitFault, MeansMode, IsNumberText, mode_word, not_positive, number_parts, one_number, RefusesLimit}
 use Rattle.nextest_config_elements.specs.declared.max_fail.CountFault.{CountFault}
@@ -16,12 +16,6 @@ use Rattle.nextest_config_elements.specs.declared.max_fail.TerminateMode.{Termin
 use Rattle.nextest_config_elements.specs.declared.max_fail.TerminateMode.TheVariants.{Wait}
 
 -- ---- parts
-
-same_cut : (text x y u v : List ℕ) → IsCutAtColon text x y → IsCutAtColon text u v → (x ≡ u) × (y ≡ v)
-same_cut text x y u v cut other = one_cut x u y v cut.first other.first (sym cut.cut ∙ other.cut)
-
-uncut : (text x y : List ℕ) → HasNoColon text → IsCutAtColon text x y → ⊥
-uncut text x y none cut = no_colon_uncut x y (subst HasNoColon cut.cut none)
 
 one_mode : (m n : TerminateMode) (word : List ℕ) → mode_word m ≡ word → mode_word n ≡ word → m ≡ n
 one_mode m n word a b = search rules
@@ -119,22 +113,11 @@ both_beyond : (count : List ℕ) → IsCountFault count TooLarge → IsCountFaul
 both_beyond count a b = large_not_small b.0 (subst (λ n. pos (2 ^ 63) ≤ℤ n) (one_number count a.0 b.0 a.1 b.1) a.2) b.2
 
 one_reason : (count : List ℕ) (r s : CountFault) → IsCountFault count r → IsCountFault count s → r ≡ s
-one_reason count Empty Empty a b = refl
-one_reason count Empty InvalidDigit a b = absurd (b.0 a)
-one_reason count Empty TooLarge a b = absurd (no_digits count b.0 a b.1)
-one_reason count Empty TooSmall a b = absurd (no_digits count b.0 a b.1)
-one_reason count InvalidDigit Empty a b = absurd (a.0 b)
-one_reason count InvalidDigit InvalidDigit a b = refl
 one_reason count InvalidDigit TooLarge a b = absurd (a.1 b.0 b.1)
 one_reason count InvalidDigit TooSmall a b = absurd (a.1 b.0 b.1)
-one_reason count TooLarge Empty a b = absurd (no_digits count a.0 b a.1)
 one_reason count TooLarge InvalidDigit a b = absurd (b.1 a.0 a.1)
-one_reason count TooLarge TooLarge a b = refl
-one_reason count TooLarge TooSmall a b = absurd (both_beyond count a b)
-one_reason count TooSmall Empty a b = absurd (no_digits count a.0 b a.1)
 one_reason count TooSmall InvalidDigit a b = absurd (b.1 a.0 a.1)
-one_reason count TooSmall TooLarge a b = absurd (both_beyond count b a)
-one_reason count TooSmall TooSmall a b = refl
+one_reason count r s a b = search (rules, no_digits, both_beyond)
 
 reason_not_in : (count : List ℕ) (r : CountFault) → IsCountFault count r → IsNotPositive count → ⊥
 reason_not_in count Empty a b = no_digits count b.0 a b.1
@@ -143,13 +126,8 @@ reason_not_in count TooLarge a b = large_not_in b.0 (subst (λ n. pos (2 ^ 63) �
 reason_not_in count TooSmall a b = small_not_in b.0 (subst (λ n. n <ℤ neg_ℤ (pos (2 ^ 63))) (one_number count a.0 b.0 a.1 b.1) a.2) b.2
 
 one_bad_count : (count : List ℕ) (e f : LimitFault) → IsBadCount count e → IsBadCount count f → e ≡ f
-one_bad_count count (bad_mode word) f a b = absurd a
-one_bad_count count (bad_count text r) (bad_mode word) a b = absurd b
 one_bad_count count (bad_count text r) (bad_count other s) a b = ap (λ written. bad_count written r) (a.0 ∙ sym b.0) ∙ ap (bad_count other) (one_reason count r s a.1 b.1)
-one_bad_count count (bad_count text r) not_positive a b = absurd (reason_not_in count r a.1 b)
-one_bad_count count not_positive (bad_mode word) a b = absurd b
-one_bad_count count not_positive (bad_count other s) a b = absurd (reason_not_in count s b.1 a)
-one_bad_count count not_positive not_positive a b = refl
+one_bad_count count e f a b = search (rules, reason_not_in)
 
 one_bad_mode : (text : List ℕ) (e f : LimitFault) → IsBadMode text e → IsBadMode text f → e ≡ f
 one_bad_mode text e f a b = a.5 ∙ ap bad_mode (same_cut text a.1 a.2 b.1 b.2 a.3 b.3).1 ∙ sym b.5

@@ -1,25 +1,19 @@
 -- Tool arguments: a text has one, or one fault.
-use Rattle.std.proofs.Common.{◌≡◌, ◌∙◌, ℕ, List, Option, Some, None, ap, refl, sym, subst, inl, inr, rules}
+use Rattle.std.proofs.Common.{◌≡◌, ◌∙◌, ℕ, List, Option, Some, None, ap, refl, sym, inl, inr, rules}
 use Rattle.nextest_config_values.specs.Helpers.Identifiers.{IsPlainIdentifier}
 use Rattle.nextest_config_values.specs.Helpers.Paths.{BeginsWithSlash}
-use Rattle.nextest_config_values.specs.Identifier.{HasNoColon, IsCutAtColon, IsToolName, IsToolNameFault, IsToolNameFlaw, NameFault, no_colon_uncut, no_normal_fault, one_cut, one_normal_fault, one_tool_name_flaw, tool_name_not_flawed, ToolNameFlaw}
+use Rattle.nextest_config_values.specs.Identifier.{IsCutAtColon, IsToolName, IsToolNameFault, IsToolNameFlaw, NameFault, no_normal_fault, one_normal_fault, one_tool_name_flaw, same_cut, tool_name_not_flawed, ToolNameFlaw, uncut}
 use Rattle.nextest_config_values.specs.Read.{FaultOrMemory, one_then}
 use Rattle.nextest_config_values.specs.declared.tool_config.ToolConfigFileParseError.{ToolConfigFileParseError}
 use Rattle.nextest_config_values.proofs.Faults.{fault_mapped}
 use Rattle.nextest_config_values.specs.ToolConfig.{Argument, ArgumentFault, IsArgumentFault, IsPartsFault, IsPathFault, IsToolArgument, RefusesArgument, RefusesTool, argument_fault, invalid_tool_name}
-
-same_parts : (text x y u v : List ℕ) → IsCutAtColon text x y → IsCutAtColon text u v → (x ≡ u) × (y ≡ v)
-same_parts text x y u v cut other = one_cut x u y v cut.first other.first (sym cut.cut ∙ other.cut)
-
-uncut : (text x y : List ℕ) → HasNoColon text → IsCutAtColon text x y → ⊥
-uncut text x y none cut = no_colon_uncut x y (subst HasNoColon cut.cut none)
 
 no_fault_of_tool : (name tool : List ℕ) (fault : NameFault ToolNameFlaw) → IsToolName name tool → IsToolNameFault name fault → ⊥
 no_fault_of_tool name tool fault a b = no_normal_fault IsPlainIdentifier IsToolNameFlaw one_tool_name_flaw tool_name_not_flawed name tool fault a b
 
 pub one_argument : (text : List ℕ) (a b : Argument) → IsToolArgument text a → IsToolArgument text b → a ≡ b
 one_argument text a b h k =
-    let same = same_parts text h.name a.path k.name b.path h.cut k.cut in
+    let same = same_cut text h.name a.path k.name b.path h.cut k.cut in
     let tools : a.tool ≡ b.tool = rw (h.tool.1, k.tool.1, same.0) refl in
     ap (λ t. record { tool = t; path = a.path }) tools ∙ ap (λ p. record { tool = b.tool; path = p }) same.1
 
@@ -37,7 +31,7 @@ pub one_argument_fault : (text : List ℕ) (e f : ArgumentFault) → IsArgumentF
 one_argument_fault text e f (inl a) b = search (rules, uncut)
 one_argument_fault text e f (inr a) (inl b) = absurd (uncut text a.0 a.1 b.0 a.2)
 one_argument_fault text e f (inr a) (inr b) =
-    let same = same_parts text a.0 a.1 b.0 b.1 a.2 b.2 in
+    let same = same_cut text a.0 a.1 b.0 b.1 a.2 b.2 in
     one_parts_fault text b.0 b.1 e f (rw (← same.0, ← same.1) a.3) b.3
 
 no_parts_fault : (text name tool path : List ℕ) (f : ArgumentFault) → IsToolName name tool → BeginsWithSlash path → IsPartsFault text name path f → ⊥
@@ -47,7 +41,7 @@ no_parts_fault text name tool path f named slash (inr a) = search rules
 pub argument_not_refused : (text : List ℕ) (a : Argument) (f : ArgumentFault) → IsToolArgument text a → IsArgumentFault text f → ⊥
 argument_not_refused text a f h (inl b) = uncut text h.name a.path b.0 h.cut
 argument_not_refused text a f h (inr b) =
-    let same = same_parts text h.name a.path b.0 b.1 h.cut b.2 in
+    let same = same_cut text h.name a.path b.0 b.1 h.cut b.2 in
     no_parts_fault text h.name a.tool a.path f h.tool h.absolute (rw (same.0, same.1) b.3)
 
 -- ---- refusals

@@ -10,4 +10,4 @@ pub use Normal.{AnswersAlike, IsKeptText, IsNormalFault, IsQuicklyNormal, NameFa
 pub use KeptText.{FitsInline, inline_capacity, IsPlaced, text_at}
 pub use ConfigIdentifier.{AreComponents, AreFlawed, HasNoColon, IdentifierFaults, IsCutAtColon, IsIdentifier, IsIdentifierFault, IsIdentifierFlaw, IsIdentifierForm, IsMarked, tool_mark}
 pub use ToolName.{IsToolName, IsToolNameFault, IsToolNameFlaw, ToolNameFaults}
-pub use Laws.{behind_mark, identifier_not_flawed, identifier_reading, no_colon_uncut, no_normal_fault, one_cut, one_identifier_flaw, one_normal_fault, one_tool_name_flaw, plain_no_at_sign, plain_no_colon, tool_name_not_flawed, tool_name_reading}
+pub use Laws.{behind_mark, identifier_not_flawed, identifier_reading, no_colon_uncut, no_normal_fault, one_cut, one_identifier_flaw, one_normal_fault, one_tool_name_flaw, plain_no_at_sign, plain_no_colon, same_cut, tool_name_not_flawed, tool_name_reading, uncut}

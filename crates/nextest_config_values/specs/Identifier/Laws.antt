@@ -45,6 +45,12 @@ pub no_colon_uncut : (xs a : List ℕ) → HasNoColon (xs ++ (58 ∷ a)) → ⊥
 no_colon_uncut [] a h = h.0 refl
 no_colon_uncut (x ∷ xs) a h = no_colon_uncut xs a h.1
 
+pub same_cut : (text x y u v : List ℕ) → IsCutAtColon text x y → IsCutAtColon text u v → (x ≡ u) × (y ≡ v)
+same_cut text x y u v cut other = one_cut x u y v cut.first other.first (sym cut.cut ∙ other.cut)
+
+pub uncut : (text x y : List ℕ) → HasNoColon text → IsCutAtColon text x y → ⊥
+uncut text x y none cut = no_colon_uncut x y (subst HasNoColon cut.cut none)
+
 pub behind_mark : (a b cs : List ℕ) → cs ≡ tool_mark ++ a → cs ≡ tool_mark ++ b → a ≡ b
 behind_mark a b cs e f = ap (drop 6) (sym e ∙ f)
 
