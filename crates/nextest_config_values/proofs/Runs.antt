@@ -8,32 +8,32 @@ use Rattle.std.specs.Str.{IsUtf8, NoCharPasses, NonePass}
 use Rattle.std.specs.Str.Pattern.{FindsBy, MatchBeginsAt}
 use Rattle.nextest_config_values.specs.Duration.{AreAll, BeginsWith, IsCutBehind}
 
-none_pass : (kind ends : ℕ → Bool) → ((c : ℕ) → ends c ≡ not (kind c)) → (cs : List ℕ) → NonePass ends cs → AreAll kind cs
-none_pass kind ends opposite [] h = tt
-none_pass kind ends opposite (c ∷ cs) h = (search (rules, opposite c), none_pass kind ends opposite cs h.1)
+module _ (kind : ℕ → Bool) where
+  none_pass : (cs : List ℕ) → NonePass (λ c. not (kind c)) cs → AreAll kind cs
+  none_pass [] h = tt
+  none_pass (c ∷ cs) h = (search rules, none_pass cs h.1)
 
--- the run is over where a character ends it
-over_at : (kind ends : ℕ → Bool) → ((c : ℕ) → ends c ≡ not (kind c)) → (back rest : List ℕ) (c : ℕ) → IsUtf8 back → ends c ≡ true → back ≡ encode_utf8 c ++ rest → ¬ BeginsWith kind (chars back)
-over_at kind ends opposite back rest c u passes e = rw (chars_past_char back rest c u e) (λ begins. search (rules, opposite c))
+  -- the run is over where a character ends it
+  over_at : (back rest : List ℕ) (c : ℕ) → IsUtf8 back → not (kind c) ≡ true → back ≡ encode_utf8 c ++ rest → ¬ BeginsWith kind (chars back)
+  over_at back rest c u passes e = rw (chars_past_char back rest c u e) (λ begins. search rules)
 
-cut_at : (kind ends : ℕ → Bool) → ((c : ℕ) → ends c ≡ not (kind c)) → (text front back : List ℕ) → text ≡ front ++ back → IsUtf8 front → IsUtf8 back → NoCharPasses ends front → ¬ BeginsWith kind (chars back)
-    → IsCutBehind kind text front back
-cut_at kind ends opposite text front back e front_utf8 back_utf8 (cs, encoded, none) over = record {
-  whole = e;
-  characters = ap chars e ∙ chars-append front back front_utf8;
-  is_run = record { inside = subst (AreAll kind) (chars_from_encodes cs front front_utf8 encoded) (none_pass kind ends opposite cs none); over = over };
-  run_utf8 = front_utf8;
-  behind_utf8 = back_utf8;
-}
+  cut_at : (text front back : List ℕ) → text ≡ front ++ back → IsUtf8 front → IsUtf8 back → NoCharPasses (λ c. not (kind c)) front → ¬ BeginsWith kind (chars back) → IsCutBehind kind text front back
+  cut_at text front back e front_utf8 back_utf8 (cs, encoded, none) over = record {
+    whole = e;
+    characters = ap chars e ∙ chars-append front back front_utf8;
+    is_run = record { inside = subst (AreAll kind) (chars_from_encodes cs front front_utf8 encoded) (none_pass cs none); over = over };
+    run_utf8 = front_utf8;
+    behind_utf8 = back_utf8;
+  }
 
 -- a text that is cut where `find` finds the first character that ends the run, or at its end
-pub split_found : (Finds : (ℕ → Bool) → Type 0) (kind ends : ℕ → Bool) → Finds ends → ((c : ℕ) → ends c ≡ not (kind c)) → (text : List ℕ) (found : Option ℕ) → IsUtf8 text
+pub split_found : (Finds : (ℕ → Bool) → Type 0) (kind : ℕ → Bool) → Finds (λ c. not (kind c)) → (text : List ℕ) (found : Option ℕ) → IsUtf8 text
     → MatchOption found ((k : ℕ → Bool) → Finds k → FindsBy k text None) (MatchBeginsAt (λ s o. (k : ℕ → Bool) → Finds k → FindsBy k s o) text)
     → (end : ℕ) → end ≡ unwrap_or found (length text) → IsCutBehind kind text (take end text) (drop end text)
-split_found Finds kind ends finds opposite text None u h end e =
+split_found Finds kind finds text None u h end e =
     rw (e, take_all (length text) text (omega arith), drop_all (length text) text (omega arith))
-    (cut_at kind ends opposite text text [] (sym (append-nil text)) u ([], (refl, refl)) (h ends finds) (rw (chars-encodes [] refl) (λ begins. begins)))
-split_found Finds kind ends finds opposite text (Some i) u (j, found, before, start, stop) end e =
-    let parts = found ends finds in
-    rw e (cut_at kind ends opposite text (take i text) (drop i text) (sym (take-append-drop i text)) (IsUtf8-take text i u start) (IsUtf8-drop text i u start) parts.0
-    (over_at kind ends opposite (drop i text) (drop j text) parts.1.0 (IsUtf8-drop text i u start) parts.1.1 parts.1.2.split))
+    (cut_at kind text text [] (sym (append-nil text)) u ([], (refl, refl)) (h _ finds) (rw (chars-encodes [] refl) (λ begins. begins)))
+split_found Finds kind finds text (Some i) u (j, found, before, start, stop) end e =
+    let parts = found _ finds in
+    rw e (cut_at kind text (take i text) (drop i text) (sym (take-append-drop i text)) (IsUtf8-take text i u start) (IsUtf8-drop text i u start) parts.0
+    (over_at kind (drop i text) (drop j text) parts.1.0 (IsUtf8-drop text i u start) parts.1.1 parts.1.2.split))

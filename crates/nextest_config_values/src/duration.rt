@@ -1,9 +1,9 @@
 //! Durations as texts, in the manner of humantime.
 
-ghost use Rattle.std.specs.Prelude.{◌≡◌, ◌+◌, ◌<◌, ◌^◌, false, chars, length, IfErr, IfOk};
-ghost use Rattle.std.specs.Char.{is_ascii_digit};
+ghost use Rattle.std.specs.Prelude.{◌≡◌, ◌+◌, ◌++◌, ◌<◌, ◌^◌, ℕ, Bool, false, not, chars, length, IfErr, IfOk};
 ghost use Rattle.std.specs.Duration.{as_nanos};
-ghost use Rattle.nextest_config_values.specs.Duration.{duration_reading, DurationFaults, is_in_word, IsCutBehind, IsDuration, IsDurationFault, IsFaultAt, IsReadItem, length_in, MeansDuration, rows, SameLength, unit_length};
+ghost use Rattle.std.specs.Fn.{AlwaysReturns};
+ghost use Rattle.nextest_config_values.specs.Duration.{duration_reading, DurationFaults, IsCutBehind, IsDuration, IsDurationFault, IsFaultAt, IsReadItem, length_in, MeansDuration, rows, SameLength, unit_length};
 
 use crate::read::{FromToml, ReadFault};
 use std::alloc::Global;
@@ -107,7 +107,7 @@ fn read_item(text: &str, at: usize) -> Result<(u128, &str), DurationFault>
     ensures shorter { IfOk result (λ x. length x.1.now < length text.now) }
     ensures refused { IfErr result (IsFaultAt at (chars text.now)) }
 {
-    let (digits, behind) = split_digits(text);
+    let (digits, behind) = split_run(text, |c: char| !c.is_ascii_digit());
     if digits.is_empty() {
         return Err(DurationFault::NumberExpected { at });
     }
@@ -116,7 +116,7 @@ fn read_item(text: &str, at: usize) -> Result<(u128, &str), DurationFault>
     };
     let behind = behind.trim_start();
     let at = at + (text.len() - behind.len());
-    let (word, rest) = split_word(behind);
+    let (word, rest) = split_run(behind, |c: char| c.is_whitespace() || c.is_ascii_digit());
     if word.is_empty() {
         return Err(DurationFault::UnitMissing { at });
     }
@@ -126,23 +126,14 @@ fn read_item(text: &str, at: usize) -> Result<(u128, &str), DurationFault>
     }
 }
 
-// The digits at the beginning of the text, and what stands behind them.
-fn split_digits(text: &str) -> (&str, &str)
-    ensures { IsCutBehind is_ascii_digit text.now result.0.now result.1.now }
+// The run at the beginning of the text up to the first character that ends it, and what stands behind it.
+fn split_run<F: FnMut(char) -> bool + Drop>(text: &str, ends: F) -> (&str, &str)
+    requires { F.IsAlwaysCallable ends }
+    ensures whole { text.now ≡ result.0.now ++ result.1.now }
+    ensures run { (kind : ℕ → Bool) → AlwaysReturns F.FnMut (λ c answer. answer ≡ not (kind c.0)) ends
+        → IsCutBehind kind text.now result.0.now result.1.now }
 {
-    let end = text
-        .find(|c: char| !c.is_ascii_digit())
-        .unwrap_or(text.len());
-    text.split_at(end)
-}
-
-// The word at the beginning of the text, and what stands behind it.
-fn split_word(text: &str) -> (&str, &str)
-    ensures { IsCutBehind is_in_word text.now result.0.now result.1.now }
-{
-    let end = text
-        .find(|c: char| c.is_whitespace() || c.is_ascii_digit())
-        .unwrap_or(text.len());
+    let end = text.find(ends).unwrap_or(text.len());
     text.split_at(end)
 }
 
