@@ -1,34 +1,14 @@
--- The parts of a policy, and refusals of tables.
-use Rattle.std.proofs.Common.{◌≡◌, ℕ, Bool, false, inr, List, Option, Some, None, option_map, subst, sym}
+-- Refusals of tables, as refusals of the setting.
+use Rattle.std.proofs.Common.{◌≡◌, ℕ, false, inr, List, Option, Some, None, subst, sym}
 use Rattle.std.specs.Prelude.{IsTrue}
-use Rattle.std.specs.Duration.{as_nanos}
-use Rattle.std.specs.declared.time.Duration.{Duration}
 use Rattle.toml.proofs.Lines.{data_of_table}
 use Rattle.toml.specs.Data.{as_table, Data, Members, table as data_table}
 use Rattle.nextest_config_values.proofs.Faults.{refused_mapped}
 use Rattle.nextest_config_values.specs.Read.{IsReading, MeansWordText, Refuses, required_reading, RequiredKey, WantsMemory, word_reading, WordTextFaults}
 use Rattle.nextest_config_values.specs.declared.read.fault.ReadFault.{ReadFault}
-use Rattle.nextest_config_elements.specs.RetryPolicy.{backoff_key, backoff_reads_back, backoff_word, BackoffFaults, backoffs_in_order, ExponentialPolicy, FixedPolicy, MeansBackoff, MeansExponential, MeansFixed, MeansRetryPolicySetting, MeansRetryTable, retry_policy_of, RetryPolicyFaults, RetryTableFaults}
+use Rattle.nextest_config_elements.specs.RetryPolicy.{backoff_key, backoff_reads_back, backoff_word, BackoffFaults, backoffs_in_order, MeansBackoff, MeansRetryPolicySetting, MeansRetryTable, retry_policy_of, RetryPolicyFaults, RetryTableFaults}
 use Rattle.nextest_config_elements.specs.declared.retry_policy.Backoff.{Backoff}
-use Rattle.nextest_config_elements.specs.declared.retry_policy.Backoff.TheVariants as backoffs
 use Rattle.nextest_config_elements.specs.declared.retry_policy.RetryPolicy.{RetryPolicy}
-use Rattle.nextest_config_elements.specs.declared.retry_policy.RetryPolicy.TheVariants as policies
-
-pub fixed_parts : (table : Members) (policy : RetryPolicy) → MeansBackoff backoffs.Fixed table (retry_policy_of policy)
-    → (count : ℕ) × (delay : Duration) × (jitter : Bool) × MeansFixed table (record { count = count; delay = as_nanos delay; jitter = jitter })
-fixed_parts table (policies.Fixed count delay jitter) (meant, means, same) =
-    let parts : FixedPolicy = record { count = count; delay = as_nanos delay; jitter = jitter } in
-    let said : meant ≡ parts = cc same in
-    (count, delay, jitter, subst (MeansFixed table) said means)
-fixed_parts table (policies.Exponential count delay jitter max_delay) (meant, means, same) = cc same
-
-pub exponential_parts : (table : Members) (policy : RetryPolicy) → MeansBackoff backoffs.Exponential table (retry_policy_of policy)
-    → (count : ℕ) × (delay : Duration) × (jitter : Bool) × (max_delay : Option Duration) × MeansExponential table (record { count = count; delay = as_nanos delay; jitter = jitter; max_delay = option_map as_nanos max_delay })
-exponential_parts table (policies.Fixed count delay jitter) (meant, means, same) = cc same
-exponential_parts table (policies.Exponential count delay jitter max_delay) (meant, means, same) =
-    let parts : ExponentialPolicy = record { count = count; delay = as_nanos delay; jitter = jitter; max_delay = option_map as_nanos max_delay } in
-    let said : meant ≡ parts = cc same in
-    (count, delay, jitter, max_delay, subst (MeansExponential table) said means)
 
 -- a table has one backoff
 one_backoff : (table : Members) (a b : Backoff) → RequiredKey backoff_key (MeansWordText backoff_word) table a → RequiredKey backoff_key (MeansWordText backoff_word) table b → a ≡ b

@@ -1,5 +1,5 @@
 -- Keys of a table whose values are seen through a part of what a reader gives, and refusals that are passed on.
-use Rattle.std.proofs.Common.{◌≡◌, ℕ, Bool, List, Option, Some, None, Result, option_map, ap, ◌∙◌, subst}
+use Rattle.std.proofs.Common.{◌≡◌, ℕ, Bool, List, Option, Some, None, Result, option_map, ap, ◌∙◌, subst, sym}
 use Rattle.std.proofs.lemmas.Result.{err_from_is_err_and}
 use Rattle.std.specs.Result.{IfErr, IsErrAnd}
 use Rattle.std.specs.Prelude.{IsTrue}
@@ -41,15 +41,18 @@ module _ {X Y : Type 0} (means : Data → Y → Type 0) (part : X → Y) where
 
   -- ---- memory is wanted for what the key means where it is for the part
 
-  pub required_wants : (found : Option Data) (needs_memory : Bool) → WantsIfRequired (λ value x. means value (part x)) needs_memory found → (x : X) → MeansRequired means found (part x) → IsTrue needs_memory
-  required_wants None needs_memory wanted x meant = absurd meant
-  required_wants (Some value) needs_memory wanted x meant = wanted x meant
+  module _ (whole : (y : Y) → (x : X) × (part x ≡ y)) (needs_memory : Bool) where
+    pub value_wants : (value : Data) → WantsMemory (λ x. means value (part x)) needs_memory → WantsMemory (means value) needs_memory
+    value_wants value wanted y meant = wanted (whole y).0 (subst (means value) (sym (whole y).1) meant)
 
-  pub or_wants : (default : Y) (found : Option Data) (needs_memory : Bool) → WantsIfPresent (λ value x. means value (part x)) needs_memory found → (x : X) → MeansOr default means found (part x) → IsTrue needs_memory
-  or_wants default None needs_memory wanted x meant = absurd wanted
-  or_wants default (Some value) needs_memory wanted x meant = wanted x meant
+    pub required_wants : (found : Option Data) → WantsIfRequired (λ value x. means value (part x)) needs_memory found → (y : Y) → MeansRequired means found y → IsTrue needs_memory
+    required_wants None wanted y meant = absurd meant
+    required_wants (Some value) wanted y meant = value_wants value wanted y meant
 
-  pub optional_wants : (found : Option Data) (needs_memory : Bool) → WantsIfPresent (λ value x. means value (part x)) needs_memory found → (x : Option X) → MeansOptional means found (option_map part x) → IsTrue needs_memory
-  optional_wants None needs_memory wanted x meant = absurd wanted
-  optional_wants (Some value) needs_memory wanted None meant = cc meant.1
-  optional_wants (Some value) needs_memory wanted (Some x) meant = wanted x (subst (means value) (cc meant.1) meant.2)
+    pub or_wants : (default : Y) (found : Option Data) → WantsIfPresent (λ value x. means value (part x)) needs_memory found → (y : Y) → MeansOr default means found y → IsTrue needs_memory
+    or_wants default None wanted y meant = absurd wanted
+    or_wants default (Some value) wanted y meant = value_wants value wanted y meant
+
+    pub optional_wants : (found : Option Data) → WantsIfPresent (λ value x. means value (part x)) needs_memory found → (y : Option Y) → MeansOptional means found y → IsTrue needs_memory
+    optional_wants None wanted y meant = absurd wanted
+    optional_wants (Some value) wanted y meant = value_wants value wanted meant.0 meant.2

@@ -2,11 +2,11 @@ use Rattle.std.proofs.Common.{false, inl, inr, refl, rules}
 use Rattle.std.specs.Duration.{as_nanos}
 use Rattle.toml.specs.Data.{get_member}
 use Rattle.toml.specs.View.{table_view}
+use Rattle.nextest_config_values.proofs.Durations.{lasting}
 use Rattle.nextest_config_values.proofs.Faults.{refused_by}
 use Rattle.nextest_config_values.proofs.Keys.{or_wants, passed_as_one, passed_on, required_wants}
 use Rattle.nextest_config_values.specs.Duration.{MeansDuration}
 use Rattle.nextest_config_values.specs.Read.{custom, fault_at, jitter_without_delay, KeyOr, MeansBoolean, MeansU32, reading_on}
-use Rattle.nextest_config_elements.proofs.RetryPolicies.{fixed_parts}
 use Rattle.nextest_config_elements.specs.RetryPolicy.{backoff_reading, count_key, delay_key, jitter_key, retry_policy_of}
 use Rattle.nextest_config_elements.specs.declared.retry_policy.Backoff.TheVariants as backoffs
 use Rattle.nextest_config_elements.proofs.retry_policy.read_fixed.Goals as goal
@@ -15,14 +15,14 @@ pub returns-in_err-count-clause-refused : goal.returns-in_err-count-clause-refus
 returns-in_err-count-clause-refused c =
     let members = table_view c.args.table.now in
     passed_on c.from_residual.result c.in_err-count.field-0.0 c.from_residual.ensures.1 c.in_err-count.ensures.refused
-    (λ wanted policy meant. let parts = fixed_parts members policy meant in required_wants MeansU32 (λ x. x) (get_member count_key members) false wanted parts.0 parts.3.of_count)
+    (λ wanted policy meant. required_wants MeansU32 (λ x. x) (λ x. (x, refl)) false (get_member count_key members) wanted meant.0.count meant.1.of_count)
     (λ f faulty. inl faulty)
 
 pub returns-in_err-delay-clause-refused : goal.returns-in_err-delay-clause-refused
 returns-in_err-delay-clause-refused c =
     let members = table_view c.args.table.now in
     passed_on c.from_residual-in_err-delay.result c.in_err-delay.field-0.0 c.from_residual-in_err-delay.ensures.1 c.in_err-delay.ensures.refused
-    (λ wanted policy meant. let parts = fixed_parts members policy meant in or_wants MeansDuration as_nanos 0 (get_member delay_key members) false wanted parts.1 parts.3.of_delay)
+    (λ wanted policy meant. or_wants MeansDuration as_nanos lasting false 0 (get_member delay_key members) wanted meant.0.delay meant.1.of_delay)
     (λ f faulty. inr (c.in_ok-count.count, c.in_ok-count.ensures.meant, inl faulty))
 
 pub returns-in_err-jitter-clause-refused : goal.returns-in_err-jitter-clause-refused
@@ -30,7 +30,7 @@ returns-in_err-jitter-clause-refused c =
     let members = table_view c.args.table.now in
     let delay : KeyOr delay_key 0 MeansDuration members (as_nanos c.in_ok-delay.delay) = search (rules, c.in_ok-delay.ensures.meant) in
     passed_on c.from_residual-in_err-jitter.result c.in_err-jitter.field-0.0 c.from_residual-in_err-jitter.ensures.1 c.in_err-jitter.ensures.refused
-    (λ wanted policy meant. let parts = fixed_parts members policy meant in or_wants MeansBoolean (λ x. x) false (get_member jitter_key members) false wanted parts.2 parts.3.of_jitter)
+    (λ wanted policy meant. or_wants MeansBoolean (λ x. x) (λ x. (x, refl)) false false (get_member jitter_key members) wanted meant.0.jitter meant.1.of_jitter)
     (λ f faulty. inr (c.in_ok-count.count, c.in_ok-count.ensures.meant, inr (as_nanos c.in_ok-delay.delay, delay, inl faulty)))
 
 pub returns-in_err-check_keys-clause-refused : goal.returns-in_err-check_keys-clause-refused

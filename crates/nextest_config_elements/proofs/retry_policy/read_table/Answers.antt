@@ -1,4 +1,4 @@
-use Rattle.std.proofs.Common.{false, inl, subst}
+use Rattle.std.proofs.Common.{false, inl, refl, subst}
 use Rattle.std.proofs.lemmas.Result.{IfErr-weaker}
 use Rattle.toml.specs.Data.{get_member}
 use Rattle.toml.specs.View.{table_view}
@@ -13,7 +13,7 @@ pub returns-in_err-backoff-clause-refused : goal.returns-in_err-backoff-clause-r
 returns-in_err-backoff-clause-refused c =
     let found = get_member backoff_key (table_view c.args.table.now) in
     passed_on c.from_residual.result c.in_err-backoff.field-0.0 c.from_residual.ensures.1 c.in_err-backoff.ensures.refused
-    (λ wanted policy meant. required_wants (MeansWordText backoff_word) (λ x. x) found false wanted meant.0 meant.1) (λ f faulty. inl faulty)
+    (λ wanted policy meant. required_wants (MeansWordText backoff_word) (λ x. x) (λ x. (x, refl)) false found wanted meant.0 meant.1) (λ f faulty. inl faulty)
 
 pub returns-in-Fixed-clause-refused : goal.returns-in-Fixed-clause-refused
 returns-in-Fixed-clause-refused c =
