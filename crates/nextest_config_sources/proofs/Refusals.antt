@@ -1,9 +1,9 @@
 -- Refusals of parts, as refusals of the whole.
-use Rattle.std.proofs.Common.{◌≡◌, ◌∙◌, ℕ, List, Option, Some, None, refl, ap, inl, inr}
+use Rattle.std.proofs.Common.{ℕ, List, Option, Some, None, refl, inl, inr}
 use Rattle.semver.specs.Parse.{Parts}
-use Rattle.toml.specs.Data.{Data, Members}
+use Rattle.toml.specs.Data.{Members}
 use Rattle.nextest_config_values.specs.Read.Fault.{Fault}
-use Rattle.nextest_config_values.specs.Read.{fault_of, FaultOrMemory, MeansOr, OptionalKey, OptionalKeyFaults, Refuses}
+use Rattle.nextest_config_values.specs.Read.{fault_of, FaultOrMemory, OptionalKey, OptionalKeyFaults, Refuses}
 use Rattle.nextest_config_values.specs.declared.read.fault.ReadFault.{ReadFault}
 use Rattle.nextest_config_sources.specs.NextestVersion.{IsSettingKind, MeansVersion, recommended_key, RefusesSource, required_key, setting, VersionFaults, VersionTableFaults, Wrong, wrong_of}
 use Rattle.nextest_config_sources.specs.declared.nextest_version.error_kind.ConfigParseErrorKind.{ConfigParseErrorKind}
@@ -24,9 +24,3 @@ wrong_in_part kind step refused = fault_mapped (wrong_of kind) refused (λ memor
 pub wrong_setting : (P : Fault → Type 0) (Q : Wrong → Type 0) (V : Type 0) (fault : ReadFault) (kind : ConfigParseErrorKind) → ((f : Fault) → P f → Q (setting f)) → Refuses P V fault → IsSettingKind fault kind → RefusesSource Q kind
 wrong_setting P Q V fault kind step refused made =
     told_twice (fault_of fault) refused made (λ memory told. rw told refl) (λ f faulty told. rw told (step f faulty))
-
--- what a key with a default means, seen through a part of the results
-pub seen_or : {X Y : Type 0} (part : X → Y) (means : Data → Y → Type 0) (default : X) (plain : Y) (found : Option Data) (x : X) → part default ≡ plain → MeansOr default (λ value y. means value (part y)) found x
-    → MeansOr plain means found (part x)
-seen_or part means default plain None x same missing = ap part missing ∙ same
-seen_or part means default plain (Some value) x same meant = meant
