@@ -3,7 +3,7 @@ use Rattle.std.proofs.Common.{◌≡◌, ◌∙◌, ℕ, ◌<◌, ◌^◌, ℤ, 
 use Rattle.std.specs.Prelude.{◌≤ℤ◌, ◌<ℤ◌, neg_ℤ, FitsSigned, IfErr, IfOk}
 use Rattle.std.specs.Int.{w64}
 use Rattle.std.specs.declared.result.Result.{Result}
-use Rattle.std.specs.declared.result.Result.TheVariants.{Err, Ok}
+use Rattle.std.proofs.lemmas.Result.{IfErr-weaker, IfOk-weaker}
 use Rattle.nextest_config_values.specs.Identifier.{HasNoColon, IsCutAtColon, same_cut, uncut}
 use Rattle.nextest_config_values.proofs.Faults.{fault_mapped}
 use Rattle.nextest_config_elements.specs.MaxFail.{bad_count, bad_mode, HasCount, IsAllText, IsBadCount, IsBadMode, IsCountFault, IsCountLimit, IsCountText, IsLimitFault, IsLimitText, IsNoMode, IsNotPositive, IsParted, limit_fault, LimitFault, MeansMode, IsNumberText, mode_word, not_positive, number_parts, one_number, RefusesLimit}
@@ -98,16 +98,13 @@ limit_not_faulty text limit fault h (inr b) = no_limit_without_count text b.0 b.
 
 -- no number is beyond the one end of the range and within it, or beyond the other
 large_not_small : (number : ℤ) → pos (2 ^ 63) ≤ℤ number → number <ℤ neg_ℤ (pos (2 ^ 63)) → ⊥
-large_not_small (pos n) large small = search rules
-large_not_small (negsuc n) large small = search rules
+large_not_small number large small = search rules
 
 large_not_in : (number : ℤ) → pos (2 ^ 63) ≤ℤ number → FitsSigned w64 number → ⊥
-large_not_in (pos n) large fits = search rules
-large_not_in (negsuc n) large fits = search rules
+large_not_in number large fits = search rules
 
 small_not_in : (number : ℤ) → number <ℤ neg_ℤ (pos (2 ^ 63)) → FitsSigned w64 number → ⊥
-small_not_in (pos n) small fits = search rules
-small_not_in (negsuc n) small fits = search rules
+small_not_in number small fits = search rules
 
 both_beyond : (count : List ℕ) → IsCountFault count TooLarge → IsCountFault count TooSmall → ⊥
 both_beyond count a b = large_not_small b.0 (subst (λ n. pos (2 ^ 63) ≤ℤ n) (one_number count a.0 b.0 a.1 b.1) a.2) b.2
@@ -151,14 +148,11 @@ whole_count text not_all none = record { not_all = not_all; word = None; parted 
 -- ---- answers, passed on
 
 pub limit_passed : (text count : List ℕ) (mode : TerminateMode) (r : Result MaxFail MaxFailParseError) → HasCount text count mode → IfOk r (IsCountLimit count mode) → IfOk r (IsLimitText text)
-limit_passed text count mode (Ok limit) has h = rw h.2 (count, has, h.1)
-limit_passed text count mode (Err error) has h = tt
+limit_passed text count mode r has = IfOk-weaker r _ _ (λ limit h. rw h.2 (count, has, h.1))
 
 pub fault_passed : (text count : List ℕ) (mode : TerminateMode) (r : Result MaxFail MaxFailParseError) → HasCount text count mode → IfErr r (RefusesLimit (IsBadCount count)) → IfErr r (RefusesLimit (IsLimitFault text))
-fault_passed text count mode (Ok limit) has h = tt
-fault_passed text count mode (Err error) has h = fault_mapped (limit_fault error) h (λ memory. memory) (λ fault bad. inr (count, mode, has, bad))
+fault_passed text count mode r has = IfErr-weaker r _ _ (λ error h. fault_mapped (limit_fault error) h (λ memory. memory) (λ fault bad. inr (count, mode, has, bad)))
 
 pub none_passed : (text count : List ℕ) (mode : TerminateMode) (r : Result MaxFail MaxFailParseError) → HasCount text count mode
     → IfErr r (λ error. (max_fail : ℕ) → ¬ (IsCountText count max_fail)) → IfErr r (λ error. (limit : MaxFail) → ¬ (IsLimitText text limit))
-none_passed text count mode (Ok limit) has h = tt
-none_passed text count mode (Err error) has h = λ limit. no_limit_without_count text count mode limit has h
+none_passed text count mode r has = IfErr-weaker r _ _ (λ error h limit. no_limit_without_count text count mode limit has h)

@@ -35,8 +35,7 @@ PriorityFaults = FaultsAs as_integer priority_expected PriorityNumberFaults
 -- ---- its law
 
 priority_fits : (number : ℤ) → IsPriority number → FitsSigned w8 number
-priority_fits (pos n) h = search rules
-priority_fits (negsuc n) h = search rules
+priority_fits number h = search rules
 
 one_number_fault : (held : ℤ) (value : Data) (at : List ℕ) (f g : Fault) → PriorityNumberFaults held value at f → PriorityNumberFaults held value at g → f ≡ g
 one_number_fault held value at f g a b = search rules

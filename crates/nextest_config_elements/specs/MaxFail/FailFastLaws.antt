@@ -11,8 +11,7 @@ use Rattle.nextest_config_elements.specs.declared.max_fail.TerminateMode.TheVari
 use Rattle.nextest_config_elements.specs.MaxFail.FailFast.{fail_fast_expected, FailFastFaults, FailFastTableFaults, HasInteger, IsExpected, limit_of, max_fail_expected, max_fail_key, MaxFailFaults, MaxFailTextFaults, MeansFailFast, MeansFailFastTable, MeansFailFastTruth, MeansMaxFail, MeansMaxFailText, MeansTerminate, terminate_key, TerminateFaults, TruthFaults}
 
 not_both : (number : ℤ) → pos 0 <ℤ number → number ≤ℤ pos 0 → ⊥
-not_both (pos n) a b = search rules
-not_both (negsuc n) a b = search rules
+not_both number a b = search rules
 
 one_sign : (held : List ℕ) (m n : ℤ) → HasInteger held m → HasInteger held n → pos 0 <ℤ m → n ≤ℤ pos 0 → ⊥
 one_sign held m n h k a b = not_both n (subst (λ x. pos 0 <ℤ x) (one_number held m n h.0 k.0) a) b
