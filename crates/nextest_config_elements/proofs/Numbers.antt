@@ -6,8 +6,7 @@ use Rattle.std.specs.Str.Parse.{IsNumeral, digits_value, signed_digits_value, st
 use Rattle.nextest_config_elements.specs.MaxFail.{IsNumberText, number_from_parts}
 
 below_range : (number : ℕ) → ¬ (FitsSigned w64 (neg_ℤ (pos number))) → neg_ℤ (pos number) <ℤ neg_ℤ (pos (2 ^ 63))
-below_range zero out = search rules
-below_range (suc number) out = search rules
+below_range number out = search rules
 
 above_range : (number : ℕ) → ¬ (FitsSigned w64 (pos number)) → pos (2 ^ 63) ≤ℤ pos number
 above_range number out = search rules

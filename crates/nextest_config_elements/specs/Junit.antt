@@ -1,6 +1,6 @@
 -- The setting `junit`, and the report that a profile writes by it.
 use Rattle.std.specs.Prelude.{◌≡◌, ◌⊎◌, ℕ, Bool, List, [], ◌∷◌, codes, Option, Some, None, IsSome, option_map, string_bytes}
-use Rattle.std.proofs.Common.{refl}
+use Rattle.std.proofs.Common.{refl, rules}
 use Rattle.toml.specs.Data.{Data, Members, as_table}
 use Rattle.nextest_config_values.specs.Helpers.Paths.{joined_path}
 use Rattle.nextest_config_values.specs.Read.Fault.{Fault}
@@ -74,8 +74,7 @@ flaky_fail_word Failure = codes "failure"
 flaky_fail_word Success = codes "success"
 
 pub flaky_fail_reads_back : (status : JunitFlakyFailStatus) → value_of flaky_fail_word flaky_fail_statuses (flaky_fail_word status) ≡ Some status
-flaky_fail_reads_back Failure = refl
-flaky_fail_reads_back Success = refl
+flaky_fail_reads_back status = search rules
 
 -- ---- the table
 

@@ -1,6 +1,6 @@
 -- The setting `leak-timeout`: how long a test may leak its handles.
 use Rattle.std.specs.Prelude.{◌≡◌, ℕ, List, [], ◌∷◌, codes, Option, Some, option_map}
-use Rattle.std.proofs.Common.{refl}
+use Rattle.std.proofs.Common.{refl, rules}
 use Rattle.std.specs.Duration.{as_nanos}
 use Rattle.toml.specs.Data.{Data, string, Members, as_str, as_table}
 use Rattle.nextest_config_values.specs.Duration.{DurationFaults, MeansDuration, duration_meant}
@@ -37,8 +37,7 @@ leak_timeout_word Fail = codes "fail"
 leak_timeout_word Pass = codes "pass"
 
 pub leak_timeout_reads_back : (result : LeakTimeoutResult) → value_of leak_timeout_word leak_timeout_results (leak_timeout_word result) ≡ Some result
-leak_timeout_reads_back Fail = refl
-leak_timeout_reads_back Pass = refl
+leak_timeout_reads_back result = search rules
 
 -- ---- the table form
 

@@ -1,6 +1,6 @@
 -- The setting `report-skipped`: which skipped tests are reported.
 use Rattle.std.specs.Prelude.{◌≡◌, ◌≢◌, ℕ, List, [], ◌∷◌, codes, Some}
-use Rattle.std.proofs.Common.{refl}
+use Rattle.std.proofs.Common.{rules}
 use Rattle.nextest_config_values.specs.Read.{value_of}
 use Rattle.nextest_config_elements.specs.declared.report_skip_policy.MismatchReason.{MismatchReason}
 use Rattle.nextest_config_elements.specs.declared.report_skip_policy.MismatchReason.TheVariants as reasons
@@ -18,9 +18,7 @@ report_skip_word policies.Ignored = codes "ignored"
 report_skip_word policies.All = codes "all"
 
 pub report_skip_reads_back : (policy : ReportSkipPolicy) → value_of report_skip_word report_skip_policies (report_skip_word policy) ≡ Some policy
-report_skip_reads_back policies.None = refl
-report_skip_reads_back policies.Ignored = refl
-report_skip_reads_back policies.All = refl
+report_skip_reads_back policy = search rules
 
 -- ---- what they report
 

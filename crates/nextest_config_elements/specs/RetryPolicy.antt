@@ -1,6 +1,6 @@
 -- The setting `retries`: how often a failed test is tried again, and when.
 use Rattle.std.specs.Prelude.{◌≡◌, ◌<◌, ℕ, ℤ, pos, negsuc, Bool, true, false, List, [], ◌∷◌, ◌++◌, codes, Option, Some, None, option_map}
-use Rattle.std.proofs.Common.{refl, sym, ◌∙◌}
+use Rattle.std.proofs.Common.{refl, sym, ◌∙◌, rules}
 use Rattle.std.specs.Duration.{as_nanos}
 use Rattle.std.specs.Fmt.{decimal}
 use Rattle.toml.specs.Data.{Data, integer, Members, as_integer, as_table}
@@ -62,8 +62,7 @@ flaky_result_word results.Fail = codes "fail"
 flaky_result_word results.Pass = codes "pass"
 
 pub flaky_result_reads_back : (result : FlakyResult) → value_of flaky_result_word flaky_results (flaky_result_word result) ≡ Some result
-flaky_result_reads_back results.Fail = refl
-flaky_result_reads_back results.Pass = refl
+flaky_result_reads_back result = search rules
 
 -- ---- the words of the kinds of backoff
 
@@ -75,8 +74,7 @@ backoff_word backoffs.Fixed = codes "fixed"
 backoff_word backoffs.Exponential = codes "exponential"
 
 pub backoff_reads_back : (backoff : Backoff) → value_of backoff_word backoffs_in_order (backoff_word backoff) ≡ Some backoff
-backoff_reads_back backoffs.Fixed = refl
-backoff_reads_back backoffs.Exponential = refl
+backoff_reads_back backoff = search rules
 
 -- ---- the keys of a table
 

@@ -1,6 +1,6 @@
 -- The setting `slow-timeout`: when a test is slow, and when it is terminated.
 use Rattle.std.specs.Prelude.{◌≡◌, ℕ, List, [], ◌∷◌, codes, Option, Some, None, option_map}
-use Rattle.std.proofs.Common.{refl}
+use Rattle.std.proofs.Common.{refl, rules}
 use Rattle.std.specs.Duration.{as_nanos}
 use Rattle.toml.specs.Data.{Data, string, Members, as_str, as_table}
 use Rattle.nextest_config_values.specs.Duration.{DurationFaults, MeansDuration, duration_meant}
@@ -40,8 +40,7 @@ slow_timeout_word Fail = codes "fail"
 slow_timeout_word Pass = codes "pass"
 
 pub slow_timeout_reads_back : (result : SlowTimeoutResult) → value_of slow_timeout_word slow_timeout_results (slow_timeout_word result) ≡ Some result
-slow_timeout_reads_back Fail = refl
-slow_timeout_reads_back Pass = refl
+slow_timeout_reads_back result = search rules
 
 -- ---- the table form
 

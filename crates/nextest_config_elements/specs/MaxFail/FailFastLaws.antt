@@ -1,6 +1,6 @@
 -- The law of `fail-fast`: a value sets one limit or has one fault.
 use Rattle.std.specs.Prelude.{◌≡◌, ℕ, ℤ, pos, negsuc, ◌≤ℤ◌, ◌<ℤ◌, List, [], ◌∷◌, Some}
-use Rattle.std.proofs.Common.{refl, sym, ap, ◌∙◌, subst, rules}
+use Rattle.std.proofs.Common.{sym, ap, ◌∙◌, subst, rules}
 use Rattle.toml.specs.Data.{as_bool, as_integer, as_str, as_table, string}
 use Rattle.nextest_config_values.specs.Read.{at_key, count_made, equality, IsReading, kind_reading, made_of, only_this, or_reading, reading_each, required_reading, said_as, then_reading, value_of, word_reading, wrong_kind, wrong_value}
 use Rattle.nextest_config_elements.specs.MaxFail.Limit.{fail_fast_limit, mode_word}
@@ -31,8 +31,7 @@ pub max_fail_reading : IsReading MeansMaxFail MaxFailFaults (λ a b. a ≡ b)
 max_fail_reading = kind_reading (count_made Count max_fail_expected) (kind_reading text (wrong_kind max_fail_expected) as_str) as_integer
 
 mode_reads_back : (mode : TerminateMode) → value_of mode_word (Wait ∷ Immediate ∷ []) (mode_word mode) ≡ Some mode
-mode_reads_back Wait = refl
-mode_reads_back Immediate = refl
+mode_reads_back mode = search rules
 
 terminate : IsReading MeansTerminate TerminateFaults (λ a b. a ≡ b)
 terminate = word_reading (Wait ∷ Immediate ∷ []) mode_word mode_reads_back
