@@ -1,14 +1,12 @@
 -- Refusals of parts of `fail-fast`, as refusals of the whole.
-use Rattle.std.proofs.Common.{◌≡◌, ◌≢◌, ℕ, false, List, codes, Option, Some, None, inr, refl, rules}
-use Rattle.std.specs.Prelude.{IsTrue}
+use Rattle.std.proofs.Common.{◌≡◌, ◌≢◌, ℕ, false, List, codes, Some, inr, refl, rules}
 use Rattle.toml.specs.Data.{Data, Members, as_str, get_member, string}
-use Rattle.nextest_config_values.specs.Read.{MeansOr, MeansRequired, OptionalFaults, path_of, Refuses, RefusesAs, WantsIfPresent, WantsMemory, wrong_value}
+use Rattle.nextest_config_values.specs.Read.{MeansRequired, OptionalFaults, path_of, Refuses, RefusesAs, WantsIfPresent, WantsMemory, wrong_value}
 use Rattle.nextest_config_values.specs.declared.read.fault.ReadFault.{ReadFault}
 use Rattle.nextest_config_values.proofs.Faults.{refused_mapped}
 use Rattle.nextest_config_values.proofs.Keys.{or_wants}
 use Rattle.nextest_config_elements.specs.MaxFail.{FailFastTableFaults, IsExpected, max_fail_key, MaxFailFaults, MeansFailFastTable, MeansMaxFail, MeansTerminate, terminate_key, TerminateFaults}
 use Rattle.nextest_config_elements.specs.declared.max_fail.fail_fast.MaxFailCount.{MaxFailCount}
-use Rattle.nextest_config_elements.specs.declared.max_fail.TerminateMode.{TerminateMode}
 use Rattle.nextest_config_elements.specs.declared.max_fail.TerminateMode.TheVariants.{Wait}
 
 refused_text : (text at expected : List ℕ) (fault : ReadFault) → text ≢ codes "all" → IsExpected text expected → RefusesAs (wrong_value (string text) at expected) fault

@@ -1,5 +1,5 @@
 -- A text has one fail limit, or one fault.
-use Rattle.std.proofs.Common.{◌≡◌, ◌∙◌, ℕ, ◌<◌, ◌^◌, ℤ, pos, negsuc, List, [], refl, sym, ap, subst, inl, inr, arith, rules, Option, Some, None}
+use Rattle.std.proofs.Common.{◌≡◌, ◌∙◌, ℕ, ◌<◌, ◌^◌, ℤ, pos, List, [], refl, sym, ap, subst, inl, inr, arith, rules, Option, Some, None}
 use Rattle.std.specs.Prelude.{◌≤ℤ◌, ◌<ℤ◌, neg_ℤ, FitsSigned, IfErr, IfOk}
 use Rattle.std.specs.Int.{w64}
 use Rattle.std.specs.declared.result.Result.{Result}

@@ -1,5 +1,5 @@
 -- Numbers as texts, in and out of the range of 64 bits.
-use Rattle.std.proofs.Common.{◌≡◌, ◌^◌, ℕ, zero, suc, true, false, ℤ, pos, neg_ℤ, List, drop, of_z, to_z, to_z-of_z, rules}
+use Rattle.std.proofs.Common.{◌≡◌, ◌^◌, ℕ, true, false, ℤ, pos, neg_ℤ, List, drop, of_z, to_z, to_z-of_z, rules}
 use Rattle.std.specs.Prelude.{◌≤ℤ◌, ◌<ℤ◌, FitsSigned, int_lt}
 use Rattle.std.specs.Int.{w64}
 use Rattle.std.specs.Str.Parse.{IsNumeral, digits_value, signed_digits_value, starts_with_minus, without_leading_plus, without_leading_sign}

@@ -1,5 +1,5 @@
 -- The keys of a table, in order, against the known ones.
-use Rattle.std.proofs.Common.{◌≡◌, ℕ, ◌++◌, List, [], ◌∷◌, Option, Some, IsSome, Equal, Global, Greater, Less, Ordering, String, ap, nat_cmp, refl, string_bytes, subst, sym, ◌∙◌}
+use Rattle.std.proofs.Common.{◌≡◌, ℕ, ◌++◌, List, [], ◌∷◌, Option, Some, IsSome, Equal, Global, Less, Ordering, String, ap, nat_cmp, refl, rules, string_bytes, subst, sym, ◌∙◌}
 use Rattle.std.proofs.lemmas.Cmp.{nat_list_cmp_total}
 use Rattle.std.proofs.lemmas.Map.Keys.{sorted_head, sorted_tail}
 use Rattle.std.proofs.lemmas.Map.Lookups.{exact_bytes}
@@ -19,17 +19,14 @@ use Rattle.nextest_config_elements.specs.UnknownKeys.{ComesBefore, HasOnlyKeys, 
 -- what is found at a text, by where it stands against a key
 found_at : (o : Ordering) (text key : List ℕ) (value : Data) (rest : Option Data) (P : Type 0) → slice_cmp nat_cmp text key ≡ o → (text ≡ key → P) → (IsSome rest → P) → IsSome (match_ordering o rest (Some value) rest) → P
 found_at Equal text key value rest P order here later some = here (exact_bytes text key order)
-found_at Less text key value rest P order here later some = later some
-found_at Greater text key value rest P order here later some = later some
+found_at o text key value rest P order here later some = search rules
 
 -- a text is found where it is the key, or among the rest
 finds : (o : Ordering) (value : Data) (rest : Option Data) → (o ≡ Equal) → IsSome (match_ordering o rest (Some value) rest)
 finds o value rest same = subst (λ (p : Ordering). IsSome (match_ordering p rest (Some value) rest)) (sym same) refl
 
 finds_later : (o : Ordering) (value : Data) (rest : Option Data) → IsSome rest → IsSome (match_ordering o rest (Some value) rest)
-finds_later Equal value rest some = refl
-finds_later Less value rest some = some
-finds_later Greater value rest some = some
+finds_later o value rest some = search rules
 
 -- a key of the table has a value
 key_there : (entries : List Entry) (so_far rest : List (String Global)) (key : String Global) → keys_of entries ≡ so_far ++ key ∷ rest → IsSome (get_member (string_bytes key) (members_view entries))

@@ -1,5 +1,5 @@
 -- The setting `priority`: an integer from -100 to 100.
-use Rattle.std.specs.Prelude.{◌≡◌, ◌≤ℤ◌, ℕ, ℤ, pos, negsuc, neg_ℤ, List, codes, FitsSigned, ◌⊎◌}
+use Rattle.std.specs.Prelude.{◌≡◌, ◌≤ℤ◌, ℕ, ℤ, pos, neg_ℤ, List, codes, FitsSigned, ◌⊎◌}
 use Rattle.std.specs.Int.{w8}
 use Rattle.std.proofs.Common.{sym, ◌∙◌, inl, inr, rules}
 use Rattle.toml.specs.Data.{Data, as_integer}

@@ -273,5 +273,4 @@ retry_policy_meant = kind_reading number
 pub retry_policy_reading : IsReading MeansRetryPolicySetting RetryPolicyFaults (λ a b. option_map retry_policy_of a ≡ option_map retry_policy_of b)
 retry_policy_reading = said_as said (reading_on (option_map retry_policy_of) (made_of Some retry_policy_meant)) where
   said : (value : Data) (policy : Option RetryPolicy) → MeansRetryPolicySetting value policy → (told : RetryPolicyRecord) × MeansRetryPolicy value told × (option_map retry_policy_of policy ≡ Some told)
-  said value None meant = absurd meant
-  said value (Some policy) meant = (retry_policy_of policy, meant, refl)
+  said value policy meant = search rules

@@ -13,7 +13,7 @@ use Rattle.std.specs.Str.Parse.{ParsesUnsigned, digits_value}
 use Rattle.std.specs.Result.{OkIff}
 use Rattle.nextest_config_values.proofs.Elements.{all_joined, all_weaker}
 use Rattle.nextest_config_values.proofs.Texts.{ascii_encoded}
-use Rattle.nextest_config_values.specs.Duration.{AreAll, AreFittingDigits, BeginsWith, covers, EndsWith, HasNumberThatFits, is_in_word, IsCutBehind, IsDuration, IsDurationFault, IsFaultAt, IsFaultBehind, IsFront, IsItemText, IsLongestFront, IsNext, IsNextFault, IsReadItem, IsRun, IsUncut, Item, nothing_before, offset, one_next, Spells, Stops, total, unit_length}
+use Rattle.nextest_config_values.specs.Duration.{AreAll, AreFittingDigits, BeginsWith, covers, EndsWith, HasNumberThatFits, is_in_word, IsCutBehind, IsDuration, IsDurationFault, IsFaultAt, IsFaultBehind, IsFront, IsItemText, IsLongestFront, IsNext, IsNextFault, IsReadItem, IsRun, IsUncut, Item, nothing_stops, offset, one_next, Spells, Stops, total, unit_length}
 use Rattle.nextest_config_values.specs.declared.duration.DurationFault.{DurationFault}
 use Rattle.nextest_config_values.specs.declared.duration.DurationFault.TheVariants as faults
 
@@ -76,12 +76,7 @@ next_behind text digits behind e run =
 
 no_such_item : (place : ℕ) (digits gap word : List ℕ) (fault : DurationFault) (number unit : ℕ) → IsNextFault place digits gap word fault
     → digits ≢ [] → digits_value 10 digits ≡ number → unit_length word ≡ Some unit → number < 2 ^ 64 → ⊥
-no_such_item place digits gap word faults.Empty number unit told some is_number is_unit fits = told
-no_such_item place digits gap word faults.SumTooLarge number unit told some is_number is_unit fits = told
-no_such_item place digits gap word (faults.NumberExpected at) number unit told some is_number is_unit fits = some told.0
-no_such_item place digits gap word (faults.NumberTooLarge at) number unit told some is_number is_unit fits = omega (arith, told.0, is_number, fits)
-no_such_item place digits gap word (faults.UnitMissing at) number unit told some is_number is_unit fits = cc (rw told.1 at is_unit)
-no_such_item place digits gap word (faults.UnitUnknown at) number unit told some is_number is_unit fits = cc (told.2, is_unit)
+no_such_item place digits gap word fault number unit told some is_number is_unit fits = search rules
 
 -- where this fault stands, no item begins
 fault_stops : (place : ℕ) (text : List ℕ) (fault : DurationFault) → ¬ BeginsWith is_whitespace text → IsFaultAt place text fault → Stops HasNumberThatFits text
@@ -96,12 +91,6 @@ pub longest_front : (text front behind : List ℕ) (items : List Item) → IsFro
 longest_front text front behind items a stops = record {
   is_front = a;
   longest = λ other rest others b. (covers HasNumberThatFits items others front behind other rest a.spelled b.spelled (sym a.whole ∙ b.whole) a.uncut b.uncut stops b.fit).longer;
-}
-
-pub end_stops : Stops HasNumberThatFits []
-end_stops = record {
-  no_space = λ begins. begins;
-  no_item = λ item digits gap word behind next some is_number is_unit fits. some (nothing_before digits (gap ++ (word ++ behind)) next.whole);
 }
 
 -- ---- the digits of a number
@@ -282,8 +271,7 @@ read_more text left behind rest space nanoseconds more a r trim = record {
 -- ---- the answers
 
 fault_behind : (front left : List ℕ) (items : List Item) (fault : DurationFault) → left ≢ [] → IsFaultAt (offset front) left fault → IsFaultBehind front left items fault
-fault_behind front [] items fault some told = absurd (some refl)
-fault_behind front (c ∷ cs) items fault some told = told
+fault_behind front left items fault some told = search rules
 
 -- what isn't an item is the fault of the text
 pub fault_within : (text left : List ℕ) (nanoseconds place : ℕ) (fault : DurationFault) (a : IsReadUpTo (chars text) left nanoseconds) → left ≢ [] → place ≡ offset a.front → IsFaultAt place left fault → IsDurationFault text fault
@@ -292,11 +280,11 @@ fault_within text left nanoseconds place fault a some at told =
 
 pub empty_fault : (text space : List ℕ) → IsTrimmed (chars text) space [] → IsDurationFault text faults.Empty
 empty_fault text space trim =
-    (space, [], [], longest_front (chars text) space [] [] (record { whole = trim.whole; spelled = trim.run.inside; fit = tt; uncut = λ ends begins. begins }) end_stops, refl)
+    (space, [], [], longest_front (chars text) space [] [] (record { whole = trim.whole; spelled = trim.run.inside; fit = tt; uncut = λ ends begins. begins }) nothing_stops, refl)
 
 module _ (text : List ℕ) (nanoseconds : ℕ) (a : IsReadUpTo (chars text) [] nanoseconds) where
   pub sum_fault : ¬ FitsDuration nanoseconds → IsDurationFault text faults.SumTooLarge
-  sum_fault large = (a.front, [], a.items, longest_front (chars text) a.front [] a.items a.is_front end_stops, (a.some refl, λ fits. large (omega (arith, a.sum, fits))))
+  sum_fault large = (a.front, [], a.items, longest_front (chars text) a.front [] a.items a.is_front nothing_stops, (a.some refl, λ fits. large (omega (arith, a.sum, fits))))
 
   pub whole_duration : FitsDuration nanoseconds → IsDuration text nanoseconds
   whole_duration fits = record {

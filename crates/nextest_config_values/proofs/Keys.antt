@@ -1,5 +1,5 @@
 -- Keys of a table whose values are seen through a part of what a reader gives, and refusals that are passed on.
-use Rattle.std.proofs.Common.{◌≡◌, ℕ, Bool, List, Option, Some, None, Result, option_map, ap, ◌∙◌, subst, sym}
+use Rattle.std.proofs.Common.{◌≡◌, ℕ, Bool, List, Option, Result, option_map, rules, subst, sym}
 use Rattle.std.proofs.lemmas.Result.{err_from_is_err_and}
 use Rattle.std.specs.Result.{IfErr, IsErrAnd}
 use Rattle.std.specs.Prelude.{IsTrue}
@@ -23,21 +23,17 @@ passed_as_one needs_memory reading value at result fault err refused step = pass
 
 -- memory is wanted for what a key that may be missing means where it is for its value
 pub present_wants : {X : Type 0} (means : Data → X → Type 0) (found : Option Data) (needs_memory : Bool) → WantsIfPresent means needs_memory found → (x : Option X) → MeansOptional means found x → IsTrue needs_memory
-present_wants means None needs_memory wanted x meant = absurd wanted
-present_wants means (Some value) needs_memory wanted x meant = wanted meant.0 meant.2
+present_wants means found needs_memory wanted x meant = search rules
 
 module _ {X Y : Type 0} (means : Data → Y → Type 0) (part : X → Y) where
   pub seen_required : (found : Option Data) (x : X) → MeansRequired (λ value x. means value (part x)) found x → MeansRequired means found (part x)
-  seen_required None x meant = meant
-  seen_required (Some value) x meant = meant
+  seen_required found x meant = search rules
 
   pub seen_or : (default : X) (plain : Y) (found : Option Data) (x : X) → part default ≡ plain → MeansOr default (λ value x. means value (part x)) found x → MeansOr plain means found (part x)
-  seen_or default plain None x same meant = ap part meant ∙ same
-  seen_or default plain (Some value) x same meant = meant
+  seen_or default plain found x same meant = search rules
 
   pub seen_optional : (found : Option Data) (x : Option X) → MeansOptional (λ value x. means value (part x)) found x → MeansOptional means found (option_map part x)
-  seen_optional None x meant = ap (option_map part) meant
-  seen_optional (Some value) x meant = (part meant.0, ap (option_map part) meant.1, meant.2)
+  seen_optional found x meant = search rules
 
   -- ---- memory is wanted for what the key means where it is for the part
 
@@ -46,13 +42,10 @@ module _ {X Y : Type 0} (means : Data → Y → Type 0) (part : X → Y) where
     value_wants value wanted y meant = wanted (whole y).0 (subst (means value) (sym (whole y).1) meant)
 
     pub required_wants : (found : Option Data) → WantsIfRequired (λ value x. means value (part x)) needs_memory found → (y : Y) → MeansRequired means found y → IsTrue needs_memory
-    required_wants None wanted y meant = absurd meant
-    required_wants (Some value) wanted y meant = value_wants value wanted y meant
+    required_wants found wanted y meant = search (rules, value_wants)
 
     pub or_wants : (default : Y) (found : Option Data) → WantsIfPresent (λ value x. means value (part x)) needs_memory found → (y : Y) → MeansOr default means found y → IsTrue needs_memory
-    or_wants default None wanted y meant = absurd wanted
-    or_wants default (Some value) wanted y meant = value_wants value wanted y meant
+    or_wants default found wanted y meant = search (rules, value_wants)
 
     pub optional_wants : (found : Option Data) → WantsIfPresent (λ value x. means value (part x)) needs_memory found → (y : Option Y) → MeansOptional means found y → IsTrue needs_memory
-    optional_wants None wanted y meant = absurd wanted
-    optional_wants (Some value) wanted y meant = value_wants value wanted meant.0 meant.2
+    optional_wants found wanted y meant = search (rules, value_wants)

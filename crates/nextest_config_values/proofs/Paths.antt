@@ -1,5 +1,5 @@
 -- The pieces of a path between slashes, and the join of two paths.
-use Rattle.std.proofs.Common.{◌≡◌, ◌≢◌, ◌⊎◌, ◌↔◌, ℕ, ◌-◌, ◌<◌, eqb, Bool, false, List, [], ◌∷◌, ◌++◌, codes, length, reverse, slice_index, refl, sym, ap, ◌∙◌, inl, inr, append_assoc, append-nil, arith}
+use Rattle.std.proofs.Common.{◌≡◌, ◌≢◌, ◌⊎◌, ◌↔◌, ℕ, ◌-◌, ◌<◌, eqb, Bool, false, List, [], ◌∷◌, ◌++◌, codes, length, reverse, slice_index, refl, sym, ap, ◌∙◌, inl, inr, append_assoc, append-nil, arith, rules}
 use Rattle.std.proofs.lemmas.Bool.{cases_Bool, ne_eqb}
 use Rattle.std.proofs.lemmas.List.{get_or-reverse}
 use Rattle.std.proofs.lemmas.List.Splits.{join_with_byte-slice_split, length-slice_split, slice_split-cons_no, slice_split-cons_yes}
@@ -71,8 +71,7 @@ tells_no_parent text = (no_parent text, λ none. all_names (pieces text) [] (inl
 -- ---- the join of two paths
 
 begins : (path : List ℕ) → (slice_index path 0 == slash) ≡ begins_with_slash path
-begins [] = refl
-begins (b ∷ rest) = refl
+begins path = search rules
 
 separated : (first : List ℕ) → with_separator first ≡ first ++ separator first
 separated [] = refl

@@ -1,5 +1,5 @@
 -- Writes in turn under the options of a format.
-use Rattle.std.proofs.Common.{◌≡◌, ℕ, List, [], ◌∷◌, ◌++◌, Option, Some, None, Result, option_map, refl, sym, ap₂, subst, ◌∙◌}
+use Rattle.std.proofs.Common.{◌≡◌, ℕ, List, [], ◌∷◌, ◌++◌, Option, Result, option_map, refl, sym, ap₂, subst, ◌∙◌, rules}
 use Rattle.std.proofs.lemmas.List.Folds.{concat-append}
 use Rattle.std.specs.List.{FoldsTo}
 use Rattle.std.specs.declared.fmt.Formatter.{Formatter}
@@ -31,7 +31,4 @@ module _ {W : Type 0} (took : W → List ℕ → W → Type 0) where
   -- a text behind another one
   pub styled_behind : (f g h : Formatter W) (written : Result (Unit {0}) Error) (front : List ℕ) (text : Option (List ℕ)) → (IsFlush f → HasWrittenStyled took f front g) → DisplaysStyledOnOk took g written text h
       → DisplaysStyledOnOk took f written (option_map (λ behind. front ++ behind) text) h
-  styled_behind f g h written front None first later = tt
-  styled_behind f g h written front (Some behind) first later = λ flush ok.
-      let one = first flush in
-      styled_append f g h front behind one (later one.flush ok)
+  styled_behind f g h written front text first later = search (rules, styled_append)

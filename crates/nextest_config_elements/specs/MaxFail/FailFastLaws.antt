@@ -1,5 +1,5 @@
 -- The law of `fail-fast`: a value sets one limit or has one fault.
-use Rattle.std.specs.Prelude.{◌≡◌, ℕ, ℤ, pos, negsuc, ◌≤ℤ◌, ◌<ℤ◌, List, [], ◌∷◌, Some}
+use Rattle.std.specs.Prelude.{◌≡◌, ℕ, ℤ, pos, ◌≤ℤ◌, ◌<ℤ◌, List, [], ◌∷◌, Some}
 use Rattle.std.proofs.Common.{sym, ap, ◌∙◌, subst, rules}
 use Rattle.toml.specs.Data.{as_bool, as_integer, as_str, as_table, string}
 use Rattle.nextest_config_values.specs.Read.{at_key, count_made, equality, IsReading, kind_reading, made_of, only_this, or_reading, reading_each, required_reading, said_as, then_reading, value_of, word_reading, wrong_kind, wrong_value}

@@ -16,14 +16,14 @@ use Rattle.nextest_config_values.specs.declared.duration.DurationFault.{Duration
 -- ---- characters
 
 -- a character is of one kind at most
-never_digit_and_white : (c : ℕ) → IsTrue (is_ascii_digit c) → IsTrue (is_whitespace c) → ⊥
-never_digit_and_white c digit white = search rules
+never_white_and_digit : (c : ℕ) → IsTrue (is_whitespace c) → IsTrue (is_ascii_digit c) → ⊥
+never_white_and_digit c white digit = search rules
 
-never_digit_and_word : (c : ℕ) → IsTrue (is_ascii_digit c) → IsTrue (is_in_word c) → ⊥
-never_digit_and_word c digit word = search rules
+never_word_and_digit : (c : ℕ) → IsTrue (is_in_word c) → IsTrue (is_ascii_digit c) → ⊥
+never_word_and_digit c word digit = search rules
 
-never_white_and_word : (c : ℕ) → IsTrue (is_whitespace c) → IsTrue (is_in_word c) → ⊥
-never_white_and_word c white word = search rules
+never_word_and_white : (c : ℕ) → IsTrue (is_in_word c) → IsTrue (is_whitespace c) → ⊥
+never_word_and_white c word white = search rules
 
 -- ---- runs
 
@@ -83,26 +83,18 @@ word_ends (x ∷ y ∷ front) word h = word_ends (y ∷ front) word h
 
 -- ---- items
 
--- characters that begin with no digit, no white space, no word
-white_no_digit : (gap behind : List ℕ) → AreAll is_whitespace gap → ¬ BeginsWith is_ascii_digit behind → ¬ BeginsWith is_ascii_digit (gap ++ behind)
-white_no_digit [] behind h k = k
-white_no_digit (c ∷ gap) behind h k = λ digit. never_digit_and_white c digit h.0
+module _ (kind other : ℕ → Bool) (apart : (c : ℕ) → IsTrue (kind c) → IsTrue (other c) → ⊥) where
+  -- what begins with the one kind begins with none of the other
+  begins_apart : (text : List ℕ) → BeginsWith kind text → ¬ BeginsWith other text
+  begins_apart text h also = search (rules, apart)
 
-word_no_digit : (text : List ℕ) → BeginsWith is_in_word text → ¬ BeginsWith is_ascii_digit text
-word_no_digit [] h = elim h [ ]
-word_no_digit (c ∷ text) h = λ digit. never_digit_and_word c digit h
+  run_apart : (run behind : List ℕ) → run ≢ [] → AreAll kind run → ¬ BeginsWith other (run ++ behind)
+  run_apart [] behind some h = absurd (some refl)
+  run_apart (c ∷ run) behind some h = apart c h.0
 
-word_no_white : (text : List ℕ) → BeginsWith is_in_word text → ¬ BeginsWith is_whitespace text
-word_no_white [] h = elim h [ ]
-word_no_white (c ∷ text) h = λ white. never_white_and_word c white h
-
-digits_no_white : (digits behind : List ℕ) → digits ≢ [] → AreAll is_ascii_digit digits → ¬ BeginsWith is_whitespace (digits ++ behind)
-digits_no_white [] behind some h = absurd (some refl)
-digits_no_white (c ∷ digits) behind some h = λ white. never_digit_and_white c h.0 white
-
-digits_no_word : (digits behind : List ℕ) → digits ≢ [] → AreAll is_ascii_digit digits → ¬ BeginsWith is_in_word (digits ++ behind)
-digits_no_word [] behind some h = absurd (some refl)
-digits_no_word (c ∷ digits) behind some h = λ word. never_digit_and_word c h.0 word
+  behind_apart : (run behind : List ℕ) → AreAll kind run → ¬ BeginsWith other behind → ¬ BeginsWith other (run ++ behind)
+  behind_apart [] behind h none = none
+  behind_apart (c ∷ run) behind h none = apart c h.0
 
 -- behind the white space of an item stand its digits, white space and word, each as long as can be
 next_of_item : (text : List ℕ) (item : Item) (behind : List ℕ) (h : IsItemText text item) → ¬ BeginsWith is_in_word behind
@@ -112,14 +104,14 @@ next_of_item text item behind h over =
     let begins = word_begins h.word behind word in
     record {
       whole = refl;
-      of_digits = record { inside = h.digits_are; over = white_no_digit h.gap (h.word ++ behind) h.gap_is_white (word_no_digit (h.word ++ behind) begins) };
-      of_gap = record { inside = h.gap_is_white; over = word_no_white (h.word ++ behind) begins };
+      of_digits = record { inside = h.digits_are; over = behind_apart is_whitespace is_ascii_digit never_white_and_digit h.gap (h.word ++ behind) h.gap_is_white (begins_apart is_in_word is_ascii_digit never_word_and_digit (h.word ++ behind) begins) };
+      of_gap = record { inside = h.gap_is_white; over = begins_apart is_in_word is_whitespace never_word_and_white (h.word ++ behind) begins };
       of_word = record { inside = all_in_word h.word word; over = over };
     }
 
 -- and in front of them its white space
 space_of_item : (text : List ℕ) (item : Item) (behind : List ℕ) (h : IsItemText text item) → IsRun is_whitespace h.space (h.digits ++ (h.gap ++ (h.word ++ behind)))
-space_of_item text item behind h = record { inside = h.space_is_white; over = digits_no_white h.digits (h.gap ++ (h.word ++ behind)) h.some_digits h.digits_are }
+space_of_item text item behind h = record { inside = h.space_is_white; over = run_apart is_ascii_digit is_whitespace (λ c digit white. never_white_and_digit c white digit) h.digits (h.gap ++ (h.word ++ behind)) h.some_digits h.digits_are }
 
 -- the parts of what comes next are the same, however they are told
 pub one_next : (text digits gap word behind : List ℕ) (other_digits other_gap other_word rest : List ℕ) → IsNext text digits gap word behind → IsNext text other_digits other_gap other_word rest
@@ -146,18 +138,14 @@ item_ends : (here : List ℕ) (item : Item) → IsItemText here item → EndsWit
 item_ends here item h = subst (EndsWith is_in_word) (sym h.whole)
     (ends_behind h.space (h.digits ++ (h.gap ++ h.word)) (ends_behind h.digits (h.gap ++ h.word) (word_ends h.gap h.word (word_of_unit h.word item.unit h.unit_is))))
 
-white_no_word : (space behind : List ℕ) → AreAll is_whitespace space → ¬ BeginsWith is_in_word behind → ¬ BeginsWith is_in_word (space ++ behind)
-white_no_word [] behind h k = k
-white_no_word (c ∷ space) behind h k = λ word. never_white_and_word c h.0 word
-
 -- no word goes on behind an item, where the cut behind all of them isn't inside a word
 item_over : (here : List ℕ) (item : Item) (items : List Item) (text behind : List ℕ) → IsItemText here item → Spells items text → IsUncut (here ++ text) behind → ¬ BeginsWith is_in_word (text ++ behind)
 item_over here item [] [] behind h spelled uncut = uncut (subst (EndsWith is_in_word) (sym (append-nil here)) (item_ends here item h))
-item_over here item [] (c ∷ text) behind h spelled uncut = λ word. never_white_and_word c spelled.0 word
+item_over here item [] (c ∷ text) behind h spelled uncut = λ word. never_word_and_white c word spelled.0
 item_over here item (next ∷ items) text behind h (there, rest, whole, k, spelled) uncut =
     let parts : text ++ behind ≡ k.space ++ (k.digits ++ (k.gap ++ (k.word ++ (rest ++ behind)))) = rw (whole, append_assoc there rest behind) (item_whole there next (rest ++ behind) k) in
     subst (λ t. ¬ BeginsWith is_in_word t) (sym parts)
-    (white_no_word k.space (k.digits ++ (k.gap ++ (k.word ++ (rest ++ behind)))) k.space_is_white (digits_no_word k.digits (k.gap ++ (k.word ++ (rest ++ behind))) k.some_digits k.digits_are))
+    (behind_apart is_whitespace is_in_word (λ c white word. never_word_and_white c word white) k.space (k.digits ++ (k.gap ++ (k.word ++ (rest ++ behind)))) k.space_is_white (run_apart is_ascii_digit is_in_word (λ c digit word. never_word_and_digit c word digit) k.digits (k.gap ++ (k.word ++ (rest ++ behind))) k.some_digits k.digits_are))
 
 -- ---- spellings
 
@@ -220,7 +208,7 @@ pub nothing_before : (front behind : List ℕ) → [] ≡ front ++ behind → fr
 nothing_before [] behind e = refl
 nothing_before (c ∷ front) behind e = absurd (cc e)
 
-nothing_stops : Stops (λ item. Unit {0}) []
+pub nothing_stops : {P : Item → Type 0} → Stops P []
 nothing_stops = record {
   no_space = λ h. h;
   no_item = λ item digits gap word behind next some number unit any. some (nothing_before digits (gap ++ (word ++ behind)) next.whole);
@@ -282,8 +270,7 @@ no_end_fault : (items : List Item) (fault : DurationFault) → items ≢ [] → 
 no_end_fault items fault some fits told = search rules
 
 no_fault_behind : (front behind : List ℕ) (items : List Item) (fault : DurationFault) → length front + length behind ≤ length front → items ≢ [] → FitsDuration (total items) → IsFaultBehind front behind items fault → ⊥
-no_fault_behind front [] items fault whole some fits told = no_end_fault items fault some fits told
-no_fault_behind front (c ∷ cs) items fault whole some fits told = omega (arith, whole)
+no_fault_behind front behind items fault whole some fits told = search (rules, no_end_fault)
 
 whole_front : (text : List ℕ) (nanoseconds : ℕ) (d : IsDuration text nanoseconds) → IsFront (chars text) (chars text) [] d.items
 whole_front text nanoseconds d = record { whole = sym (append-nil (chars text)); spelled = d.spelled; fit = d.fit; uncut = λ ends begins. begins }

@@ -101,9 +101,8 @@ pub one_tool_name_flaw : (cs : List ℕ) (f g : ToolNameFlaw) → IsToolNameFlaw
 one_tool_name_flaw cs f g a b = search rules
 
 pub tool_name_not_flawed : (cs : List ℕ) (f : ToolNameFlaw) → IsPlainIdentifier cs → IsToolNameFlaw cs f → ⊥
-tool_name_not_flawed cs of_names.Empty h a = subst IsPlainIdentifier a h
 tool_name_not_flawed cs of_names.StartsWithToolPrefix h a = plain_no_at_sign cs _ h a.1
-tool_name_not_flawed cs of_names.InvalidXid h a = a.2 h
+tool_name_not_flawed cs f h a = search rules
 
 -- ---- texts that are kept in their normal form
 

@@ -146,14 +146,10 @@ pub record IsCheck {D : Type 0} (Passes : D → Type 0) (faults : D → List ℕ
 module _ {D X : Type 0} {Passes : D → Type 0} {checked : D → List ℕ → Fault → Type 0} {means : D → X → Type 0} {faults : D → List ℕ → Fault → Type 0}
     (check : IsCheck Passes checked) (behind : IsReading means faults (λ x y. x ≡ y)) where
   one_behind : (value : D) (at : List ℕ) (f g : Fault) → FaultsBehind checked Passes faults value at f → FaultsBehind checked Passes faults value at g → f ≡ g
-  one_behind value at f g (inl a) (inl b) = check.one_fault value at f g a b
-  one_behind value at f g (inl a) (inr b) = absurd (check.never_both value at f b.0 a)
-  one_behind value at f g (inr a) (inl b) = absurd (check.never_both value at g a.0 b)
-  one_behind value at f g (inr a) (inr b) = behind.one_fault value at f g a.1 b.1
+  one_behind value at f g a b = search (rules, check.one_fault, check.never_both, behind.one_fault)
 
   never_both_behind : (value : D) (at : List ℕ) (x : X) (f : Fault) → Passes value × means value x → FaultsBehind checked Passes faults value at f → ⊥
-  never_both_behind value at x f a (inl b) = check.never_both value at f a.0 b
-  never_both_behind value at x f a (inr b) = behind.never_both value at x f a.1 b.1
+  never_both_behind value at x f a b = search (rules, check.never_both, behind.never_both)
 
   -- a check, and what comes behind it
   pub behind_check : IsReading (λ value x. Passes value × means value x) (FaultsBehind checked Passes faults) (λ x y. x ≡ y)

@@ -1,4 +1,4 @@
-use Rattle.std.proofs.Common.{ℕ, true, false, List, Option, Some, None, String, Global, IsSome, inl, inr, option_map, refl, string_bytes}
+use Rattle.std.proofs.Common.{ℕ, true, false, List, Option, String, Global, IsSome, inl, inr, option_map, rules, string_bytes}
 use Rattle.std.proofs.lemmas.Bool.{false≢true}
 use Rattle.toml.specs.Data.{Data, get_member}
 use Rattle.toml.specs.View.{table_view}
@@ -9,8 +9,7 @@ use Rattle.nextest_config_elements.proofs.junit.JunitImpl.read_table.Goals as go
 
 -- memory is wanted for a text that is there
 present_text : (found : Option Data) (said : Option (List ℕ)) → WantsIfPresent (λ value (text : String Global). MeansString value (string_bytes text)) true found → MeansOptional MeansString found said → IsSome said
-present_text None said wanted m = absurd wanted
-present_text (Some value) said wanted m = rw m.1 refl
+present_text found said wanted m = search rules
 
 pub returns-in_err-path-clause-refused : goal.returns-in_err-path-clause-refused
 returns-in_err-path-clause-refused c =

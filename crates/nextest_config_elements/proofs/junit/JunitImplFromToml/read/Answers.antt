@@ -1,4 +1,4 @@
-use Rattle.std.proofs.Common.{ℕ, List, Option, Some, None, Result, Ok, Err, IfErr, IsOk, refl, rules}
+use Rattle.std.proofs.Common.{ℕ, List, Option, Result, Ok, Err, IfErr, IsOk, refl, rules}
 use Rattle.toml.specs.Data.{Members}
 use Rattle.toml.specs.View.{table_view}
 use Rattle.nextest_config_values.specs.Read.{fault_of, FaultOrMemory, Refuses}
@@ -7,8 +7,7 @@ use Rattle.nextest_config_elements.specs.Junit.{HasText, junit_table, JunitTable
 use Rattle.nextest_config_elements.proofs.junit.JunitImplFromToml.read.Goals as goal
 
 no_refusal : {F Wanted : Type 0} {IsFault : F → Type 0} (told : Option F) → FaultOrMemory told Wanted IsFault → ¬ Wanted → ((fault : F) → ¬ IsFault fault) → ⊥
-no_refusal None refused unwanted faultless = unwanted refused
-no_refusal (Some fault) refused unwanted faultless = faultless fault refused
+no_refusal told refused unwanted faultless = search rules
 
 -- a table without a text that means something is read
 read_whole : {X : Type 0} (result : Result X ReadFault) (members : Members) (at : List ℕ) (said : JunitTable) → IfErr result (Refuses (JunitTableFaults members at) (WantsTexts members)) → MeansJunitTable members said → ¬ HasText said

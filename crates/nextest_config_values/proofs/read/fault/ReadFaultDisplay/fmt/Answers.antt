@@ -1,16 +1,14 @@
-use Rattle.std.proofs.Common.{◌≡◌, ℕ, ◌==◌, true, false, List, [], ◌∷◌, ◌++◌, codes, length, string_bytes, refl, rules, sym}
+use Rattle.std.proofs.Common.{◌≡◌, ℕ, ◌==◌, true, false, List, [], ◌++◌, codes, length, string_bytes, refl, rules, sym}
 use Rattle.nextest_config_values.proofs.Styled.{styled_append, styled_behind, styled_none, styled_of_eq}
 use Rattle.nextest_config_values.specs.Read.{path_text, styled_kind_text}
 use Rattle.nextest_config_values.proofs.read.fault.ReadFaultDisplay.fmt.Goals.{then-not-is_empty+in_ok-write_str+in_ok-write_str-2, else-not-is_empty}
 use Rattle.nextest_config_values.proofs.read.fault.ReadFaultDisplay.fmt.Goals as goal
 
 no_path : (path : List ℕ) → true ≡ (length path == 0) → path_text path ≡ []
-no_path [] e = refl
-no_path (b ∷ path) e = search rules
+no_path path e = search rules
 
 some_path : (path : List ℕ) → false ≡ (length path == 0) → path_text path ≡ path ++ codes ": "
-some_path [] e = cc e
-some_path (b ∷ path) e = refl
+some_path path e = search rules
 
 pub returns-clause-styled : goal.returns-clause-styled
 returns-clause-styled g c =
