@@ -5,20 +5,20 @@ use Rattle.std.specs.List.{AllByRecursion}
 use Rattle.semver.specs.Parse.{Parts}
 use Rattle.nextest_config_sources.specs.NextestVersion.Source.{Source}
 use Rattle.nextest_config.specs.NextestVersion.Verdict.{Verdict}
-use Rattle.nextest_config.specs.NextestVersion.{alone, AreRead, Asked, IsNoGraver, IsSelected, IsSelectedFor}
+use Rattle.nextest_config.specs.NextestVersion.{alone, AreRead, IsNoGraver, IsSelected, IsSelectedFor, SourceAsk}
 use Rattle.nextest_config_values.proofs.Elements.{all_joined, all_left, all_right}
 use Rattle.nextest_config.proofs.OneVerdict.{all_read_once, stands_in}
 use Rattle.nextest_config.proofs.Verdicts.{none_graver}
 
 -- what the sources around one ask, and what it asks
-record IsAround (before : List Source) (source : Source) (after : List Source) (asked : List Asked) : Type 0 where
-  front : List Asked
-  one : Asked
-  back : List Asked
+record IsAround (before : List Source) (source : Source) (after : List Source) (asked : List SourceAsk) : Type 0 where
+  front : List SourceAsk
+  one : SourceAsk
+  back : List SourceAsk
   whole : asked ≡ front ++ (one ∷ back)
   others : AreRead (before ++ after) (front ++ back)
 
-around : (before : List Source) (source : Source) (after : List Source) (asked : List Asked) → AreRead (before ++ (source ∷ after)) asked → IsAround before source after asked
+around : (before : List Source) (source : Source) (after : List Source) (asked : List SourceAsk) → AreRead (before ++ (source ∷ after)) asked → IsAround before source after asked
 around [] source after [] h = absurd h
 around [] source after (a ∷ asked) h = record { front = []; one = a; back = asked; whole = refl; others = h.1 }
 around (s ∷ before) source after [] h = absurd h

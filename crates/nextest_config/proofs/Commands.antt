@@ -8,16 +8,16 @@ use Rattle.nextest_config.specs.Board.Commands.{Changes, ChangesInTurn, Command,
 use Rattle.nextest_config_lists.specs.Choice.Halvings.{halvings}
 use Rattle.nextest_config.specs.Board.Slots.{asked_at, board_list, BoardState, IsChanged}
 use Rattle.nextest_config.specs.NextestVersion.Verdict.{Verdict}
-use Rattle.nextest_config.specs.NextestVersion.{alone, AreRead, Asked, IsSelected, IsSelectedFor}
+use Rattle.nextest_config.specs.NextestVersion.{alone, AreRead, IsSelected, IsSelectedFor, SourceAsk}
 use Rattle.nextest_config_sources.specs.NextestVersion.Source.{Source}
 use Rattle.nextest_config.proofs.OneVerdict.{all_read_once}
 
 -- what the slot holds
-abbrev held_in : BoardState → ℕ → Option Asked
+abbrev held_in : BoardState → ℕ → Option SourceAsk
 held_in board slot = get_or board.slots slot None
 
 -- a command changes its slot alone, and leaves something in it
-changed_so : (command : Command) (old new : BoardState) → Changes command old new → (held : Option Asked) × IsChanged (slot_in command) held old new × Leaves command held
+changed_so : (command : Command) (old new : BoardState) → Changes command old new → (held : Option SourceAsk) × IsChanged (slot_in command) held old new × Leaves command held
 changed_so (put slot source) old new h = (Some (asked_at source.place h.ask.versions), h.changed, (h.ask, h.read, refl))
 changed_so (withdraw slot) old new h = (None, h, refl)
 
@@ -27,10 +27,10 @@ as_long command old new h =
     ap length changed.slots ∙ length-set old.slots (slot_in command) held
 
 -- a slot holds what its last command leaves, or what it held before
-abbrev HoldsSince : List Command → ℕ → Option Asked → Option Asked → Type 0
+abbrev HoldsSince : List Command → ℕ → Option SourceAsk → Option SourceAsk → Type 0
 HoldsSince commands slot old new = IsLeft commands slot new ⊎ (AllByRecursion (IsOfOther slot) commands × (new ≡ old))
 
-one_before : (command : Command) (commands : List Command) (slot : ℕ) (held : Option Asked) → IsLeft commands slot held → IsLeft (command ∷ commands) slot held
+one_before : (command : Command) (commands : List Command) (slot : ℕ) (held : Option SourceAsk) → IsLeft commands slot held → IsLeft (command ∷ commands) slot held
 one_before command commands slot held left = record {
   before = command ∷ left.before;
   last = left.last;
@@ -42,7 +42,7 @@ one_before command commands slot held left = record {
 }
 
 -- the first command, where no later one is of the slot
-module _ (command : Command) (commands : List Command) (old between : BoardState) (change : Changes command old between) (slot : ℕ) (new : Option Asked)
+module _ (command : Command) (commands : List Command) (old between : BoardState) (change : Changes command old between) (slot : ℕ) (new : Option SourceAsk)
     (others : AllByRecursion (IsOfOther slot) commands) (same : new ≡ held_in between slot) where
   of_its_slot : slot_in command ≡ slot → HoldsSince (command ∷ commands) slot (held_in old slot) new
   of_its_slot is =
@@ -98,10 +98,10 @@ counts_last n commands last board changes = counts_since commands last (empty_bo
 -- ---- the sources themselves
 
 -- each slot holds its source
-abbrev AllHold : List (Option Source) → List (Option Asked) → Type 0
+abbrev AllHold : List (Option Source) → List (Option SourceAsk) → Type 0
 AllHold = AllZip HoldsSource
 
-set_both : (sources : List (Option Source)) (slots : List (Option Asked)) (k : ℕ) (source : Option Source) (held : Option Asked) → AllHold sources slots → HoldsSource source held
+set_both : (sources : List (Option Source)) (slots : List (Option SourceAsk)) (k : ℕ) (source : Option Source) (held : Option SourceAsk) → AllHold sources slots → HoldsSource source held
     → AllHold (set sources k source) (set slots k held)
 set_both [] [] k source held all one = all
 set_both [] (y ∷ slots) k source held all one = absurd all
@@ -115,18 +115,18 @@ hold_after (command ∷ commands) sources old new (between, change, rest) all =
     let (held, changed, leaves) = changed_so command old between change in
     let next : List (Option Source) = set sources (slot_in command) (source_left command) in
     let set_so : AllHold next (set old.slots (slot_in command) held) = set_both sources old.slots (slot_in command) (source_left command) held all leaves in
-    hold_after commands next between new rest (subst (λ (slots : List (Option Asked)). AllHold next slots) (sym changed.slots) set_so)
+    hold_after commands next between new rest (subst (λ (slots : List (Option SourceAsk)). AllHold next slots) (sym changed.slots) set_so)
 
 none_hold : (n : ℕ) → AllHold (replicate n None) (replicate n None)
 none_hold zero = tt
 none_hold (suc n) = (refl, none_hold n)
 
 -- the sources ask this, and the slots give the same verdicts
-abbrev IsAskedBy : List (Option Source) → List (Option Asked) → List Asked → Type 0
+abbrev IsAskedBy : List (Option Source) → List (Option SourceAsk) → List SourceAsk → Type 0
 IsAskedBy sources slots asked =
     AreRead (present sources) asked × ((current : Parts) (overridden : Bool) → map (alone current overridden) (board_list slots) ≡ map (alone current overridden) asked)
 
-asked_by : (sources : List (Option Source)) (slots : List (Option Asked)) → AllHold sources slots → (asked : List Asked) × IsAskedBy sources slots asked
+asked_by : (sources : List (Option Source)) (slots : List (Option SourceAsk)) → AllHold sources slots → (asked : List SourceAsk) × IsAskedBy sources slots asked
 asked_by [] [] all = ([], (tt, λ current overridden. refl))
 asked_by [] (slot ∷ slots) all = absurd all
 asked_by (source ∷ sources) [] all = absurd all
@@ -136,7 +136,7 @@ asked_by (None ∷ sources) (slot ∷ slots) all =
 asked_by (Some source ∷ sources) (slot ∷ slots) all =
     let (ask, is_read, holds) = all.0 in
     let (asked, (read, same)) = asked_by sources slots all.1 in
-    let one : Asked = record { place = source.place; ask = ask } in
+    let one : SourceAsk = record { place = source.place; ask = ask } in
     (one ∷ asked, ((record { place = refl; read = is_read }, read), λ current overridden. rw holds (ap (λ (verdicts : List Verdict). alone current overridden one ∷ verdicts) (same current overridden))))
 
 -- the verdict of the slots is that of the sources

@@ -1,10 +1,10 @@
--- A list that is read in pieces.
+-- A list that is cut into parts, each of which is read.
 use Rattle.std.proofs.Common.{◌≡◌, ◌↔◌, ◌⊎◌, ◌+◌, ℕ, List, [], ◌∷◌, ◌++◌, length, length-append, map, refl, sym, ap, ◌∙◌, inl, inr, ⊎_elim, subst, append_assoc, arith}
 use mathlib.Core.Logic.Iff as iff
 use Rattle.std.proofs.lemmas.List.Concat.{flat_map-append}
 use Rattle.std.specs.List.{AllByRecursion, AllZip}
 use Rattle.nextest_config_lists.specs.Merge.{in_a_row, IsCut, total}
-use Rattle.nextest_config.specs.NextestVersion.{AreRead, Asked, Configuration, IsFirstRefused, IsFirstRefusedAmong, IsJoinOf, IsReadAs, join_configurations, neutral_seen, Reads, Refusal, seen_configuration, SeenConfiguration, StandsFor}
+use Rattle.nextest_config.specs.NextestVersion.{AreRead, Configuration, IsFirstRefused, IsFirstRefusedAmong, IsJoinOf, IsReadAs, join_configurations, neutral_seen, Reads, Refusal, seen_configuration, SeenConfiguration, SourceAsk, StandsFor}
 use Rattle.nextest_config_sources.specs.NextestVersion.ExperimentalLaws.{same_truth}
 use Rattle.nextest_config_sources.specs.NextestVersion.Source.{Source}
 use Rattle.nextest_config_sources.specs.declared.nextest_version.experimental.ConfigExperimental.{ConfigExperimental}
@@ -19,25 +19,25 @@ use Rattle.nextest_config.proofs.Standing.{all_seen, seen_of, stands_in_a_row, S
 reads_both : (xs ys : List Source) → Reads xs → Reads ys → Reads (xs ++ ys)
 reads_both xs ys (us, h) (vs, k) = (us ++ vs, zip_joined IsReadAs xs us ys vs h k)
 
-reads_parts : (xs ys : List Source) (asked : List Asked) → AreRead (xs ++ ys) asked → Reads xs × Reads ys
+reads_parts : (xs ys : List Source) (asked : List SourceAsk) → AreRead (xs ++ ys) asked → Reads xs × Reads ys
 reads_parts [] ys asked read = (([], tt), (asked, read))
 reads_parts (x ∷ xs) ys [] read = absurd read
 reads_parts (x ∷ xs) ys (a ∷ asked) read =
     let (front, back) = reads_parts xs ys asked read.1 in
     ((a ∷ front.0, (read.0, front.1)), back)
 
-reads_whole : (pieces : List (List Source)) → AllByRecursion Reads pieces → Reads (in_a_row pieces)
+reads_whole : (parts : List (List Source)) → AllByRecursion Reads parts → Reads (in_a_row parts)
 reads_whole [] all = ([], tt)
-reads_whole (piece ∷ pieces) all = reads_both piece (in_a_row pieces) all.0 (reads_whole pieces all.1)
+reads_whole (part ∷ parts) all = reads_both part (in_a_row parts) all.0 (reads_whole parts all.1)
 
-reads_pieces : (pieces : List (List Source)) → Reads (in_a_row pieces) → AllByRecursion Reads pieces
-reads_pieces [] reads = tt
-reads_pieces (piece ∷ pieces) (asked, read) =
-    let (front, back) = reads_parts piece (in_a_row pieces) asked read in
-    (front, reads_pieces pieces back)
+reads_each_part : (parts : List (List Source)) → Reads (in_a_row parts) → AllByRecursion Reads parts
+reads_each_part [] reads = tt
+reads_each_part (part ∷ parts) (asked, read) =
+    let (front, back) = reads_parts part (in_a_row parts) asked read in
+    (front, reads_each_part parts back)
 
-pub reads_by_pieces : (sources : List Source) (pieces : List (List Source)) → IsCut sources pieces → Reads sources ↔ AllByRecursion Reads pieces
-reads_by_pieces sources pieces cut = (λ reads. reads_pieces pieces (subst Reads (sym cut) reads), λ all. subst Reads cut (reads_whole pieces all))
+pub reads_by_parts : (sources : List Source) (parts : List (List Source)) → IsCut sources parts → Reads sources ↔ AllByRecursion Reads parts
+reads_by_parts sources parts cut = (λ reads. reads_each_part parts (subst Reads (sym cut) reads), λ all. subst Reads cut (reads_whole parts all))
 
 -- ---- the first refused position
 
@@ -53,44 +53,44 @@ at_the_seam {X} (z ∷ xs) ys (y ∷ before) x after whole =
     let rest : xs ++ ys ≡ before ++ (x ∷ after) = cc whole in
     ⊎_elim (λ (more, is). inl (more, rw (head, is) refl)) (λ (more, is, behind). inr (more, rw (head, is) refl, behind)) (at_the_seam xs ys before x after rest)
 
--- a refused position of pieces stands as far on behind one more piece that reads
-one_piece_before : (piece : List Source) (pieces : List (List Source)) (position : ℕ) (refusal : Refusal) → Reads piece → IsFirstRefusedAmong pieces position refusal
-    → IsFirstRefusedAmong (piece ∷ pieces) (length piece + position) refusal
-one_piece_before piece pieces position refusal reads first = record {
-  before = piece ∷ first.before;
-  piece = first.piece;
+-- a refused position of parts stands as far on behind one more part that reads
+one_part_before : (part : List Source) (parts : List (List Source)) (position : ℕ) (refusal : Refusal) → Reads part → IsFirstRefusedAmong parts position refusal
+    → IsFirstRefusedAmong (part ∷ parts) (length part + position) refusal
+one_part_before part parts position refusal reads first = record {
+  before = part ∷ first.before;
+  part = first.part;
   after = first.after;
   within = first.within;
-  whole = ap (λ rest. piece ∷ rest) first.whole;
-  place = omega (arith, first.place, length-append piece (in_a_row first.before));
+  whole = ap (λ rest. part ∷ rest) first.whole;
+  place = omega (arith, first.place, length-append part (in_a_row first.before));
   read = (reads, first.read);
   refused = first.refused;
 }
 
-refused_in : (pieces : List (List Source)) (position : ℕ) (refusal : Refusal) → IsFirstRefused (in_a_row pieces) position refusal → IsFirstRefusedAmong pieces position refusal
+refused_in : (parts : List (List Source)) (position : ℕ) (refusal : Refusal) → IsFirstRefused (in_a_row parts) position refusal → IsFirstRefusedAmong parts position refusal
 refused_in [] position refusal first = absurd (none_there first.before first.source first.after first.whole)
   where
     none_there : (before : List Source) (source : Source) (after : List Source) → [] ≡ before ++ (source ∷ after) → ⊥
     none_there [] source after whole = cc whole
     none_there (x ∷ before) source after whole = cc whole
-refused_in (piece ∷ pieces) position refusal first =
+refused_in (part ∷ parts) position refusal first =
     ⊎_elim (λ (rest, is). record {
       before = [];
-      piece = piece;
-      after = pieces;
+      part = part;
+      after = parts;
       within = position;
       whole = refl;
       place = omega arith;
       read = tt;
       refused = record { before = first.before; source = first.source; after = rest; whole = is; place = first.place; read = first.read; refused = first.refused };
     }) (λ (rest, is, behind).
-    let reads = reads_parts piece rest first.read.0 (subst (λ xs. AreRead xs first.read.0) is first.read.1) in
-    let later = refused_in pieces (length rest) refusal (record { before = rest; source = first.source; after = first.after; whole = behind; place = refl; read = reads.1; refused = first.refused }) in
-    subst (λ n. IsFirstRefusedAmong (piece ∷ pieces) n refusal) (sym (length-append piece rest) ∙ ap length (sym is) ∙ first.place) (one_piece_before piece pieces (length rest) refusal reads.0 later))
-    (at_the_seam piece (in_a_row pieces) first.before first.source first.after first.whole)
+    let reads = reads_parts part rest first.read.0 (subst (λ xs. AreRead xs first.read.0) is first.read.1) in
+    let later = refused_in parts (length rest) refusal (record { before = rest; source = first.source; after = first.after; whole = behind; place = refl; read = reads.1; refused = first.refused }) in
+    subst (λ n. IsFirstRefusedAmong (part ∷ parts) n refusal) (sym (length-append part rest) ∙ ap length (sym is) ∙ first.place) (one_part_before part parts (length rest) refusal reads.0 later))
+    (at_the_seam part (in_a_row parts) first.before first.source first.after first.whole)
 
-refused_in_whole : (pieces : List (List Source)) (position : ℕ) (refusal : Refusal) → IsFirstRefusedAmong pieces position refusal → IsFirstRefused (in_a_row pieces) position refusal
-refused_in_whole pieces position refusal among =
+refused_in_whole : (parts : List (List Source)) (position : ℕ) (refusal : Refusal) → IsFirstRefusedAmong parts position refusal → IsFirstRefused (in_a_row parts) position refusal
+refused_in_whole parts position refusal among =
     let first = among.refused in
     let front = in_a_row among.before in
     let back = in_a_row among.after in
@@ -98,24 +98,24 @@ refused_in_whole pieces position refusal among =
       before = front ++ first.before;
       source = first.source;
       after = first.after ++ back;
-      whole = ap in_a_row among.whole ∙ flat_map-append (λ list. list) among.before (among.piece ∷ among.after) ∙ ap (λ xs. front ++ (xs ++ back)) first.whole
+      whole = ap in_a_row among.whole ∙ flat_map-append (λ list. list) among.before (among.part ∷ among.after) ∙ ap (λ xs. front ++ (xs ++ back)) first.whole
           ∙ ap (λ xs. front ++ xs) (append_assoc first.before (first.source ∷ first.after) back) ∙ sym (append_assoc front first.before (first.source ∷ (first.after ++ back)));
       place = length-append front first.before ∙ ap (λ n. length front + n) first.place ∙ among.place;
       read = reads_both front first.before (reads_whole among.before among.read) first.read;
       refused = first.refused;
     }
 
-pub refused_by_pieces : (sources : List Source) (pieces : List (List Source)) (position : ℕ) (refusal : Refusal) → IsCut sources pieces
-    → IsFirstRefused sources position refusal ↔ IsFirstRefusedAmong pieces position refusal
-refused_by_pieces sources pieces position refusal cut = (
-  λ first. refused_in pieces position refusal (subst (λ xs. IsFirstRefused xs position refusal) (sym cut) first),
-  λ among. subst (λ xs. IsFirstRefused xs position refusal) cut (refused_in_whole pieces position refusal among),
+pub refused_by_parts : (sources : List Source) (parts : List (List Source)) (position : ℕ) (refusal : Refusal) → IsCut sources parts
+    → IsFirstRefused sources position refusal ↔ IsFirstRefusedAmong parts position refusal
+refused_by_parts sources parts position refusal cut = (
+  λ first. refused_in parts position refusal (subst (λ xs. IsFirstRefused xs position refusal) (sym cut) first),
+  λ among. subst (λ xs. IsFirstRefused xs position refusal) cut (refused_in_whole parts position refusal among),
 )
 
 -- ---- what stands for it
 
 -- one thing is seen of what stands for sources
-seen_once : (sources : List Source) (asked : List Asked) (s t : SeenConfiguration) → AreRead sources asked → StandsSeen asked s → StandsSeen asked t → s ≡ t
+seen_once : (sources : List Source) (asked : List SourceAsk) (s t : SeenConfiguration) → AreRead sources asked → StandsSeen asked s → StandsSeen asked t → s ≡ t
 seen_once sources asked s t read h k =
     let plain = all_plain sources asked read in
     let required = one_kept (λ ask. ask.versions.required) asked s.roles.required t.roles.required (all_weaker IsPlainAsked _ (λ a p. p.of_required) asked plain) h.required k.required in
@@ -125,21 +125,21 @@ seen_once sources asked s t read h k =
     let arrays = h.arrays ∙ sym k.arrays in
     λ i. record { roles = record { required = required i; recommended = recommended i }; experimental = record { enables = λ feature. enables feature i; unknown = unknown i; arrays = arrays i } }
 
--- what stands for the pieces in a row is the join of what stands for each
-join_of_pieces : (pieces : List (List Source)) (configurations : List Configuration) (whole : Configuration) → AllZip StandsFor pieces configurations → StandsFor (in_a_row pieces) whole → IsJoinOf configurations whole
-join_of_pieces pieces configurations whole stand (asked, read, stands) =
-    let (others, other_read, joined) = all_seen (λ list. list) (λ c. c) pieces configurations stand in
+-- what stands for the parts in a row is the join of what stands for each
+join_of_parts : (parts : List (List Source)) (configurations : List Configuration) (whole : Configuration) → AllZip StandsFor parts configurations → StandsFor (in_a_row parts) whole → IsJoinOf configurations whole
+join_of_parts parts configurations whole stand (asked, read, stands) =
+    let (others, other_read, joined) = all_seen (λ list. list) (λ c. c) parts configurations stand in
     let join = total join_configurations neutral_seen (map seen_configuration configurations) in
-    let same = all_read_once (in_a_row pieces) others asked other_read read in
-    let seen = seen_once (in_a_row pieces) asked (seen_configuration whole) join read (seen_of asked whole stands) (subst (λ xs. StandsSeen xs join) same joined) in
+    let same = all_read_once (in_a_row parts) others asked other_read read in
+    let seen = seen_once (in_a_row parts) asked (seen_configuration whole) join read (seen_of asked whole stands) (subst (λ xs. StandsSeen xs join) same joined) in
     record {
       roles = ap (λ (s : SeenConfiguration). s.roles) seen;
       experimental = record { same = ap (λ (s : SeenConfiguration). s.experimental) seen; in_order = stands.known.in_order };
     }
 
-pub stands_by_pieces : (sources : List Source) (pieces : List (List Source)) (configurations : List Configuration) (whole : Configuration) → IsCut sources pieces → AllZip StandsFor pieces configurations
+pub stands_by_parts : (sources : List Source) (parts : List (List Source)) (configurations : List Configuration) (whole : Configuration) → IsCut sources parts → AllZip StandsFor parts configurations
     → StandsFor sources whole ↔ IsJoinOf configurations whole
-stands_by_pieces sources pieces configurations whole cut stand = (
-  λ stands. join_of_pieces pieces configurations whole stand (subst (λ xs. StandsFor xs whole) (sym cut) stands),
-  λ is. subst (λ xs. StandsFor xs whole) cut (stands_in_a_row (λ list. list) (λ c. c) pieces configurations whole stand is),
+stands_by_parts sources parts configurations whole cut stand = (
+  λ stands. join_of_parts parts configurations whole stand (subst (λ xs. StandsFor xs whole) (sym cut) stands),
+  λ is. subst (λ xs. StandsFor xs whole) cut (stands_in_a_row (λ list. list) (λ c. c) parts configurations whole stand is),
 )

@@ -6,36 +6,36 @@ use Rattle.semver.specs.Parse.{Parts}
 use Rattle.nextest_config.specs.NextestVersion.ExperimentalConfig.{Experimental}
 use Rattle.nextest_config_sources.specs.NextestVersion.Source.{Source}
 use Rattle.nextest_config_sources.specs.NextestVersion.{Ask, features_in_one_order, IsBelow, Place}
-use Rattle.nextest_config.specs.NextestVersion.{Asked, AsksNoGreater, AsksNone, AsksOther, Configuration, IsGreatest, Kept, Roles, StandsFor, StandsForAsks, StandsIn}
+use Rattle.nextest_config.specs.NextestVersion.{AsksNoGreater, AsksNone, AsksOther, Configuration, IsGreatest, Kept, Roles, SourceAsk, StandsFor, StandsForAsks, StandsIn}
 use Rattle.nextest_config_values.proofs.Elements.{all_middle, all_weaker, one_last}
 use Rattle.nextest_config.proofs.OneVerdict.{IsPlainAsked, IsPlainVersion, all_plain, all_read_once, same_version}
 
 module _ (role : Ask → Option Parts) where
   -- what holds of all holds of the last that asks the kept version
-  of_last : (P : Asked → Type 0) (asked : List Asked) (kept : Kept) (h : IsGreatest role asked kept) → AllByRecursion P asked → P h.last
+  of_last : (P : SourceAsk → Type 0) (asked : List SourceAsk) (kept : Kept) (h : IsGreatest role asked kept) → AllByRecursion P asked → P h.last
   of_last P asked kept h all = all_middle P h.before h.last h.after (subst (AllByRecursion P) h.whole all)
 
-  not_greater : (asked : List Asked) (kept : Kept) (v : Parts) → IsGreatest role asked kept → AllByRecursion (AsksNoGreater role v) asked → ¬ IsBelow v kept.version
+  not_greater : (asked : List SourceAsk) (kept : Kept) (v : Parts) → IsGreatest role asked kept → AllByRecursion (AsksNoGreater role v) asked → ¬ IsBelow v kept.version
   not_greater asked kept v h none = subst (λ found. IfSome found (λ greater. ¬ IsBelow v greater)) h.version (of_last (AsksNoGreater role v) asked kept h none)
 
-  pub none_kept : (asked : List Asked) (kept : Kept) → IsGreatest role asked kept → AllByRecursion (AsksNone role) asked → ⊥
+  pub none_kept : (asked : List SourceAsk) (kept : Kept) → IsGreatest role asked kept → AllByRecursion (AsksNone role) asked → ⊥
   none_kept asked kept h none = cc (h.version, of_last (AsksNone role) asked kept h none)
 
   -- the greatest of two lists are one version, where neither list asks a greater one
-  pub one_greatest_version : (asked others : List Asked) (kept other : Kept) → AllByRecursion (λ a. IsPlainVersion (role a.ask)) asked → AllByRecursion (λ a. IsPlainVersion (role a.ask)) others → IsGreatest role asked kept → IsGreatest role others other
+  pub one_greatest_version : (asked others : List SourceAsk) (kept other : Kept) → AllByRecursion (λ a. IsPlainVersion (role a.ask)) asked → AllByRecursion (λ a. IsPlainVersion (role a.ask)) others → IsGreatest role asked kept → IsGreatest role others other
       → AllByRecursion (AsksNoGreater role other.version) asked → AllByRecursion (AsksNoGreater role kept.version) others → kept.version ≡ other.version
   one_greatest_version asked others kept other plain other_plain h k below above =
       let of_kept : IsPlainVersion (Some kept.version) = subst IsPlainVersion h.version (of_last (λ a. IsPlainVersion (role a.ask)) asked kept h plain) in
       let of_other : IsPlainVersion (Some other.version) = subst IsPlainVersion k.version (of_last (λ a. IsPlainVersion (role a.ask)) others other k other_plain) in
       same_version kept.version other.version of_kept of_other (not_greater others other kept.version k above) (not_greater asked kept other.version h below)
 
-  one_greatest : (asked : List Asked) (kept other : Kept) → AllByRecursion (λ a. IsPlainVersion (role a.ask)) asked → IsGreatest role asked kept → IsGreatest role asked other → kept ≡ other
+  one_greatest : (asked : List SourceAsk) (kept other : Kept) → AllByRecursion (λ a. IsPlainVersion (role a.ask)) asked → IsGreatest role asked kept → IsGreatest role asked other → kept ≡ other
   one_greatest asked kept other plain h k =
       let version : kept.version ≡ other.version = one_greatest_version asked asked kept other plain plain h k k.none_greater h.none_greater in
       let last : h.last ≡ k.last = one_last (AsksOther role kept.version) (AsksOther role other.version) h.last k.last h.before k.before h.after k.after (λ apart. apart (k.version ∙ ap Some (sym version))) (λ apart. apart (h.version ∙ ap Some version)) (sym h.whole ∙ k.whole) h.others_later k.others_later in
-      ap₂ (λ (version : Parts) (place : Place). record { version = version; place = place }) version (sym h.place ∙ ap (λ (a : Asked). a.place) last ∙ k.place)
+      ap₂ (λ (version : Parts) (place : Place). record { version = version; place = place }) version (sym h.place ∙ ap (λ (a : SourceAsk). a.place) last ∙ k.place)
 
-  pub one_kept : (asked : List Asked) (kept other : Option Kept) → AllByRecursion (λ a. IsPlainVersion (role a.ask)) asked → StandsIn role asked kept → StandsIn role asked other → kept ≡ other
+  pub one_kept : (asked : List SourceAsk) (kept other : Option Kept) → AllByRecursion (λ a. IsPlainVersion (role a.ask)) asked → StandsIn role asked kept → StandsIn role asked other → kept ≡ other
   one_kept asked None None plain h k = refl
   one_kept asked None (Some other) plain h k = absurd (none_kept asked other k h)
   one_kept asked (Some kept) None plain h k = absurd (none_kept asked kept h k)

@@ -1,11 +1,11 @@
 -- A list of sources has one first refused position, with one error.
 use Rattle.std.proofs.Common.{◌≡◌, ℕ, List, [], ◌∷◌, ◌++◌, length, refl, sym, ap, ◌∙◌, subst}
 use Rattle.nextest_config_sources.specs.NextestVersion.Source.{Source}
-use Rattle.nextest_config.specs.NextestVersion.{AreRead, Asked, IsFirstRefused, IsReadAs, IsRefused, Reads, Refusal}
+use Rattle.nextest_config.specs.NextestVersion.{AreRead, IsFirstRefused, IsReadAs, IsRefused, Reads, Refusal, SourceAsk}
 use Rattle.nextest_config.specs.NextestVersion.VersionOnlyLaws.{one_error, read_not_refused}
 use Rattle.nextest_config_lists.proofs.Lists.{zip_middle}
 
-none_refused : (before : List Source) (source : Source) (after : List Source) (asked : List Asked) (refusal : Refusal) → AreRead (before ++ (source ∷ after)) asked → IsRefused source refusal → ⊥
+none_refused : (before : List Source) (source : Source) (after : List Source) (asked : List SourceAsk) (refusal : Refusal) → AreRead (before ++ (source ∷ after)) asked → IsRefused source refusal → ⊥
 none_refused before source after asked refusal read refused =
     let found = zip_middle IsReadAs before source after asked read in
     read_not_refused source found.0.ask refusal found.1.read refused

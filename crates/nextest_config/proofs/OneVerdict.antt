@@ -7,7 +7,7 @@ use Rattle.nextest_config_values.specs.Read.{MeansKind, MeansNothing, MeansOptio
 use Rattle.nextest_config_sources.specs.NextestVersion.Source.{Source}
 use Rattle.nextest_config.specs.NextestVersion.Verdict.{Verdict}
 use Rattle.nextest_config_sources.specs.NextestVersion.{Ask, AsksVersions, IsBelow, IsEnoughByNumbers, MeansVersion, MeansVersionTable, MeansVersionText, Numbers, plain, TextAsks, version_key, Versions}
-use Rattle.nextest_config.specs.NextestVersion.{alone, AreRead, Asked, asked_from, error, gravity, IsGravest, IsNoGraver, IsNoGreaterOfItsKind, IsOtherOfItsKind, IsSatisfied, IsSelected, IsSelectedFor, judged, Kept, named_version, NamesNoGreater, satisfied, unmet, warn}
+use Rattle.nextest_config.specs.NextestVersion.{alone, AreRead, asked_from, error, gravity, IsGravest, IsNoGraver, IsNoGreaterOfItsKind, IsOtherOfItsKind, IsSatisfied, IsSelected, IsSelectedFor, judged, Kept, named_version, NamesNoGreater, satisfied, SourceAsk, unmet, warn}
 use Rattle.nextest_config.specs.NextestVersion.VersionOnlyLaws.{read_once}
 use Rattle.nextest_config_values.proofs.Elements.{all_middle, one_last}
 use Rattle.nextest_config_sources.specs.declared.nextest_version.edition.Edition.{Edition}
@@ -17,7 +17,7 @@ use Rattle.nextest_config.proofs.Verdicts.{image_at, unmet_alone}
 
 -- ---- sources ask one thing
 
-pub all_read_once : (sources : List Source) (a b : List Asked) → AreRead sources a → AreRead sources b → a ≡ b
+pub all_read_once : (sources : List Source) (a b : List SourceAsk) → AreRead sources a → AreRead sources b → a ≡ b
 all_read_once [] [] [] h k = refl
 all_read_once [] (x ∷ a) b h k = absurd h
 all_read_once [] [] (y ∷ b) h k = absurd k
@@ -54,10 +54,10 @@ pub text_plain : (edition : Edition) (kind : ConfigSourceKind) (contents : Optio
 text_plain edition kind None ask h = rw h (record { of_required = tt; of_recommended = tt })
 text_plain edition kind (Some text) ask h = value_plain (get_member version_key h.0) ask.versions h.2.of_versions
 
-abbrev pub IsPlainAsked : Asked → Type 0
+abbrev pub IsPlainAsked : SourceAsk → Type 0
 IsPlainAsked asked = AsksPlain asked.ask.versions
 
-pub all_plain : (sources : List Source) (asked : List Asked) → AreRead sources asked → AllByRecursion IsPlainAsked asked
+pub all_plain : (sources : List Source) (asked : List SourceAsk) → AreRead sources asked → AllByRecursion IsPlainAsked asked
 all_plain [] [] h = tt
 all_plain [] (a ∷ asked) h = absurd h
 all_plain (source ∷ sources) [] h = absurd h
@@ -68,13 +68,13 @@ all_plain (source ∷ sources) (a ∷ asked) h = (text_plain source.edition sour
 abbrev NamesPlain : Verdict → Type 0
 NamesPlain v = IsPlainVersion (named_version v)
 
-judged_plain : (current : Parts) (overridden : Bool) (a : Asked) (r m : Option Kept) → IsPlainAsked a → unmet (asked_from a.place a.ask.versions.required) current ≡ r → unmet (asked_from a.place a.ask.versions.recommended) current ≡ m
+judged_plain : (current : Parts) (overridden : Bool) (a : SourceAsk) (r m : Option Kept) → IsPlainAsked a → unmet (asked_from a.place a.ask.versions.required) current ≡ r → unmet (asked_from a.place a.ask.versions.recommended) current ≡ m
     → NamesPlain (judged r m current overridden)
 judged_plain current overridden a (Some kept) m h r_is m_is = subst IsPlainVersion (unmet_alone a.place a.ask.versions.required current kept r_is).0 h.of_required
 judged_plain current overridden a None (Some kept) h r_is m_is = subst IsPlainVersion (unmet_alone a.place a.ask.versions.recommended current kept m_is).0 h.of_recommended
 judged_plain current overridden a None None h r_is m_is = tt
 
-selected_plain : (asked : List Asked) (current : Parts) (overridden : Bool) (v : Verdict) → AllByRecursion IsPlainAsked asked → IsSelected (map (alone current overridden) asked) v → NamesPlain v
+selected_plain : (asked : List SourceAsk) (current : Parts) (overridden : Bool) (v : Verdict) → AllByRecursion IsPlainAsked asked → IsSelected (map (alone current overridden) asked) v → NamesPlain v
 selected_plain asked current overridden v h (inl all) = rw all.1 tt
 selected_plain asked current overridden v h (inr gravest) =
     let found = image_at (alone current overridden) asked gravest.before v gravest.after gravest.whole in
@@ -136,5 +136,5 @@ pub verdict_once : (sources : List Source) (current : Parts) (overridden : Bool)
 verdict_once sources current overridden v w h k =
     let same : k.0 ≡ h.0 = sym (all_read_once sources h.0 k.0 h.1 k.1) in
     let plain_asks = all_plain sources h.0 h.1 in
-    let other : IsSelected (map (alone current overridden) h.0) w = subst (λ (asked : List Asked). IsSelected (map (alone current overridden) asked) w) same k.2 in
+    let other : IsSelected (map (alone current overridden) h.0) w = subst (λ (asked : List SourceAsk). IsSelected (map (alone current overridden) asked) w) same k.2 in
     one_selected (map (alone current overridden) h.0) v w (selected_plain h.0 current overridden v plain_asks h.2) (selected_plain h.0 current overridden w plain_asks other) h.2 other

@@ -55,13 +55,13 @@ module _ {X Y : Type 0} (source_of : X → Source) (configuration_of : Y → Con
   refusal_of_list xs (pieces.Refused position error) first = first_refused xs position (refusal_of error) first
   refusal_of_list xs pieces.Memory first = tt
 
--- a list that reads is refused for want of memory alone
+-- a list that reads is refused only where memory runs out
 pub only_memory : {X : Type 0} (sources : List Source) (result : Result X ListRefusal) → Reads sources → IfErr result (IsRefusalOf sources) → IfErr result (λ refusal. refusal ≡ refusals.Memory)
 only_memory sources (Ok x) reads first = tt
 only_memory sources (Err (refusals.Refused position error)) reads first = absurd (reads_not_refused sources position first.0 reads first.2)
 only_memory sources (Err refusals.Memory) reads first = refl
 
--- a list that reads has no error but the want of memory
+-- a list that reads has no error but that memory ran out
 pub no_error_but_memory : (sources : List Source) (error : ConfigParseError) → Reads sources → IsErrorOfList sources error → kind_of error ≡ kinds.Memory
 no_error_but_memory sources error reads refused =
     told_twice (refusal_of error) refused refused (λ memory _. memory) (λ refusal found _. absurd (reads_not_refused sources found.0 refusal reads found.1))

@@ -8,7 +8,7 @@ use Rattle.std.specs.List.{AllByRecursion, AllZip, swap}
 use Rattle.semver.specs.Parse.{Parts}
 use Rattle.nextest_config_lists.specs.Merge.{IsReordering}
 use Rattle.nextest_config_sources.specs.NextestVersion.{Ask, features_in_one_order, Place}
-use Rattle.nextest_config.specs.NextestVersion.{Agree, array_of, Asked, AsksNoGreater, AsksNone, Configuration, entry_of, error, IsEnabledBySome, IsReadAs, judged, Kept, kept_version, Reads, SaysTheSame, StandsFor, StandsForAsks, StandsIn, Unknown, unmet, warn}
+use Rattle.nextest_config.specs.NextestVersion.{Agree, array_of, AsksNoGreater, AsksNone, Configuration, entry_of, error, IsEnabledBySome, IsReadAs, judged, Kept, kept_version, Reads, SaysTheSame, SourceAsk, StandsFor, StandsForAsks, StandsIn, Unknown, unmet, warn}
 use Rattle.nextest_config_sources.specs.NextestVersion.Precedence.{is_enough}
 use Rattle.nextest_config_sources.specs.NextestVersion.Source.{Source}
 use Rattle.nextest_config_sources.specs.declared.nextest_version.experimental.ConfigExperimental.{ConfigExperimental}
@@ -123,17 +123,17 @@ judged_alike None None None None current overridden same other = refl
 -- ---- what stands for both
 
 module _ (role : Ask → Option Parts) where
-  kept_alike : (asked others : List Asked) (kept other : Option Kept) → IsReordering asked others → AllByRecursion (λ a. IsPlainVersion (role a.ask)) asked → StandsIn role asked kept → StandsIn role others other → AreAlike kept other
+  kept_alike : (asked others : List SourceAsk) (kept other : Option Kept) → IsReordering asked others → AllByRecursion (λ a. IsPlainVersion (role a.ask)) asked → StandsIn role asked kept → StandsIn role others other → AreAlike kept other
   kept_alike asked others None None order plain h k = refl
   kept_alike asked others None (Some other) order plain h k = absurd (none_kept role others other k (all_reordered (AsksNone role) asked others order h))
   kept_alike asked others (Some kept) None order plain h k = absurd (none_kept role asked kept h (all_reordered (AsksNone role) others asked (IsPermutation-sym asked others order) k))
   kept_alike asked others (Some kept) (Some other) order plain h k = ap Some (one_greatest_version role asked others kept other plain (all_reordered (λ a. IsPlainVersion (role a.ask)) asked others order plain) h k
       (all_reordered (AsksNoGreater role other.version) others asked (IsPermutation-sym asked others order) k.none_greater) (all_reordered (AsksNoGreater role kept.version) asked others order h.none_greater))
 
-enabled_reordered : (asked others : List Asked) (feature : ConfigExperimental) → IsReordering asked others → IsEnabledBySome asked feature → IsEnabledBySome others feature
+enabled_reordered : (asked others : List SourceAsk) (feature : ConfigExperimental) → IsReordering asked others → IsEnabledBySome asked feature → IsEnabledBySome others feature
 enabled_reordered asked others feature order (one, there, known) = (one, Contains-permutation asked others one order there, known)
 
-asks_agree : (asked others : List Asked) (c d : Configuration) → IsReordering asked others → AllByRecursion IsPlainAsked asked → StandsForAsks asked c → StandsForAsks others d → Agree c d
+asks_agree : (asked others : List SourceAsk) (c d : Configuration) → IsReordering asked others → AllByRecursion IsPlainAsked asked → StandsForAsks asked c → StandsForAsks others d → Agree c d
 asks_agree asked others c d order plain h k =
     let required = kept_alike (λ ask. ask.versions.required) asked others c.roles.required d.roles.required order (all_weaker IsPlainAsked _ (λ a p. p.of_required) asked plain) h.required k.required in
     let recommended = kept_alike (λ ask. ask.versions.recommended) asked others c.roles.recommended d.roles.recommended order (all_weaker IsPlainAsked _ (λ a p. p.of_recommended) asked plain) h.recommended k.recommended in

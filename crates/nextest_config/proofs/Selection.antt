@@ -6,7 +6,7 @@ use Rattle.std.specs.List.{AllByRecursion}
 use Rattle.semver.specs.Parse.{Parts}
 use Rattle.nextest_config.specs.NextestVersion.Verdict.{Verdict}
 use Rattle.nextest_config_sources.specs.NextestVersion.{Ask, is_below, IsBelow, Place}
-use Rattle.nextest_config.specs.NextestVersion.{alone, Asked, asked_from, AsksNoGreater, AsksNone, AsksOther, Configuration, error, gravity, IsGravest, IsGreatest, IsNoGraver, IsNoGreaterOfItsKind, IsOtherOfItsKind, IsSatisfied, IsSelected, judged, Kept, named_version, Roles, satisfied, SelectsAmong, SelectsFor, short_of, Shortfall, StandsFor, StandsForAsks, StandsIn, unmet, warn}
+use Rattle.nextest_config.specs.NextestVersion.{alone, asked_from, AsksNoGreater, AsksNone, AsksOther, Configuration, error, gravity, IsGravest, IsGreatest, IsNoGraver, IsNoGreaterOfItsKind, IsOtherOfItsKind, IsSatisfied, IsSelected, judged, Kept, named_version, Roles, satisfied, SelectsAmong, SelectsFor, short_of, Shortfall, SourceAsk, StandsFor, StandsForAsks, StandsIn, unmet, warn}
 use Rattle.nextest_config_sources.specs.NextestVersion.Source.{Source}
 use Rattle.nextest_config_lists.proofs.Lists.{all_mapped, map_agrees}
 use Rattle.nextest_config_values.proofs.Elements.{all_always, all_both, all_weaker}
@@ -65,12 +65,12 @@ module _ (tell : Shortfall → Verdict) (severity : ℕ) (is_tier : IsTier tell 
       other (sym (inside.names_asked (as_grave ∙ is_tier.grave s)) ∙ e ∙ is_tier.names s)
 
   -- an unmet version that is the greatest asked is told by the gravest
-  gravest_in_tier : (role : Ask → Option Parts) (lower : Asked → Verdict) (asked : List Asked) (kept : Kept)
-      → ((a : Asked) → gravity (lower a) < severity) → IsGreatest role asked kept → is_below current kept.version ≡ true
+  gravest_in_tier : (role : Ask → Option Parts) (lower : SourceAsk → Verdict) (asked : List SourceAsk) (kept : Kept)
+      → ((a : SourceAsk) → gravity (lower a) < severity) → IsGreatest role asked kept → is_below current kept.version ≡ true
       → IsGravest (map (λ a. told a.place (role a.ask) (lower a)) asked) (tell (short_of kept current overridden))
   gravest_in_tier role lower asked kept below h short =
-      let tells : Asked → Verdict = λ a. told a.place (role a.ask) (lower a) in
-      let inside : (a : Asked) → IsInTier (role a.ask) (tells a) = λ a. in_tier a.place (role a.ask) (lower a) (below a) in
+      let tells : SourceAsk → Verdict = λ a. told a.place (role a.ask) (lower a) in
+      let inside : (a : SourceAsk) → IsInTier (role a.ask) (tells a) = λ a. in_tier a.place (role a.ask) (lower a) (below a) in
       let last_told : tells h.last ≡ tell (short_of kept current overridden) = rw (h.version, h.place, short) in
       record {
         before = map tells h.before;
@@ -100,10 +100,10 @@ no_greater_met : (kept : Kept) (current : Parts) (place : Place) (more : Option 
 no_greater_met kept current place None enough none = refl
 no_greater_met kept current place (Some v) enough none = enough_met (record { version = v; place = place }) current (not_below_trans current kept.version v enough none)
 
-abbrev IsMetAlone : (Ask → Option Parts) → Parts → Asked → Type 0
+abbrev IsMetAlone : (Ask → Option Parts) → Parts → SourceAsk → Type 0
 IsMetAlone role current a = unmet (asked_from a.place (role a.ask)) current ≡ None
 
-met_alone : (role : Ask → Option Parts) (asked : List Asked) (kept : Option Kept) (current : Parts) → StandsIn role asked kept → unmet kept current ≡ None
+met_alone : (role : Ask → Option Parts) (asked : List SourceAsk) (kept : Option Kept) (current : Parts) → StandsIn role asked kept → unmet kept current ≡ None
     → AllByRecursion (IsMetAlone role current) asked
 met_alone role asked None current h met = all_weaker (AsksNone role) (IsMetAlone role current) (λ a none. rw none refl) asked h
 met_alone role asked (Some kept) current h met =
@@ -118,7 +118,7 @@ required ask = ask.versions.required
 abbrev recommended : Ask → Option Parts
 recommended ask = ask.versions.recommended
 
-alone-met : (current : Parts) (overridden : Bool) (a : Asked) → IsMetAlone required current a
+alone-met : (current : Parts) (overridden : Bool) (a : SourceAsk) → IsMetAlone required current a
     → alone current overridden a ≡ told warn 1 warn_tier current overridden a.place a.ask.versions.recommended satisfied
 alone-met current overridden a met = rw (judged-tiers, met) refl
 
@@ -136,31 +136,31 @@ below_error (Some kept) current overridden = omega arith
 below_error None current overridden = omega arith
 
 -- an unmet required version
-selects_error : (asked : List Asked) (kept : Kept) (current : Parts) (overridden : Bool) → IsGreatest required asked kept → is_below current kept.version ≡ true
+selects_error : (asked : List SourceAsk) (kept : Kept) (current : Parts) (overridden : Bool) → IsGreatest required asked kept → is_below current kept.version ≡ true
     → IsGravest (map (alone current overridden) asked) (error (short_of kept current overridden))
 selects_error asked kept current overridden greatest short =
-    let lower : Asked → Verdict = λ a. tier warn (unmet (asked_from a.place a.ask.versions.recommended) current) current overridden satisfied in
-    let tells : Asked → Verdict = λ a. told error 2 error_tier current overridden a.place a.ask.versions.required (lower a) in
+    let lower : SourceAsk → Verdict = λ a. tier warn (unmet (asked_from a.place a.ask.versions.recommended) current) current overridden satisfied in
+    let tells : SourceAsk → Verdict = λ a. told error 2 error_tier current overridden a.place a.ask.versions.required (lower a) in
     let same : map (alone current overridden) asked ≡ map tells asked =
     map_agrees (alone current overridden) tells asked (all_always (λ a. judged-tiers (unmet (asked_from a.place a.ask.versions.required) current) _ current overridden) asked) in
     rw same (gravest_in_tier error 2 error_tier current overridden required lower asked kept (λ a. below_error _ current overridden) greatest short)
 
 -- an unmet recommended version, where the required one is met
-selects_warning : (asked : List Asked) (kept : Kept) (current : Parts) (overridden : Bool) → IsGreatest recommended asked kept → is_below current kept.version ≡ true
+selects_warning : (asked : List SourceAsk) (kept : Kept) (current : Parts) (overridden : Bool) → IsGreatest recommended asked kept → is_below current kept.version ≡ true
     → AllByRecursion (IsMetAlone required current) asked → IsGravest (map (alone current overridden) asked) (warn (short_of kept current overridden))
 selects_warning asked kept current overridden greatest short met =
-    let tells : Asked → Verdict = λ a. told warn 1 warn_tier current overridden a.place a.ask.versions.recommended satisfied in
+    let tells : SourceAsk → Verdict = λ a. told warn 1 warn_tier current overridden a.place a.ask.versions.recommended satisfied in
     let same : map (alone current overridden) asked ≡ map tells asked =
     map_agrees (alone current overridden) tells asked (all_weaker (IsMetAlone required current) _ (alone-met current overridden) asked met) in
     rw same (gravest_in_tier warn 1 warn_tier current overridden recommended (λ a. satisfied) asked kept (λ a. omega arith) greatest short)
 
-selects_satisfied : (asked : List Asked) (current : Parts) (overridden : Bool) → AllByRecursion (IsMetAlone required current) asked → AllByRecursion (IsMetAlone recommended current) asked
+selects_satisfied : (asked : List SourceAsk) (current : Parts) (overridden : Bool) → AllByRecursion (IsMetAlone required current) asked → AllByRecursion (IsMetAlone recommended current) asked
     → AllByRecursion IsSatisfied (map (alone current overridden) asked)
 selects_satisfied asked current overridden met also =
     all_mapped (λ a. IsMetAlone required current a × IsMetAlone recommended current a) IsSatisfied (alone current overridden)
     (λ a both. rw (both.0, both.1) refl) asked (all_both (IsMetAlone required current) (IsMetAlone recommended current) asked met also)
 
-pub selects_by : (asked : List Asked) (roles : Roles) (current : Parts) (overridden : Bool) (r m : Option Kept)
+pub selects_by : (asked : List SourceAsk) (roles : Roles) (current : Parts) (overridden : Bool) (r m : Option Kept)
     → StandsIn required asked roles.required → StandsIn recommended asked roles.recommended → unmet roles.required current ≡ r → unmet roles.recommended current ≡ m
     → IsSelected (map (alone current overridden) asked) (judged r m current overridden)
 selects_by asked roles current overridden (Some kept) m h k r_is m_is =
@@ -173,7 +173,7 @@ selects_by asked roles current overridden None None h k r_is m_is =
     let met = met_alone required asked roles.required current h r_is in
     inl (selects_satisfied asked current overridden met (met_alone recommended asked roles.recommended current k m_is), refl)
 
-pub selects : (asked : List Asked) (c : Configuration) → StandsForAsks asked c → SelectsAmong asked c.roles
+pub selects : (asked : List SourceAsk) (c : Configuration) → StandsForAsks asked c → SelectsAmong asked c.roles
 selects asked c stands current overridden =
     selects_by asked c.roles current overridden (unmet c.roles.required current) (unmet c.roles.recommended current) stands.required stands.recommended refl refl
 

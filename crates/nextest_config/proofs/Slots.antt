@@ -11,7 +11,7 @@ use Rattle.nextest_config.specs.Board.Slots.{AreHeld, asked_at, board_list, IsFr
 use Rattle.nextest_config_lists.specs.Merge.{total}
 use Rattle.nextest_config.specs.NextestVersion.Verdict.{Verdict}
 use Rattle.nextest_config_sources.specs.NextestVersion.{is_below, Numbers, place_of, plain, Versions, versions, versions_of}
-use Rattle.nextest_config.specs.NextestVersion.{alone, Asked, asked_from, IsSelected, join_kept, join_roles, Kept, no_roles, Roles, roles_from, StandsIn, unmet, verdict, verdict_of}
+use Rattle.nextest_config.specs.NextestVersion.{alone, asked_from, IsSelected, join_kept, join_roles, Kept, no_roles, Roles, roles_from, SourceAsk, StandsIn, unmet, verdict, verdict_of}
 use Rattle.nextest_config_sources.specs.NextestVersion.Source.{Source}
 use Rattle.nextest_config.specs.declared.board.refusal.BoardRefusal.{BoardRefusal}
 use Rattle.nextest_config.specs.declared.board.refusal.BoardRefusal.TheVariants as refusals
@@ -115,7 +115,7 @@ module _ (whole : List (Option ConfigSource)) where
   from_slot source slot None here is = refl
   from_slot source slot (Some asked) here is = (record { version = version_at asked; place = place_of source }, refl, refl, rw (is, here) refl)
 
-  record AllKept (pair : RolePair) (asked : List Asked) : Type 0 where
+  record AllKept (pair : RolePair) (asked : List SourceAsk) : Type 0 where
     roles : Roles
     required : IsKept pair.required roles.required
     recommended : IsKept pair.recommended roles.recommended
@@ -137,7 +137,7 @@ module _ (whole : List (Option ConfigSource)) where
       let rest = all_kept (before ++ (Some source ∷ [])) sources pairs (parts ∙ sym (append_assoc before (Some source ∷ []) sources)) (subst (λ n. AreHeld n sources pairs) (sym (one_more before (Some source))) held.1) in
       let here : get_or whole (length before) None ≡ Some source = ap (λ xs. get_or xs (length before) None) parts ∙ get_or_at before (Some source) sources None (length before) refl in
       let asks : Versions = versions (option_map version_at pair.required) (option_map version_at pair.recommended) in
-      let one : Asked = asked_at (place_of source) asks in
+      let one : SourceAsk = asked_at (place_of source) asks in
       let kept : Roles = roles_from (place_of source) asks in
       record {
         roles = join_roles kept rest.roles;
@@ -159,10 +159,10 @@ module _ (whole : List (Option ConfigSource)) where
 -- ---- what is told
 
 -- the same slots and the same verdict
-pub selected_as : (before after : List (Option Asked)) (v w : Verdict) (current : Parts) (overridden : Bool) → before ≡ after → v ≡ w → IsSelected (map (alone current overridden) (board_list before)) v
+pub selected_as : (before after : List (Option SourceAsk)) (v w : Verdict) (current : Parts) (overridden : Bool) → before ≡ after → v ≡ w → IsSelected (map (alone current overridden) (board_list before)) v
     → IsSelected (map (alone current overridden) (board_list after)) w
 selected_as before after v w current overridden same told selected =
-    subst (λ (slots : List (Option Asked)). IsSelected (map (alone current overridden) (board_list slots)) w) same (subst (λ (u : Verdict). IsSelected (map (alone current overridden) (board_list before)) u) told selected)
+    subst (λ (slots : List (Option SourceAsk)). IsSelected (map (alone current overridden) (board_list slots)) w) same (subst (λ (u : Verdict). IsSelected (map (alone current overridden) (board_list before)) u) told selected)
 
 -- a verdict that tells the selected one
 pub told_as : {E : Type 0} (answer : Result NextestVersionEval E) (verdicts : List Verdict) (v : Verdict) → IfOk answer (λ eval. verdict_of eval ≡ v) → IsSelected verdicts v → IfOk answer (λ eval. IsSelected verdicts (verdict_of eval))

@@ -11,7 +11,7 @@ use Rattle.semver.specs.Parse.{Parts}
 use Rattle.nextest_config_lists.specs.Merge.{HavePieces, IsJoinOfPieces, total}
 use Rattle.nextest_config.specs.NextestVersion.ExperimentalConfig.{SeenFeatures}
 use Rattle.nextest_config_sources.specs.NextestVersion.{Ask, feature_cmp, FeaturesInOrder, is_below, IsBelow, Place}
-use Rattle.nextest_config.specs.NextestVersion.{Adds, AreEnabled, AreRead, array_of, Asked, asked_from, AsksNoGreater, AsksNone, AsksOther, Configuration, configuration_from, entry_of, IsEnabledBySome, IsGreatest, IsReadAs, IsSeenAs, join_configurations, join_kept, Kept, neutral, neutral_seen, Reads, Roles, seen_configuration, SeenConfiguration, StandsFor, StandsForAsks, StandsForOne, StandsIn, Unknown}
+use Rattle.nextest_config.specs.NextestVersion.{Adds, AreEnabled, AreRead, array_of, asked_from, AsksNoGreater, AsksNone, AsksOther, Configuration, configuration_from, entry_of, IsEnabledBySome, IsGreatest, IsReadAs, IsSeenAs, join_configurations, join_kept, Kept, neutral, neutral_seen, Reads, Roles, seen_configuration, SeenConfiguration, SourceAsk, StandsFor, StandsForAsks, StandsForOne, StandsIn, Unknown}
 use Rattle.nextest_config_sources.specs.NextestVersion.PrecedenceLaws.{below_trans, not_below_itself, not_below_trans}
 use Rattle.nextest_config_sources.specs.NextestVersion.Source.{Source}
 use Rattle.nextest_config_lists.proofs.Lists.{zip_joined, zip_push}
@@ -23,7 +23,7 @@ use Rattle.nextest_config.proofs.Orders.{has_feature_iff}
 -- ---- one role
 
 module _ (role : Ask → Option Parts) where
-  greatest_stays : (xs ys : List Asked) (kept : Kept) → IsGreatest role xs kept → AllByRecursion (AsksOther role kept.version) ys → AllByRecursion (AsksNoGreater role kept.version) ys
+  greatest_stays : (xs ys : List SourceAsk) (kept : Kept) → IsGreatest role xs kept → AllByRecursion (AsksOther role kept.version) ys → AllByRecursion (AsksNoGreater role kept.version) ys
       → IsGreatest role (xs ++ ys) kept
   greatest_stays xs ys kept h others no_greater = record {
     before = h.before;
@@ -36,7 +36,7 @@ module _ (role : Ask → Option Parts) where
     none_greater = all_joined (AsksNoGreater role kept.version) xs ys h.none_greater no_greater;
   }
 
-  greatest_takes_over : (xs ys : List Asked) (kept : Kept) → AllByRecursion (AsksNoGreater role kept.version) xs → IsGreatest role ys kept → IsGreatest role (xs ++ ys) kept
+  greatest_takes_over : (xs ys : List SourceAsk) (kept : Kept) → AllByRecursion (AsksNoGreater role kept.version) xs → IsGreatest role ys kept → IsGreatest role (xs ++ ys) kept
   greatest_takes_over xs ys kept no_greater h = record {
     before = xs ++ h.before;
     last = h.last;
@@ -49,10 +49,10 @@ module _ (role : Ask → Option Parts) where
   }
 
   -- where none is asked, none greater is
-  none_greater_than : (v : Parts) (xs : List Asked) → AllByRecursion (AsksNone role) xs → AllByRecursion (AsksNoGreater role v) xs
+  none_greater_than : (v : Parts) (xs : List SourceAsk) → AllByRecursion (AsksNone role) xs → AllByRecursion (AsksNoGreater role v) xs
   none_greater_than v = all_weaker (AsksNone role) (AsksNoGreater role v) (λ x none. rw none tt)
 
-  pub stands_in_both : (xs ys : List Asked) (earlier later : Option Kept) → StandsIn role xs earlier → StandsIn role ys later → StandsIn role (xs ++ ys) (join_kept earlier later)
+  pub stands_in_both : (xs ys : List SourceAsk) (earlier later : Option Kept) → StandsIn role xs earlier → StandsIn role ys later → StandsIn role (xs ++ ys) (join_kept earlier later)
   stands_in_both xs ys None None h k = all_joined (AsksNone role) xs ys h k
   stands_in_both xs ys None (Some later) h k = greatest_takes_over xs ys later (none_greater_than later.version xs h) k
   stands_in_both xs ys (Some earlier) None h k =
@@ -71,21 +71,21 @@ module _ (role : Ask → Option Parts) where
         rw above (greatest_takes_over xs ys later no_greater k)
   ]
 
-  pub stands_alone : (a : Asked) (found : Option Parts) → role a.ask ≡ found → StandsIn role (a ∷ []) (asked_from a.place found)
+  pub stands_alone : (a : SourceAsk) (found : Option Parts) → role a.ask ≡ found → StandsIn role (a ∷ []) (asked_from a.place found)
   stands_alone a None asks = (asks, tt)
   stands_alone a (Some v) asks = record { before = []; last = a; after = []; whole = refl; version = asks; place = refl; others_later = tt; none_greater = (rw asks (not_below_itself v), tt) }
 
 -- ---- what is seen of a configuration
 
 -- what is seen stands for the asks, whatever the order of the known features
-pub record StandsSeen (asked : List Asked) (seen : SeenConfiguration) : Type 0 where
+pub record StandsSeen (asked : List SourceAsk) (seen : SeenConfiguration) : Type 0 where
   pub required : StandsIn (λ ask. ask.versions.required) asked seen.roles.required
   pub recommended : StandsIn (λ ask. ask.versions.recommended) asked seen.roles.recommended
   pub enabled : (feature : ConfigExperimental) → IsTrue (seen.experimental.enables feature) ↔ IsEnabledBySome asked feature
   pub unknown : seen.experimental.unknown ≡ flat_map entry_of asked
   pub arrays : seen.experimental.arrays ≡ flat_map array_of asked
 
-pub seen_of : (asked : List Asked) (c : Configuration) → StandsForAsks asked c → StandsSeen asked (seen_configuration c)
+pub seen_of : (asked : List SourceAsk) (c : Configuration) → StandsForAsks asked c → StandsSeen asked (seen_configuration c)
 seen_of asked c h = record {
   required = h.required;
   recommended = h.recommended;
@@ -94,7 +94,7 @@ seen_of asked c h = record {
   arrays = h.arrays;
 }
 
-stands_as : (asked : List Asked) (seen : SeenConfiguration) (c : Configuration) → StandsSeen asked seen → IsSeenAs seen c → StandsForAsks asked c
+stands_as : (asked : List SourceAsk) (seen : SeenConfiguration) (c : Configuration) → StandsSeen asked seen → IsSeenAs seen c → StandsForAsks asked c
 stands_as asked seen c h is = record {
   required = subst (λ (roles : Roles). StandsIn (λ ask. ask.versions.required) asked roles.required) (sym is.roles) h.required;
   recommended = subst (λ (roles : Roles). StandsIn (λ ask. ask.versions.recommended) asked roles.recommended) (sym is.roles) h.recommended;
@@ -110,20 +110,20 @@ stands_as asked seen c h is = record {
 seen_none : StandsSeen [] neutral_seen
 seen_none = record { required = tt; recommended = tt; enabled = λ feature. (λ never. absurd (false≢true never), λ (one, there, known). absurd (contains_none there)); unknown = refl; arrays = refl }
 
-seen_alone : (a : Asked) → StandsSeen (a ∷ []) (seen_configuration (configuration_from a.place a.ask))
+seen_alone : (a : SourceAsk) → StandsSeen (a ∷ []) (seen_configuration (configuration_from a.place a.ask))
 seen_alone a = record {
   required = stands_alone (λ ask. ask.versions.required) a a.ask.versions.required refl;
   recommended = stands_alone (λ ask. ask.versions.recommended) a a.ask.versions.recommended refl;
   enabled = λ feature. iff.trans (has_feature_iff feature a.ask.features.known) (
     λ known. (a, contains_first [] refl, known),
-    λ (one, there, known). ⊎_elim (λ same. subst (λ (b : Asked). Contains b.ask.features.known feature) (sym same) known) (λ none. absurd (contains_none none)) (contains_cases a [] there),
+    λ (one, there, known). ⊎_elim (λ same. subst (λ (b : SourceAsk). Contains b.ask.features.known feature) (sym same) known) (λ none. absurd (contains_none none)) (contains_cases a [] there),
   );
   unknown = sym (append-nil (entry_of a));
   arrays = sym (append-nil (array_of a));
 }
 
 -- what stands for one list and what stands for another join to what stands for both in a row
-seen_both : (xs ys : List Asked) (a b : SeenConfiguration) → StandsSeen xs a → StandsSeen ys b → StandsSeen (xs ++ ys) (join_configurations a b)
+seen_both : (xs ys : List SourceAsk) (a b : SeenConfiguration) → StandsSeen xs a → StandsSeen ys b → StandsSeen (xs ++ ys) (join_configurations a b)
 seen_both xs ys a b h k = record {
   required = stands_in_both (λ ask. ask.versions.required) xs ys a.roles.required b.roles.required h.required k.required;
   recommended = stands_in_both (λ ask. ask.versions.recommended) xs ys a.roles.recommended b.roles.recommended h.recommended k.recommended;
@@ -141,12 +141,12 @@ seen_both xs ys a b h k = record {
 
 -- ---- the configuration
 
-pub stands_joined : (xs ys : List Asked) (a b c : Configuration) → StandsForAsks xs a → StandsForAsks ys b → IsSeenAs (join_configurations (seen_configuration a) (seen_configuration b)) c → StandsForAsks (xs ++ ys) c
+pub stands_joined : (xs ys : List SourceAsk) (a b c : Configuration) → StandsForAsks xs a → StandsForAsks ys b → IsSeenAs (join_configurations (seen_configuration a) (seen_configuration b)) c → StandsForAsks (xs ++ ys) c
 stands_joined xs ys a b c h k is = stands_as (xs ++ ys) (join_configurations (seen_configuration a) (seen_configuration b)) c (seen_both xs ys (seen_configuration a) (seen_configuration b) (seen_of xs a h) (seen_of ys b k)) is
 
 pub stands_more : (sources : List Source) (source : Source) (old new : Configuration) → StandsFor sources old → Adds source old new → StandsFor (sources ++ (source ∷ [])) new
 stands_more sources source old new (asked, read, stands) adds =
-    let a : Asked = record { place = source.place; ask = adds.ask } in
+    let a : SourceAsk = record { place = source.place; ask = adds.ask } in
     let both = seen_both asked (a ∷ []) (seen_configuration old) (seen_configuration (configuration_from a.place a.ask)) (seen_of asked old stands) (seen_alone a) in
     (asked ++ (a ∷ []), zip_push IsReadAs sources asked source a read (record { place = refl; read = adds.read }), stands_as (asked ++ (a ∷ [])) _ new both adds.joined)
 
@@ -163,7 +163,7 @@ module _ {X Y : Type 0} (sources_of : X → List Source) (configuration_of : Y �
   abbrev pub total_of : List Y → SeenConfiguration
   total_of ys = total join_configurations neutral_seen (map (λ y. seen_configuration (configuration_of y)) ys)
 
-  pub all_seen : (xs : List X) (ys : List Y) → AllZip (λ x y. StandsFor (sources_of x) (configuration_of y)) xs ys → (asked : List Asked) × AreRead (flat_map sources_of xs) asked × StandsSeen asked (total_of ys)
+  pub all_seen : (xs : List X) (ys : List Y) → AllZip (λ x y. StandsFor (sources_of x) (configuration_of y)) xs ys → (asked : List SourceAsk) × AreRead (flat_map sources_of xs) asked × StandsSeen asked (total_of ys)
   all_seen [] [] h = ([], tt, seen_none)
   all_seen [] (y ∷ ys) h = absurd h
   all_seen (x ∷ xs) [] h = absurd h

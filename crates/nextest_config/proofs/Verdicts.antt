@@ -6,7 +6,7 @@ use Rattle.std.specs.List.{AllByRecursion}
 use Rattle.semver.specs.Parse.{Parts}
 use Rattle.nextest_config.specs.NextestVersion.Verdict.{Verdict}
 use Rattle.nextest_config_sources.specs.NextestVersion.{is_below, IsBelow, Place}
-use Rattle.nextest_config.specs.NextestVersion.{alone, Asked, asked_from, error, gravity, IsFromSource, IsNoGraver, IsSatisfied, IsSelected, judged, Kept, named_place, Roles, roles_from, satisfied, Shortfall, unmet, verdict, warn}
+use Rattle.nextest_config.specs.NextestVersion.{alone, asked_from, error, gravity, IsFromSource, IsNoGraver, IsSatisfied, IsSelected, judged, Kept, named_place, Roles, roles_from, satisfied, Shortfall, SourceAsk, unmet, verdict, warn}
 use Rattle.nextest_config_values.proofs.Elements.{all_middle, all_weaker}
 use Rattle.nextest_config_sources.specs.NextestVersion.PrecedenceLaws.{not_below_trans}
 use Rattle.nextest_config.proofs.Selection.{enough_met, not_short, unmet_is}
@@ -37,14 +37,14 @@ unmet_alone place (Some version) current kept e =
     let is : record { version = version; place = place } ≡ kept = cc same in
     (ap (λ (k : Kept). Some k.version) is, sym (ap (λ (k : Kept). k.place) is))
 
-names_its_place : (current : Parts) (overridden : Bool) (a : Asked) (r m : Option Kept) → unmet (asked_from a.place a.ask.versions.required) current ≡ r → unmet (asked_from a.place a.ask.versions.recommended) current ≡ m
+names_its_place : (current : Parts) (overridden : Bool) (a : SourceAsk) (r m : Option Kept) → unmet (asked_from a.place a.ask.versions.required) current ≡ r → unmet (asked_from a.place a.ask.versions.recommended) current ≡ m
     → judged r m current overridden ≢ satisfied → named_place (judged r m current overridden) ≡ Some a.place
 names_its_place current overridden a (Some kept) m r_is m_is told = ap Some (unmet_alone a.place a.ask.versions.required current kept r_is).1
 names_its_place current overridden a None (Some kept) r_is m_is told = ap Some (unmet_alone a.place a.ask.versions.recommended current kept m_is).1
 names_its_place current overridden a None None r_is m_is told = absurd (told refl)
 
 -- a selected verdict that isn't satisfied is that of a source alone, whose place it names
-pub from_source : (asked : List Asked) (current : Parts) (overridden : Bool) (v : Verdict) → IsSelected (map (alone current overridden) asked) v → v ≢ satisfied
+pub from_source : (asked : List SourceAsk) (current : Parts) (overridden : Bool) (v : Verdict) → IsSelected (map (alone current overridden) asked) v → v ≢ satisfied
     → IsFromSource current overridden asked v
 from_source asked current overridden v (inl all) told = absurd (told all.1)
 from_source asked current overridden v (inr gravest) told =
@@ -109,11 +109,11 @@ pub none_graver : (verdicts : List Verdict) (v : Verdict) → IsSelected verdict
 none_graver verdicts v (inl all) = all_weaker IsSatisfied (IsNoGraver v) (λ w is. rw is (omega arith)) verdicts all.0
 none_graver verdicts v (inr gravest) = gravest.gravest
 
-pub no_graver_selected : (asked : List Asked) (lesser greater : Parts) (overridden : Bool) (v w : Verdict) → ¬ IsBelow greater lesser
+pub no_graver_selected : (asked : List SourceAsk) (lesser greater : Parts) (overridden : Bool) (v w : Verdict) → ¬ IsBelow greater lesser
     → IsSelected (map (alone lesser overridden) asked) v → IsSelected (map (alone greater overridden) asked) w → IsNoGraver v w
 no_graver_selected asked lesser greater overridden v w above h (inl all) = rw all.1 (omega arith)
 no_graver_selected asked lesser greater overridden v w above h (inr gravest) =
-    let tells : Asked → Verdict = alone lesser overridden in
+    let tells : SourceAsk → Verdict = alone lesser overridden in
     let found = image_at (alone greater overridden) asked gravest.before w gravest.after gravest.whole in
     let all : AllByRecursion (IsNoGraver v) (map tells found.before ++ (tells found.x ∷ map tells found.after)) =
     subst (AllByRecursion (IsNoGraver v)) (ap (map tells) found.whole ∙ map-append tells found.before (found.x ∷ found.after)) (none_graver (map tells asked) v h) in

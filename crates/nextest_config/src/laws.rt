@@ -11,7 +11,7 @@ ghost use Rattle.nextest_config_lists.specs.Merge.{IsCut, IsMonoid, IsReordering
 ghost use Rattle.nextest_config.specs.NextestVersion.Verdict.{Verdict};
 ghost use Rattle.nextest_config_values.specs.Equality.{IsCopy, IsEquality};
 ghost use Rattle.nextest_config_sources.specs.NextestVersion.{FeaturesInOrder, IsBelow};
-ghost use Rattle.nextest_config.specs.NextestVersion.{Agree, alone, Asked, Configuration, configuration_of, IsFirstRefused, IsFirstRefusedAmong, IsFromSource, IsJoinOf, IsNoGraver, IsOverriding, IsSatisfied, IsSelected, IsSelectedFor, join_configurations, join_features, join_kept, join_roles, Kept, neutral_seen, no_features_seen, no_roles, rank, Reads, Refusal, Roles, satisfied, SelectsFor, Shortfall, StandsFor, verdict, warn};
+ghost use Rattle.nextest_config.specs.NextestVersion.{Agree, alone, Configuration, configuration_of, IsFirstRefused, IsFirstRefusedAmong, IsFromSource, IsJoinOf, IsNoGraver, IsOverriding, IsSatisfied, IsSelected, IsSelectedFor, join_configurations, join_features, join_kept, join_roles, Kept, neutral_seen, no_features_seen, no_roles, rank, Reads, Refusal, Roles, satisfied, SelectsFor, Shortfall, SourceAsk, StandsFor, verdict, warn};
 ghost use Rattle.nextest_config_sources.specs.NextestVersion.Source.{Source};
 ghost use Rattle.nextest_config.specs.declared.nextest_version.verdict.Severity.{Severity};
 ghost use Rattle.nextest_config.specs.declared.nextest_version.version_only.VersionOnlyConfig.{VersionOnlyConfig};
@@ -69,18 +69,18 @@ pub fn law_join()
     ensures configurations { IsMonoid join_configurations neutral_seen }
 {}
 
-/// Reading is the same however a list is cut. It reads exactly where each piece does; its first refused
-/// position is that of the first refused piece, counted from the list's beginning; and a configuration
-/// stands for it exactly where it is the join, in order, of those that stand for the pieces.
+/// Reading is the same however a list is cut. It reads exactly where each part does; its first refused
+/// position is that of the first refused part, counted from the list's beginning; and a configuration
+/// stands for it exactly where it is the join, in order, of those that stand for the parts.
 pub fn law_cut()
-    ensures reads { (sources : List Source) (pieces : List (List Source)) → IsCut sources pieces
-        → Reads sources ↔ AllByRecursion Reads pieces }
-    ensures refused { (sources : List Source) (pieces : List (List Source)) (position : ℕ)
-        (refusal : Refusal) → IsCut sources pieces
-        → IsFirstRefused sources position refusal ↔ IsFirstRefusedAmong pieces position refusal }
-    ensures stands { (sources : List Source) (pieces : List (List Source))
-        (configurations : List Configuration) (whole : Configuration) → IsCut sources pieces
-        → AllZip StandsFor pieces configurations
+    ensures reads { (sources : List Source) (parts : List (List Source)) → IsCut sources parts
+        → Reads sources ↔ AllByRecursion Reads parts }
+    ensures refused { (sources : List Source) (parts : List (List Source)) (position : ℕ)
+        (refusal : Refusal) → IsCut sources parts
+        → IsFirstRefused sources position refusal ↔ IsFirstRefusedAmong parts position refusal }
+    ensures stands { (sources : List Source) (parts : List (List Source))
+        (configurations : List Configuration) (whole : Configuration) → IsCut sources parts
+        → AllZip StandsFor parts configurations
         → StandsFor sources whole ↔ IsJoinOf configurations whole }
 {}
 
@@ -105,10 +105,10 @@ pub fn law_verdict_once()
 /// A verdict comes from a source: where the selected one isn't satisfied, some source whose place it
 /// names gives it, read alone. It is satisfied exactly where that of each source alone is.
 pub fn law_verdict_from_source()
-    ensures source { (asked : List Asked) (current : Parts) (overridden : Bool) (v : Verdict)
+    ensures source { (asked : List SourceAsk) (current : Parts) (overridden : Bool) (v : Verdict)
         → IsSelected (map (alone current overridden) asked) v → v ≢ satisfied
         → IsFromSource current overridden asked v }
-    ensures satisfied { (asked : List Asked) (current : Parts) (overridden : Bool) (v : Verdict)
+    ensures satisfied { (asked : List SourceAsk) (current : Parts) (overridden : Bool) (v : Verdict)
         → IsSelected (map (alone current overridden) asked) v
         → (v ≡ satisfied) ↔ AllByRecursion IsSatisfied (map (alone current overridden) asked) }
 {}
@@ -122,13 +122,13 @@ pub fn law_lower_recommendation()
         ≢ warn s }
 {}
 
-/// Of two current versions, the one that isn't below the other is never told the graver verdict, by
+/// Of two current versions, the one that isn't below the other is never told the worse verdict, by
 /// two roles and by a list of asks.
 pub fn law_greater_current()
     ensures roles { (roles : Roles) (lesser greater : Parts) (overridden : Bool)
         → ¬ IsBelow greater lesser
         → IsNoGraver (verdict roles lesser overridden) (verdict roles greater overridden) }
-    ensures list { (asked : List Asked) (lesser greater : Parts) (overridden : Bool) (v w : Verdict)
+    ensures list { (asked : List SourceAsk) (lesser greater : Parts) (overridden : Bool) (v w : Verdict)
         → ¬ IsBelow greater lesser → IsSelected (map (alone lesser overridden) asked) v
         → IsSelected (map (alone greater overridden) asked) w → IsNoGraver v w }
 {}

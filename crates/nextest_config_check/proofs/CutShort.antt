@@ -8,7 +8,7 @@ use Rattle.nextest_config_check.specs.declared.command_line.WordsFault.{WordsFau
 use Rattle.nextest_config_check.specs.declared.command_line.WordsFault.TheVariants as words
 use Rattle.nextest_config_check.specs.declared.streams.RunFault.TheVariants as faults
 
--- words that are refused end with status 3 only for want of memory
+-- words that are refused end with status 3 only where memory runs out
 pub words_cut_short : (command : Command) (fault : WordsFault) (left old said says : Option (List ℕ)) (status : ℕ) → IsWordsFault command fault → status ≡ words_status fault
     → AddsFront said says (words_fault_text fault ++ codes "\n") → status ≡ 3 → IfCheck command (λ current overridden edition. IsCutShort left old old said says)
 words_cut_short command words.Usage left old said says status h is told three = cc (is, three)

@@ -9,12 +9,12 @@ use Rattle.nextest_config_values.proofs.Arguments.{argument_not_refused, one_arg
 use Rattle.nextest_config_sources.specs.NextestVersion.{Place}
 use Rattle.nextest_config_sources.specs.declared.nextest_version.source.ConfigSourceKind.{ConfigSourceKind}
 use Rattle.nextest_config_sources.specs.declared.nextest_version.source.ConfigSourceKind.TheVariants.{Tool, ExplicitRepository, DiscoveredRepository}
-use Rattle.nextest_config_check.specs.Layout.{mark, IsSourceLine, NamesPlace, NamesSource}
+use Rattle.nextest_config_check.specs.Layout.{mark, IsSourceLine, NamesPlace, NamesKindAndPath}
 
 abbrev first_byte : List ℕ → ℕ
 first_byte text = get_or text 0 0
 
-source_once : (text : List ℕ) (kind other : ConfigSourceKind) (path another : List ℕ) → NamesSource text kind path → NamesSource text other another → (kind ≡ other) × (path ≡ another)
+source_once : (text : List ℕ) (kind other : ConfigSourceKind) (path another : List ℕ) → NamesKindAndPath text kind path → NamesKindAndPath text other another → (kind ≡ other) × (path ≡ another)
 source_once text (Tool tool) (Tool other) path another names others =
     let same = append_cancel_left (codes "tool ") names.argument others.argument (sym names.whole ∙ others.whole) in
     let argument = one_argument others.argument (record { tool = tool; path = path }) (record { tool = other; path = another }) (rw (← same) names.names) others.names in
@@ -36,7 +36,7 @@ place_once line place other names others =
     ap₂ made same.0 same.1
 
 -- behind the word of tools, what is no argument names no source
-tool_names_none : (text : List ℕ) → ((argument : Argument) → ¬ IsToolArgument text argument) → (kind : ConfigSourceKind) (path : List ℕ) → ¬ NamesSource (codes "tool " ++ text) kind path
+tool_names_none : (text : List ℕ) → ((argument : Argument) → ¬ IsToolArgument text argument) → (kind : ConfigSourceKind) (path : List ℕ) → ¬ NamesKindAndPath (codes "tool " ++ text) kind path
 tool_names_none text none (Tool tool) path names =
     none (record { tool = tool; path = path }) (rw (append_cancel_left (codes "tool ") names.argument text (sym names.whole)) at names.names)
 tool_names_none text none ExplicitRepository path names = omega (arith, ap first_byte names.whole)

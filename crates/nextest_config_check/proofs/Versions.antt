@@ -1,4 +1,4 @@
--- What a text that is no version is refused for is never want of memory.
+-- What a text that is no version is refused for is never that memory ran out.
 use Rattle.std.proofs.Common.{◌≡◌, ℕ, ◌+◌, ◌*◌, ◌-◌, Bool, true, false, List, [], ◌∷◌, Result, Ok, Err, IfErr, if◌then◌else◌, rules}
 use Rattle.semver.specs.Parse.{◌>>=◌, Parts, digits_from, dot_of, is_memory, starts_zero, IsRefused, memory_error, scan, tail_build, tail_end, tail_pre, version_parts}
 use Rattle.semver.specs.declared.error.Error.{Error}

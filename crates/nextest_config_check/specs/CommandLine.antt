@@ -74,7 +74,7 @@ words_fault_text words.Usage = usage_text
 words_fault_text (words.NotVersion word) = not_version_text word.now
 words_fault_text words.Memory = codes "out of memory"
 
--- the words are refused with this fault; want of memory comes only where they ask for a check
+-- the words are refused with this fault; memory runs out only where they ask for a check
 abbrev pub IsWordsFault : Command → WordsFault → Type 0
 IsWordsFault command words.Usage = command ≡ usage
 IsWordsFault command (words.NotVersion word) = command ≡ complain (not_version_text word.now ++ codes "\n")

@@ -66,14 +66,14 @@ pub record IsWordAndArgument (text tool path : List ℕ) : Type 0 where
   pub names : IsToolArgument argument (record { tool = tool; path = path })
 
 -- the text names a source of this kind with this path
-abbrev pub NamesSource : List ℕ → ConfigSourceKind → List ℕ → Type 0
-NamesSource text (Tool name) path = IsWordAndArgument text name path
-NamesSource text ExplicitRepository path = IsWordAndPath (codes "explicit ") text path
-NamesSource text DiscoveredRepository path = IsWordAndPath (codes "repository ") text path
+abbrev pub NamesKindAndPath : List ℕ → ConfigSourceKind → List ℕ → Type 0
+NamesKindAndPath text (Tool name) path = IsWordAndArgument text name path
+NamesKindAndPath text ExplicitRepository path = IsWordAndPath (codes "explicit ") text path
+NamesKindAndPath text DiscoveredRepository path = IsWordAndPath (codes "repository ") text path
 
 -- a text behind the mark names this place
 abbrev pub NamesPlace : List ℕ → Place → Type 0
-NamesPlace text place = NamesSource text place.kind place.path
+NamesPlace text place = NamesKindAndPath text place.kind place.path
 
 -- the line is the mark and a text that names this place
 pub record IsSourceLine (line : List ℕ) (place : Place) : Type 0 where
@@ -124,7 +124,7 @@ pub record IsFaultyLine (input : List ℕ) (number : ℕ) : Type 0 where
   pub faulty : (place : Place) → ¬ IsSourceLine line place
   pub counted : number ≡ line_number front
 
--- the input is refused for this: a faulty line, or want of memory
+-- the input is refused for this: a faulty line, or memory ran out
 abbrev pub IsFaultyInput : List ℕ → LayoutFault → Type 0
 IsFaultyInput input (faults.Line number) = IsFaultyLine input number
 IsFaultyInput input faults.Memory = Unit {0}

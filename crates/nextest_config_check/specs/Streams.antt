@@ -22,8 +22,8 @@ Writes old new faults.Write = Unit {0}
 Writes old new faults.Memory = Keeps old new
 
 -- the status is that of an outcome, and where the input is known, the report with that outcome was written
-abbrev pub IsChecked : Option (List ℕ) → Parts → Bool → Edition → ℕ → Option (List ℕ) → Option (List ℕ) → Type 0
-IsChecked known current overridden edition status old new =
+abbrev pub WritesReport : Option (List ℕ) → Parts → Bool → Edition → ℕ → Option (List ℕ) → Option (List ℕ) → Type 0
+WritesReport known current overridden edition status old new =
     (outcome : Outcome) × (status ≡ status_of outcome) × IfSome known (λ input. (text : List ℕ) × IsReport input current overridden edition text outcome × Appends old new text)
 
 -- what stands of the input and the output after this fault: nothing was written, or all was read

@@ -38,7 +38,7 @@ pub(crate) enum WordsFault<'a> {
 }
 
 impl<'a> WordsFault<'a> {
-    /// Why the words can't be had.
+    /// Why there are no words.
     pub fn of_read(error: &io::Error) -> Self
         ensures memory { (result ≡ Memory) ↔ (error_kind error.now ≡ ErrorKind.OutOfMemory) }
         ensures usage { result ≢ Memory → result ≡ Usage }

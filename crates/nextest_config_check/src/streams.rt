@@ -6,7 +6,7 @@ ghost use Rattle.std.specs.Io.KnownBytes.{Appends, IsAtEnd, Keeps};
 ghost use Rattle.semver.specs.Identifiers.{parts_of};
 ghost use Rattle.nextest_config_report.specs.Streams.{AddsFront};
 ghost use Rattle.nextest_config_check.specs.CommandLine.{IfCheck, IfComplaint, asked_by, words_fault_text, words_status};
-ghost use Rattle.nextest_config_check.specs.Streams.{IsChecked, IsCutShort, Writes, run_fault_text};
+ghost use Rattle.nextest_config_check.specs.Streams.{WritesReport, IsCutShort, Writes, run_fault_text};
 ghost use Rattle.nextest_config_check.specs.Report.{IsReport};
 
 use crate::command_line::{Check, WordsFault, parse_words};
@@ -99,7 +99,7 @@ pub fn serve<R: Read, W: Write, E: Write>(
 
     // Words that ask for a check.
     ensures checked { IfCheck (asked_by words.now) (λ current overridden edition. (result ≡ 3)
-        ⊎ IsChecked (R.remaining reader.old) current overridden edition result
+        ⊎ WritesReport (R.remaining reader.old) current overridden edition result
         (W.contents writer.old) (W.contents writer.new)) }
     ensures drained { result ≢ 3 → IfCheck (asked_by words.now)
         (λ _ _ _. IsAtEnd (R.remaining reader.new)) }
@@ -123,7 +123,7 @@ fn make<R: Read, W: Write, E: Write>(
     writer: &mut W,
     faults: &mut E,
 ) -> u8
-    ensures checked { (result ≡ 3) ⊎ IsChecked (R.remaining reader.old) (parts_of check.now.current)
+    ensures checked { (result ≡ 3) ⊎ WritesReport (R.remaining reader.old) (parts_of check.now.current)
         check.now.override_version_check check.now.edition result
         (W.contents writer.old) (W.contents writer.new) }
     ensures drained { result ≢ 3 → IsAtEnd (R.remaining reader.new) }

@@ -27,7 +27,7 @@ pub(crate) enum Refusal<'a> {
 }
 
 impl Refusal<'_> {
-    /// Why the words can't be had.
+    /// Why there are no words.
     pub fn of_read(error: &io::Error) -> Self {
         match error.kind() {
             ErrorKind::OutOfMemory => Refusal::Memory,

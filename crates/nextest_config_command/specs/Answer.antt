@@ -9,7 +9,7 @@ use Rattle.nextest_config.specs.NextestVersion.Verdict.{Verdict}
 use Rattle.nextest_config_report.specs.Lines.{features_text, read_text}
 use Rattle.nextest_config_command.specs.Files.{File}
 use Rattle.nextest_config_command.specs.LintLines.{AreFound, AtPath, lint_text, status_found}
-use Rattle.nextest_config_command.specs.Listed.{IsListedAs, IsRefusedList, sources_of}
+use Rattle.nextest_config_command.specs.Listed.{IsListedAs, IsRefusedList, sources_of_files}
 use Rattle.nextest_config_command.specs.declared.answer.Answer.{Answer}
 use Rattle.nextest_config_command.specs.declared.asked.Check.{Check}
 use Rattle.nextest_config_command.specs.declared.asked.Task.{Task}
@@ -56,10 +56,10 @@ pub data IsChecked (edition : Edition) (files : List File) (current : Parts) (ov
   refused_list : (text : List ℕ) (status : ℕ) → IsRefusedList edition files → IsRefusedWith edition files text status
       → IsChecked edition files current overridden strict text status
   not_enough : (configuration : Configuration) (v : Verdict) → IsListedAs edition files configuration
-      → IsSelectedFor (sources_of edition files) current overridden v → fails v ≡ true
+      → IsSelectedFor (sources_of_files edition files) current overridden v → fails v ≡ true
       → IsChecked edition files current overridden strict (read_text current v configuration.experimental) 1
   enough : (configuration : Configuration) (v : Verdict) (founds : List AtPath) → IsListedAs edition files configuration
-      → IsSelectedFor (sources_of edition files) current overridden v → fails v ≡ false → AreFound edition files founds
+      → IsSelectedFor (sources_of_files edition files) current overridden v → fails v ≡ false → AreFound edition files founds
       → IsChecked edition files current overridden strict (read_text current v configuration.experimental ++ lint_text Human founds)
       (status_checked strict v founds)
 
@@ -98,8 +98,8 @@ IsAnswer edition task files answer = Answers edition task files (string_bytes an
 abbrev pub IsLintOf : Edition → Format → Bool → List File → Answer → Type 0
 IsLintOf edition format strict files answer = IsLinted edition format strict files (string_bytes answer.text) answer.status
 
-abbrev pub IsRefused : Edition → List File → Answer → Type 0
-IsRefused edition files answer = IsRefusedWith edition files (string_bytes answer.text) answer.status
+abbrev pub IsRefusedAnswer : Edition → List File → Answer → Type 0
+IsRefusedAnswer edition files answer = IsRefusedWith edition files (string_bytes answer.text) answer.status
 
 abbrev pub IsCheckOf : Edition → List File → Check → Answer → Type 0
 IsCheckOf edition files check answer =
@@ -113,7 +113,7 @@ ChecksListed edition files check configuration answer = IsListedAs edition files
 abbrev pub IsCheckWith : Edition → List File → Bool → Verdict → List ℕ → Answer → Type 0
 IsCheckWith edition files strict v report answer =
     (configuration : Configuration) (current : Parts) (overridden : Bool) → IsListedAs edition files configuration
-    → IsSelectedFor (sources_of edition files) current overridden v → report ≡ read_text current v configuration.experimental
+    → IsSelectedFor (sources_of_files edition files) current overridden v → report ≡ read_text current v configuration.experimental
     → IsChecked edition files current overridden strict (string_bytes answer.text) answer.status
 
 abbrev pub IsShowOf : Edition → List File → Answer → Type 0

@@ -34,11 +34,11 @@ in_property c =
     else if c == comma then codes "%2C"
     else in_message c
 
-abbrev pub escaped : Escapes → ℕ → List ℕ
-escaped LineEnds = in_line
-escaped Message = in_message
-escaped Property = in_property
+abbrev pub escaped_character : Escapes → ℕ → List ℕ
+escaped_character LineEnds = in_line
+escaped_character Message = in_message
+escaped_character Property = in_property
 
 -- a text with what is escaped
 unfoldable pub escaped_text : Escapes → List ℕ → List ℕ
-escaped_text escapes text = flat_map (escaped escapes) (chars text)
+escaped_text escapes text = flat_map (escaped_character escapes) (chars text)

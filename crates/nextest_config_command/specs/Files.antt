@@ -43,13 +43,13 @@ file_if place None = []
 -- ---- what is read
 
 -- what is read where this is held: the file; none, where a repository's file is looked for and absent
-abbrev pub IsRead : Place → Held → List File → Type 0
-IsRead place (bytes contents) files = files ≡ file_if place (Some contents)
-IsRead place (absent reason) files = (place.kind ≡ DiscoveredRepository) × (files ≡ [])
-IsRead place (unreadable reason) files = ⊥
+abbrev pub IsFileRead : Place → Held → List File → Type 0
+IsFileRead place (bytes contents) files = files ≡ file_if place (Some contents)
+IsFileRead place (absent reason) files = (place.kind ≡ DiscoveredRepository) × (files ≡ [])
+IsFileRead place (unreadable reason) files = ⊥
 
 abbrev pub IsReadAt : Holding → Place → List File → Type 0
-IsReadAt holds place files = (held : Held) × holds place.path held × IsRead place held files
+IsReadAt holds place files = (held : Held) × holds place.path held × IsFileRead place held files
 
 -- the files that are read at these places, in their order
 abbrev pub AreFilesRead : Holding → List Place → List File → Type 0

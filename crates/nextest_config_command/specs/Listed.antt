@@ -20,8 +20,8 @@ abbrev pub given_file : File → Given
 given_file file = record { place = file.place; contents = Some file.contents }
 
 -- the files as sources, read under an edition
-abbrev pub sources_of : Edition → List File → List Source
-sources_of edition files = map (under edition) (map given_file files)
+abbrev pub sources_of_files : Edition → List File → List Source
+sources_of_files edition files = map (under edition) (map given_file files)
 
 -- ---- lists of texts
 
@@ -30,18 +30,18 @@ abbrev pub IsRefusedBy : List Source → Type 0
 IsRefusedBy sources = (position : ℕ) × (refusal : Refusal) × IsFirstRefused sources position refusal
 
 -- the configuration stands for them, and its verdicts are selected from theirs
-abbrev pub IsReadAs : List Source → Configuration → Type 0
-IsReadAs sources configuration = StandsFor sources configuration × SelectsFor sources configuration.roles
+abbrev pub StandsAndSelects : List Source → Configuration → Type 0
+StandsAndSelects sources configuration = StandsFor sources configuration × SelectsFor sources configuration.roles
 
 -- ---- lists of files
 
 -- a file isn't UTF-8, or one is outside its grammar
 abbrev pub IsRefusedList : Edition → List File → Type 0
-IsRefusedList edition files = ¬ AreTexts files ⊎ (AreTexts files × IsRefusedBy (sources_of edition files))
+IsRefusedList edition files = ¬ AreTexts files ⊎ (AreTexts files × IsRefusedBy (sources_of_files edition files))
 
 -- each file is UTF-8, and this configuration stands for all
 abbrev pub IsListedAs : Edition → List File → Configuration → Type 0
-IsListedAs edition files configuration = AreTexts files × IsReadAs (sources_of edition files) configuration
+IsListedAs edition files configuration = AreTexts files × StandsAndSelects (sources_of_files edition files) configuration
 
 abbrev pub IsListed : Edition → List File → VersionOnlyConfig → Type 0
 IsListed edition files config = IsListedAs edition files (configuration_of config)
@@ -53,4 +53,4 @@ abbrev pub IsRefusedUnder : Edition → List Given → Type 0
 IsRefusedUnder edition givens = IsRefusedBy (map (under edition) givens)
 
 abbrev pub IsReadUnder : Edition → List Given → VersionOnlyConfig → Type 0
-IsReadUnder edition givens config = IsReadAs (map (under edition) givens) (configuration_of config)
+IsReadUnder edition givens config = StandsAndSelects (map (under edition) givens) (configuration_of config)

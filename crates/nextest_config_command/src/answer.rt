@@ -3,7 +3,7 @@
 ghost use Rattle.std.specs.Prelude.{◌≡◌, ◌++◌, IfOk, OnOk, map, string_bytes};
 ghost use Rattle.semver.specs.Identifiers.{parts_of};
 ghost use Rattle.nextest_config.specs.NextestVersion.{configuration_of, kept_of, verdict_of};
-ghost use Rattle.nextest_config_command.specs.Answer.{ChecksListed, fails, IsAnswer, IsCheckOf, IsCheckWith, IsLintOf, IsRefused, IsShowOf, role_line, ShowsListed, warns};
+ghost use Rattle.nextest_config_command.specs.Answer.{ChecksListed, fails, IsAnswer, IsCheckOf, IsCheckWith, IsLintOf, IsRefusedAnswer, IsShowOf, role_line, ShowsListed, warns};
 ghost use Rattle.nextest_config_command.specs.Files.{file_of};
 
 use crate::asked::{Check, Task};
@@ -60,7 +60,7 @@ fn lint(
 
 // What is found in the files of a list that is refused.
 fn refused(alloc: Global, edition: Edition, files: &[SourceFile]) -> Result<Answer, AllocError>
-    ensures { IfOk result (IsRefused edition (map file_of files.now)) }
+    ensures { IfOk result (IsRefusedAnswer edition (map file_of files.now)) }
 {
     let lint = Lint::of(alloc, edition, Format::Human, files)?;
     Ok(Answer {

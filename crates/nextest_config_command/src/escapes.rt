@@ -2,7 +2,7 @@
 
 ghost use Rattle.std.specs.Prelude.{Some};
 ghost use Rattle.std.specs.Fmt.{WritesOnOk};
-ghost use Rattle.nextest_config_command.specs.Escapes.{escaped, escaped_text};
+ghost use Rattle.nextest_config_command.specs.Escapes.{escaped_character, escaped_text};
 
 use std::fmt;
 
@@ -39,7 +39,7 @@ fn write_text<W: fmt::Write>(f: &mut fmt::Formatter<W>, escapes: Escapes, text: 
 }
 
 fn write_escaped<W: fmt::Write>(f: &mut fmt::Formatter<W>, escapes: Escapes, c: char) -> fmt::Result
-    ensures { WritesOnOk W.write_str_gives f.old result (escaped escapes c) f.new }
+    ensures { WritesOnOk W.write_str_gives f.old result (escaped_character escapes c) f.new }
 {
     match (escapes, c) {
         (Escapes::LineEnds, '\r') => f.write_str("\\r"),

@@ -136,7 +136,7 @@ abbrev pub IsMaxBelow : ℕ → Option ℕ → Type 0
 IsMaxBelow delay max_delay = (max : ℕ) × (max_delay ≡ Some max) × (max < delay)
 
 -- the rules of an exponential backoff
-pub record KeepsExponentialRules (count delay : ℕ) (max_delay : Option ℕ) : Type 0 where
+pub record ObeysExponentialRules (count delay : ℕ) (max_delay : Option ℕ) : Type 0 where
   pub tries : ¬ (count ≡ 0)
   pub delays : ¬ (delay ≡ 0)
   pub caps : ¬ (max_delay ≡ Some 0)
@@ -149,7 +149,7 @@ pub record MeansExponential (members : Members) (policy : ExponentialPolicy) : T
   pub of_jitter : KeyOr jitter_key false MeansBoolean members policy.jitter
   pub of_max_delay : OptionalKey max_delay_key MeansDuration members policy.max_delay
   pub of_keys : HasKeysOf backoffs.Exponential members
-  pub of_rules : KeepsExponentialRules policy.count policy.delay policy.max_delay
+  pub of_rules : ObeysExponentialRules policy.count policy.delay policy.max_delay
 
 -- the first rule that is broken
 abbrev pub ExponentialRuleFaults : {D : Type 0} → ℕ → ℕ → Option ℕ → D → List ℕ → Fault → Type 0

@@ -8,10 +8,10 @@ use Rattle.nextest_config_elements.specs.declared.threads_required.ThreadsRequir
 use Rattle.nextest_config_elements.specs.declared.threads_required.ThreadsRequired.TheVariants.{Count, NumCpus, NumTestThreads}
 
 -- the number of threads, of so many that run tests and so many processors
-abbrev pub computed : ℕ → ℕ → ThreadsRequired → ℕ
-computed test_threads num_cpus (Count count) = count
-computed test_threads num_cpus NumCpus = num_cpus
-computed test_threads num_cpus NumTestThreads = test_threads
+abbrev pub thread_count : ℕ → ℕ → ThreadsRequired → ℕ
+thread_count test_threads num_cpus (Count count) = count
+thread_count test_threads num_cpus NumCpus = num_cpus
+thread_count test_threads num_cpus NumTestThreads = test_threads
 
 -- the word of a setting that isn't a count
 abbrev pub threads_text : ThreadsRequired → Option (List ℕ)

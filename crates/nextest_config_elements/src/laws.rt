@@ -4,7 +4,7 @@ ghost use Rattle.std.specs.Prelude.{◌≡◌, ◌↔◌, ℕ, ◌<◌, ◌≤�
 ghost use Rattle.std.specs.Ordering.{MatchOrdering};
 ghost use Rattle.nextest_config_values.specs.Equality.{IsCopy, IsEquality, IsEqualityBy};
 ghost use Rattle.nextest_config_values.specs.Helpers.Paths.{MeansPath, PathFaults};
-ghost use Rattle.nextest_config_values.specs.Read.{IsReading, SameText};
+ghost use Rattle.nextest_config_values.specs.Read.{IsReading, TextsAlike};
 ghost use Rattle.nextest_config_elements.specs.LeakTimeout.{leak_timeout_of, LeakTimeoutFaults, MeansLeakTimeoutSetting};
 ghost use Rattle.nextest_config_elements.specs.MaxFail.{FailFastFaults, IsLimitFault, IsLimitText, IsReached, limit_fault, limit_text, LimitFault, MeansFailFast};
 ghost use Rattle.nextest_config_elements.specs.RetryPolicy.{MeansRetryPolicySetting, retry_policy_of, RetryPolicyFaults};
@@ -67,7 +67,7 @@ pub fn law_setting_once()
     ensures retries { IsReading MeansRetryPolicySetting RetryPolicyFaults
         (λ a b. option_map retry_policy_of a ≡ option_map retry_policy_of b) }
     ensures fail_fast { IsReading MeansFailFast FailFastFaults ◌≡◌ }
-    ensures relative_path { IsReading MeansPath PathFaults SameText }
+    ensures relative_path { IsReading MeansPath PathFaults TextsAlike }
 {}
 
 /// Values are equal exactly where they are the same; refusals of a fail limit where they tell the same.

@@ -5,7 +5,7 @@ ghost use Rattle.std.specs.Duration.{as_nanos};
 ghost use Rattle.toml.specs.Data.{integer};
 ghost use Rattle.toml.specs.View.{table_view, view};
 ghost use Rattle.nextest_config_values.specs.Read.{broken_rule, custom, fault_at, Refuses, RefusesAs, RefusesOne, WantsMemory, words_text, wrong_value};
-ghost use Rattle.nextest_config_elements.specs.RetryPolicy.{backoff_key, backoff_reads_back, backoff_word, BackoffFaults, backoffs_in_order, count_of, ExponentialRuleFaults, fail_message, flaky_result_reads_back, flaky_result_word, flaky_results, HasKeysOf, KeepsExponentialRules, keys_beside, MeansBackoff, MeansRetryNumber, MeansRetryPolicySetting, MeansRetryTable, OtherKeyFaults, retry_policy_of, RetryNumberFaults, RetryPolicyFaults, RetryTableFaults, without_delay};
+ghost use Rattle.nextest_config_elements.specs.RetryPolicy.{backoff_key, backoff_reads_back, backoff_word, BackoffFaults, backoffs_in_order, count_of, ExponentialRuleFaults, fail_message, flaky_result_reads_back, flaky_result_word, flaky_results, HasKeysOf, keys_beside, MeansBackoff, MeansRetryNumber, MeansRetryPolicySetting, MeansRetryTable, ObeysExponentialRules, OtherKeyFaults, retry_policy_of, RetryNumberFaults, RetryPolicyFaults, RetryTableFaults, without_delay};
 ghost use Rattle.nextest_config_elements.specs.UnknownKeys.{IsOneOf};
 
 use nextest_config_values::read::{
@@ -190,7 +190,7 @@ fn read_exponential(alloc: Global, table: &Table, at: &str) -> Result<RetryPolic
 // The first rule that an exponential backoff breaks.
 fn first_broken(count: u32, delay: Duration, max_delay: Option<Duration>) -> Option<Rule>
     ensures { MatchOption result
-        (KeepsExponentialRules count (as_nanos delay) (option_map as_nanos max_delay))
+        (ObeysExponentialRules count (as_nanos delay) (option_map as_nanos max_delay))
         (λ rule. (at : List ℕ) → ExponentialRuleFaults count (as_nanos delay)
         (option_map as_nanos max_delay) (tt {0}) at (fault_at at (custom (broken_rule rule)))) }
 {

@@ -2,7 +2,7 @@
 
 ghost use Rattle.std.specs.Prelude.{◌≡◌, ◌≢◌, ℕ, false, pos, Some, MatchOption};
 ghost use Rattle.nextest_config_values.specs.Read.{IsCount, MeansNumber};
-ghost use Rattle.nextest_config_elements.specs.ThreadsRequired.{computed, MeansThreads, threads_reading, threads_text, ThreadsFaults};
+ghost use Rattle.nextest_config_elements.specs.ThreadsRequired.{MeansThreads, thread_count, threads_reading, threads_text, ThreadsFaults};
 ghost use Rattle.nextest_config_elements.specs.declared.threads_required.ThreadsRequired.{ThreadsRequired};
 
 use nextest_config_values::read::{FromToml, ReadFault};
@@ -26,7 +26,7 @@ impl ThreadsRequired {
     /// The number of threads, where there are so many threads that run tests, and so many
     /// processors.
     pub fn compute(self, test_threads: usize, num_cpus: usize) -> usize
-        ensures { result ≡ computed test_threads num_cpus self }
+        ensures { result ≡ thread_count test_threads num_cpus self }
     {
         match self {
             ThreadsRequired::Count(threads) => threads,

@@ -5,7 +5,7 @@ use Rattle.std.specs.List.{AllByRecursion}
 use Rattle.toml.specs.Data.{Data, get_member, Members}
 use Rattle.toml.specs.Parse.{parse_document}
 use Rattle.nextest_config_values.proofs.Elements.{all_left, all_right, all_weaker}
-use Rattle.nextest_config_sources.specs.NextestVersion.{Ask, Asks, AsksFeatures, AsksVersions, experimental_key, FeatureSetting, KeepsForm, KeepsToolRule, MeansFeatures, MeansVersions, no_feature_setting, no_features, no_versions, TextAsks, version_key, Versions}
+use Rattle.nextest_config_sources.specs.NextestVersion.{Ask, Asks, AsksFeatures, AsksVersions, experimental_key, FeatureSetting, MeansFeatures, MeansVersions, no_feature_setting, no_features, no_versions, ObeysForm, ObeysToolRule, TextAsks, version_key, Versions}
 use Rattle.nextest_config_sources.specs.declared.nextest_version.edition.Edition.{Edition}
 use Rattle.nextest_config_sources.specs.declared.nextest_version.edition.Edition.TheVariants.{ArrayAllowed, TableOnly}
 use Rattle.nextest_config_sources.specs.declared.nextest_version.source.ConfigSourceKind.{ConfigSourceKind}
@@ -53,16 +53,16 @@ versions_asked edition (Some value) h = versions_well edition value h.0
 -- ---- `experimental`
 
 features_well : (edition : Edition) (value : Data) → IsJudgedWell edition (judged_at [] (key experimental_key) Experimental value)
-    → KeepsForm edition (Some value) × ((named : FeatureSetting) × MeansFeatures value named)
+    → ObeysForm edition (Some value) × ((named : FeatureSetting) × MeansFeatures value named)
 features_well edition value (inl means) = means
 features_well edition value (inr (fault, faulty, (of_duration, text))) =
     absurd (experimental_no_duration edition value (printed_path (key experimental_key ∷ [])) fault faulty of_duration)
 
-no_form : (edition : Edition) → KeepsForm edition None
+no_form : (edition : Edition) → ObeysForm edition None
 no_form ArrayAllowed = tt
 no_form TableOnly = refl
 
-no_name : (kind : ConfigSourceKind) → KeepsToolRule kind no_features
+no_name : (kind : ConfigSourceKind) → ObeysToolRule kind no_features
 no_name (Tool name) = refl
 no_name ExplicitRepository = tt
 no_name DiscoveredRepository = tt
@@ -70,9 +70,9 @@ no_name DiscoveredRepository = tt
 -- the features that are asked, in a form that is taken, and by a file that may name them
 record AskedFeatures (edition : Edition) (kind : ConfigSourceKind) (found : Option Data) : Type 0 where
   named : FeatureSetting
-  of_form : KeepsForm edition found
+  of_form : ObeysForm edition found
   of_features : AsksFeatures found named
-  of_tool : KeepsToolRule kind named.features
+  of_tool : ObeysToolRule kind named.features
 
 features_asked : (edition : Edition) (kind : ConfigSourceKind) (found : Option Data)
     → AllByRecursion (IsJudgedWell edition) (if_there [] (key experimental_key) Experimental found) → NamesNothingForTool edition kind found

@@ -6,7 +6,7 @@ use Rattle.toml.specs.Data.{Data, get_member, Members}
 use Rattle.nextest_config_values.specs.Read.Fault.{Fault}
 use Rattle.nextest_config_values.specs.Read.{Reason}
 use Rattle.nextest_config_values.proofs.Elements.{all_always, all_joined, all_left, all_right}
-use Rattle.nextest_config_sources.specs.NextestVersion.{experimental_key, Features, features_meant, FeatureSetting, KeepsToolRule}
+use Rattle.nextest_config_sources.specs.NextestVersion.{experimental_key, Features, features_meant, FeatureSetting, ObeysToolRule}
 use Rattle.nextest_config_sources.specs.declared.nextest_version.edition.Edition.{Edition}
 use Rattle.nextest_config_sources.specs.declared.nextest_version.source.ConfigSourceKind.{ConfigSourceKind}
 use Rattle.nextest_config_sources.specs.declared.nextest_version.source.ConfigSourceKind.TheVariants.{DiscoveredRepository, ExplicitRepository, Tool}
@@ -83,7 +83,7 @@ key_warned judged = key_for_warned (is_known judged.known judged.name) judged
 name_warned : (name : List ℕ) (here : Option Found) → IsNameFound name here → AreWarnings (option_to_list here)
 name_warned name here (hint, meant, is) = rw is (refl, tt)
 
-named_warned : (kind : ConfigSourceKind) (features : Features) (founds : List Found) → AreNamedFound kind features founds → AreWarnings founds ↔ KeepsToolRule kind features
+named_warned : (kind : ConfigSourceKind) (features : Features) (founds : List Found) → AreNamedFound kind features founds → AreWarnings founds ↔ ObeysToolRule kind features
 named_warned (Tool name) features founds (inl (none, is)) = (λ h. none, λ h. rw is tt)
 named_warned (Tool name) features founds (inr (some, (names, are, is))) =
     (λ h. absurd (cc ((subst AreWarnings is h).0)), λ none. absurd (some none))
@@ -96,7 +96,7 @@ features_warned edition kind None founds none = (λ h. tt, λ h. rw none tt)
 features_warned edition kind (Some value) founds (inl (kept, (named, means, are))) =
     let warned = named_warned kind named.features founds are in (
       λ h also_kept other means_too.
-          subst (λ (n : FeatureSetting). KeepsToolRule kind n.features) (features_meant.one_meaning value named other means means_too) (warned.0 h),
+          subst (λ (n : FeatureSetting). ObeysToolRule kind n.features) (features_meant.one_meaning value named other means means_too) (warned.0 h),
       λ names. warned.1 (names kept named means),
     )
 features_warned edition kind (Some value) founds (inr ((fault, faulty), none)) = (

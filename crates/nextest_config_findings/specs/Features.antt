@@ -2,7 +2,7 @@
 use Rattle.std.specs.Prelude.{◌≡◌, ◌≢◌, ◌⊎◌, ℕ, List, [], ◌∷◌, map, Option, Some, None, option_map}
 use Rattle.toml.specs.Data.{Data}
 use Rattle.nextest_config_values.specs.Read.Fault.{Fault}
-use Rattle.nextest_config_sources.specs.NextestVersion.{all_features, AreNames, experimental_key, Features, FeatureSetting, KeepsForm, MeansFeatures, no_features, word_of}
+use Rattle.nextest_config_sources.specs.NextestVersion.{all_features, AreNames, experimental_key, Features, FeatureSetting, MeansFeatures, no_features, ObeysForm, word_of}
 use Rattle.nextest_config_sources.specs.declared.nextest_version.edition.Edition.{Edition}
 use Rattle.nextest_config_sources.specs.declared.nextest_version.source.ConfigSourceKind.{ConfigSourceKind}
 use Rattle.nextest_config_sources.specs.declared.nextest_version.source.ConfigSourceKind.TheVariants.{DiscoveredRepository, ExplicitRepository, Tool}
@@ -19,7 +19,7 @@ features_path = key experimental_key ∷ []
 abbrev pub IsFeatureMeant : List ℕ → Option Meant → Type 0
 IsFeatureMeant name hint = (word : Option (List ℕ)) × IsNearest (map word_of all_features) name word × (hint ≡ option_map the_word word)
 
--- a name of no feature
+-- an unknown feature name
 abbrev pub IsNameFound : List ℕ → Option Found → Type 0
 IsNameFound name found = (hint : Option Meant) × IsFeatureMeant name hint × (found ≡ Some (found_at features_path (unknown_name name hint)))
 
@@ -39,5 +39,5 @@ AreNamedFound DiscoveredRepository features founds = AreFoundIn IsNameFound feat
 abbrev pub AreFeaturesFound : Edition → ConfigSourceKind → Option Data → List Found → Type 0
 AreFeaturesFound edition kind None founds = founds ≡ []
 AreFeaturesFound edition kind (Some value) founds =
-    (KeepsForm edition (Some value) × ((named : FeatureSetting) × MeansFeatures value named × AreNamedFound kind named.features founds))
+    (ObeysForm edition (Some value) × ((named : FeatureSetting) × MeansFeatures value named × AreNamedFound kind named.features founds))
     ⊎ (((fault : Fault) × ExperimentalFaults edition value experimental_key fault) × (founds ≡ []))

@@ -2,7 +2,7 @@
 use Rattle.std.specs.Prelude.{◌≡◌, ◌⊎◌, Option, Some, None}
 use Rattle.toml.specs.Data.{Data}
 use Rattle.nextest_config_values.specs.Read.Fault.{Fault}
-use Rattle.nextest_config_sources.specs.NextestVersion.{FeatureSetting, KeepsForm, KeepsToolRule, MeansFeatures}
+use Rattle.nextest_config_sources.specs.NextestVersion.{FeatureSetting, MeansFeatures, ObeysForm, ObeysToolRule}
 use Rattle.nextest_config_sources.specs.declared.nextest_version.edition.Edition.{Edition}
 use Rattle.nextest_config_sources.specs.declared.nextest_version.source.ConfigSourceKind.{ConfigSourceKind}
 use Rattle.nextest_config_lines.specs.Step.{printed_path}
@@ -37,5 +37,5 @@ IsJudgedWell edition judged =
 abbrev pub NamesNothingForTool : Edition → ConfigSourceKind → Option Data → Type 0
 NamesNothingForTool edition kind None = Unit {0}
 NamesNothingForTool edition kind (Some value) =
-    KeepsForm edition (Some value)
-    → (named : FeatureSetting) → MeansFeatures value named → KeepsToolRule kind named.features
+    ObeysForm edition (Some value)
+    → (named : FeatureSetting) → MeansFeatures value named → ObeysToolRule kind named.features

@@ -4,7 +4,7 @@ use Rattle.std.specs.Borrow.{Bor}
 use Rattle.toml.specs.Data.{Data, as_array, as_table}
 use Rattle.nextest_config_values.specs.Read.Fault.{Fault}
 use Rattle.nextest_config_values.specs.Read.{array_form, BooleanFaults, custom, fault_at, MeansBoolean, MeansWordText, wrong_type, WordTextFaults}
-use Rattle.nextest_config_sources.specs.NextestVersion.{FeatureSetting, FeaturesFaults, KeepsForm, MeansFeatures, MeansVersions, Versions, VersionsFaults}
+use Rattle.nextest_config_sources.specs.NextestVersion.{FeatureSetting, FeaturesFaults, MeansFeatures, MeansVersions, ObeysForm, Versions, VersionsFaults}
 use Rattle.nextest_config_sources.specs.declared.nextest_version.edition.Edition.{Edition}
 use Rattle.nextest_config_sources.specs.declared.nextest_version.edition.Edition.TheVariants.{ArrayAllowed, TableOnly}
 use Rattle.nextest_config_elements.specs.GlobalTimeout.{GlobalTimeoutFaults, MeansGlobalTimeout}
@@ -62,7 +62,7 @@ abbrev pub MeansSomething : Edition → Place → Data → Type 0
 MeansSomething edition places.Top value = Unit {0}
 MeansSomething edition places.Unread value = Unit {0}
 MeansSomething edition places.NextestVersion value = (versions : Versions) × MeansVersions value versions
-MeansSomething edition places.Experimental value = KeepsForm edition (Some value) × ((named : FeatureSetting) × MeansFeatures value named)
+MeansSomething edition places.Experimental value = ObeysForm edition (Some value) × ((named : FeatureSetting) × MeansFeatures value named)
 MeansSomething edition places.Profiles value = IsSome (as_table value)
 MeansSomething edition places.Profile value = IsSome (as_table value)
 MeansSomething edition places.Bench value = IsSome (as_table value)
@@ -99,7 +99,7 @@ IsBrokenForm TableOnly value = IsSome (as_array value)
 -- of `experimental`: its form, and where that is all right, what it holds
 abbrev pub ExperimentalFaults : Edition → Data → List ℕ → Fault → Type 0
 ExperimentalFaults edition value at fault =
-    (IsBrokenForm edition value × (fault ≡ fault_at at (custom array_form))) ⊎ (KeepsForm edition (Some value) × FeaturesFaults value at fault)
+    (IsBrokenForm edition value × (fault ≡ fault_at at (custom array_form))) ⊎ (ObeysForm edition (Some value) × FeaturesFaults value at fault)
 
 -- the value is refused at the place
 abbrev pub PlaceFaults : Edition → Place → Data → List ℕ → Fault → Type 0

@@ -5,7 +5,7 @@ use Rattle.toml.specs.Data.{Data, as_array, as_table}
 use Rattle.nextest_config_values.specs.Duration.{duration_meant}
 use Rattle.nextest_config_values.specs.Read.Fault.{Fault}
 use Rattle.nextest_config_values.specs.Read.{bool_reading, IsCheck, IsReading, kind_reading, word_reading, wrong_kind}
-use Rattle.nextest_config_sources.specs.NextestVersion.{features_meant, FeatureSetting, KeepsForm, MeansFeatures, versions_meant}
+use Rattle.nextest_config_sources.specs.NextestVersion.{features_meant, FeatureSetting, MeansFeatures, ObeysForm, versions_meant}
 use Rattle.nextest_config_sources.specs.declared.nextest_version.edition.Edition.{Edition}
 use Rattle.nextest_config_sources.specs.declared.nextest_version.edition.Edition.TheVariants.{ArrayAllowed, TableOnly}
 use Rattle.nextest_config_elements.specs.Junit.{flaky_fail_reads_back, flaky_fail_statuses, flaky_fail_word, junit_expected, junit_table}
@@ -48,28 +48,28 @@ arrays = record {
 
 -- ---- `experimental`
 
-kept_not_broken : (edition : Edition) (value : Data) → KeepsForm edition (Some value) → IsBrokenForm edition value → ⊥
-kept_not_broken ArrayAllowed value kept broken = broken
-kept_not_broken TableOnly value kept broken = cc (subst IsSome kept broken)
+obeyed_not_broken : (edition : Edition) (value : Data) → ObeysForm edition (Some value) → IsBrokenForm edition value → ⊥
+obeyed_not_broken ArrayAllowed value kept broken = broken
+obeyed_not_broken TableOnly value kept broken = cc (subst IsSome kept broken)
 
 one_experimental_fault : (edition : Edition) (value : Data) (at : List ℕ) (f g : Fault)
     → ExperimentalFaults edition value at f → ExperimentalFaults edition value at g → f ≡ g
 one_experimental_fault edition value at f g (inl a) (inl b) = a.1 ∙ sym b.1
 one_experimental_fault edition value at f g (inl a) (inr b) =
-    absurd (kept_not_broken edition value b.0 a.0)
+    absurd (obeyed_not_broken edition value b.0 a.0)
 one_experimental_fault edition value at f g (inr a) (inl b) =
-    absurd (kept_not_broken edition value a.0 b.0)
+    absurd (obeyed_not_broken edition value a.0 b.0)
 one_experimental_fault edition value at f g (inr a) (inr b) =
     features_meant.one_fault value at f g a.1 b.1
 
 -- the value is in a form that the edition takes, and names features
 abbrev NamesInForm : Edition → Data → Type 0
 NamesInForm edition value =
-    KeepsForm edition (Some value) × ((named : FeatureSetting) × MeansFeatures value named)
+    ObeysForm edition (Some value) × ((named : FeatureSetting) × MeansFeatures value named)
 
 never_named_and_refused : (edition : Edition) (value : Data) (at : List ℕ) (f : Fault)
     → NamesInForm edition value → ExperimentalFaults edition value at f → ⊥
-never_named_and_refused edition value at f a (inl b) = kept_not_broken edition value a.0 b.0
+never_named_and_refused edition value at f a (inl b) = obeyed_not_broken edition value a.0 b.0
 never_named_and_refused edition value at f a (inr b) =
     features_meant.never_both value at a.1.0 f a.1.1 b.1
 

@@ -15,7 +15,7 @@ use std::alloc::{AllocError, Global};
 use toml::Table;
 
 /// All that is wrong in the document of a source of this kind: what its readers refuse, value by value; what
-/// they don't judge; the features that a tool's file names, or the names of no feature; and the keys that
+/// they don't judge; the features that a tool's file names, or the unknown feature names; and the keys that
 /// aren't known where they stand.
 pub fn findings(
     alloc: Global,

@@ -108,7 +108,7 @@ fn tool_features(alloc: Global, named: &ExperimentalDeserialize) -> Result<Vec<F
     Ok(findings)
 }
 
-// Each name is one of no feature.
+// Each name is no feature's.
 fn unknown_features(alloc: Global, unknown: &BTreeSet<String>) -> Result<Vec<Finding>, AllocError>
     ensures { IfOk result (λ findings. (founds : List Found)
         × AreFoundIn IsNameFound (map string_bytes unknown.now.keys) founds × Tells findings.items founds) }
@@ -120,7 +120,7 @@ fn unknown_features(alloc: Global, unknown: &BTreeSet<String>) -> Result<Vec<Fin
     Ok(findings)
 }
 
-// Adds the finding of a name of no feature.
+// Adds the finding of an unknown feature name.
 fn add_feature(alloc: Global, name: &str, findings: &mut Vec<Finding>) -> Result<(), AllocError>
     ensures { OnOk result (AddsOne IsNameFound name.now findings.old.items findings.new.items) }
 {

@@ -5,7 +5,7 @@ ghost use Rattle.std.specs.Bool.{OnFalse, OnTrue};
 ghost use Rattle.toml.specs.Data.{as_array, as_table};
 ghost use Rattle.toml.specs.View.{view};
 ghost use Rattle.nextest_config_values.specs.Read.{Refuses};
-ghost use Rattle.nextest_config_sources.specs.NextestVersion.{feature_setting_of, KeepsForm, MeansFeatures};
+ghost use Rattle.nextest_config_sources.specs.NextestVersion.{feature_setting_of, MeansFeatures, ObeysForm};
 ghost use Rattle.nextest_config_findings.specs.Place.{ExperimentalFaults, IsBrokenForm, IsNoArray, IsNoTable, is_top, keys_of, keys_told, MeansSomething, PlaceFaults};
 
 use nextest_config_elements::global_timeout::GlobalTimeout;
@@ -263,7 +263,7 @@ pub(crate) fn read_experimental(
     value: &Value,
     at: &str,
 ) -> Result<ExperimentalDeserialize, ReadFault>
-    ensures form { OnOk result (KeepsForm edition (Some (view value.now))) }
+    ensures form { OnOk result (ObeysForm edition (Some (view value.now))) }
     ensures meant { IfOk result (λ d. MeansFeatures (view value.now) (feature_setting_of d)) }
     ensures refused { IfErr result
         (Refuses (ExperimentalFaults edition (view value.now) at.now) (Unit {0})) }
@@ -277,7 +277,7 @@ pub(crate) fn read_experimental(
 // Whether the value is an array, where the edition takes tables only.
 fn breaks_form(edition: Edition, value: &Value) -> bool
     ensures yes { OnTrue result (IsBrokenForm edition (view value.now)) }
-    ensures no { OnFalse result (KeepsForm edition (Some (view value.now))) }
+    ensures no { OnFalse result (ObeysForm edition (Some (view value.now))) }
 {
     match edition {
         Edition::ArrayAllowed => false,

@@ -3,7 +3,7 @@ use Rattle.std.proofs.Common.{◌≡◌, ℕ, ◌<◌, ◌≤◌, List, [], ◌�
 use Rattle.toml.proofs.OnLiterals.{toml_on_literals}
 use Rattle.toml.specs.Data.{Members, no_members}
 use Rattle.toml.specs.Parse.{parse_document}
-use Rattle.nextest_config_lines.specs.Line.{found_in, IsReadCut, HasNoLine, LeadsIn}
+use Rattle.nextest_config_lines.specs.Line.{found_in, IsReadFront, HasNoLine, LeadsIn}
 use Rattle.nextest_config_lines.specs.Step.{PathStep, index, key, step_of}
 use Rattle.nextest_config_lines.specs.declared.step.Step.{Step}
 
@@ -47,5 +47,5 @@ leads_not text front path members reads nowhere leads =
     nowhere (subst (λ (m : Members). IsSome (found_in m path)) same leads.leads)
 
 -- a text that is no document is no cut that reads
-pub reads_not : (text front : List ℕ) → parse_document front ≡ None → IsReadCut text front → ⊥
+pub reads_not : (text front : List ℕ) → parse_document front ≡ None → IsReadFront text front → ⊥
 reads_not text front unread read = cc (unread, read.reads)

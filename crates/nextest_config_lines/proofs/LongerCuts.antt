@@ -5,7 +5,7 @@ use Rattle.std.proofs.lemmas.Option.{none-some, same_Some}
 use Rattle.toml.specs.Data.{Members}
 use Rattle.toml.specs.Parse.{lines, parse_document, skip_bom}
 use Rattle.toml.specs.Tables.{close, Document, no_nodes}
-use Rattle.nextest_config_lines.specs.Line.{found_in, IsReadCut, LeadsIn}
+use Rattle.nextest_config_lines.specs.Line.{found_in, IsReadFront, LeadsIn}
 use Rattle.nextest_config_lines.specs.Step.{PathStep}
 use Rattle.nextest_config_lines.proofs.Cuts.{front_of_front}
 use Rattle.nextest_config_lines.proofs.Extension.Lexical.{ended}
@@ -50,7 +50,7 @@ leads_longer s more a b path reads reads_on leads =
     subst (λ m. IsSome (found_in m path)) second.closed (kept_paths first.document.0 second.document.0 kept path (subst (λ m. IsSome (found_in m path)) (sym first.closed) leads))
 
 -- the same of two cuts of a text
-pub leads_in_longer : (text front other : List ℕ) (path : List PathStep) → LeadsIn text path front → IsReadCut text other → length front ≤ length other → LeadsIn text path other
+pub leads_in_longer : (text front other : List ℕ) (path : List PathStep) → LeadsIn text path front → IsReadFront text other → length front ≤ length other → LeadsIn text path other
 leads_in_longer text front other path leads read longer =
     let (more, other_is, rest_is) = front_of_front front leads.read.cut.rest other read.cut.rest (sym leads.read.cut.whole ∙ read.cut.whole) longer in
     elim leads.read.cut.ends [

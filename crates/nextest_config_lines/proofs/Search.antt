@@ -8,8 +8,8 @@ use Rattle.std.proofs.lemmas.Option.{none-some, same_Some}
 use Rattle.toml.specs.Data.{Members}
 use Rattle.toml.specs.Parse.{parse_document}
 use Rattle.nextest_config_values.specs.Characters.{line_feed}
-use Rattle.nextest_config_lines.specs.Line.{found_in, IsCut, IsLineOf, IsReadCut, LeadsIn, line_behind}
-use Rattle.nextest_config_lines.specs.Search.{EndsCut, IsLastThatReads, IsLineEnd, NoLineEnds, NoneReads}
+use Rattle.nextest_config_lines.specs.Line.{found_in, IsLineFront, IsLineOf, IsReadFront, LeadsIn, line_behind}
+use Rattle.nextest_config_lines.specs.Search.{EndsFront, IsLastThatReads, IsLineEnd, NoLineEnds, NoneReads}
 use Rattle.nextest_config_lines.specs.Step.{PathStep}
 use Rattle.nextest_config_lines.proofs.Cuts.{leads_in_some, leads_not, reads_not}
 use Rattle.nextest_config_lines.proofs.LongerCuts.{leads_in_longer}
@@ -17,7 +17,7 @@ use Rattle.nextest_config_lines.proofs.LongerCuts.{leads_in_longer}
 -- ---- line ends and cuts
 
 -- a front that ends with a line is a cut
-cut_at : (text : List ℕ) (place : ℕ) → IsLineEnd text place → IsCut text (take place text)
+cut_at : (text : List ℕ) (place : ℕ) → IsLineEnd text place → IsLineFront text (take place text)
 cut_at text place is_end =
     let line : take (place - 1 + 1) text ≡ take (place - 1) text ++ (get_or text (place - 1) 0 ∷ []) = take_more text (place - 1) 0 (omega (arith, is_end.some, is_end.within)) in
     let whole : place - 1 + 1 ≡ place = omega (arith, is_end.some) in
@@ -28,17 +28,17 @@ cut_at text place is_end =
     }
 
 -- and so is all of the text
-cut_there : (text : List ℕ) (place : ℕ) → EndsCut text place → IsCut text (take place text)
+cut_there : (text : List ℕ) (place : ℕ) → EndsFront text place → IsLineFront text (take place text)
 cut_there text place (inl is_end) = cut_at text place is_end
 cut_there text place (inr all) = record { rest = []; whole = sym (append-nil (take place text) ∙ take_all place text (omega (arith, all))); ends = inr refl }
 
 -- such a place is within the text
-pub place_within : (text : List ℕ) (place : ℕ) → EndsCut text place → place ≤ length text
+pub place_within : (text : List ℕ) (place : ℕ) → EndsFront text place → place ≤ length text
 place_within text place (inl is_end) = is_end.within
 place_within text place (inr all) = omega (arith, all)
 
 -- a text may be cut there
-pub boundary_there : (text : List ℕ) (place : ℕ) → IsUtf8 text → EndsCut text place → IsCharBoundary text place
+pub boundary_there : (text : List ℕ) (place : ℕ) → IsUtf8 text → EndsFront text place → IsCharBoundary text place
 boundary_there text place utf8 (inl is_end) =
     let whole : place - 1 + 1 ≡ place = omega (arith, is_end.some) in
     subst (IsCharBoundary text) whole (IsCharBoundary-after_ascii text (place - 1) utf8 (omega (arith, is_end.some, is_end.within)) (omega (arith, is_end.feed)))
@@ -50,7 +50,7 @@ byte_at [] rest byte = refl
 byte_at (x ∷ front) rest byte = byte_at front rest byte
 
 -- and a shorter cut than all of the text ends with a line
-end_of_cut : (text other : List ℕ) → IsCut text other → length other < length text → IsLineEnd text (length other)
+end_of_cut : (text other : List ℕ) → IsLineFront text other → length other < length text → IsLineEnd text (length other)
 end_of_cut text other cut shorter =
     elim cut.ends [
       | inl ends ↦
@@ -66,7 +66,7 @@ end_of_cut text other cut shorter =
     ]
 
 -- a cut is the front of its length
-front_is : (text other : List ℕ) → IsCut text other → other ≡ take (length other) text
+front_is : (text other : List ℕ) → IsLineFront text other → other ≡ take (length other) text
 front_is text other cut = sym (ap (take (length other)) cut.whole ∙ take_at other cut.rest (length other) refl)
 
 -- how long a front is
@@ -109,7 +109,7 @@ none_is None is some = cc some
 none_is (Some x) is some = cc is
 
 -- a document, and what the path leads to in it
-pub read_at : (text : List ℕ) (path : List PathStep) (floor end place : ℕ) (leads : Bool) → EndsCut text place → floor < place → place ≤ end → NoneReads text place end
+pub read_at : (text : List ℕ) (path : List PathStep) (floor end place : ℕ) (leads : Bool) → EndsFront text place → floor < place → place ≤ end → NoneReads text place end
     → Some leads ≡ option_map (λ top. is_some (found_in top path)) (parse_document (take place text)) → IsLastThatReads text path floor end place leads
 read_at text path floor end place leads is_end behind up_to later is =
     let (top, reads, found) = members_of (parse_document (take place text)) path leads is in
@@ -133,7 +133,7 @@ leads_behind text path floor end place found within other led =
     ]
 
 -- a cut is no longer than the text
-cut_within : (text front : List ℕ) → IsCut text front → length front ≤ length text
+cut_within : (text front : List ℕ) → IsLineFront text front → length front ≤ length text
 cut_within text front cut = omega (arith, ap length cut.whole, length-append front cut.rest)
 
 -- and in none at all
@@ -155,7 +155,7 @@ leads_there text path floor end place found = record { read = found.read; leads 
 -- up to the second one. Up to the last place the path leads to a value.
 pub record IsSearch (text : List ℕ) (path : List PathStep) (low floor high : ℕ) : Type 0 where
   pub low_within : low ≤ floor
-  pub read : (low ≡ 0) ⊎ IsReadCut text (take low text)
+  pub read : (low ≡ 0) ⊎ IsReadFront text (take low text)
   pub nowhere : (other : List ℕ) → LeadsIn text path other → low < length other
   pub unread : NoneReads text low floor
   pub leads : LeadsIn text path (take high text)
@@ -216,7 +216,7 @@ module _ {text : List ℕ} {path : List PathStep} {low floor high : ℕ} (so : I
 
   module _ (none : NoLineEnds text floor high) where
     -- a document is no longer than the last one in which the path leads to no value
-    read_within : (other : List ℕ) → IsReadCut text other → length other < high → length other ≤ low
+    read_within : (other : List ℕ) → IsReadFront text other → length other < high → length other ≤ low
     read_within other read shorter =
         elim (cases_lt low (length other)) [
           | inr within ↦ within
@@ -226,7 +226,7 @@ module _ {text : List ℕ} {path : List PathStep} {low floor high : ℕ} (so : I
           ]
         ]
 
-    low_read : (low ≡ 0) ⊎ IsReadCut text (take low text) → (take low text ≡ []) ⊎ IsReadCut text (take low text)
+    low_read : (low ≡ 0) ⊎ IsReadFront text (take low text) → (take low text ≡ []) ⊎ IsReadFront text (take low text)
     low_read (inl first) = inl (ap (λ n. take n text) first)
     low_read (inr read) = inr read
 

@@ -30,27 +30,27 @@ abbrev pub EndsLine : List ℕ → Type 0
 EndsLine text = (line : List ℕ) × (text ≡ line ++ (line_feed ∷ []))
 
 -- a front of the text that ends in a line feed, or is all of it
-pub record IsCut (text front : List ℕ) : Type 0 where
+pub record IsLineFront (text front : List ℕ) : Type 0 where
   pub rest : List ℕ
   pub whole : text ≡ front ++ rest
   pub ends : EndsLine front ⊎ (rest ≡ [])
 
 -- such a front that is a document
-pub record IsReadCut (text front : List ℕ) : Type 0 where
-  pub cut : IsCut text front
+pub record IsReadFront (text front : List ℕ) : Type 0 where
+  pub cut : IsLineFront text front
   pub members : Members
   pub reads : parse_document front ≡ Some members
 
 -- and in which the path leads to a value
 pub record LeadsIn (text : List ℕ) (path : List PathStep) (front : List ℕ) : Type 0 where
-  pub read : IsReadCut text front
+  pub read : IsReadFront text front
   pub leads : IsSome (found_in read.members path)
 
 -- the last front before this one that is a document, or nothing
 pub record IsLastBefore (text front before : List ℕ) : Type 0 where
-  pub read : (before ≡ []) ⊎ IsReadCut text before
+  pub read : (before ≡ []) ⊎ IsReadFront text before
   pub shorter : length before < length front
-  pub is_last : (other : List ℕ) → IsReadCut text other → length other < length front → length other ≤ length before
+  pub is_last : (other : List ℕ) → IsReadFront text other → length other < length front → length other ≤ length before
 
 -- the number of the line, from 1, that begins behind this front
 abbrev pub line_behind : List ℕ → ℕ

@@ -7,7 +7,7 @@ ghost use Rattle.toml.specs.Parse.{parse_document};
 ghost use Rattle.toml.specs.View.{table_view, view};
 ghost use Rattle.nextest_config_lines.specs.Line.{found_below, found_in, HasNoLine, IsLine};
 ghost use Rattle.nextest_config_lines.specs.Line.{IsLineOf, LeadsIn, line_behind};
-ghost use Rattle.nextest_config_lines.specs.Search.{EndsCut, IsLastLineEnd, IsLastThatReads};
+ghost use Rattle.nextest_config_lines.specs.Search.{EndsFront, IsLastLineEnd, IsLastThatReads};
 ghost use Rattle.nextest_config_lines.specs.Search.{IsLineEndBetween, NoLineEnds, NoneReads};
 ghost use Rattle.nextest_config_lines.specs.Step.{step_of};
 
@@ -77,7 +77,7 @@ fn last_that_reads(
     floor: usize,
     end: usize,
 ) -> Result<Option<(usize, bool)>, AllocError>
-    requires is_end { EndsCut contents.now end }
+    requires is_end { EndsFront contents.now end }
     requires behind { floor < end }
     ensures { IfOk result (λ found. MatchOption found (NoneReads contents.now floor end)
         (λ found. IsLastThatReads contents.now (map step_of path.now) floor end found.0 found.1)) }

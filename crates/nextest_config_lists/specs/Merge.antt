@@ -1,4 +1,4 @@
--- Values that are joined in order, pieces that are read of sources, lists in pieces, and lists in another order.
+-- Values that are joined in order, pieces that are read of sources, lists in parts, and lists in another order.
 use Rattle.std.specs.Prelude.{◌≡◌, ℕ, ◌+◌, ◌^◌, ◌<◌, List, [], ◌∷◌, ◌++◌, length, map}
 use Rattle.std.specs.List.{AllZip, flat_map}
 use Rattle.std.specs.List.Sorted.{IsPermutation}
@@ -68,9 +68,9 @@ behind front refusals.Memory = refusals.Memory
 abbrev pub in_a_row : {X : Type 0} → List (List X) → List X
 in_a_row lists = flat_map (λ list. list) lists
 
--- the pieces, some of them perhaps empty, make up the list
+-- the parts, some of them perhaps empty, make up the list
 abbrev pub IsCut : {X : Type 0} → List X → List (List X) → Type 0
-IsCut list pieces = in_a_row pieces ≡ list
+IsCut list parts = in_a_row parts ≡ list
 
 -- the second list has the same positions as the first, in another order
 abbrev pub IsReordering : {X : Type 0} → List X → List X → Type 0

@@ -2,17 +2,17 @@
 use Rattle.std.specs.Prelude.{ℕ, Bool, true, false, List, [], ◌∷◌, ◌++◌, map, flat_map, codes}
 use Rattle.semver.specs.Identifiers.{parts_text}
 use Rattle.semver.specs.Parse.{Parts}
-use Rattle.nextest_config_values.specs.Read.{joined, quoted_texts}
+use Rattle.nextest_config_values.specs.Read.{comma_list, quoted_texts}
 use Rattle.nextest_config.specs.NextestVersion.ExperimentalConfig.{Experimental}
 use Rattle.nextest_config.specs.NextestVersion.Verdict.{Verdict}
 use Rattle.nextest_config_sources.specs.NextestVersion.{Place, place_text, word_of}
 use Rattle.nextest_config.specs.NextestVersion.{error, satisfied, Unknown, warn}
 use Rattle.nextest_config_sources.specs.declared.nextest_version.experimental.ConfigExperimental.{ConfigExperimental}
 
--- what a verdict is called, by whether it is overridden
-abbrev pub called : List ℕ → Bool → List ℕ
-called says true = says ++ codes " (overridden)"
-called says false = says
+-- the word of a verdict, by whether it is overridden
+abbrev pub verdict_word : List ℕ → Bool → List ℕ
+verdict_word says true = says ++ codes " (overridden)"
+verdict_word says false = says
 
 -- the current version isn't enough for the one that a place asks in this role
 abbrev pub shortfall_text : List ℕ → Parts → List ℕ → Place → Parts → List ℕ
@@ -22,15 +22,15 @@ shortfall_text says asked role place current =
 -- a verdict on the current version
 abbrev pub verdict_text : Parts → Verdict → List ℕ
 verdict_text current satisfied = codes "satisfied: " ++ parts_text current
-verdict_text current (warn s) = shortfall_text (called (codes "warning") s.overridden) s.asked (codes "recommended") s.place s.current
-verdict_text current (error s) = shortfall_text (called (codes "error") s.overridden) s.asked (codes "required") s.place s.current
+verdict_text current (warn s) = shortfall_text (verdict_word (codes "warning") s.overridden) s.asked (codes "recommended") s.place s.current
+verdict_text current (error s) = shortfall_text (verdict_word (codes "error") s.overridden) s.asked (codes "required") s.place s.current
 
 -- the words of the known features, or that there is none
 abbrev pub known_text : List ConfigExperimental → List ℕ
 known_text [] = codes "none"
-known_text (feature ∷ features) = joined (map word_of (feature ∷ features))
+known_text (feature ∷ features) = comma_list (map word_of (feature ∷ features))
 
--- the line of a source that has names of no feature
+-- the line of a source that has unknown feature names
 abbrev pub unknown_line : Unknown → List ℕ
 unknown_line unknown = codes "unknown in " ++ (place_text unknown.place ++ (codes ": " ++ (quoted_texts unknown.names ++ codes "\n")))
 
@@ -38,7 +38,7 @@ unknown_line unknown = codes "unknown in " ++ (place_text unknown.place ++ (code
 abbrev pub array_line : Place → List ℕ
 array_line place = codes "deprecated array form in " ++ (place_text place ++ codes "\n")
 
--- the lines of the features: the known ones, the sources that have names of no feature, and those that name theirs in an array
+-- the lines of the features: the known ones, the sources that have unknown feature names, and those that name theirs in an array
 abbrev pub features_text : Experimental → List ℕ
 features_text experimental =
     codes "known: " ++ (known_text experimental.known ++ (codes "\n" ++ (flat_map unknown_line experimental.unknown ++ flat_map array_line experimental.arrays)))

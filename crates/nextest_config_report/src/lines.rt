@@ -104,7 +104,7 @@ fn shortfall_line(
 }
 
 /// Pushes the lines of the features: the words of the known ones, or that there is none, then a
-/// line for each source that has names of no feature, and then one for each that names its features
+/// line for each source that has unknown feature names, and then one for each that names its features
 /// in an array. Where memory is refused, some of it may have been pushed.
 pub fn push_features(text: &mut String, experimental: &ExperimentalConfig) -> Result<(), AllocError>
     ensures { OnOk result (string_bytes text.new
@@ -134,7 +134,7 @@ fn push_known(text: &mut String, known: &BTreeSet<ConfigExperimental>) -> Result
     Ok(())
 }
 
-// Pushes a line for each source that has names of no feature.
+// Pushes a line for each source that has unknown feature names.
 fn push_unknown(text: &mut String, errors: SourceErrors<'_>) -> Result<(), AllocError>
     ensures { OnOk result (string_bytes text.new
         ≡ string_bytes text.old ++ flat_map unknown_line (errors_left errors.entry)) }

@@ -1,4 +1,4 @@
-//! Calls that have no answer for want of memory.
+//! Calls that have no answer for running out of memory.
 
 use nextest_config_calls::announced::{Runner, begin, written};
 use nextest_config_calls::inputs::FromInput;

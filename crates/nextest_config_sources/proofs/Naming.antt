@@ -23,7 +23,7 @@ use Rattle.nextest_config_values.proofs.Faults.{refused_mapped}
 use Rattle.nextest_config_values.specs.Read.Fault.{Fault}
 use Rattle.nextest_config_values.specs.Read.{Refuses}
 use Rattle.nextest_config_values.specs.declared.read.fault.ReadFault.{ReadFault}
-use Rattle.nextest_config_sources.specs.NextestVersion.{AddsItem, AddsText, all_features, AreNamed, AreNames, feature_cmp, FeatureArrayFaults, Features, FeaturesInOrder, FeatureTableFaults, FirstSwitchFaults, HasOneMore, IsAmong, IsTextAt, IsUnknown, IsUnknownKey, IsWordAmong, ItemFaults, MeansFeatureArray, MeansSwitch, no_features, switch, SwitchFaults, text_in, TextsInOrder, word_of}
+use Rattle.nextest_config_sources.specs.NextestVersion.{AddsItem, AddsText, all_features, AreNamed, AreNames, feature_cmp, FeatureArrayFaults, Features, FeaturesInOrder, FeatureTableFaults, FirstSwitchFaults, HasOneMore, IsAmong, IsTextAt, IsUnknown, IsUnknownFeatureKey, IsWordAmong, ItemFaults, MeansFeatureArray, MeansSwitch, no_features, switch, SwitchFaults, text_in, TextsInOrder, word_of}
 use Rattle.nextest_config_sources.specs.declared.nextest_version.experimental.ConfigExperimental.{ConfigExperimental}
 use Rattle.nextest_config_sources.specs.declared.nextest_version.experimental.ConfigExperimental.TheVariants as features
 use Rattle.nextest_config_values.proofs.Elements.{all_joined}
@@ -239,7 +239,7 @@ pub key_unknown : (ks : List (Bor (String Global))) (key : Bor (String Global)) 
 key_unknown ks key before after are more none = rw (map-append seen_key ks (key ∷ [])) (one_that_holds IsUnknown (map seen_key ks) before after (string_bytes key.now) are more none)
 
 pub all_keys : (entries : List Entry) (ks : List (Bor (String Global))) (those : List (List ℕ)) → map deref ks ≡ keys_of entries → AreThoseOf IsUnknown (map seen_key ks) those
-    → (text : List ℕ) → Contains those text ↔ IsUnknownKey (members_view entries) text
+    → (text : List ℕ) → Contains those text ↔ IsUnknownFeatureKey (members_view entries) text
 all_keys entries ks those all are text =
     let same : map seen_key ks ≡ map string_bytes (keys_of entries) = sym (map-map string_bytes deref ks) ∙ ap (map string_bytes) all in (
       λ h. ((among_keys entries text).0 (subst (λ xs. Contains xs text) same ((are text).0 h).0), ((are text).0 h).1),

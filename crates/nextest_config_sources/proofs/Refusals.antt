@@ -9,7 +9,7 @@ use Rattle.nextest_config_sources.specs.NextestVersion.{IsSettingKind, MeansVers
 use Rattle.nextest_config_sources.specs.declared.nextest_version.error_kind.ConfigParseErrorKind.{ConfigParseErrorKind}
 use Rattle.nextest_config_values.proofs.Faults.{fault_mapped, refused_mapped}
 
--- what follows where a fault, or the want of memory, is spoken of twice
+-- what follows where a fault, or running out of memory, is spoken of twice
 pub told_twice : {F A B C : Type 0} {P Q : F → Type 0} (told : Option F) → FaultOrMemory told A P → FaultOrMemory told B Q → (A → B → C) → ((fault : F) → P fault → Q fault → C) → C
 told_twice (Some fault) h k f g = g fault h k
 told_twice None h k f g = f h k

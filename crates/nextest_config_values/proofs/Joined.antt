@@ -1,6 +1,6 @@
 -- Texts that are written one behind the other, with separators.
 use Rattle.std.proofs.Common.{◌≡◌, ℕ, List, [], ◌∷◌, ◌++◌, codes, map, refl, sym, ap, ◌∙◌, append_assoc}
-use Rattle.nextest_config_values.specs.Read.{joined}
+use Rattle.nextest_config_values.specs.Read.{comma_list}
 
 -- what stands before a text that comes behind these
 abbrev pub separator_behind : {X : Type 0} → List X → List ℕ
@@ -11,9 +11,9 @@ pub separator_more : {X : Type 0} (xs : List X) (x : X) → codes ", " ≡ separ
 separator_more [] x = refl
 separator_more (first ∷ rest) x = refl
 
-pub joined_more : {X : Type 0} (text : X → List ℕ) (xs : List X) (x : X) → joined (map text (xs ++ (x ∷ []))) ≡ joined (map text xs) ++ (separator_behind xs ++ text x)
+pub joined_more : {X : Type 0} (text : X → List ℕ) (xs : List X) (x : X) → comma_list (map text (xs ++ (x ∷ []))) ≡ comma_list (map text xs) ++ (separator_behind xs ++ text x)
 joined_more text [] x = refl
 joined_more text (first ∷ []) x = refl
 joined_more text (first ∷ next ∷ rest) x =
     ap (λ more. text first ++ (codes ", " ++ more)) (joined_more text (next ∷ rest) x)
-    ∙ sym (append_assoc (text first) (codes ", " ++ joined (map text (next ∷ rest))) (codes ", " ++ text x))
+    ∙ sym (append_assoc (text first) (codes ", " ++ comma_list (map text (next ∷ rest))) (codes ", " ++ text x))

@@ -6,7 +6,7 @@ pub mod ConfigIdentifier
 pub mod ToolName
 pub mod Laws
 pub use Error.{flawed, identifier_fault, identifier_fault_text, IdentifierFlaw, NameFault, tool_name_fault, tool_name_fault_text, ToolNameFlaw}
-pub use Normal.{AnswersAlike, IsKeptText, IsNormalFault, IsQuicklyNormal, NameFaults, normal_chars, normal_form}
+pub use Normal.{IsKeptText, IsNormalFault, IsQuicklyNormal, NameFaults, normal_chars, normal_form, SameAnswers}
 pub use KeptText.{FitsInline, inline_capacity, IsPlaced, text_at}
 pub use ConfigIdentifier.{AreComponents, AreFlawed, HasNoColon, IdentifierFaults, IsCutAtColon, IsIdentifier, IsIdentifierFault, IsIdentifierFlaw, IsIdentifierForm, IsMarked, tool_mark}
 pub use ToolName.{IsToolName, IsToolNameFault, IsToolNameFlaw, ToolNameFaults}

@@ -3,7 +3,7 @@
 ghost use Rattle.std.specs.Prelude.{◌≡◌, ◌+◌, ◌++◌, ◌<◌, ◌^◌, ℕ, Bool, false, not, chars, length, IfErr, IfOk};
 ghost use Rattle.std.specs.Duration.{as_nanos};
 ghost use Rattle.std.specs.Fn.{AlwaysReturns};
-ghost use Rattle.nextest_config_values.specs.Duration.{duration_reading, DurationFaults, IsCutBehind, IsDuration, IsDurationFault, IsFaultAt, IsReadItem, length_in, MeansDuration, rows, SameLength, unit_length};
+ghost use Rattle.nextest_config_values.specs.Duration.{duration_reading, DurationFaults, DurationsAlike, IsCutBehind, IsDuration, IsDurationFault, IsFaultAt, IsReadItem, length_in, MeansDuration, rows, unit_length};
 
 use crate::read::{FromToml, ReadFault};
 use std::alloc::Global;
@@ -163,7 +163,7 @@ impl FromToml for Duration {
 
     ghost needs_memory = { false };
 
-    ghost alike = { SameLength };
+    ghost alike = { DurationsAlike };
 
     ghost laws = { duration_reading };
 

@@ -7,7 +7,7 @@ ghost use Rattle.std.specs.Ordering.{nat_cmp};
 ghost use Rattle.nextest_config_values.specs.Duration.{IsDuration, IsDurationFault, Item, Spells};
 ghost use Rattle.nextest_config_values.specs.declared.duration.DurationFault.{DurationFault};
 ghost use Rattle.nextest_config_values.specs.Equality.{IsCopy, IsEquality, IsEqualityBy, IsEqualityOfTold};
-ghost use Rattle.nextest_config_values.specs.Identifier.{AnswersAlike, identifier_fault, IdentifierFlaw, IsIdentifier, IsIdentifierFault, IsToolName, IsToolNameFault, NameFault, normal_chars, tool_name_fault, ToolNameFlaw};
+ghost use Rattle.nextest_config_values.specs.Identifier.{identifier_fault, IdentifierFlaw, IsIdentifier, IsIdentifierFault, IsToolName, IsToolNameFault, NameFault, normal_chars, SameAnswers, tool_name_fault, ToolNameFlaw};
 ghost use Rattle.nextest_config_values.specs.Read.{broken_rule, fault_of, reason_of};
 ghost use Rattle.nextest_config_values.specs.ToolConfig.{Argument, argument_fault, argument_of, ArgumentFault, IsArgumentFault, IsToolArgument};
 ghost use Rattle.nextest_config_values.specs.declared.track_default.TrackDefault.{TrackDefault};
@@ -62,9 +62,9 @@ pub fn law_name_order()
 /// and so for tool names.
 pub fn law_same_normal_form()
     ensures identifiers { (s t : List ℕ) → normal_chars s ≡ normal_chars t
-        → AnswersAlike (IsIdentifier s) (IsIdentifier t) × AnswersAlike (IsIdentifierFault s) (IsIdentifierFault t) }
+        → SameAnswers (IsIdentifier s) (IsIdentifier t) × SameAnswers (IsIdentifierFault s) (IsIdentifierFault t) }
     ensures tool_names { (s t : List ℕ) → normal_chars s ≡ normal_chars t
-        → AnswersAlike (IsToolName s) (IsToolName t) × AnswersAlike (IsToolNameFault s) (IsToolNameFault t) }
+        → SameAnswers (IsToolName s) (IsToolName t) × SameAnswers (IsToolNameFault s) (IsToolNameFault t) }
 {}
 
 /// No text is spelled by two lists of items, wherever white space stands; none has two durations, two

@@ -1,4 +1,4 @@
-//! Lists that are cut, read in pieces and merged in order.
+//! Lists that are cut into parts, each read, and merged in order.
 
 use crate::pieces::eval_in_pieces;
 use crate::runner::check;

@@ -1,4 +1,4 @@
-//! What was read of the pieces of a list, joined, and joins that are refused.
+//! What was read of the parts of a list, joined, and joins that are refused.
 
 ghost use Rattle.std.specs.Prelude.{List, ℕ, [], ◌++◌, refl};
 ghost use Rattle.std.proofs.lemmas.List.{append_assoc, append-nil};

@@ -3,7 +3,7 @@ use Rattle.std.specs.Prelude.{◌≡◌, ◌≢◌, ◌⊎◌, ℕ, List, [], �
 use Rattle.std.specs.List.{AllByRecursion}
 use Rattle.nextest_config.specs.Board.Slots.{asked_at, BoardState, IsChanged, IsPut}
 use Rattle.nextest_config_sources.specs.NextestVersion.Source.{Source}
-use Rattle.nextest_config.specs.NextestVersion.VersionOnly.{Asked, IsRead}
+use Rattle.nextest_config.specs.NextestVersion.VersionOnly.{IsRead, SourceAsk}
 use Rattle.nextest_config_sources.specs.NextestVersion.VersionOnlyDeserialize.{Ask}
 
 -- a change that a board accepts: a source is put into a slot, or the slot is left empty
@@ -36,12 +36,12 @@ source_left (put slot source) = Some source
 source_left (withdraw slot) = None
 
 -- the slot holds the versions that the source asks, and nothing where there is none
-abbrev pub HoldsSource : Option Source → Option Asked → Type 0
+abbrev pub HoldsSource : Option Source → Option SourceAsk → Type 0
 HoldsSource None held = held ≡ None
 HoldsSource (Some source) held = (ask : Ask) × IsRead source ask × (held ≡ Some (asked_at source.place ask.versions))
 
 -- the command leaves this in its slot
-abbrev pub Leaves : Command → Option Asked → Type 0
+abbrev pub Leaves : Command → Option SourceAsk → Type 0
 Leaves command = HoldsSource (source_left command)
 
 -- the command changes another slot
@@ -49,7 +49,7 @@ abbrev pub IsOfOther : ℕ → Command → Type 0
 IsOfOther slot command = slot_in command ≢ slot
 
 -- this is what the last command of the slot leaves
-pub record IsLeft (commands : List Command) (slot : ℕ) (held : Option Asked) : Type 0 where
+pub record IsLeft (commands : List Command) (slot : ℕ) (held : Option SourceAsk) : Type 0 where
   pub before : List Command
   pub last : Command
   pub after : List Command
@@ -59,7 +59,7 @@ pub record IsLeft (commands : List Command) (slot : ℕ) (held : Option Asked) :
   pub others_later : AllByRecursion (IsOfOther slot) after
 
 -- the slot holds what its last command leaves, and nothing where it has no command
-abbrev pub HoldsLast : List Command → ℕ → Option Asked → Type 0
+abbrev pub HoldsLast : List Command → ℕ → Option SourceAsk → Type 0
 HoldsLast commands slot held = IsLeft commands slot held ⊎ (AllByRecursion (IsOfOther slot) commands × (held ≡ None))
 
 -- ---- the sources themselves

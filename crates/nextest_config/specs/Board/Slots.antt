@@ -6,33 +6,33 @@ use Rattle.nextest_config_sources.specs.NextestVersion.ExperimentalDeserialize.{
 use Rattle.nextest_config_sources.specs.NextestVersion.NextestVersionDeserialize.{Versions, versions}
 use Rattle.nextest_config.specs.NextestVersion.KeptVersions.{Kept, Roles}
 use Rattle.nextest_config_sources.specs.NextestVersion.Source.{Place, Source, place_of}
-use Rattle.nextest_config.specs.NextestVersion.VersionOnly.{Asked, IsRead}
+use Rattle.nextest_config.specs.NextestVersion.VersionOnly.{IsRead, SourceAsk}
 use Rattle.nextest_config_sources.specs.NextestVersion.VersionOnlyDeserialize.{Ask}
 use Rattle.nextest_config.specs.declared.board.role_pair.AskedAt.{AskedAt}
 use Rattle.nextest_config.specs.declared.board.role_pair.RolePair.{RolePair}
 use Rattle.nextest_config_sources.specs.declared.nextest_version.source.ConfigSource.{ConfigSource}
 
 -- the versions that a source at this place asks; a board keeps no features
-abbrev pub asked_at : Place → Versions → Asked
+abbrev pub asked_at : Place → Versions → SourceAsk
 asked_at place versions = record { place = place; ask = record { versions = versions; features = no_features; array = false } }
 
 -- what the slots hold, and how many choices the last change took
 pub record BoardState : Type 0 where
-  pub slots : List (Option Asked)
+  pub slots : List (Option SourceAsk)
   pub selections : ℕ
 
 -- the sources that the slots hold, in the order of the slots
-abbrev pub board_list : List (Option Asked) → List Asked
+abbrev pub board_list : List (Option SourceAsk) → List SourceAsk
 board_list [] = []
 board_list (None ∷ slots) = board_list slots
 board_list (Some asked ∷ slots) = asked ∷ board_list slots
 
 -- what a slot with this source and this pair holds
-abbrev pub slot_of : Option ConfigSource → RolePair → Option Asked
+abbrev pub slot_of : Option ConfigSource → RolePair → Option SourceAsk
 slot_of source pair = option_map (λ s. asked_at (place_of s) (versions (option_map version_at pair.required) (option_map version_at pair.recommended))) source
 
 -- what the slots hold
-abbrev pub slots_of : List (Option ConfigSource) → List RolePair → List (Option Asked)
+abbrev pub slots_of : List (Option ConfigSource) → List RolePair → List (Option SourceAsk)
 slots_of [] pairs = []
 slots_of (source ∷ sources) [] = []
 slots_of (source ∷ sources) (pair ∷ pairs) = slot_of source pair ∷ slots_of sources pairs
@@ -64,7 +64,7 @@ abbrev pub roles_in : List (Option ConfigSource) → RolePair → Roles
 roles_in sources pair = record { required = kept_in sources pair.required; recommended = kept_in sources pair.recommended }
 
 -- the slot now holds this, and the other slots what they held; the choices are counted anew
-pub record IsChanged (slot : ℕ) (held : Option Asked) (old new : BoardState) : Type 0 where
+pub record IsChanged (slot : ℕ) (held : Option SourceAsk) (old new : BoardState) : Type 0 where
   pub within : slot < length old.slots
   pub slots : new.slots ≡ set old.slots slot held
   pub selections : new.selections ≡ halvings (length old.slots) slot

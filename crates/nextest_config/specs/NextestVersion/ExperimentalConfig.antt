@@ -15,7 +15,7 @@ use Rattle.nextest_config.specs.declared.nextest_version.experimental_config.Sou
 use Rattle.nextest_config.specs.declared.nextest_version.experimental_config.UnknownFeatures.{UnknownFeatures}
 use Rattle.nextest_config_sources.specs.declared.nextest_version.source.ConfigSource.{ConfigSource}
 
--- names of no feature, and the place of the source that names them
+-- unknown feature names, and the place of the source that names them
 pub record Unknown : Type 0 where
   pub place : Place
   pub names : List (List ℕ)

@@ -94,7 +94,7 @@ named_place (error shortfall) = Some shortfall.place
 abbrev pub IsSatisfied : Verdict → Type 0
 IsSatisfied v = v ≡ satisfied
 
--- the other verdict is no graver
+-- the other verdict is no worse
 abbrev pub IsNoGraver : Verdict → Verdict → Type 0
 IsNoGraver v other = gravity other ≤ gravity v
 

@@ -36,57 +36,57 @@ IsErrorOf source None = ⊥
 -- ---- a list of sources, lowest priority first
 
 -- what a source asks, with its place
-pub record Asked : Type 0 where
+pub record SourceAsk : Type 0 where
   pub place : Place
   pub ask : Ask
 
 -- the source asks this, at its place
-pub record IsReadAs (source : Source) (asked : Asked) : Type 0 where
+pub record IsReadAs (source : Source) (asked : SourceAsk) : Type 0 where
   pub place : asked.place ≡ source.place
   pub read : IsRead source asked.ask
 
 -- the sources ask these, one each
-abbrev pub AreRead : List Source → List Asked → Type 0
+abbrev pub AreRead : List Source → List SourceAsk → Type 0
 AreRead sources asked = AllZip IsReadAs sources asked
 
 -- every source is in its grammar
 abbrev pub Reads : List Source → Type 0
-Reads sources = (asked : List Asked) × AreRead sources asked
+Reads sources = (asked : List SourceAsk) × AreRead sources asked
 
 -- the first position outside the grammar, and its error
 abbrev pub IsFirstRefused : List Source → ℕ → Refusal → Type 0
 IsFirstRefused = IsFirstWrong IsReadAs IsRefused
 
--- the first refused position of the first refused piece, counted from the beginning of the first piece, and its error
-pub record IsFirstRefusedAmong (pieces : List (List Source)) (position : ℕ) (refusal : Refusal) : Type 0 where
+-- the first refused position of the first refused part, counted from the beginning of the first part, and its error
+pub record IsFirstRefusedAmong (parts : List (List Source)) (position : ℕ) (refusal : Refusal) : Type 0 where
   pub before : List (List Source)
-  pub piece : List Source
+  pub part : List Source
   pub after : List (List Source)
   pub within : ℕ
-  pub whole : pieces ≡ before ++ (piece ∷ after)
+  pub whole : parts ≡ before ++ (part ∷ after)
   pub place : length (in_a_row before) + within ≡ position
   pub read : AllByRecursion Reads before
-  pub refused : IsFirstRefused piece within refusal
+  pub refused : IsFirstRefused part within refusal
 
 -- ---- what stands for a list of asks
 
 -- in this role none is asked
-abbrev pub AsksNone : (Ask → Option Parts) → Asked → Type 0
+abbrev pub AsksNone : (Ask → Option Parts) → SourceAsk → Type 0
 AsksNone role asked = role asked.ask ≡ None
 
 -- in this role this version isn't asked
-abbrev pub AsksOther : (Ask → Option Parts) → Parts → Asked → Type 0
+abbrev pub AsksOther : (Ask → Option Parts) → Parts → SourceAsk → Type 0
 AsksOther role version asked = role asked.ask ≢ Some version
 
 -- in this role none greater is asked
-abbrev pub AsksNoGreater : (Ask → Option Parts) → Parts → Asked → Type 0
+abbrev pub AsksNoGreater : (Ask → Option Parts) → Parts → SourceAsk → Type 0
 AsksNoGreater role version asked = IfSome (role asked.ask) (λ greater. ¬ IsBelow version greater)
 
 -- in this role the version is asked, none greater is, and its place is that of the last position that asks it
-pub record IsGreatest (role : Ask → Option Parts) (asked : List Asked) (kept : Kept) : Type 0 where
-  pub before : List Asked
-  pub last : Asked
-  pub after : List Asked
+pub record IsGreatest (role : Ask → Option Parts) (asked : List SourceAsk) (kept : Kept) : Type 0 where
+  pub before : List SourceAsk
+  pub last : SourceAsk
+  pub after : List SourceAsk
   pub whole : asked ≡ before ++ (last ∷ after)
   pub version : role last.ask ≡ Some kept.version
   pub place : last.place ≡ kept.place
@@ -94,25 +94,25 @@ pub record IsGreatest (role : Ask → Option Parts) (asked : List Asked) (kept :
   pub none_greater : AllByRecursion (AsksNoGreater role kept.version) asked
 
 -- a version is kept in this role exactly where some position asks one
-abbrev pub StandsIn : (Ask → Option Parts) → List Asked → Option Kept → Type 0
+abbrev pub StandsIn : (Ask → Option Parts) → List SourceAsk → Option Kept → Type 0
 StandsIn role asked None = AllByRecursion (AsksNone role) asked
 StandsIn role asked (Some kept) = IsGreatest role asked kept
 
 -- some position enables the feature
-abbrev pub IsEnabledBySome : List Asked → ConfigExperimental → Type 0
-IsEnabledBySome asked feature = (one : Asked) × Contains asked one × Contains one.ask.features.known feature
+abbrev pub IsEnabledBySome : List SourceAsk → ConfigExperimental → Type 0
+IsEnabledBySome asked feature = (one : SourceAsk) × Contains asked one × Contains one.ask.features.known feature
 
 -- the features that some position enables, in their order
-pub record AreEnabled (asked : List Asked) (known : List ConfigExperimental) : Type 0 where
+pub record AreEnabled (asked : List SourceAsk) (known : List ConfigExperimental) : Type 0 where
   pub of_some : (feature : ConfigExperimental) → Contains known feature ↔ IsEnabledBySome asked feature
   pub in_order : FeaturesInOrder known
 
 -- the entry of a position with unknown names
-abbrev pub entry_of : Asked → List Unknown
+abbrev pub entry_of : SourceAsk → List Unknown
 entry_of asked = entry_at asked.place asked.ask.features.unknown
 
 -- the place of a position that names its features in an array
-abbrev pub array_of : Asked → List Place
+abbrev pub array_of : SourceAsk → List Place
 array_of asked = array_at asked.place asked.ask.array
 
 -- what reading a list gives
@@ -129,7 +129,7 @@ abbrev pub neutral : Configuration
 neutral = record { roles = no_roles; experimental = no_experimental }
 
 -- the configuration stands for the asks
-pub record StandsForAsks (asked : List Asked) (configuration : Configuration) : Type 0 where
+pub record StandsForAsks (asked : List SourceAsk) (configuration : Configuration) : Type 0 where
   pub required : StandsIn (λ ask. ask.versions.required) asked configuration.roles.required
   pub recommended : StandsIn (λ ask. ask.versions.recommended) asked configuration.roles.recommended
   pub known : AreEnabled asked configuration.experimental.known
@@ -138,7 +138,7 @@ pub record StandsForAsks (asked : List Asked) (configuration : Configuration) : 
 
 -- the configuration stands for the sources
 abbrev pub StandsFor : List Source → Configuration → Type 0
-StandsFor sources configuration = (asked : List Asked) × AreRead sources asked × StandsForAsks asked configuration
+StandsFor sources configuration = (asked : List SourceAsk) × AreRead sources asked × StandsForAsks asked configuration
 
 -- the configuration stands for the one source
 abbrev pub StandsForOne : Source → Configuration → Type 0
@@ -147,26 +147,26 @@ StandsForOne source = StandsFor (source ∷ [])
 -- ---- selection
 
 -- the verdict of a source read alone
-abbrev pub alone : Parts → Bool → Asked → Verdict
+abbrev pub alone : Parts → Bool → SourceAsk → Verdict
 alone current overridden asked = verdict (roles_from asked.place asked.ask.versions) current overridden
 
 -- for each current version and both flags, the verdict of the roles is selected from the verdicts of the asks alone
-abbrev pub SelectsAmong : List Asked → Roles → Type 0
+abbrev pub SelectsAmong : List SourceAsk → Roles → Type 0
 SelectsAmong asked roles = (current : Parts) (overridden : Bool) → IsSelected (map (alone current overridden) asked) (verdict roles current overridden)
 
 -- the roles select among what the sources ask
 abbrev pub SelectsFor : List Source → Roles → Type 0
-SelectsFor sources roles = (asked : List Asked) × AreRead sources asked × SelectsAmong asked roles
+SelectsFor sources roles = (asked : List SourceAsk) × AreRead sources asked × SelectsAmong asked roles
 
 -- the verdict is selected from those of the sources, each read alone
 abbrev pub IsSelectedFor : List Source → Parts → Bool → Verdict → Type 0
-IsSelectedFor sources current overridden v = (asked : List Asked) × AreRead sources asked × IsSelected (map (alone current overridden) asked) v
+IsSelectedFor sources current overridden v = (asked : List SourceAsk) × AreRead sources asked × IsSelected (map (alone current overridden) asked) v
 
 -- some source, read alone, gives this verdict, which names its place
-pub record IsFromSource (current : Parts) (overridden : Bool) (asked : List Asked) (v : Verdict) : Type 0 where
-  pub before : List Asked
-  pub source : Asked
-  pub after : List Asked
+pub record IsFromSource (current : Parts) (overridden : Bool) (asked : List SourceAsk) (v : Verdict) : Type 0 where
+  pub before : List SourceAsk
+  pub source : SourceAsk
+  pub after : List SourceAsk
   pub whole : asked ≡ before ++ (source ∷ after)
   pub given : alone current overridden source ≡ v
   pub named : named_place v ≡ Some source.place

@@ -11,7 +11,7 @@ use Rattle.nextest_config_sources.specs.NextestVersion.ExperimentalLaws.{feature
 use Rattle.nextest_config.specs.NextestVersion.KeptVersions.{asked_from, Kept, Roles}
 use Rattle.nextest_config.specs.NextestVersion.KeptVersionsLaws.{roles_join}
 use Rattle.nextest_config_sources.specs.NextestVersion.Source.{Place, Source}
-use Rattle.nextest_config.specs.NextestVersion.VersionOnly.{Asked, Configuration, IsErrorOf, IsRead, IsReadAs, IsRefused, join_configurations, neutral_seen, seen_configuration, SeenConfiguration, StandsForAsks, StandsForOne, StandsIn}
+use Rattle.nextest_config.specs.NextestVersion.VersionOnly.{Configuration, IsErrorOf, IsRead, IsReadAs, IsRefused, join_configurations, neutral_seen, seen_configuration, SeenConfiguration, SourceAsk, StandsForAsks, StandsForOne, StandsIn}
 use Rattle.nextest_config_sources.specs.NextestVersion.VersionOnlyDeserialize.{Ask}
 use Rattle.nextest_config_sources.specs.NextestVersion.VersionOnlyDeserializeLaws.{one_wrong, text_asks_once, text_not_wrong}
 
@@ -27,7 +27,7 @@ configurations_join = record {
 
 -- ---- one source
 
-pub read_once : (source : Source) (a b : Asked) → IsReadAs source a → IsReadAs source b → a ≡ b
+pub read_once : (source : Source) (a b : SourceAsk) → IsReadAs source a → IsReadAs source b → a ≡ b
 read_once source a b h k = ap₂ (λ (place : Place) (ask : Ask). record { place = place; ask = ask })
     (h.place ∙ sym k.place) (text_asks_once source.edition source.place.kind source.contents a.ask b.ask h.read k.read)
 
@@ -45,13 +45,13 @@ only_one a (y ∷ []) x after whole = cc whole
 only_one a (y ∷ z ∷ before) x after whole = cc whole
 
 -- what stands in a role for one ask is what it asks, from its place
-role_alone : (role : Ask → Option Parts) (a : Asked) (kept : Option Kept) → StandsIn role (a ∷ []) kept → asked_from a.place (role a.ask) ≡ kept
+role_alone : (role : Ask → Option Parts) (a : SourceAsk) (kept : Option Kept) → StandsIn role (a ∷ []) kept → asked_from a.place (role a.ask) ≡ kept
 role_alone role a None none = ap (asked_from a.place) none.0
 role_alone role a (Some kept) h =
     let here : a ≡ h.last = only_one a h.before h.last h.after h.whole in
-    ap (λ (b : Asked). asked_from b.place (role b.ask)) here ∙ ap₂ asked_from h.place h.version
+    ap (λ (b : SourceAsk). asked_from b.place (role b.ask)) here ∙ ap₂ asked_from h.place h.version
 
-alone_once : (a : Asked) (c d : Configuration) → StandsForAsks (a ∷ []) c → StandsForAsks (a ∷ []) d → c ≡ d
+alone_once : (a : SourceAsk) (c d : Configuration) → StandsForAsks (a ∷ []) c → StandsForAsks (a ∷ []) d → c ≡ d
 alone_once a c d h k =
     let required = sym (role_alone (λ ask. ask.versions.required) a c.roles.required h.required) ∙ role_alone (λ ask. ask.versions.required) a d.roles.required k.required in
     let recommended = sym (role_alone (λ ask. ask.versions.recommended) a c.roles.recommended h.recommended) ∙ role_alone (λ ask. ask.versions.recommended) a d.roles.recommended k.recommended in
@@ -66,7 +66,7 @@ one_alone source c d (a ∷ b ∷ asked, read, stands) k = absurd read.1
 one_alone source c d (a ∷ [], read, stands) ([], more_read, more) = absurd more_read
 one_alone source c d (a ∷ [], read, stands) (x ∷ y ∷ others, more_read, more) = absurd more_read.1
 one_alone source c d (a ∷ [], read, stands) (x ∷ [], more_read, more) =
-    alone_once a c d stands (subst (λ (b : Asked). StandsForAsks (b ∷ []) d) (read_once source x a more_read.0 read.0) more)
+    alone_once a c d stands (subst (λ (b : SourceAsk). StandsForAsks (b ∷ []) d) (read_once source x a more_read.0 read.0) more)
 
 one_told : (source : Source) (a b : Option Refusal) → IsErrorOf source a → IsErrorOf source b → a ≡ b
 one_told source None b h k = absurd h

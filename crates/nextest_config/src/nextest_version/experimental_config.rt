@@ -13,7 +13,7 @@ use std::alloc::{AllocError, Global};
 use std::collections::BTreeSet;
 use std::slice;
 
-/// The experimental features of all sources read so far. Names that are those of no feature are kept
+/// The experimental features of all sources read so far. Unknown feature names are kept
 /// with the source that has them, since a later version may know them: the version is judged first.
 #[derive(Debug, PartialEq, Eq, Drop)]
 pub struct ExperimentalConfig {
@@ -23,7 +23,7 @@ pub struct ExperimentalConfig {
     ghost known_in_order: { FeaturesInOrder known.keys } by { Prim.hlevel props },
 }
 
-// The names in a source that are those of no feature.
+// The unknown feature names in a source.
 #[derive(Debug, PartialEq, Eq, Drop)]
 struct UnknownFeatures {
     source: ConfigSource,
@@ -68,7 +68,7 @@ impl ExperimentalConfig {
         &self.known
     }
 
-    /// Each source that has names of no feature, with these names, in the order of the sources.
+    /// Each source that has unknown feature names, with these names, in the order of the sources.
     pub fn source_errors(&self) -> SourceErrors<'_>
         ensures { errors_left result ≡ (experimental_of self.now).unknown }
     {
@@ -199,7 +199,7 @@ impl UnknownFeatures {
     }
 }
 
-/// The sources that have names of no feature, each with these names. From
+/// The sources that have unknown feature names, each with these names. From
 /// [`ExperimentalConfig::source_errors`].
 #[derive(Clone, Debug, Drop)]
 pub struct SourceErrors<'a> {

@@ -66,7 +66,7 @@ limit_fault (errors.Count text reason) = Some (bad_count (string_bytes text) rea
 limit_fault errors.NotPositive = Some not_positive
 limit_fault errors.Memory = None
 
--- the word of no mode
+-- a word that is no mode's
 abbrev pub IsNoMode : List ℕ → Type 0
 IsNoMode word = (mode : TerminateMode) → mode_word mode ≢ word
 
@@ -87,7 +87,7 @@ IsBadCount count (bad_mode word) = ⊥
 IsBadCount count (bad_count written reason) = (written ≡ count) × IsCountFault count reason
 IsBadCount count not_positive = IsNotPositive count
 
--- what stands behind the first colon is the word of no mode
+-- what stands behind the first colon is no mode's word
 abbrev pub IsBadMode : List ℕ → LimitFault → Type 0
 IsBadMode text fault = ¬ (IsAllText text) × (count word : List ℕ) × IsCutAtColon text count word × IsNoMode word × (fault ≡ bad_mode word)
 

@@ -15,9 +15,9 @@ sign_text plus = codes "+"
 sign_text minus = codes "-"
 
 -- the number that it makes of another
-abbrev pub signed : Sign → ℕ → ℤ
-signed minus number = neg_ℤ (pos number)
-signed _ number = pos number
+abbrev pub signed_number : Sign → ℕ → ℤ
+signed_number minus number = neg_ℤ (pos number)
+signed_number _ number = pos number
 
 -- the text is an optional sign and one or more ASCII digits, and these write this number
 pub record IsNumberText (text : List ℕ) (number : ℤ) : Type 0 where
@@ -25,4 +25,4 @@ pub record IsNumberText (text : List ℕ) (number : ℤ) : Type 0 where
   pub digits : List ℕ
   pub whole : text ≡ sign_text sign ++ digits
   pub numeral : IsNumeral 10 digits
-  pub value : number ≡ signed sign (digits_value 10 digits)
+  pub value : number ≡ signed_number sign (digits_value 10 digits)

@@ -3,7 +3,7 @@ use Rattle.std.proofs.Common.{◌≡◌, ℕ, false, eqb, ℤ, List, [], ◌∷�
 use Rattle.std.proofs.lemmas.Bool.{cases_Bool, eqb-true, ne_eqb}
 use Rattle.std.proofs.lemmas.Str.Parse.{digit_from_value}
 use Rattle.std.specs.Str.Parse.{IsNumeral, digits_value, signed_digits_value, starts_with_minus, without_leading_plus, without_leading_sign}
-use Rattle.nextest_config_elements.specs.MaxFail.NumberText.{IsNumberText, Sign, minus, plus, sign_text, signed, unsigned}
+use Rattle.nextest_config_elements.specs.MaxFail.NumberText.{IsNumberText, Sign, minus, plus, sign_text, signed_number, unsigned}
 
 -- digits begin with no sign
 unsigned_parts : (digits : List ℕ) → IsNumeral 10 digits → (starts_with_minus digits ≡ false) × (without_leading_plus digits ≡ digits)
@@ -15,7 +15,7 @@ unsigned_parts (c ∷ cs) h =
     (no_minus, rw no_plus refl)
 
 signed_parts : (sign : Sign) (digits : List ℕ) → IsNumeral 10 digits
-    → IsNumeral 10 (without_leading_sign (sign_text sign ++ digits)) × (signed sign (digits_value 10 digits) ≡ signed_digits_value 10 (sign_text sign ++ digits))
+    → IsNumeral 10 (without_leading_sign (sign_text sign ++ digits)) × (signed_number sign (digits_value 10 digits) ≡ signed_digits_value 10 (sign_text sign ++ digits))
 signed_parts unsigned digits h =
     let parts = unsigned_parts digits h in
     (rw (parts.0, parts.1) h, rw (parts.0, parts.1) refl)

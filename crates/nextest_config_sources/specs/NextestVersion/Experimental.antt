@@ -20,7 +20,7 @@ word_of features.SetupScripts = codes "setup-scripts"
 word_of features.WrapperScripts = codes "wrapper-scripts"
 word_of features.Benchmarks = codes "benchmarks"
 
--- the text is the word of no feature
+-- the text is no feature's word
 abbrev pub IsUnknown : List ℕ → Type 0
 IsUnknown text = (feature : ConfigExperimental) → word_of feature ≢ text
 

@@ -7,7 +7,7 @@ use Rattle.nextest_config_sources.specs.NextestVersion.Experimental.{FeaturesInO
 use Rattle.nextest_config_sources.specs.declared.nextest_version.experimental.ConfigExperimental.{ConfigExperimental}
 use Rattle.nextest_config_sources.specs.declared.nextest_version.experimental_deserialize.ExperimentalDeserialize.{ExperimentalDeserialize}
 
--- the features that a source enables, and the names in it that are those of no feature
+-- the features that a source enables, and the unknown feature names in it
 pub record Features : Type 0 where
   pub known : List ConfigExperimental
   pub unknown : List (List ℕ)
@@ -42,7 +42,7 @@ pub record AreSetsInOrder (named : Features) : Type 0 where
   pub known_in_order : FeaturesInOrder named.known
   pub unknown_in_order : TextsInOrder named.unknown
 
--- the features are those that are enabled, and the other names those that stand there and are words of no feature
+-- the features are those that are enabled, and the other names those that stand there and are no feature's word
 pub record AreNamed (IsEnabled : ConfigExperimental → Type 0) (StandsThere : List ℕ → Type 0) (named : Features) : Type 0 where
   pub of_known : (feature : ConfigExperimental) → Contains named.known feature ↔ IsEnabled feature
   pub of_unknown : (text : List ℕ) → Contains named.unknown text ↔ (StandsThere text × IsUnknown text)
@@ -90,9 +90,9 @@ MeansSwitch feature members = MeansOr false (MeansAs as_bool MeansTruth) (get_me
 abbrev pub SwitchFaults : ConfigExperimental → Members → List ℕ → Fault → Type 0
 SwitchFaults feature members at = OptionalFaults (FaultsAs as_bool (codes "a boolean") HasNoFault) (get_member (word_of feature) members) (path_of at (word_of feature))
 
--- the text is a key of the table and the word of no feature
-abbrev pub IsUnknownKey : Members → List ℕ → Type 0
-IsUnknownKey members text = IsSome (get_member text members) × IsUnknown text
+-- the text is a key of the table and no feature's word
+abbrev pub IsUnknownFeatureKey : Members → List ℕ → Type 0
+IsUnknownFeatureKey members text = IsSome (get_member text members) × IsUnknown text
 
 -- the value at the key of each feature is a boolean, if there is one; a feature is enabled where it is true; other keys are names whatever their values are
 pub record MeansFeatureTable (members : Members) (named : Features) : Type 0 where

@@ -44,9 +44,9 @@ abbrev pub recommended_key : List ℕ
 recommended_key = codes "recommended"
 
 -- where both stand, the required version isn't above the recommended one
-abbrev pub KeepsOrder : Option Parts → Option Parts → Type 0
-KeepsOrder (Some required) (Some recommended) = ¬ IsBelow recommended required
-KeepsOrder _ _ = Unit {0}
+abbrev pub ObeysOrder : Option Parts → Option Parts → Type 0
+ObeysOrder (Some required) (Some recommended) = ¬ IsBelow recommended required
+ObeysOrder _ _ = Unit {0}
 
 -- both stand, and the required version is above the recommended one
 abbrev pub OrderFaults : Option Parts → Option Parts → List ℕ → Fault → Type 0
@@ -57,7 +57,7 @@ OrderFaults _ _ at fault = ⊥
 pub record MeansVersionTable (members : Members) (asked : Versions) : Type 0 where
   pub of_required : OptionalKey required_key MeansVersion members asked.required
   pub of_recommended : OptionalKey recommended_key MeansVersion members asked.recommended
-  pub in_order : KeepsOrder asked.required asked.recommended
+  pub in_order : ObeysOrder asked.required asked.recommended
 
 -- what is wrong with the table: at `required`, behind it at `recommended`, and behind both in their order
 abbrev pub VersionTableFaults : Members → List ℕ → Fault → Type 0
@@ -85,7 +85,7 @@ VersionsFaults value = FaultsKind VersionTextFaults (λ other. FaultsKind Versio
 role : (key : List ℕ) → IsReading (OptionalKey key MeansVersion) (OptionalKeyFaults key VersionFaults) (λ a b. a ≡ b)
 role key = at_key key (optional_reading version_reading)
 
-order : (required recommended : Option Parts) → IsReading {D = Members} (λ members asked. KeepsOrder required recommended × (asked ≡ versions required recommended)) (λ members. OrderFaults required recommended) (λ a b. a ≡ b)
+order : (required recommended : Option Parts) → IsReading {D = Members} (λ members asked. ObeysOrder required recommended × (asked ≡ versions required recommended)) (λ members. OrderFaults required recommended) (λ a b. a ≡ b)
 order (Some required) (Some recommended) = rule_reading (IsBelow recommended required) (required_above_recommended required recommended) (versions (Some required) (Some recommended))
 order (Some required) None = nothing_wrong (versions (Some required) None)
 order None recommended = nothing_wrong (versions None recommended)

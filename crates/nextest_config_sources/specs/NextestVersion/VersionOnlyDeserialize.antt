@@ -13,7 +13,7 @@ use Rattle.nextest_config_sources.specs.declared.nextest_version.source.ConfigSo
 use Rattle.nextest_config_sources.specs.declared.nextest_version.source.ConfigSourceKind.TheVariants.{Tool, ExplicitRepository, DiscoveredRepository}
 use Rattle.nextest_config_sources.specs.declared.nextest_version.version_only_deserialize.VersionOnlyDeserialize.{VersionOnlyDeserialize}
 
--- what one source asks: at most one version in each role, the features that it enables, and the names in it that are those of no feature; and whether it names them in an array
+-- what one source asks: at most one version in each role, the features that it enables, and the unknown feature names in it; and whether it names them in an array
 pub record Ask : Type 0 where
   pub versions : Versions
   pub features : Features
@@ -51,22 +51,22 @@ array_in None = None
 array_in (Some value) = as_array value
 
 -- where the edition takes tables only, a value of `experimental` is no array
-abbrev pub KeepsForm : Edition → Option Data → Type 0
-KeepsForm ArrayAllowed found = Unit {0}
-KeepsForm TableOnly found = array_in found ≡ None
+abbrev pub ObeysForm : Edition → Option Data → Type 0
+ObeysForm ArrayAllowed found = Unit {0}
+ObeysForm TableOnly found = array_in found ≡ None
 
 -- a tool's source names no feature
-abbrev pub KeepsToolRule : ConfigSourceKind → Features → Type 0
-KeepsToolRule (Tool name) features = features ≡ no_features
-KeepsToolRule ExplicitRepository features = Unit {0}
-KeepsToolRule DiscoveredRepository features = Unit {0}
+abbrev pub ObeysToolRule : ConfigSourceKind → Features → Type 0
+ObeysToolRule (Tool name) features = features ≡ no_features
+ObeysToolRule ExplicitRepository features = Unit {0}
+ObeysToolRule DiscoveredRepository features = Unit {0}
 
 -- the table of a document asks this under the edition
 pub record Asks (edition : Edition) (kind : ConfigSourceKind) (members : Members) (ask : Ask) : Type 0 where
   pub of_versions : AsksVersions (get_member version_key members) ask.versions
-  pub of_form : KeepsForm edition (get_member experimental_key members)
+  pub of_form : ObeysForm edition (get_member experimental_key members)
   pub of_features : AsksFeatures (get_member experimental_key members) (record { features = ask.features; array = ask.array })
-  pub of_tool : KeepsToolRule kind ask.features
+  pub of_tool : ObeysToolRule kind ask.features
 
 -- a source is in its grammar with this ask: it has no contents and asks nothing, or its contents are a document whose table asks it
 abbrev pub TextAsks : Edition → ConfigSourceKind → Option (List ℕ) → Ask → Type 0
@@ -102,7 +102,7 @@ IsWrongNamed kind members =
 -- what is wrong with the form of `experimental`; where that is all right, what is wrong with its contents
 abbrev pub IsWrongBehind : Edition → ConfigSourceKind → Members → Wrong → Type 0
 IsWrongBehind edition kind members wrong =
-    BreaksForm edition (get_member experimental_key members) wrong ⊎ (KeepsForm edition (get_member experimental_key members) × IsWrongNamed kind members wrong)
+    BreaksForm edition (get_member experimental_key members) wrong ⊎ (ObeysForm edition (get_member experimental_key members) × IsWrongNamed kind members wrong)
 
 -- what is wrong with a table: at `nextest-version`; where that is all right, what is wrong behind it
 abbrev pub IsWrongTable : Edition → ConfigSourceKind → Members → Wrong → Type 0

@@ -9,7 +9,7 @@ use Rattle.nextest_config_sources.specs.NextestVersion.ErrorKind.{setting, tool_
 use Rattle.nextest_config_sources.specs.NextestVersion.ExperimentalDeserialize.{Features, FeaturesFaults, FeatureSetting, no_feature_setting}
 use Rattle.nextest_config_sources.specs.NextestVersion.ExperimentalLaws.{features_meant, texts_in_one_order}
 use Rattle.nextest_config_sources.specs.NextestVersion.NextestVersionDeserialize.{no_versions, Versions, versions_meant, VersionsFaults}
-use Rattle.nextest_config_sources.specs.NextestVersion.VersionOnlyDeserialize.{Ask, Asks, AsksFeatures, AsksVersions, BreaksForm, BreaksToolRule, experimental_key, IsWrong, IsWrongBehind, IsWrongDocument, IsWrongSetting, IsWrongTable, KeepsForm, KeepsToolRule, TextAsks, version_key}
+use Rattle.nextest_config_sources.specs.NextestVersion.VersionOnlyDeserialize.{Ask, Asks, AsksFeatures, AsksVersions, BreaksForm, BreaksToolRule, experimental_key, IsWrong, IsWrongBehind, IsWrongDocument, IsWrongSetting, IsWrongTable, ObeysForm, ObeysToolRule, TextAsks, version_key}
 use Rattle.nextest_config_sources.specs.declared.nextest_version.edition.Edition.{Edition}
 use Rattle.nextest_config_sources.specs.declared.nextest_version.edition.Edition.TheVariants.{ArrayAllowed, TableOnly}
 use Rattle.nextest_config_sources.specs.declared.nextest_version.source.ConfigSourceKind.{ConfigSourceKind}
@@ -64,14 +64,14 @@ one_form_error : (edition : Edition) (found : Option Data) (a b : Wrong) → Bre
 one_form_error ArrayAllowed found a b h k = absurd h
 one_form_error TableOnly found a b h k = h.1 ∙ sym k.1
 
-form_kept_not_broken : (edition : Edition) (found : Option Data) (wrong : Wrong) → KeepsForm edition found → BreaksForm edition found wrong → ⊥
-form_kept_not_broken ArrayAllowed found wrong kept broken = broken
-form_kept_not_broken TableOnly found wrong kept broken = cc (subst IsSome kept broken.0)
+form_obeyed_not_broken : (edition : Edition) (found : Option Data) (wrong : Wrong) → ObeysForm edition found → BreaksForm edition found wrong → ⊥
+form_obeyed_not_broken ArrayAllowed found wrong kept broken = broken
+form_obeyed_not_broken TableOnly found wrong kept broken = cc (subst IsSome kept broken.0)
 
 one_error_behind : (edition : Edition) (kind : ConfigSourceKind) (members : Members) (a b : Wrong) → IsWrongBehind edition kind members a → IsWrongBehind edition kind members b → a ≡ b
 one_error_behind edition kind members a b (inl h) (inl k) = one_form_error edition (get_member experimental_key members) a b h k
-one_error_behind edition kind members a b (inl h) (inr k) = absurd (form_kept_not_broken edition (get_member experimental_key members) a k.0 h)
-one_error_behind edition kind members a b (inr h) (inl k) = absurd (form_kept_not_broken edition (get_member experimental_key members) b h.0 k)
+one_error_behind edition kind members a b (inl h) (inr k) = absurd (form_obeyed_not_broken edition (get_member experimental_key members) a k.0 h)
+one_error_behind edition kind members a b (inr h) (inl k) = absurd (form_obeyed_not_broken edition (get_member experimental_key members) b h.0 k)
 one_error_behind edition kind members a b (inr h) (inr k) = one_in_turn features_asked experimental_key members (λ named. one_tool_error kind named.features) a b h.1 k.1
 
 one_table_error : (edition : Edition) (kind : ConfigSourceKind) (members : Members) (a b : Wrong) → IsWrongTable edition kind members a → IsWrongTable edition kind members b → a ≡ b
@@ -87,21 +87,21 @@ one_wrong edition kind (Some text) a b h k = by_document (parse_document text) h
 
 -- ---- never both
 
-kept_not_broken : (kind : ConfigSourceKind) (features : Features) (wrong : Wrong) → KeepsToolRule kind features → BreaksToolRule kind features wrong → ⊥
-kept_not_broken (Tool name) features wrong kept broken = broken.0 kept
-kept_not_broken ExplicitRepository features wrong kept broken = broken
-kept_not_broken DiscoveredRepository features wrong kept broken = broken
+obeyed_not_broken : (kind : ConfigSourceKind) (features : Features) (wrong : Wrong) → ObeysToolRule kind features → BreaksToolRule kind features wrong → ⊥
+obeyed_not_broken (Tool name) features wrong kept broken = broken.0 kept
+obeyed_not_broken ExplicitRepository features wrong kept broken = broken
+obeyed_not_broken DiscoveredRepository features wrong kept broken = broken
 
 asks_not_wrong : (edition : Edition) (kind : ConfigSourceKind) (table : Members) (ask : Ask) (wrong : Wrong) → Asks edition kind table ask → IsWrongTable edition kind table wrong → ⊥
 asks_not_wrong edition kind table ask wrong asks (inl refused) =
     versions_asked.never_both (get_member version_key table) version_key ask.versions refused.0 asks.of_versions refused.1
 asks_not_wrong edition kind table ask wrong asks (inr (versions, asked, inl broken)) =
-    form_kept_not_broken edition (get_member experimental_key table) wrong asks.of_form broken
+    form_obeyed_not_broken edition (get_member experimental_key table) wrong asks.of_form broken
 asks_not_wrong edition kind table ask wrong asks (inr (versions, asked, inr (kept, inl refused))) =
     features_asked.never_both (get_member experimental_key table) experimental_key (setting_in ask) refused.0 asks.of_features refused.1
 asks_not_wrong edition kind table ask wrong asks (inr (versions, asked, inr (kept, inr (named, meant, broken)))) =
     let same : setting_in ask ≡ named = features_asked.one_meaning (get_member experimental_key table) (setting_in ask) named asks.of_features meant in
-    kept_not_broken kind named.features wrong (subst (λ (s : FeatureSetting). KeepsToolRule kind s.features) same asks.of_tool) broken
+    obeyed_not_broken kind named.features wrong (subst (λ (s : FeatureSetting). ObeysToolRule kind s.features) same asks.of_tool) broken
 
 pub text_not_wrong : (edition : Edition) (kind : ConfigSourceKind) (contents : Option (List ℕ)) (ask : Ask) (wrong : Wrong) → TextAsks edition kind contents ask → IsWrong edition kind contents wrong → ⊥
 text_not_wrong edition kind None ask wrong read refused = refused

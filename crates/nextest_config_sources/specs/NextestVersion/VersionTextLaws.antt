@@ -65,13 +65,13 @@ cut_last (c ∷ x) (d ∷ y) u v e a b =
 
 -- ---- three numbers
 
-abbrev joined : Numbers → List ℕ
-joined n = decimal n.0 ++ (dot ∷ (decimal n.1 ++ (dot ∷ decimal n.2)))
+abbrev dotted_numbers : Numbers → List ℕ
+dotted_numbers n = decimal n.0 ++ (dot ∷ (decimal n.1 ++ (dot ∷ decimal n.2)))
 
-plain_text : (n : Numbers) → parts_text (plain n) ≡ joined n
+plain_text : (n : Numbers) → parts_text (plain n) ≡ dotted_numbers n
 plain_text n = rw append-nil
 
-three_text : (text : List ℕ) (n : Numbers) → IsThree text n → text ≡ joined n
+three_text : (text : List ℕ) (n : Numbers) → IsThree text n → text ≡ dotted_numbers n
 three_text text n h =
     rw (← numeral_text h.major n.0 h.major_is, ← numeral_text h.minor n.1 h.minor_is, ← numeral_text h.patch n.2 h.patch_is) h.whole
 

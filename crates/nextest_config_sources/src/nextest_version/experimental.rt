@@ -24,7 +24,7 @@ impl ConfigExperimental {
     ///
     /// # Errors
     ///
-    /// The text is the word of no feature.
+    /// The text is no feature's word.
     pub fn from_str(text: &str) -> Result<Self, ()>
         ensures known { IfOk result (λ feature. word_of feature ≡ text.now) }
         ensures refused { OnErr result (IsUnknown text.now) }

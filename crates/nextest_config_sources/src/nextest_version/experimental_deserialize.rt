@@ -3,7 +3,7 @@
 ghost use Rattle.std.specs.Prelude.{◌≡◌, ◌↔◌, ℕ, Bool, List, Contains, true, false, IfOk, IfErr, IsTrue, OnOk, map, string_bytes};
 ghost use Rattle.toml.specs.View.{array_view, table_view, view};
 ghost use Rattle.nextest_config_values.specs.Read.{Refuses, RefusesAs, text_expected, wrong_type};
-ghost use Rattle.nextest_config_sources.specs.NextestVersion.{AddsItem, AddsText, AreNames, FeatureArrayFaults, features_of, features_reading, FeaturesAlike, FeaturesFaults, FeaturesInOrder, feature_setting_of, FeatureTableFaults, HasOneMore, InForm, IsUnknownKey, IsWordAmong, item_path, ItemFaults, MeansFeatureArray, MeansFeatures, MeansFeatureTable, MeansSwitch, no_feature_setting, no_features, SwitchFaults, TextsInOrder};
+ghost use Rattle.nextest_config_sources.specs.NextestVersion.{AddsItem, AddsText, AreNames, FeatureArrayFaults, features_of, features_reading, FeaturesAlike, FeaturesFaults, FeaturesInOrder, feature_setting_of, FeatureTableFaults, HasOneMore, InForm, IsUnknownFeatureKey, IsWordAmong, item_path, ItemFaults, MeansFeatureArray, MeansFeatures, MeansFeatureTable, MeansSwitch, no_feature_setting, no_features, SwitchFaults, TextsInOrder};
 
 use super::experimental::{ConfigExperimental, add_feature};
 use nextest_config_values::read::{FromToml, ReadFault, field_or};
@@ -20,7 +20,7 @@ const EXPECTED: &str =
 pub struct ExperimentalDeserialize {
     /// The features that the source enables.
     pub known: BTreeSet<ConfigExperimental>,
-    /// The names that are those of no feature.
+    /// The unknown feature names.
     pub unknown: BTreeSet<String>,
     /// Whether the source names them in an array, which is deprecated.
     pub array: bool,
@@ -221,10 +221,10 @@ fn read_switch(
     field_or(alloc, table, feature.as_word(), at, false)
 }
 
-// The keys of a table that are words of no feature.
+// The keys of a table that are no feature's word.
 fn unknown_keys(alloc: Global, table: &Table) -> Result<BTreeSet<String>, AllocError>
     ensures unknown { IfOk result (λ unknown. (text : List ℕ)
-        → Contains (map string_bytes unknown.keys) text ↔ IsUnknownKey (table_view table.now) text) }
+        → Contains (map string_bytes unknown.keys) text ↔ IsUnknownFeatureKey (table_view table.now) text) }
     ensures in_order { IfOk result (λ unknown. TextsInOrder (map string_bytes unknown.keys)) }
 {
     let mut unknown = BTreeSet::new(alloc);

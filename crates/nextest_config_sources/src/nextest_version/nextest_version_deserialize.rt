@@ -4,7 +4,7 @@ ghost use Rattle.std.specs.Prelude.{◌≡◌, true, IfOk, IfErr, OnOk, option_m
 ghost use Rattle.semver.specs.Identifiers.{parts_of};
 ghost use Rattle.toml.specs.View.{table_view};
 ghost use Rattle.nextest_config_values.specs.Read.{OptionalKey, OptionalKeyFaults, Refuses};
-ghost use Rattle.nextest_config_sources.specs.NextestVersion.{KeepsOrder, MeansVersion, MeansVersions, MeansVersionTable, no_versions, OrderFaults, versions, versions_of, versions_reading, VersionFaults, VersionsAlike, VersionsFaults, VersionTableFaults};
+ghost use Rattle.nextest_config_sources.specs.NextestVersion.{ObeysOrder, MeansVersion, MeansVersions, MeansVersionTable, no_versions, OrderFaults, versions, versions_of, versions_reading, VersionFaults, VersionsAlike, VersionsFaults, VersionTableFaults};
 
 use super::version_text::{VersionText, read_version};
 use nextest_config_values::read::{FaultKind, FromToml, ReadFault, Rule, optional_field};
@@ -73,7 +73,7 @@ impl NextestVersionDeserialize {
         ensures both { IfOk result (λ d. versions_of d
             ≡ versions (option_map parts_of required) (option_map parts_of recommended)) }
         ensures in_order { OnOk result
-            (KeepsOrder (option_map parts_of required) (option_map parts_of recommended)) }
+            (ObeysOrder (option_map parts_of required) (option_map parts_of recommended)) }
         ensures refused { IfErr result (Refuses
             (OrderFaults (option_map parts_of required) (option_map parts_of recommended) at.now)
             (Unit {0})) }

@@ -3,7 +3,7 @@
 ghost use Rattle.std.specs.Prelude.{◌≡◌, IfOk, IfErr, OnOk, option_map, string_bytes};
 ghost use Rattle.toml.specs.Data.{get_member};
 ghost use Rattle.toml.specs.View.{array_view, table_view};
-ghost use Rattle.nextest_config_sources.specs.NextestVersion.{array_in, ask_of, Asks, AsksFeatures, BreaksForm, BreaksToolRule, broken_form, experimental_key, feature_setting_of, features_of, IsWrong, IsWrongBehind, IsWrongNamed, IsWrongTable, KeepsForm, KeepsToolRule, nothing, RefusesSource, TextAsks};
+ghost use Rattle.nextest_config_sources.specs.NextestVersion.{array_in, ask_of, Asks, AsksFeatures, BreaksForm, BreaksToolRule, broken_form, experimental_key, feature_setting_of, features_of, IsWrong, IsWrongBehind, IsWrongNamed, IsWrongTable, nothing, ObeysForm, ObeysToolRule, RefusesSource, TextAsks};
 
 use super::edition::Edition;
 use super::error_kind::ConfigParseErrorKind;
@@ -93,10 +93,10 @@ fn read_experimental(
     table: &Table,
 ) -> Result<ExperimentalDeserialize, ConfigParseErrorKind>
     ensures form { OnOk result
-        (KeepsForm edition (get_member experimental_key (table_view table.now))) }
+        (ObeysForm edition (get_member experimental_key (table_view table.now))) }
     ensures asked { IfOk result (λ d. AsksFeatures
         (get_member experimental_key (table_view table.now)) (feature_setting_of d)) }
-    ensures kept { IfOk result (λ d. KeepsToolRule kind.now (features_of d)) }
+    ensures kept { IfOk result (λ d. ObeysToolRule kind.now (features_of d)) }
     ensures refused { IfErr result (RefusesSource
         (IsWrongBehind edition kind.now (table_view table.now))) }
 {
@@ -107,7 +107,7 @@ fn read_experimental(
 // Refuses an array of features where the edition takes tables only.
 fn check_form(alloc: Global, edition: Edition, table: &Table) -> Result<(), ConfigParseErrorKind>
     ensures kept { OnOk result
-        (KeepsForm edition (get_member experimental_key (table_view table.now))) }
+        (ObeysForm edition (get_member experimental_key (table_view table.now))) }
     ensures refused { IfErr result (RefusesSource
         (BreaksForm edition (get_member experimental_key (table_view table.now)))) }
 {
@@ -147,7 +147,7 @@ fn read_named(
 ) -> Result<ExperimentalDeserialize, ConfigParseErrorKind>
     ensures asked { IfOk result (λ d. AsksFeatures
         (get_member experimental_key (table_view table.now)) (feature_setting_of d)) }
-    ensures kept { IfOk result (λ d. KeepsToolRule kind.now (features_of d)) }
+    ensures kept { IfOk result (λ d. ObeysToolRule kind.now (features_of d)) }
     ensures refused { IfErr result (RefusesSource
         (IsWrongNamed kind.now (table_view table.now))) }
 {
@@ -163,7 +163,7 @@ fn check_tool(
     kind: &ConfigSourceKind,
     experimental: &ExperimentalDeserialize,
 ) -> Result<(), ConfigParseErrorKind>
-    ensures kept { OnOk result (KeepsToolRule kind.now (features_of experimental.now)) }
+    ensures kept { OnOk result (ObeysToolRule kind.now (features_of experimental.now)) }
     ensures refused { IfErr result (RefusesSource
         (BreaksToolRule kind.now (features_of experimental.now))) }
 {

@@ -183,5 +183,5 @@ abbrev pub DurationFaults : Data → List ℕ → Fault → Type 0
 DurationFaults = FaultsAs as_str duration_expected DurationTextFaults
 
 -- the two are equally long
-abbrev pub SameLength : Duration → Duration → Type 0
-SameLength a b = as_nanos a ≡ as_nanos b
+abbrev pub DurationsAlike : Duration → Duration → Type 0
+DurationsAlike a b = as_nanos a ≡ as_nanos b

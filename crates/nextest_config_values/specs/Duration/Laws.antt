@@ -9,7 +9,7 @@ use Rattle.std.specs.Duration.{FitsDuration, as_nanos}
 use Rattle.std.specs.List.{AllByRecursion}
 use Rattle.std.specs.Str.Parse.{digits_value}
 use Rattle.toml.specs.Data.{as_str}
-use Rattle.nextest_config_values.specs.Duration.Grammar.{AreAll, BeginsWith, DurationFaults, DurationTextFaults, EndsWith, IsDuration, IsDurationFault, IsEndFault, IsFaultBehind, IsFront, IsItemText, IsLongestFront, IsNext, IsNextFault, IsRun, IsUncut, Item, MeansDuration, SameLength, Spells, duration_expected, is_in_word, length_in, offset, total, unit_length, units}
+use Rattle.nextest_config_values.specs.Duration.Grammar.{AreAll, BeginsWith, DurationFaults, DurationTextFaults, EndsWith, IsDuration, IsDurationFault, IsEndFault, IsFaultBehind, IsFront, IsItemText, IsLongestFront, IsNext, IsNextFault, IsRun, IsUncut, Item, MeansDuration, DurationsAlike, Spells, duration_expected, is_in_word, length_in, offset, total, unit_length, units}
 use Rattle.nextest_config_values.specs.Read.FromToml.{IsHeldReading, IsReading, equality, reading_as, reading_on}
 use Rattle.nextest_config_values.specs.declared.duration.DurationFault.{DurationFault}
 
@@ -296,5 +296,5 @@ held_duration = record {
 pub duration_meant : IsReading MeansDuration DurationFaults (λ x y. x ≡ y)
 duration_meant = reading_as as_str duration_expected IsDuration DurationTextFaults (λ x y. x ≡ y) held_duration
 
-pub duration_reading : IsReading (λ value d. MeansDuration value (as_nanos d)) DurationFaults SameLength
+pub duration_reading : IsReading (λ value d. MeansDuration value (as_nanos d)) DurationFaults DurationsAlike
 duration_reading = reading_on as_nanos duration_meant

@@ -6,7 +6,7 @@ use Rattle.toml.specs.Data.{Data, as_str}
 use Rattle.nextest_config_values.specs.Characters.{slash}
 use Rattle.nextest_config_values.specs.Read.Fault.{Fault, wrong_value}
 use Rattle.nextest_config_values.specs.Read.FromToml.{FaultsAs, IsHeldReading, IsReading, MeansAs, reading_as, text_expected}
-use Rattle.nextest_config_values.specs.Read.Plain.{SameText}
+use Rattle.nextest_config_values.specs.Read.Plain.{TextsAlike}
 
 -- the text begins with a slash
 abbrev pub BeginsWithSlash : List ℕ → Type 0
@@ -16,17 +16,17 @@ BeginsWithSlash text = (rest : List ℕ) × (text ≡ slash ∷ rest)
 abbrev pub EndsWithSlash : List ℕ → Type 0
 EndsWithSlash text = (front : List ℕ) × (text ≡ front ++ (slash ∷ []))
 
--- one of the pieces between slashes is `..`
-pub record HasParentPiece (text : List ℕ) : Type 0 where
+-- one of the segments between slashes is `..`
+pub record HasParentSegment (text : List ℕ) : Type 0 where
   pub before : List ℕ
   pub after : List ℕ
   pub whole : text ≡ before ++ (codes ".." ++ after)
   pub begins : (before ≡ []) ⊎ EndsWithSlash before
   pub ends : (after ≡ []) ⊎ BeginsWithSlash after
 
--- the text doesn't begin with a slash, and no piece of it is `..`
+-- the text doesn't begin with a slash, and no segment of it is `..`
 abbrev pub IsRelativePath : List ℕ → Type 0
-IsRelativePath text = ¬ (BeginsWithSlash text) × ¬ (HasParentPiece text)
+IsRelativePath text = ¬ (BeginsWithSlash text) × ¬ (HasParentSegment text)
 
 -- the path is the text as it is written
 abbrev pub MeansPathText : List ℕ → String Global → Type 0
@@ -44,7 +44,7 @@ MeansPath = MeansAs as_str MeansPathText
 abbrev pub PathFaults : Data → List ℕ → Fault → Type 0
 PathFaults = FaultsAs as_str text_expected PathTextFaults
 
-held_path : IsHeldReading MeansPathText PathTextFaults SameText
+held_path : IsHeldReading MeansPathText PathTextFaults TextsAlike
 held_path = record {
   equivalence = record { itself = λ x. refl; back = λ x y e. sym e; through = λ x y z e f. e ∙ f };
   one_meaning = λ value x y a b. a.0 ∙ sym b.0;
@@ -53,8 +53,8 @@ held_path = record {
 }
 
 -- a value means one relative path or has one fault, and not both
-pub path_reading : IsReading MeansPath PathFaults SameText
-path_reading = reading_as as_str text_expected MeansPathText PathTextFaults SameText held_path
+pub path_reading : IsReading MeansPath PathFaults TextsAlike
+path_reading = reading_as as_str text_expected MeansPathText PathTextFaults TextsAlike held_path
 
 -- ---- the join of two paths, by the rules of Unix
 

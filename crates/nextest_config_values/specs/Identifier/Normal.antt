@@ -36,5 +36,5 @@ abbrev pub NameFaults : {Flaw : Type 0} → (NameFault Flaw → Reason) → (Lis
 NameFaults {Flaw} reason IsFlaw text value at fault = (told : NameFault Flaw) × IsNormalFault IsFlaw text told × (fault ≡ fault_at at (reason told))
 
 -- the same answers
-abbrev pub AnswersAlike : {X : Type 0} → (X → Type 0) → (X → Type 0) → Type 0
-AnswersAlike {X} P Q = (x : X) → P x ↔ Q x
+abbrev pub SameAnswers : {X : Type 0} → (X → Type 0) → (X → Type 0) → Type 0
+SameAnswers {X} P Q = (x : X) → P x ↔ Q x

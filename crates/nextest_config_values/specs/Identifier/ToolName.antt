@@ -11,7 +11,7 @@ use Rattle.nextest_config_values.specs.Identifier.Normal.{IsNormalFault, IsNorma
 abbrev pub BeginsWithTool : List ℕ → Type 0
 BeginsWithTool cs = (rest : List ℕ) × (cs ≡ codes "@tool" ++ rest)
 
--- the first that applies: empty, kept for tool identifiers, not of the form
+-- the first that applies: empty, reserved for tool identifiers, not of the form
 abbrev pub IsToolNameFlaw : List ℕ → ToolNameFlaw → Type 0
 IsToolNameFlaw cs Empty = cs ≡ []
 IsToolNameFlaw cs StartsWithToolPrefix = BeginsWithTool cs

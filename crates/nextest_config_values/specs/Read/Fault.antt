@@ -185,6 +185,6 @@ RefusesOne IsFault = Refuses IsFault ((fault : Fault) × IsFault fault)
 abbrev pub RefusesKind : List ℕ → FaultKind → ReadFault → Type 0
 RefusesKind at kind fault = FaultOrMemory (reason_of kind) (IsMemory fault) (λ reason. RefusesAs (fault_at at reason) fault)
 
--- the kind of the refusal of a name: want of memory is that of the whole
+-- the kind of the refusal of a name: running out of memory is that of the whole
 abbrev pub IsNameKind : {Flaw : Type 0} → (NameFault Flaw → Reason) → Option (NameFault Flaw) → FaultKind → Type 0
 IsNameKind reason told kind = FaultOrMemory told (kind ≡ kinds.Memory) (λ fault. reason_of kind ≡ Some (reason fault))

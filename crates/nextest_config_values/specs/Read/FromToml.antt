@@ -10,7 +10,7 @@ pub record IsEquivalence {X : Type 0} (alike : X → X → Type 0) : Type 0 wher
   pub back : (x y : X) → alike x y → alike y x
   pub through : (x y z : X) → alike x y → alike y z → alike x z
 
--- two results of one value are alike, two faults of it at one path are one, no value has both, and want of memory is no fault
+-- two results of one value are alike, two faults of it at one path are one, no value has both, and running out of memory is no fault
 pub record IsReading {D X : Type 0} (means : D → X → Type 0) (faults : D → List ℕ → Fault → Type 0) (alike : X → X → Type 0) : Type 0 where
   pub equivalence : IsEquivalence alike
   pub one_meaning : (value : D) (x y : X) → means value x → means value y → alike x y

@@ -20,8 +20,8 @@ abbrev pub MeansText : List ℕ → List ℕ → Type 0
 MeansText held text = text ≡ held
 
 -- the two have the same bytes
-abbrev pub SameText : String Global → String Global → Type 0
-SameText a b = string_bytes a ≡ string_bytes b
+abbrev pub TextsAlike : String Global → String Global → Type 0
+TextsAlike a b = string_bytes a ≡ string_bytes b
 
 -- ---- integers of a range
 
@@ -107,7 +107,7 @@ bool_reading = reading_as as_bool (codes "a boolean") MeansTruth HasNoFault (λ 
 pub text_reading : IsReading MeansString StringFaults (λ x y. x ≡ y)
 text_reading = reading_as as_str text_expected MeansText HasNoFault (λ x y. x ≡ y) held_itself
 
-pub string_reading : IsReading (λ value text. MeansString value (string_bytes text)) StringFaults SameText
+pub string_reading : IsReading (λ value text. MeansString value (string_bytes text)) StringFaults TextsAlike
 string_reading = reading_on string_bytes text_reading
 
 -- the reading of an integer of a range

@@ -8,33 +8,33 @@ use Rattle.toml.specs.Data.{Data, string, integer, float, boolean, datetime, arr
 use Rattle.nextest_config_values.specs.Characters.{backslash, carriage_return, double_quote, line_feed, nul, tab}
 
 -- a character with no escape of its own: as `\u{..}` with its code in lower case hexadecimal, where it is a control character (U+0000 to U+001F, U+007F to U+009F)
-abbrev pub unnamed : ℕ → List ℕ
-unnamed c = if is_control c then flat_map encode_utf8 (escape_unicode c) else encode_utf8 c
+abbrev pub unnamed_character : ℕ → List ℕ
+unnamed_character c = if is_control c then flat_map encode_utf8 (escape_unicode c) else encode_utf8 c
 
 -- a character between the quotes
-abbrev pub escaped : ℕ → List ℕ
-escaped c =
+abbrev pub quoted_character : ℕ → List ℕ
+quoted_character c =
     if c == double_quote then codes "\\\""
     else if c == backslash then codes "\\\\"
     else if c == line_feed then codes "\\n"
     else if c == carriage_return then codes "\\r"
     else if c == tab then codes "\\t"
     else if c == nul then codes "\\0"
-    else unnamed c
+    else unnamed_character c
 
 -- a text between double quotes
 unfoldable pub quoted_text : List ℕ → List ℕ
-quoted_text text = codes "\"" ++ (flat_map escaped (chars text) ++ codes "\"")
+quoted_text text = codes "\"" ++ (flat_map quoted_character (chars text) ++ codes "\"")
 
--- texts joined by a comma and a space
-abbrev pub joined : List (List ℕ) → List ℕ
-joined [] = []
-joined (text ∷ []) = text
-joined (text ∷ next ∷ rest) = text ++ (codes ", " ++ joined (next ∷ rest))
+-- texts with a comma and a space between
+abbrev pub comma_list : List (List ℕ) → List ℕ
+comma_list [] = []
+comma_list (text ∷ []) = text
+comma_list (text ∷ next ∷ rest) = text ++ (codes ", " ++ comma_list (next ∷ rest))
 
--- texts between double quotes, joined
+-- texts between double quotes, with commas between
 abbrev pub quoted_texts : List (List ℕ) → List ℕ
-quoted_texts texts = joined (map quoted_text texts)
+quoted_texts texts = comma_list (map quoted_text texts)
 
 -- a value, as a refusal says that it was found
 abbrev pub found_text : Data → List ℕ

@@ -5,22 +5,22 @@ use Rattle.std.specs.Cmp.Lexicographic.{pointwise}
 use Rattle.toml.specs.Data.{Data, as_str}
 use Rattle.nextest_config_values.specs.Read.Fault.{Fault, unknown_word}
 use Rattle.nextest_config_values.specs.Read.FromToml.{FaultsAs, IsHeldReading, IsReading, MeansAs, equality, reading_as, text_expected}
-use Rattle.nextest_config_values.specs.Read.Text.{joined}
+use Rattle.nextest_config_values.specs.Read.Text.{comma_list}
 
 -- a word between backquotes
-abbrev pub named : List ℕ → List ℕ
-named word = codes "`" ++ (word ++ codes "`")
+abbrev pub backquoted_word : List ℕ → List ℕ
+backquoted_word word = codes "`" ++ (word ++ codes "`")
 
--- named words, joined
-abbrev pub listed : List (List ℕ) → List ℕ
-listed words = joined (map named words)
+-- words between backquotes, with commas between
+abbrev pub backquoted_words : List (List ℕ) → List ℕ
+backquoted_words words = comma_list (map backquoted_word words)
 
 -- words as a refusal lists them: one, two, or more
 abbrev pub words_text : List (List ℕ) → List ℕ
 words_text [] = []
-words_text (word ∷ []) = named word
-words_text (word ∷ other ∷ []) = named word ++ (codes " or " ++ named other)
-words_text (word ∷ other ∷ third ∷ rest) = codes "one of " ++ listed (word ∷ other ∷ third ∷ rest)
+words_text (word ∷ []) = backquoted_word word
+words_text (word ∷ other ∷ []) = backquoted_word word ++ (codes " or " ++ backquoted_word other)
+words_text (word ∷ other ∷ third ∷ rest) = codes "one of " ++ backquoted_words (word ∷ other ∷ third ∷ rest)
 
 -- the first value with this word
 abbrev pub value_of : {X : Type 0} → (X → List ℕ) → List X → List ℕ → Option X
@@ -31,7 +31,7 @@ value_of word (x ∷ xs) text = if pointwise nat_eq (word x) text then Some x el
 abbrev pub MeansWord : {X : Type 0} → (X → List ℕ) → List ℕ → X → Type 0
 MeansWord word held x = word x ≡ held
 
--- the text is the word of no value
+-- the text is no value's word
 abbrev pub IsNoWord : {X : Type 0} → (X → List ℕ) → List ℕ → List ℕ → Data → List ℕ → Fault → Type 0
 IsNoWord {X} word expected held value at fault = ((x : X) → word x ≢ held) × (fault ≡ unknown_word held at expected)
 

@@ -11,7 +11,7 @@ use std::path::Path;
 use toml::Value;
 
 /// Reads a relative path, which is kept as it is written: it doesn't begin with `/`, and none of its
-/// pieces between slashes is `..`.
+/// segments between slashes is `..`.
 pub fn deserialize_relative_path(
     alloc: Global,
     value: &Value,

@@ -35,7 +35,7 @@ pub enum InvalidIdentifier {
 pub enum InvalidToolName {
     /// The text is empty.
     Empty,
-    /// The text begins with `@tool`, which is kept for tool identifiers.
+    /// The text begins with `@tool`, which is reserved for tool identifiers.
     StartsWithToolPrefix(String),
     /// The text isn't of the form of UAX 31.
     InvalidXid(String),

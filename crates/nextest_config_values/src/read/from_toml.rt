@@ -13,7 +13,7 @@ use toml::Value;
 /// A type that is read from a TOML value.
 ///
 /// A value means at most one Self, up to what counts as alike, has at most one fault at a path, and
-/// never both. So, want of memory aside, `read` answers Ok exactly where a Self is meant.
+/// never both. So, unless memory runs out, `read` answers Ok exactly where a Self is meant.
 pub trait FromToml: Sized {
     // What a value means.
     ghost means: { Data → Self → Type 0 };

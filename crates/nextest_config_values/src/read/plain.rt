@@ -1,7 +1,7 @@
 //! The plain readers.
 
 ghost use Rattle.std.specs.Prelude.{◌≡◌, ◌≢◌, ◌<◌, ◌↔◌, ℕ, pos, true, false, codes, IsSome, IfSome, MatchOption, string_bytes};
-ghost use Rattle.nextest_config_values.specs.Read.{bool_reading, BooleanFaults, count_reading, CountFaults, IsCount, MeansBoolean, MeansCount, MeansNumber, MeansString, MeansU32, SameText, string_reading, StringFaults, u32_reading, U32Faults};
+ghost use Rattle.nextest_config_values.specs.Read.{bool_reading, BooleanFaults, count_reading, CountFaults, IsCount, MeansBoolean, MeansCount, MeansNumber, MeansString, MeansU32, string_reading, StringFaults, TextsAlike, u32_reading, U32Faults};
 
 use super::fault::ReadFault;
 use super::from_toml::FromToml;
@@ -57,7 +57,7 @@ impl FromToml for String {
 
     ghost needs_memory = { true };
 
-    ghost alike = { SameText };
+    ghost alike = { TextsAlike };
 
     ghost laws = { string_reading };
 

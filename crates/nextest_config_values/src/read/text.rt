@@ -3,7 +3,7 @@
 ghost use Rattle.std.specs.Prelude.{◌≡◌, IfOk, Some, map, string_bytes};
 ghost use Rattle.std.specs.Fmt.{WritesOnOk, WritesStyledOnOk};
 ghost use Rattle.toml.specs.View.{view};
-ghost use Rattle.nextest_config_values.specs.Read.{escaped, found_text, quoted_text, quoted_texts, unnamed};
+ghost use Rattle.nextest_config_values.specs.Read.{found_text, quoted_character, quoted_text, quoted_texts, unnamed_character};
 
 use std::alloc::{AllocError, Global};
 use std::collections::BTreeSet;
@@ -56,8 +56,8 @@ fn write_quoted<W: fmt::Write>(f: &mut fmt::Formatter<W>, text: &str) -> fmt::Re
 }
 
 fn write_escaped<W: fmt::Write>(f: &mut fmt::Formatter<W>, c: char) -> fmt::Result
-    ensures writes { WritesOnOk W.write_str_gives f.old result (escaped c) f.new }
-    ensures styled { WritesStyledOnOk W.write_str_gives f.old result (escaped c) f.new }
+    ensures writes { WritesOnOk W.write_str_gives f.old result (quoted_character c) f.new }
+    ensures styled { WritesStyledOnOk W.write_str_gives f.old result (quoted_character c) f.new }
 {
     match c {
         '"' => f.write_str("\\\""),
@@ -72,8 +72,8 @@ fn write_escaped<W: fmt::Write>(f: &mut fmt::Formatter<W>, c: char) -> fmt::Resu
 
 // A character with no escape of its own.
 fn write_unnamed<W: fmt::Write>(f: &mut fmt::Formatter<W>, c: char) -> fmt::Result
-    ensures writes { WritesOnOk W.write_str_gives f.old result (unnamed c) f.new }
-    ensures styled { WritesStyledOnOk W.write_str_gives f.old result (unnamed c) f.new }
+    ensures writes { WritesOnOk W.write_str_gives f.old result (unnamed_character c) f.new }
+    ensures styled { WritesStyledOnOk W.write_str_gives f.old result (unnamed_character c) f.new }
 {
     if !c.is_control() {
         return f.write_char(c);

@@ -5,7 +5,7 @@ use Rattle.nextest_config.specs.NextestVersion.{configuration_of, IsRefusalOf}
 use Rattle.nextest_config_sources.specs.declared.nextest_version.edition.Edition.{Edition}
 use Rattle.nextest_config.specs.declared.nextest_version.error.ListRefusal.TheVariants as refusals
 use Rattle.nextest_config_sources.specs.declared.nextest_version.source.SourceText.{SourceText}
-use Rattle.nextest_config_command.specs.Listed.{IsReadAs}
+use Rattle.nextest_config_command.specs.Listed.{StandsAndSelects}
 use Rattle.nextest_config_command.proofs.listed.read_texts.Goals as goal
 
 -- the sources, read under an edition
@@ -14,7 +14,7 @@ listed edition sources = sym (map-map (under edition) given_of sources)
 
 pub returns-in-Ok : goal.returns-in-Ok
 returns-in-Ok c =
-    subst (λ read. IsReadAs read (configuration_of c.in-Ok.config)) (listed c.args.edition c.args.texts.now) (c.in-Ok.ensures.stands, c.in-Ok.ensures.selected)
+    subst (λ read. StandsAndSelects read (configuration_of c.in-Ok.config)) (listed c.args.edition c.args.texts.now) (c.in-Ok.ensures.stands, c.in-Ok.ensures.selected)
 
 pub returns-in-Err-Refused : goal.returns-in-Err-Refused
 returns-in-Err-Refused c =

@@ -5,19 +5,19 @@ use Rattle.std.specs.Map.Iter.{deref}
 use Rattle.nextest_config_sources.specs.NextestVersion.{word_of}
 use Rattle.nextest_config_sources.specs.declared.nextest_version.experimental.ConfigExperimental.{ConfigExperimental}
 use Rattle.nextest_config_values.proofs.Joined.{joined_more, separator_behind, separator_more}
-use Rattle.nextest_config_values.specs.Read.{joined}
+use Rattle.nextest_config_values.specs.Read.{comma_list}
 use Rattle.nextest_config_report.specs.Lines.{known_text}
 use Rattle.nextest_config_report.proofs.lines.push_known.Goals as goal
 
 abbrev word : Bor ConfigExperimental → List ℕ
 word feature = word_of feature.now
 
-one_more : (text so_far separated more separator : List ℕ) (xs : List (Bor ConfigExperimental)) (x : Bor ConfigExperimental) → separator ≡ separator_behind xs → so_far ≡ text ++ joined (map word xs) → separated ≡ so_far ++ separator → more ≡ separated ++ word x → more ≡ text ++ joined (map word (xs ++ (x ∷ [])))
+one_more : (text so_far separated more separator : List ℕ) (xs : List (Bor ConfigExperimental)) (x : Bor ConfigExperimental) → separator ≡ separator_behind xs → so_far ≡ text ++ comma_list (map word xs) → separated ≡ so_far ++ separator → more ≡ separated ++ word x → more ≡ text ++ comma_list (map word (xs ++ (x ∷ [])))
 one_more text so_far separated more separator xs x is first second third =
-    let both = append_assoc (text ++ joined (map word xs)) (separator_behind xs) (word x) in
-    cc (is, first, second, third, both, append_assoc text (joined (map word xs)) (separator_behind xs ++ word x), joined_more word xs x)
+    let both = append_assoc (text ++ comma_list (map word xs)) (separator_behind xs) (word x) in
+    cc (is, first, second, third, both, append_assoc text (comma_list (map word xs)) (separator_behind xs ++ word x), joined_more word xs x)
 
-some_known : (known : List ConfigExperimental) → known ≢ [] → joined (map word_of known) ≡ known_text known
+some_known : (known : List ConfigExperimental) → known ≢ [] → comma_list (map word_of known) ≡ known_text known
 some_known [] some = absurd (some refl)
 some_known (feature ∷ features) some = refl
 
@@ -34,4 +34,4 @@ pub returns : goal.returns
 returns c =
     let all : map deref c.loop-feature.yielded ≡ c.args.known.now.keys = search (rules, iter_end) in
     let words = sym (map-map word_of deref c.loop-feature.yielded) ∙ ap (map word_of) all in
-    c.loop-feature.invariant.2 ∙ ap (λ t. string_bytes c.args.text.now ++ t) (ap joined words ∙ some_known c.args.known.now.keys (search rules))
+    c.loop-feature.invariant.2 ∙ ap (λ t. string_bytes c.args.text.now ++ t) (ap comma_list words ∙ some_known c.args.known.now.keys (search rules))

@@ -3,15 +3,15 @@ use Rattle.std.proofs.lemmas.Iterator.{cases_from_all}
 use Rattle.std.proofs.lemmas.Str.{encode_ascii}
 use Rattle.std.proofs.lemmas.Iterator.Splits.{YieldsList-from_str_split}
 use Rattle.nextest_config_values.proofs.Elements.{decided_all}
-use Rattle.nextest_config_values.proofs.Paths.{pieces, tells_no_parent}
+use Rattle.nextest_config_values.proofs.Paths.{segments, tells_no_parent}
 use Rattle.nextest_config_values.specs.Helpers.Paths.{BeginsWithSlash}
 use Rattle.nextest_config_values.proofs.helpers.paths.is_relative_path.Goals as goal
 
 pub returns-then-not-starts_with : goal.returns-then-not-starts_with
 returns-then-not-starts_with c =
     let path = c.args.path.now in
-    let decided = decided_all (λ piece. piece ≢ codes "..") (λ piece. piece ≡ codes "..") (pieces path) c.all.result (λ x other same. other same)
-    (cases_from_all _ _ _ (λ piece. piece ≢ codes "..") (λ piece. piece ≡ codes "..") c.all.ensures.ran
+    let decided = decided_all (λ segment. segment ≢ codes "..") (λ segment. segment ≡ codes "..") (segments path) c.all.result (λ x other same. other same)
+    (cases_from_all _ _ _ (λ segment. segment ≢ codes "..") (λ segment. segment ≡ codes "..") c.all.ensures.ran
     (YieldsList-from_str_split 47 path (lit< tt) c.split.ensures.text c.split.ensures.has_more c.split.ensures.pattern)
     (λ x q k. search (rules, tests)) (λ x q k. search (rules, tests))) in
     let parents = tells_no_parent path in

@@ -5,20 +5,20 @@ use Rattle.std.proofs.lemmas.Iterator.Consumers.{YieldsList-end}
 use Rattle.std.proofs.lemmas.List.{flat_map_more, map-id}
 use Rattle.std.specs.Str.{chars}
 use Rattle.nextest_config_values.proofs.Styled.{styled_append, styled_of_eq}
-use Rattle.nextest_config_values.specs.Read.{escaped, quoted_text}
+use Rattle.nextest_config_values.specs.Read.{quoted_character, quoted_text}
 use Rattle.nextest_config_values.proofs.read.text.write_quoted.Goals as goal
 
 -- all characters between the quotes
-between_quotes : (text cs : List ℕ) → map (λ c. c) cs ≡ chars text → (codes "\"" ++ flat_map escaped cs) ++ codes "\"" ≡ quoted_text text
+between_quotes : (text cs : List ℕ) → map (λ c. c) cs ≡ chars text → (codes "\"" ++ flat_map quoted_character cs) ++ codes "\"" ≡ quoted_text text
 unfolding quoted_text
-between_quotes text cs all = append_assoc (codes "\"") (flat_map escaped cs) (codes "\"") ∙ ap (λ ds. codes "\"" ++ (flat_map escaped ds ++ codes "\"")) (sym (map-id cs) ∙ all)
+between_quotes text cs all = append_assoc (codes "\"") (flat_map quoted_character cs) (codes "\"") ∙ ap (λ ds. codes "\"" ++ (flat_map quoted_character ds ++ codes "\"")) (sym (map-id cs) ∙ all)
 
 pub loop-c-preserved : goal.loop-c-preserved
 loop-c-preserved g c = (
-  (λ p. has_written_of_eq _ _ _ _ _ (flat_map_more escaped (codes "\"") c.loop-c.yielded c.in-Some.c) (has_written_append _ _ _ _ _ _ (c.loop-c.invariant.0 p) (search rules))),
+  (λ p. has_written_of_eq _ _ _ _ _ (flat_map_more quoted_character (codes "\"") c.loop-c.yielded c.in-Some.c) (has_written_append _ _ _ _ _ _ (c.loop-c.invariant.0 p) (search rules))),
   (λ flush.
       let before = c.loop-c.invariant.1 flush in
-      styled_of_eq _ _ _ _ _ (flat_map_more escaped (codes "\"") c.loop-c.yielded c.in-Some.c) (styled_append _ _ _ _ _ _ before (c.in_ok-write_escaped.ensures.styled before.flush refl))),
+      styled_of_eq _ _ _ _ _ (flat_map_more quoted_character (codes "\"") c.loop-c.yielded c.in-Some.c) (styled_append _ _ _ _ _ _ before (c.in_ok-write_escaped.ensures.styled before.flush refl))),
 )
 
 pub returns-clause-writes : goal.returns-clause-writes

@@ -4,7 +4,7 @@ use Rattle.std.proofs.lemmas.List.{append-nil, flat_map_more}
 use Rattle.std.specs.Char.{encode_utf8, is_control}
 use Rattle.std.specs.Char.Escape.{escape_unicode}
 use Rattle.nextest_config_values.proofs.Styled.{styled_append, styled_of_eq}
-use Rattle.nextest_config_values.specs.Read.{unnamed}
+use Rattle.nextest_config_values.specs.Read.{unnamed_character}
 use Rattle.nextest_config_values.proofs.read.text.write_unnamed.Goals as goal
 
 -- one more of the characters that come
@@ -21,7 +21,7 @@ loop-mark-preserved g c = (
 )
 
 -- all characters came
-all_marks : (c : ℕ) (yielded rest : List ℕ) → is_control c ≡ true → escape_unicode c ≡ yielded ++ rest → rest ≡ [] → flat_map encode_utf8 yielded ≡ unnamed c
+all_marks : (c : ℕ) (yielded rest : List ℕ) → is_control c ≡ true → escape_unicode c ≡ yielded ++ rest → rest ≡ [] → flat_map encode_utf8 yielded ≡ unnamed_character c
 all_marks c yielded rest control all none = rw (control, all, none, append-nil yielded) refl
 
 pub returns-clause-writes : goal.returns-clause-writes

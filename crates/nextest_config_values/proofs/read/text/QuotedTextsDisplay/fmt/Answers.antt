@@ -5,17 +5,17 @@ use Rattle.std.proofs.lemmas.Simd.{map-map}
 use Rattle.std.specs.Map.Iter.{deref}
 use Rattle.nextest_config_values.proofs.Styled.{styled_append, styled_of_eq}
 use Rattle.nextest_config_values.proofs.Joined.{joined_more, separator_behind, separator_more}
-use Rattle.nextest_config_values.specs.Read.{joined, quoted_text, quoted_texts}
+use Rattle.nextest_config_values.specs.Read.{comma_list, quoted_text, quoted_texts}
 use Rattle.nextest_config_values.proofs.read.text.QuotedTextsDisplay.fmt.Goals as goal
 
 -- a text of the set, as it is written
 abbrev quoted : Bor (String Global) → List ℕ
 quoted text = quoted_text (string_bytes text.now)
 
-one_more : (xs : List (Bor (String Global))) (x : Bor (String Global)) (separator : List ℕ) → separator ≡ separator_behind xs → (joined (map quoted xs) ++ separator) ++ quoted x ≡ joined (map quoted (xs ++ (x ∷ [])))
-one_more xs x separator is = rw (joined_more quoted xs x, ← is) (append_assoc (joined (map quoted xs)) separator (quoted x))
+one_more : (xs : List (Bor (String Global))) (x : Bor (String Global)) (separator : List ℕ) → separator ≡ separator_behind xs → (comma_list (map quoted xs) ++ separator) ++ quoted x ≡ comma_list (map quoted (xs ++ (x ∷ [])))
+one_more xs x separator is = rw (joined_more quoted xs x, ← is) (append_assoc (comma_list (map quoted xs)) separator (quoted x))
 
-whole : (xs : List (Bor (String Global))) (keys : List (String Global)) → map deref xs ≡ keys → joined (map quoted xs) ≡ quoted_texts (map string_bytes keys)
+whole : (xs : List (Bor (String Global))) (keys : List (String Global)) → map deref xs ≡ keys → comma_list (map quoted xs) ≡ quoted_texts (map string_bytes keys)
 whole xs keys all = rw (← all, map-map string_bytes deref xs, map-map quoted_text (λ (text : Bor (String Global)). string_bytes text.now) xs) refl
 
 pub loop-text-preserved : goal.loop-text-preserved

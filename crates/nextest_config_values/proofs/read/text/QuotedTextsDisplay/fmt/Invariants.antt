@@ -2,7 +2,7 @@ use Rattle.std.proofs.Common.{◌≡◌, map, string_bytes}
 use Rattle.std.specs.Fmt.{HasWritten, HasWrittenStyled, IsFlush, IsPlainFormatter}
 use denote.Text.{Utf8}
 use denote.Shadow.{shadow}
-use Rattle.nextest_config_values.specs.Read.{joined, quoted_text}
+use Rattle.nextest_config_values.specs.Read.{comma_list, quoted_text}
 use Rattle.nextest_config_values.proofs.Joined.{separator_behind}
 use Rattle.nextest_config_values.proofs.read.text.QuotedTextsDisplay.fmt.Given as goal
 
@@ -11,5 +11,5 @@ abbrev pub invariant-loop-text : goal.invariant-loop-text
 invariant-loop-text g l =
     shadow (Utf8 l.separator)
     × (l.separator ≡ separator_behind l.yielded)
-    × (IsPlainFormatter l.fn.f → HasWritten g.W.Write.write_str_gives l.fn.f (joined (map (λ text. quoted_text (string_bytes text.now)) l.yielded)) l.f)
-    × (IsFlush l.fn.f → HasWrittenStyled g.W.Write.write_str_gives l.fn.f (joined (map (λ text. quoted_text (string_bytes text.now)) l.yielded)) l.f)
+    × (IsPlainFormatter l.fn.f → HasWritten g.W.Write.write_str_gives l.fn.f (comma_list (map (λ text. quoted_text (string_bytes text.now)) l.yielded)) l.f)
+    × (IsFlush l.fn.f → HasWrittenStyled g.W.Write.write_str_gives l.fn.f (comma_list (map (λ text. quoted_text (string_bytes text.now)) l.yielded)) l.f)
