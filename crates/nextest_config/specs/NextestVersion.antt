@@ -1,4 +1,5 @@
--- What configuration sources ask of the nextest version, the experimental features that they name, and what follows for a current version.
+-- What configuration sources ask of the nextest version, the experimental features that they name,
+-- and what follows for a current version.
 pub mod File
 pub mod Later
 pub mod KeptVersions

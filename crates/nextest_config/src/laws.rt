@@ -47,7 +47,8 @@ pub fn law_configuration_once()
         → StandsFor sources configuration → StandsFor sources other → configuration ≡ other }
 {}
 
-/// What stands for a list selects for it: on each current version, overridden or not, its verdict is the
+/// What stands for a list selects for it: on each current version, overridden or not, its verdict
+/// is the
 /// one selected from those of the sources alone.
 pub fn law_selected()
     ensures { (sources : List Source) (configuration : Configuration)
@@ -60,7 +61,8 @@ pub fn law_known_in_order()
         → FeaturesInOrder (configuration_of config).experimental.known }
 {}
 
-/// The join is associative, and what asks nothing changes nothing on either side: of the versions that
+/// The join is associative, and what asks nothing changes nothing on either side: of the versions
+/// that
 /// are kept in a role, of both roles, of features and of configurations, built by hand or not.
 pub fn law_join()
     ensures role { IsMonoid join_kept None }
@@ -69,8 +71,10 @@ pub fn law_join()
     ensures configurations { IsMonoid join_configurations neutral_seen }
 {}
 
-/// Reading is the same however a list is cut. It reads exactly where each part does; its first refused
-/// position is that of the first refused part, counted from the list's beginning; and a configuration
+/// Reading is the same however a list is cut. It reads exactly where each part does; its first
+/// refused
+/// position is that of the first refused part, counted from the list's beginning; and a
+/// configuration
 /// stands for it exactly where it is the join, in order, of those that stand for the parts.
 pub fn law_cut()
     ensures reads { (sources : List Source) (parts : List (List Source)) → IsCut sources parts
@@ -84,9 +88,11 @@ pub fn law_cut()
         → StandsFor sources whole ↔ IsJoinOf configurations whole }
 {}
 
-/// Of a list that reads, each reordering reads. What stands for the two keeps the same versions, knows
+/// Of a list that reads, each reordering reads. What stands for the two keeps the same versions,
+/// knows
 /// the same features and has the same entries of unknown names, in some order; and on each current
-/// version, overridden or not, both verdicts are of one kind and name one version. Where several sources
+/// version, overridden or not, both verdicts are of one kind and name one version. Where several
+/// sources
 /// ask that version, the verdicts may name different ones of them.
 pub fn law_reorder()
     ensures reads { (sources reordered : List Source) → IsReordering sources reordered
@@ -99,10 +105,12 @@ pub fn law_reorder()
 /// No list of sources has two selected verdicts.
 pub fn law_verdict_once()
     ensures { (sources : List Source) (current : Parts) (overridden : Bool) (v w : Verdict)
-        → IsSelectedFor sources current overridden v → IsSelectedFor sources current overridden w → v ≡ w }
+        → IsSelectedFor sources current overridden v → IsSelectedFor sources current overridden w
+        → v ≡ w }
 {}
 
-/// A verdict comes from a source: where the selected one isn't satisfied, some source whose place it
+/// A verdict comes from a source: where the selected one isn't satisfied, some source whose place
+/// it
 /// names gives it, read alone. It is satisfied exactly where that of each source alone is.
 pub fn law_verdict_from_source()
     ensures source { (asked : List SourceAsk) (current : Parts) (overridden : Bool) (v : Verdict)
@@ -118,7 +126,8 @@ pub fn law_verdict_from_source()
 pub fn law_lower_recommendation()
     ensures { (required recommended : Kept) (current : Parts) (overridden : Bool) (s : Shortfall)
         → ¬ IsBelow required.version recommended.version
-        → verdict (record { required = Some required; recommended = Some recommended }) current overridden
+        → verdict (record { required = Some required; recommended = Some recommended }) current
+        overridden
         ≢ warn s }
 {}
 
@@ -128,7 +137,8 @@ pub fn law_greater_current()
     ensures roles { (roles : Roles) (lesser greater : Parts) (overridden : Bool)
         → ¬ IsBelow greater lesser
         → IsNoGraver (verdict roles lesser overridden) (verdict roles greater overridden) }
-    ensures list { (asked : List SourceAsk) (lesser greater : Parts) (overridden : Bool) (v w : Verdict)
+    ensures list { (asked : List SourceAsk) (lesser greater : Parts) (overridden : Bool)
+        (v w : Verdict)
         → ¬ IsBelow greater lesser → IsSelected (map (alone lesser overridden) asked) v
         → IsSelected (map (alone greater overridden) asked) w → IsNoGraver v w }
 {}
@@ -140,8 +150,10 @@ pub fn law_added_source()
         → IsSelectedFor (before ++ (added ∷ after)) current overridden w → IsNoGraver w v }
 {}
 
-/// A board of n slots, however it was changed, has n slots; each holds the versions of the source that
-/// was put into it last, or none where it was left empty since or never changed; and the choices that
+/// A board of n slots, however it was changed, has n slots; each holds the versions of the source
+/// that
+/// was put into it last, or none where it was left empty since or never changed; and the choices
+/// that
 /// are counted are those of the last change.
 pub fn law_board_follows()
     ensures slots { (n : ℕ) (commands : List Command) (board : BoardState)
@@ -154,7 +166,8 @@ pub fn law_board_follows()
         → board.selections ≡ halvings n (slot_in last) }
 {}
 
-/// The verdict of a board is that of the sources that its slots hold, read as one list in the order of
+/// The verdict of a board is that of the sources that its slots hold, read as one list in the order
+/// of
 /// the slots.
 pub fn law_board_verdict()
     ensures { (n : ℕ) (commands : List Command) (board : BoardState) (current : Parts)

@@ -4,7 +4,8 @@ use crate::announced::Runner;
 
 /// The calls of a program.
 pub trait Calls {
-    /// Makes the input, and then the call of this group and name: nothing where there is no such call, or the
+    /// Makes the input, and then the call of this group and name: nothing where there is no such
+    /// call, or the
     /// input can't be made.
     fn ask(rt: &impl Runner, group: &str, name: &str, input: &str) -> Option<()>;
 }

@@ -11,7 +11,8 @@ use Rattle.nextest_config_check.specs.declared.command_line.Check.{Check}
 use Rattle.nextest_config_check.specs.declared.command_line.WordsFault.{WordsFault}
 use Rattle.nextest_config_check.specs.declared.command_line.WordsFault.TheVariants as words
 
--- what the words ask for: a check of the current version, with the check overridden or not, under an edition; or they are refused with a text
+-- what the words ask for: a check of the current version, with the check overridden or not, under
+-- an edition; or they are refused with a text
 pub data Command : Type 0 where
   check : Parts → Bool → Edition → Command
   complain : List ℕ → Command
@@ -40,14 +41,17 @@ is_word word other = pointwise nat_eq word other
 -- what the flags ask for, in their order: whether the check is overridden, and the edition
 abbrev pub flags_of : List (List ℕ) → Option (Bool × Edition)
 flags_of [] = Some (false, ArrayAllowed)
-flags_of (flag ∷ []) = if is_word flag (codes "--override") then Some (true, ArrayAllowed) else (if is_word flag (codes "--table-only") then Some (false, TableOnly) else None)
-flags_of (first ∷ second ∷ []) = if is_word first (codes "--override") && is_word second (codes "--table-only") then Some (true, TableOnly) else None
+flags_of (flag ∷ []) = if is_word flag (codes "--override") then Some (true, ArrayAllowed)
+    else (if is_word flag (codes "--table-only") then Some (false, TableOnly) else None)
+flags_of (first ∷ second ∷ []) = if is_word first (codes "--override")
+    && is_word second (codes "--table-only") then Some (true, TableOnly) else None
 flags_of arguments = None
 
 -- what a word and what its flags ask for is
 abbrev pub check_with : List ℕ → Option (Bool × Edition) → Command
 check_with current None = usage
-check_with current (Some (overridden, edition)) = check_of current overridden edition (version_parts current)
+check_with current (Some (overridden, edition)) =
+    check_of current overridden edition (version_parts current)
 
 -- the words of the command line, without the program's name
 abbrev pub command_of : List (List ℕ) → Command
@@ -77,12 +81,14 @@ words_fault_text words.Memory = codes "out of memory"
 -- the words are refused with this fault; memory runs out only where they ask for a check
 abbrev pub IsWordsFault : Command → WordsFault → Type 0
 IsWordsFault command words.Usage = command ≡ usage
-IsWordsFault command (words.NotVersion word) = command ≡ complain (not_version_text word.now ++ codes "\n")
+IsWordsFault command (words.NotVersion word) =
+    command ≡ complain (not_version_text word.now ++ codes "\n")
 IsWordsFault command words.Memory = IfComplaint command (λ text. ⊥)
 
 -- the words ask for this check
 abbrev pub AsksCheck : Command → Check → Type 0
-AsksCheck command asked = command ≡ check (parts_of asked.current) asked.override_version_check asked.edition
+AsksCheck command asked = command ≡ check (parts_of asked.current) asked.override_version_check
+    asked.edition
 
 -- the status after a fault of the words
 abbrev pub words_status : WordsFault → ℕ

@@ -1,4 +1,5 @@
--- How the input is laid out: blocks, one after the other, each a source line and the contents of that source.
+-- How the input is laid out: blocks, one after the other, each a source line and the contents of
+-- that source.
 use Rattle.std.specs.Prelude.{◌≡◌, ◌≢◌, ℕ, ◌+◌, ◌<◌, ◌==◌, List, [], ◌∷◌, ◌++◌, length, codes, count_by, Option, Some, MatchOption, ◌⊎◌, if◌then◌else◌}
 use Rattle.std.specs.List.{AllByRecursion}
 pub use Rattle.nextest_config_values.specs.Characters.{carriage_return, line_feed}
@@ -83,7 +84,8 @@ pub record IsSourceLine (line : List ℕ) (place : Place) : Type 0 where
 
 -- the source is at such a place; or there is no source, and no such place
 abbrev pub IsSourceIfAny : (Place → Type 0) → Option ConfigSource → Type 0
-IsSourceIfAny IsSuch source = MatchOption source ((place : Place) → ¬ IsSuch place) (λ source. IsSuch (place_of source))
+IsSourceIfAny IsSuch source =
+    MatchOption source ((place : Place) → ¬ IsSuch place) (λ source. IsSuch (place_of source))
 
 -- the text is a source line and the contents of that source, in which no line is marked
 pub record IsBlock (text : List ℕ) (source : Given) : Type 0 where
@@ -98,7 +100,8 @@ pub record IsBlock (text : List ℕ) (source : Given) : Type 0 where
 abbrev pub AreBlocks : List Given → List ℕ → Type 0
 AreBlocks [] text = text ≡ []
 AreBlocks (source ∷ sources) text =
-    (block : List ℕ) × (rest : List ℕ) × (text ≡ block ++ rest) × IsBlock block source × ((rest ≡ []) ⊎ EndsLine block) × AreBlocks sources rest
+    (block : List ℕ) × (rest : List ℕ) × (text ≡ block ++ rest) × IsBlock block source
+    × ((rest ≡ []) ⊎ EndsLine block) × AreBlocks sources rest
 
 -- the text's first line is marked, or it is the first line of the input
 abbrev pub OwesSourceLine : List ℕ → List ℕ → Type 0
@@ -108,7 +111,8 @@ OwesSourceLine front rest = (front ≡ []) ⊎ ((more : List ℕ) × (rest ≡ m
 abbrev pub line_number : List ℕ → ℕ
 line_number front = count_by (λ byte. byte == line_feed) front + 1
 
--- the line with this number, counted from 1, is the first that is no source line where one has to be
+-- the line with this number, counted from 1, is the first that is no source line where one has to
+-- be
 pub record IsFaultyLine (input : List ℕ) (number : ℕ) : Type 0 where
   pub front : List ℕ
   pub rest : List ℕ
@@ -138,9 +142,11 @@ pub record IsCut (text block rest : List ℕ) : Type 0 where
 
 -- the first line of the text is no source line
 abbrev pub IsFaultyBlock : List ℕ → Type 0
-IsFaultyBlock text = (line : List ℕ) × (more : List ℕ) × IsFirstLine text line more × ((place : Place) → ¬ IsSourceLine line place)
+IsFaultyBlock text = (line : List ℕ) × (more : List ℕ) × IsFirstLine text line more
+    × ((place : Place) → ¬ IsSourceLine line place)
 
--- the input up to the rest is blocks of these sources, and a source line is owed where the rest begins, if it isn't empty
+-- the input up to the rest is blocks of these sources, and a source line is owed where the rest
+-- begins, if it isn't empty
 pub record AreSourcesBefore (input : List ℕ) (sources : List Given) (rest : List ℕ) : Type 0 where
   pub front : List ℕ
   pub whole : input ≡ front ++ rest

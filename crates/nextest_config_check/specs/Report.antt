@@ -25,23 +25,34 @@ outcome_of (error shortfall) = error_outcome shortfall.overridden
     error_outcome false = Failed
 
 -- the report on the input, and its outcome: one constructor for each kind of report
-pub data IsReport (input : List ℕ) (current : Parts) (overridden : Bool) (edition : Edition) : List ℕ → Outcome → Type 0 where
-  not_text : ¬ IsUtf8 input → IsReport input current overridden edition (codes "refused: input isn't UTF-8\n") Refused
+pub data IsReport (input : List ℕ) (current : Parts) (overridden : Bool) (edition : Edition) : List
+    ℕ → Outcome → Type 0 where
+  not_text : ¬ IsUtf8 input
+      → IsReport input current overridden edition (codes "refused: input isn't UTF-8\n") Refused
   faulty_line : (number : ℕ) → IsUtf8 input → IsFaultyLine input number
-      → IsReport input current overridden edition (codes "refused: line " ++ (decimal number ++ codes " isn't a source line\n")) Refused
-  refused_list : (sources : List Given) (position : ℕ) (refusal : Refusal) → IsUtf8 input → AreBlocks sources input → IsFirstRefused (map (under edition) sources) position refusal
-      → IsReport input current overridden edition (codes "refused at " ++ (decimal position ++ (codes ": " ++ (refusal_text refusal ++ codes "\n")))) Refused
-  read_list : (sources : List Given) (v : Verdict) (configuration : Configuration) → IsUtf8 input → AreBlocks sources input → IsSelectedFor (map (under edition) sources) current overridden v
-      → StandsFor (map (under edition) sources) configuration → IsReport input current overridden edition (read_text current v configuration.experimental) (outcome_of v)
+      → IsReport input current overridden edition
+      (codes "refused: line " ++ (decimal number ++ codes " isn't a source line\n")) Refused
+  refused_list : (sources : List Given) (position : ℕ) (refusal : Refusal) → IsUtf8 input
+      → AreBlocks sources input → IsFirstRefused (map (under edition) sources) position refusal
+      → IsReport input current overridden edition
+      (codes "refused at "
+      ++ (decimal position ++ (codes ": " ++ (refusal_text refusal ++ codes "\n")))) Refused
+  read_list : (sources : List Given) (v : Verdict) (configuration : Configuration) → IsUtf8 input
+      → AreBlocks sources input → IsSelectedFor (map (under edition) sources) current overridden v
+      → StandsFor (map (under edition) sources) configuration
+      → IsReport input current overridden edition (read_text current v configuration.experimental)
+      (outcome_of v)
 
 -- the report is that of a list that reads, with this verdict and these features
-pub record IsReportOf (current : Parts) (v : Verdict) (experimental : Experimental) (report : Report) : Type 0 where
+pub record IsReportOf (current : Parts) (v : Verdict) (experimental : Experimental)
+    (report : Report) : Type 0 where
   pub text : string_bytes report.text ≡ read_text current v experimental
   pub outcome : report.outcome ≡ outcome_of v
 
 -- the report on each input that holds these sources, and its outcome
 abbrev pub IsReportOn : List Given → Parts → Bool → Edition → List ℕ → Outcome → Type 0
-IsReportOn sources current overridden edition text outcome = (input : List ℕ) → IsUtf8 input → AreBlocks sources input → IsReport input current overridden edition text outcome
+IsReportOn sources current overridden edition text outcome = (input : List ℕ) → IsUtf8 input
+    → AreBlocks sources input → IsReport input current overridden edition text outcome
 
 -- the status that the program ends with
 abbrev pub status_of : Outcome → ℕ
@@ -51,8 +62,10 @@ status_of Refused = 2
 
 -- the report is the one on this input
 abbrev pub IsReportFor : List ℕ → Parts → Bool → Edition → Report → Type 0
-IsReportFor input current overridden edition report = IsReport input current overridden edition (string_bytes report.text) report.outcome
+IsReportFor input current overridden edition report =
+    IsReport input current overridden edition (string_bytes report.text) report.outcome
 
 -- the report is the one on each input that holds these sources
 abbrev pub IsReportForSources : List Given → Parts → Bool → Edition → Report → Type 0
-IsReportForSources sources current overridden edition report = IsReportOn sources current overridden edition (string_bytes report.text) report.outcome
+IsReportForSources sources current overridden edition report =
+    IsReportOn sources current overridden edition (string_bytes report.text) report.outcome

@@ -73,7 +73,8 @@ impl<'a> WordsFault<'a> {
 
 /// The check that the words ask for.
 pub(crate) fn parse_words<'a>(alloc: Global, words: &'a [String]) -> Result<Check, WordsFault<'a>>
-    ensures { MatchResult result (AsksCheck (asked_by words.now)) (IsWordsFault (asked_by words.now)) }
+    ensures { MatchResult result (AsksCheck (asked_by words.now))
+        (IsWordsFault (asked_by words.now)) }
 {
     let [current, flags @ ..] = words else {
         return Err(WordsFault::Usage);
@@ -122,7 +123,8 @@ fn parse_check<'a>(
     override_version_check: bool,
     edition: Edition,
 ) -> Result<Check, WordsFault<'a>>
-    ensures { let command = check_of word.now override_version_check edition (version_parts word.now) in
+    ensures { let command = check_of word.now override_version_check edition
+        (version_parts word.now) in
         MatchResult result (AsksCheck command) (IsWordsFault command) }
 {
     match Version::parse(alloc, word) {

@@ -21,7 +21,8 @@ pub fn law_layout_once()
         → AreBlocks sources input → IsFaultyLine input n → ⊥ }
 {}
 
-/// For a current version, the flag and an edition, an input has at most one report, with one outcome.
+/// For a current version, the flag and an edition, an input has at most one report, with one
+/// outcome.
 pub fn law_report_once()
     ensures { (input : List ℕ) (current : Parts) (overridden : Bool) (edition : Edition)
         (text other : List ℕ) (outcome another : Outcome)
@@ -30,7 +31,8 @@ pub fn law_report_once()
         → (text ≡ other) × (outcome ≡ another) }
 {}
 
-/// Outcomes and faults of a run are equal exactly where they are the same, and a copy is what it is made of.
+/// Outcomes and faults of a run are equal exactly where they are the same, and a copy is what it is
+/// made of.
 pub fn law_equality()
     ensures outcome { IsEquality ⟦<Outcome as PartialEq>⟧.eq }
     ensures fault { IsEquality ⟦<RunFault as PartialEq>⟧.eq }

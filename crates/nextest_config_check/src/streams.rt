@@ -38,7 +38,8 @@ pub enum RunFault {
 impl RunFault {
     // Why a read gave nothing.
     fn of_read(error: &io::Error) -> Self
-        ensures memory { (result ≡ RunFault.Memory) ↔ (error_kind error.now ≡ ErrorKind.OutOfMemory) }
+        ensures memory { (result ≡ RunFault.Memory)
+            ↔ (error_kind error.now ≡ ErrorKind.OutOfMemory) }
         ensures read { result ≢ RunFault.Write }
     {
         match error.kind() {
@@ -115,7 +116,8 @@ pub fn serve<R: Read, W: Write, E: Write>(
     }
 }
 
-// Makes the check, says why if there is no outcome, and answers the status that the program ends with.
+// Makes the check, says why if there is no outcome, and answers the status that the program ends
+// with.
 fn make<R: Read, W: Write, E: Write>(
     alloc: Global,
     check: &Check,
@@ -123,7 +125,8 @@ fn make<R: Read, W: Write, E: Write>(
     writer: &mut W,
     faults: &mut E,
 ) -> u8
-    ensures checked { (result ≡ 3) ⊎ WritesReport (R.remaining reader.old) (parts_of check.now.current)
+    ensures checked { (result ≡ 3)
+        ⊎ WritesReport (R.remaining reader.old) (parts_of check.now.current)
         check.now.override_version_check check.now.edition result
         (W.contents writer.old) (W.contents writer.new) }
     ensures drained { result ≢ 3 → IsAtEnd (R.remaining reader.new) }
@@ -168,7 +171,8 @@ pub fn run<R: Read, W: Write>(
     override_version_check: bool,
     edition: Edition,
 ) -> Result<Outcome, RunFault>
-    ensures report { IfOk result (λ outcome. IfSome (R.remaining reader.old) (λ input. (text : List ℕ)
+    ensures report { IfOk result
+        (λ outcome. IfSome (R.remaining reader.old) (λ input. (text : List ℕ)
         × IsReport input (parts_of current.now) override_version_check edition text outcome
         × Appends (W.contents writer.old) (W.contents writer.new) text)) }
     ensures read { OnOk result (IsAtEnd (R.remaining reader.new)) }

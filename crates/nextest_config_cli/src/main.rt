@@ -1,4 +1,5 @@
-//! `nextest-config` checks, lints and shows what configuration files of nextest ask, and what is wrong
+//! `nextest-config` checks, lints and shows what configuration files of nextest ask, and what is
+//! wrong
 //! in them.
 #![tactic(auto)]
 

@@ -20,14 +20,16 @@ use Rattle.nextest_config_command.specs.declared.lint_lines.Format.TheVariants.{
 -- ---- lint
 
 -- what is found in the files, told in a format, and its status
-pub record IsLinted (edition : Edition) (format : Format) (strict : Bool) (files : List File) (text : List ℕ) (status : ℕ) : Type 0 where
+pub record IsLinted (edition : Edition) (format : Format) (strict : Bool) (files : List File)
+    (text : List ℕ) (status : ℕ) : Type 0 where
   pub founds : List AtPath
   pub are_found : AreFound edition files founds
   pub text_is : text ≡ lint_text format founds
   pub status_is : status ≡ status_found strict founds
 
 -- what is found in the files of a list that is refused
-pub record IsRefusedWith (edition : Edition) (files : List File) (text : List ℕ) (status : ℕ) : Type 0 where
+pub record IsRefusedWith (edition : Edition) (files : List File) (text : List ℕ) (status : ℕ)
+    : Type 0 where
   pub founds : List AtPath
   pub are_found : AreFound edition files founds
   pub text_is : text ≡ lint_text Human founds
@@ -52,68 +54,88 @@ abbrev pub status_checked : Bool → Verdict → List AtPath → ℕ
 status_checked strict v founds = if strict && warns v then 1 else status_found strict founds
 
 -- what is said of the current version, and the status: one constructor for each kind of answer
-pub data IsChecked (edition : Edition) (files : List File) (current : Parts) (overridden strict : Bool) : List ℕ → ℕ → Type 0 where
-  refused_list : (text : List ℕ) (status : ℕ) → IsRefusedList edition files → IsRefusedWith edition files text status
+pub data IsChecked (edition : Edition) (files : List File) (current : Parts)
+    (overridden strict : Bool) : List ℕ → ℕ → Type 0 where
+  refused_list : (text : List ℕ) (status : ℕ) → IsRefusedList edition files
+      → IsRefusedWith edition files text status
       → IsChecked edition files current overridden strict text status
-  not_enough : (configuration : Configuration) (v : Verdict) → IsListedAs edition files configuration
+  not_enough : (configuration : Configuration) (v : Verdict)
+      → IsListedAs edition files configuration
       → IsSelectedFor (sources_of_files edition files) current overridden v → fails v ≡ true
-      → IsChecked edition files current overridden strict (read_text current v configuration.experimental) 1
-  enough : (configuration : Configuration) (v : Verdict) (founds : List AtPath) → IsListedAs edition files configuration
-      → IsSelectedFor (sources_of_files edition files) current overridden v → fails v ≡ false → AreFound edition files founds
-      → IsChecked edition files current overridden strict (read_text current v configuration.experimental ++ lint_text Human founds)
+      → IsChecked edition files current overridden strict
+      (read_text current v configuration.experimental) 1
+  enough : (configuration : Configuration) (v : Verdict) (founds : List AtPath)
+      → IsListedAs edition files configuration
+      → IsSelectedFor (sources_of_files edition files) current overridden v → fails v ≡ false
+      → AreFound edition files founds
+      → IsChecked edition files current overridden strict
+      (read_text current v configuration.experimental ++ lint_text Human founds)
       (status_checked strict v founds)
 
 -- ---- show
 
 -- the line of a role
 abbrev pub role_line : List ℕ → Option Kept → List ℕ
-role_line role (Some kept) = role ++ (codes ": " ++ (parts_text kept.version ++ (codes " by " ++ (place_text kept.place ++ codes "\n"))))
+role_line role (Some kept) =
+    role ++ (codes ": " ++ (parts_text kept.version
+    ++ (codes " by " ++ (place_text kept.place ++ codes "\n"))))
 role_line role None = role ++ codes ": none\n"
 
 -- the lines of a list that reads
 abbrev pub show_text : Configuration → List ℕ
 show_text configuration =
     role_line (codes "required") configuration.roles.required
-    ++ (role_line (codes "recommended") configuration.roles.recommended ++ features_text configuration.experimental)
+    ++ (role_line (codes "recommended") configuration.roles.recommended
+    ++ features_text configuration.experimental)
 
 -- what the files ask, and the status: one constructor for each kind of answer
 pub data IsShown (edition : Edition) (files : List File) : List ℕ → ℕ → Type 0 where
-  refused_files : (text : List ℕ) (status : ℕ) → IsRefusedList edition files → IsRefusedWith edition files text status
+  refused_files : (text : List ℕ) (status : ℕ) → IsRefusedList edition files
+      → IsRefusedWith edition files text status
       → IsShown edition files text status
-  shown : (configuration : Configuration) → IsListedAs edition files configuration → IsShown edition files (show_text configuration) 0
+  shown : (configuration : Configuration) → IsListedAs edition files configuration
+      → IsShown edition files (show_text configuration) 0
 
 -- ---- the task
 
 -- what is written, and the status that the command ends with
 abbrev pub Answers : Edition → Task → List File → List ℕ → ℕ → Type 0
-Answers edition (tasks.Check check) files = IsChecked edition files (parts_of check.current) check.override_version_check check.strict
+Answers edition (tasks.Check check) files =
+    IsChecked edition files (parts_of check.current) check.override_version_check check.strict
 Answers edition (tasks.Lint format strict) files = IsLinted edition format strict files
 Answers edition tasks.Show files = IsShown edition files
 
 abbrev pub IsAnswer : Edition → Task → List File → Answer → Type 0
-IsAnswer edition task files answer = Answers edition task files (string_bytes answer.text) answer.status
+IsAnswer edition task files answer =
+    Answers edition task files (string_bytes answer.text) answer.status
 
 -- ---- its parts
 
 abbrev pub IsLintOf : Edition → Format → Bool → List File → Answer → Type 0
-IsLintOf edition format strict files answer = IsLinted edition format strict files (string_bytes answer.text) answer.status
+IsLintOf edition format strict files answer =
+    IsLinted edition format strict files (string_bytes answer.text) answer.status
 
 abbrev pub IsRefusedAnswer : Edition → List File → Answer → Type 0
-IsRefusedAnswer edition files answer = IsRefusedWith edition files (string_bytes answer.text) answer.status
+IsRefusedAnswer edition files answer =
+    IsRefusedWith edition files (string_bytes answer.text) answer.status
 
 abbrev pub IsCheckOf : Edition → List File → Check → Answer → Type 0
 IsCheckOf edition files check answer =
-    IsChecked edition files (parts_of check.current) check.override_version_check check.strict (string_bytes answer.text) answer.status
+    IsChecked edition files (parts_of check.current) check.override_version_check check.strict
+    (string_bytes answer.text) answer.status
 
 -- the answer where this configuration stands for the files
 abbrev pub ChecksListed : Edition → List File → Check → Configuration → Answer → Type 0
-ChecksListed edition files check configuration answer = IsListedAs edition files configuration → IsCheckOf edition files check answer
+ChecksListed edition files check configuration answer = IsListedAs edition files configuration
+    → IsCheckOf edition files check answer
 
 -- the answer where this verdict is selected, and this is the report on it
 abbrev pub IsCheckWith : Edition → List File → Bool → Verdict → List ℕ → Answer → Type 0
 IsCheckWith edition files strict v report answer =
-    (configuration : Configuration) (current : Parts) (overridden : Bool) → IsListedAs edition files configuration
-    → IsSelectedFor (sources_of_files edition files) current overridden v → report ≡ read_text current v configuration.experimental
+    (configuration : Configuration) (current : Parts) (overridden : Bool)
+    → IsListedAs edition files configuration
+    → IsSelectedFor (sources_of_files edition files) current overridden v
+    → report ≡ read_text current v configuration.experimental
     → IsChecked edition files current overridden strict (string_bytes answer.text) answer.status
 
 abbrev pub IsShowOf : Edition → List File → Answer → Type 0

@@ -42,7 +42,8 @@ file_if place None = []
 
 -- ---- what is read
 
--- what is read where this is held: the file; none, where a repository's file is looked for and absent
+-- what is read where this is held: the file; none, where a repository's file is looked for and
+-- absent
 abbrev pub IsFileRead : Place → Held → List File → Type 0
 IsFileRead place (bytes contents) files = files ≡ file_if place (Some contents)
 IsFileRead place (absent reason) files = (place.kind ≡ DiscoveredRepository) × (files ≡ [])

@@ -28,7 +28,8 @@ at_path path found = record { path = path; found = found }
 -- what is found in a file
 abbrev pub IsFoundIn : Edition → File → List AtPath → Type 0
 IsFoundIn edition file founds =
-    (found : List LocatedFinding) × AreLocated edition file.place.kind file.contents found × (founds ≡ map (at_path file.place.path) found)
+    (found : List LocatedFinding) × AreLocated edition file.place.kind file.contents found
+    × (founds ≡ map (at_path file.place.path) found)
 
 -- what is found in the files, in their order
 abbrev pub AreFound : Edition → List File → List AtPath → Type 0
@@ -49,13 +50,16 @@ column_text mark None = []
 abbrev pub human_line : List ℕ → ℕ → Option ℕ → Severity → List ℕ → List ℕ
 human_line path line column severity text =
     escaped_text LineEnds path ++ (codes ":" ++ (decimal line ++ (column_text (codes ":") column
-    ++ (codes ": " ++ (severity_text severity ++ (codes ": " ++ (escaped_text LineEnds text ++ codes "\n")))))))
+    ++ (codes ": " ++ (severity_text severity
+    ++ (codes ": " ++ (escaped_text LineEnds text ++ codes "\n")))))))
 
 -- ::SEVERITY file=PATH,line=LINE::TEXT, or ::SEVERITY file=PATH,line=LINE,col=COLUMN::TEXT
 abbrev pub github_line : List ℕ → ℕ → Option ℕ → Severity → List ℕ → List ℕ
 github_line path line column severity text =
-    codes "::" ++ (severity_text severity ++ (codes " file=" ++ (escaped_text Property path ++ (codes ",line="
-    ++ (decimal line ++ (column_text (codes ",col=") column ++ (codes "::" ++ (escaped_text Message text ++ codes "\n"))))))))
+    codes "::" ++ (severity_text severity
+    ++ (codes " file=" ++ (escaped_text Property path ++ (codes ",line="
+    ++ (decimal line ++ (column_text (codes ",col=") column
+    ++ (codes "::" ++ (escaped_text Message text ++ codes "\n"))))))))
 
 abbrev pub line_in : Format → List ℕ → ℕ → Option ℕ → Severity → List ℕ → List ℕ
 line_in Human = human_line
@@ -64,7 +68,8 @@ line_in Github = github_line
 -- the line of a finding
 abbrev pub finding_line : Format → AtPath → List ℕ
 finding_line format at =
-    line_in format at.path at.found.line at.found.column (severity_of at.found.finding.kind) (finding_text at.found.finding)
+    line_in format at.path at.found.line at.found.column (severity_of at.found.finding.kind)
+    (finding_text at.found.finding)
 
 -- the lines of findings
 abbrev pub lint_text : Format → List AtPath → List ℕ
@@ -116,12 +121,15 @@ pub record AreToldBehind (format : Format) (founds : List AtPath) (before now : 
 
 -- these findings of the file at a path
 abbrev pub TellsFindings : Format → List ℕ → List LocatedFinding → Lint → Lint → Type 0
-TellsFindings format path found before now = AreToldBehind format (map (at_path path) found) before now
+TellsFindings format path found before now =
+    AreToldBehind format (map (at_path path) found) before now
 
 -- what is found in a file
 abbrev pub AddsFound : Edition → Format → File → Lint → Lint → Type 0
-AddsFound edition format file before now = (founds : List AtPath) × IsFoundIn edition file founds × AreToldBehind format founds before now
+AddsFound edition format file before now = (founds : List AtPath) × IsFoundIn edition file founds
+    × AreToldBehind format founds before now
 
 -- what is found in the files, told in a format
 abbrev pub IsLint : Edition → Format → List File → Lint → Type 0
-IsLint edition format files lint = (founds : List AtPath) × AreFound edition files founds × AreTold format founds lint
+IsLint edition format files lint = (founds : List AtPath) × AreFound edition files founds
+    × AreTold format founds lint

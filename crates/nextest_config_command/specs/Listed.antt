@@ -31,17 +31,20 @@ IsRefusedBy sources = (position : ℕ) × (refusal : Refusal) × IsFirstRefused 
 
 -- the configuration stands for them, and its verdicts are selected from theirs
 abbrev pub StandsAndSelects : List Source → Configuration → Type 0
-StandsAndSelects sources configuration = StandsFor sources configuration × SelectsFor sources configuration.roles
+StandsAndSelects sources configuration = StandsFor sources configuration
+    × SelectsFor sources configuration.roles
 
 -- ---- lists of files
 
 -- a file isn't UTF-8, or one is outside its grammar
 abbrev pub IsRefusedList : Edition → List File → Type 0
-IsRefusedList edition files = ¬ AreTexts files ⊎ (AreTexts files × IsRefusedBy (sources_of_files edition files))
+IsRefusedList edition files = ¬ AreTexts files
+    ⊎ (AreTexts files × IsRefusedBy (sources_of_files edition files))
 
 -- each file is UTF-8, and this configuration stands for all
 abbrev pub IsListedAs : Edition → List File → Configuration → Type 0
-IsListedAs edition files configuration = AreTexts files × StandsAndSelects (sources_of_files edition files) configuration
+IsListedAs edition files configuration = AreTexts files
+    × StandsAndSelects (sources_of_files edition files) configuration
 
 abbrev pub IsListed : Edition → List File → VersionOnlyConfig → Type 0
 IsListed edition files config = IsListedAs edition files (configuration_of config)
@@ -53,4 +56,5 @@ abbrev pub IsRefusedUnder : Edition → List Given → Type 0
 IsRefusedUnder edition givens = IsRefusedBy (map (under edition) givens)
 
 abbrev pub IsReadUnder : Edition → List Given → VersionOnlyConfig → Type 0
-IsReadUnder edition givens config = StandsAndSelects (map (under edition) givens) (configuration_of config)
+IsReadUnder edition givens config =
+    StandsAndSelects (map (under edition) givens) (configuration_of config)

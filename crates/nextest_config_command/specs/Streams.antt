@@ -38,7 +38,8 @@ abbrev pub said_before : Asked → List File → List ℕ
 said_before asked files = notice_before (string_bytes asked.repository.path) files
 
 -- the answer about the files was written, with this status
-pub record IsServed (holds : Holding) (asked : Asked) (status : ℕ) (old new said says : Option (List ℕ)) : Type 0 where
+pub record IsServed (holds : Holding) (asked : Asked) (status : ℕ)
+    (old new said says : Option (List ℕ)) : Type 0 where
   pub files : List File
   pub read : AreAsked holds asked files
   pub text : List ℕ
@@ -46,13 +47,19 @@ pub record IsServed (holds : Holding) (asked : Asked) (status : ℕ) (old new sa
   pub written : Appends old new text
   pub noticed : AddsFront said says (said_before asked files)
 
--- what cut the command short: a file that can't be read, before anything was written; refused memory, before anything was written; or a failed write
-pub data IsCutShort (holds : Holding) (asked : Asked) (old new said says : Option (List ℕ)) : Type 0 where
-  unread : (complaint : List ℕ) → IsFirstUnread holds (asked_places asked) complaint → Keeps old new → AddsFront said says (line_of complaint)
-      → IsCutShort holds asked old new said says
-  no_memory : Keeps old new → AddsFront said says (line_of (codes "out of memory")) → IsCutShort holds asked old new said says
-  unwritten : (files : List File) (between : Option (List ℕ)) → AreAsked holds asked files → AddsFront said between (said_before asked files)
-      → AddsFront between says (line_of (codes "cannot write output")) → IsCutShort holds asked old new said says
+-- what cut the command short: a file that can't be read, before anything was written; refused
+-- memory, before anything was written; or a failed write
+pub data IsCutShort (holds : Holding) (asked : Asked) (old new said says : Option (List ℕ)) : Type 0
+  where
+    unread : (complaint : List ℕ) → IsFirstUnread holds (asked_places asked) complaint → Keeps old new
+        → AddsFront said says (line_of complaint)
+        → IsCutShort holds asked old new said says
+    no_memory : Keeps old new → AddsFront said says (line_of (codes "out of memory"))
+        → IsCutShort holds asked old new said says
+    unwritten : (files : List File) (between : Option (List ℕ)) → AreAsked holds asked files
+        → AddsFront said between (said_before asked files)
+        → AddsFront between says (line_of (codes "cannot write output"))
+        → IsCutShort holds asked old new said says
 
 -- ---- one step
 
@@ -72,13 +79,15 @@ pub record Answered (asked : Asked) (files : List File) (served : Served) : Type
 
 -- the same about the files that are asked for
 abbrev pub Serves : Holding → Asked → Served → Type 0
-Serves holds asked served = (files : List File) × AreAsked holds asked files × Answered asked files served
+Serves holds asked served = (files : List File) × AreAsked holds asked files
+    × Answered asked files served
 
 -- the answer was written
-pub record IsTold (served : Served) (status : ℕ) (old new said says : Option (List ℕ)) : Type 0 where
-  pub status_is : status ≡ served.answer.status
-  pub written : Appends old new (string_bytes served.answer.text)
-  pub noticed : AddsFront said says (notice_said served.notice)
+pub record IsTold (served : Served) (status : ℕ) (old new said says : Option (List ℕ)) : Type 0
+  where
+    pub status_is : status ≡ served.answer.status
+    pub written : Appends old new (string_bytes served.answer.text)
+    pub noticed : AddsFront said says (notice_said served.notice)
 
 -- the answer couldn't be written
 pub record IsUnwritten (served : Served) (status : ℕ) (said says : Option (List ℕ)) : Type 0 where

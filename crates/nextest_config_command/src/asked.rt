@@ -32,7 +32,8 @@ pub struct RepositoryFile {
 /// What is done with the files.
 #[derive(Debug, PartialEq, Eq, Drop)]
 pub enum Task {
-    /// The current version is checked against what the files ask, and what is found in them is told.
+    /// The current version is checked against what the files ask, and what is found in them is
+    /// told.
     Check(Check),
     /// What is found in the files is told.
     Lint { format: Format, strict: bool },
@@ -50,7 +51,8 @@ pub struct Check {
 }
 
 impl Asked {
-    /// The sources in the order in which they are read, lowest priority first: the tools' in reverse,
+    /// The sources in the order in which they are read, lowest priority first: the tools' in
+    /// reverse,
     /// and then the repository's.
     pub(crate) fn sources(&self, alloc: Global) -> Result<Vec<ConfigSource>, AllocError>
         ensures { IfOk result (λ sources. map place_of sources.items

@@ -100,7 +100,8 @@ impl Lint {
         Ok(())
     }
 
-    /// The status of what is found: 1 where there is an error, or a warning and the check is strict.
+    /// The status of what is found: 1 where there is an error, or a warning and the check is
+    /// strict.
     pub fn status(&self, strict: bool) -> u8
         ensures { result ≡ lint_status strict self.now.has_error self.now.has_warning }
     {

@@ -16,7 +16,8 @@ pub(crate) fn listed(
     edition: Edition,
     files: &[SourceFile],
 ) -> Result<Option<VersionOnlyConfig>, AllocError>
-    ensures { IfOk result (λ config. MatchOption config (IsRefusedList edition (map file_of files.now))
+    ensures { IfOk result
+        (λ config. MatchOption config (IsRefusedList edition (map file_of files.now))
         (IsListed edition (map file_of files.now))) }
 {
     match texts(alloc, files)? {
@@ -31,7 +32,8 @@ fn read_texts(
     edition: Edition,
     texts: &[SourceText],
 ) -> Result<Option<VersionOnlyConfig>, AllocError>
-    ensures { IfOk result (λ config. MatchOption config (IsRefusedUnder edition (map given_of texts.now))
+    ensures { IfOk result
+        (λ config. MatchOption config (IsRefusedUnder edition (map given_of texts.now))
         (IsReadUnder edition (map given_of texts.now))) }
 {
     match VersionOnlyConfig::from_list_with(alloc, edition, texts) {

@@ -21,7 +21,8 @@ pub(crate) struct Served {
     answer: Answer,
 }
 
-/// Does what is asked, and answers the status that the command ends with. Where no file was read, the
+/// Does what is asked, and answers the status that the command ends with. Where no file was read,
+/// the
 /// third stream says so, and the command goes on as for no source.
 pub fn serve<F: Files, W: Write, E: Write>(
     alloc: Global,

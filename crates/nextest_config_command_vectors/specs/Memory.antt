@@ -23,5 +23,6 @@ held_if (Some (Ok contents)) = bytes contents.items
 held_if (Some (Err reason)) = unreadable (string_bytes reason)
 held_if None = absent (codes "nothing is there")
 
-abbrev pub held_at : BTreeMap (String Global) (Result (Vec ℕ Global) (String Global)) → List ℕ → Held
+abbrev pub held_at : BTreeMap (String Global) (Result (Vec ℕ Global) (String Global)) → List ℕ
+    → Held
 held_at table path = held_if (get_by_text table path)

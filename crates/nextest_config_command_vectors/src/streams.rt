@@ -18,7 +18,8 @@ const ODD: [Odd; 4] = [
     Err(ErrorKind::BrokenPipe),
 ];
 
-// How a writer is: how many bytes it takes a call, and which of its calls is odd, if one is. Calls are
+// How a writer is: how many bytes it takes a call, and which of its calls is odd, if one is. Calls
+// are
 // counted from 0, with the flushes among them. Behind a failure it takes more.
 #[derive(Clone, Copy)]
 struct Manner {
@@ -99,7 +100,8 @@ pub(crate) fn check_run(rt: &impl Runner, files: &MemoryFiles, run: &Run<'_>) {
     }
 }
 
-// How often the run calls a writer that takes 16 bytes a call: not at all where a file can't be read.
+// How often the run calls a writer that takes 16 bytes a call: not at all where a file can't be
+// read.
 fn written_calls(run: &Run<'_>) -> usize {
     if run.status == "3" {
         0
@@ -108,7 +110,8 @@ fn written_calls(run: &Run<'_>) -> usize {
     }
 }
 
-// Does the run over streams of which one may have an odd call. Where the writer fails, the status is 3,
+// Does the run over streams of which one may have an odd call. Where the writer fails, the status
+// is 3,
 // and the run complains of that at last; where a complaint fails, the status and the output stay.
 fn compare_run(
     rt: &impl Runner,
@@ -141,7 +144,8 @@ fn compare_run(
     compare(rt, run.words, ended.as_str(), wanted.as_str());
 }
 
-// Whether a writer of this manner takes the text, and what is then told of it. An interrupted write is
+// Whether a writer of this manner takes the text, and what is then told of it. An interrupted write
+// is
 // tried again; a flush isn't.
 fn taken(rt: &impl Runner, manner: Manner, text: &str) -> (bool, String) {
     let Some((call, odd)) = manner.odd else {

@@ -24,5 +24,7 @@ abbrev pub GlobalTimeoutFaults : Data → List ℕ → Fault → Type 0
 GlobalTimeoutFaults = DurationFaults
 
 -- a value means one timeout or has one fault, and not both
-pub global_timeout_reading : IsReading (λ value timeout. MeansGlobalTimeout value (global_timeout_of timeout)) GlobalTimeoutFaults GlobalTimeoutsAlike
+pub global_timeout_reading : IsReading
+    (λ value timeout. MeansGlobalTimeout value (global_timeout_of timeout)) GlobalTimeoutFaults
+    GlobalTimeoutsAlike
 global_timeout_reading = reading_on global_timeout_of duration_meant

@@ -62,7 +62,8 @@ at_path report path = record {
 
 -- the report in a folder: none where its settings have no path
 abbrev pub report_in : List ℕ → Report (Option (List ℕ)) → Option (Report (List ℕ))
-report_in folder settings = option_map (λ path. at_path settings (joined_path folder path)) settings.path
+report_in folder settings =
+    option_map (λ path. at_path settings (joined_path folder path)) settings.path
 
 -- ---- the words of the status
 
@@ -73,7 +74,8 @@ abbrev pub flaky_fail_word : JunitFlakyFailStatus → List ℕ
 flaky_fail_word Failure = codes "failure"
 flaky_fail_word Success = codes "success"
 
-pub flaky_fail_reads_back : (status : JunitFlakyFailStatus) → value_of flaky_fail_word flaky_fail_statuses (flaky_fail_word status) ≡ Some status
+pub flaky_fail_reads_back : (status : JunitFlakyFailStatus)
+    → value_of flaky_fail_word flaky_fail_statuses (flaky_fail_word status) ≡ Some status
 flaky_fail_reads_back status = search rules
 
 -- ---- the table
@@ -100,7 +102,14 @@ table_of junit = record {
 
 -- the table that says nothing
 abbrev pub empty_table : JunitTable
-empty_table = record { path = None; report_name = None; store_success_output = None; store_failure_output = None; report_skipped = None; flaky_fail_status = None }
+empty_table = record {
+  path = None;
+  report_name = None;
+  store_success_output = None;
+  store_failure_output = None;
+  report_skipped = None;
+  flaky_fail_status = None;
+}
 
 abbrev pub path_key : List ℕ
 path_key = codes "path"
@@ -132,10 +141,14 @@ MeansFlakyFailStatus = MeansWordText flaky_fail_word
 pub record MeansJunitTable (members : Members) (said : JunitTable) : Type 0 where
   pub of_path : OptionalKey path_key MeansString members said.path
   pub of_report_name : OptionalKey report_name_key MeansString members said.report_name
-  pub of_store_success_output : OptionalKey store_success_output_key MeansBoolean members said.store_success_output
-  pub of_store_failure_output : OptionalKey store_failure_output_key MeansBoolean members said.store_failure_output
-  pub of_report_skipped : OptionalKey report_skipped_key MeansReportSkipped members said.report_skipped
-  pub of_flaky_fail_status : OptionalKey flaky_fail_status_key MeansFlakyFailStatus members said.flaky_fail_status
+  pub of_store_success_output : OptionalKey store_success_output_key MeansBoolean members
+      said.store_success_output
+  pub of_store_failure_output : OptionalKey store_failure_output_key MeansBoolean members
+      said.store_failure_output
+  pub of_report_skipped : OptionalKey report_skipped_key MeansReportSkipped members
+      said.report_skipped
+  pub of_flaky_fail_status : OptionalKey flaky_fail_status_key MeansFlakyFailStatus members
+      said.flaky_fail_status
 
 -- the table has a text, which is kept in memory of its own
 abbrev pub HasText : JunitTable → Type 0
@@ -149,11 +162,17 @@ WantsTexts members = (said : JunitTable) → MeansJunitTable members said → Ha
 abbrev pub JunitTableFaults : Members → List ℕ → Fault → Type 0
 JunitTableFaults =
     FaultsThen (OptionalKey path_key MeansString) (OptionalKeyFaults path_key StringFaults) (λ path.
-    FaultsThen (OptionalKey report_name_key MeansString) (OptionalKeyFaults report_name_key StringFaults) (λ report_name.
-    FaultsThen (OptionalKey store_success_output_key MeansBoolean) (OptionalKeyFaults store_success_output_key BooleanFaults) (λ store_success_output.
-    FaultsThen (OptionalKey store_failure_output_key MeansBoolean) (OptionalKeyFaults store_failure_output_key BooleanFaults) (λ store_failure_output.
-    FaultsThen (OptionalKey report_skipped_key MeansReportSkipped) (OptionalKeyFaults report_skipped_key (WordTextFaults report_skip_word report_skip_policies)) (λ report_skipped.
-    OptionalKeyFaults flaky_fail_status_key (WordTextFaults flaky_fail_word flaky_fail_statuses))))))
+    FaultsThen (OptionalKey report_name_key MeansString)
+    (OptionalKeyFaults report_name_key StringFaults) (λ report_name.
+    FaultsThen (OptionalKey store_success_output_key MeansBoolean)
+    (OptionalKeyFaults store_success_output_key BooleanFaults) (λ store_success_output.
+    FaultsThen (OptionalKey store_failure_output_key MeansBoolean)
+    (OptionalKeyFaults store_failure_output_key BooleanFaults) (λ store_failure_output.
+    FaultsThen (OptionalKey report_skipped_key MeansReportSkipped)
+    (OptionalKeyFaults report_skipped_key
+    (WordTextFaults report_skip_word report_skip_policies)) (λ report_skipped.
+    OptionalKeyFaults flaky_fail_status_key
+    (WordTextFaults flaky_fail_word flaky_fail_statuses))))))
 
 -- what the setting takes
 abbrev pub junit_expected : List ℕ
@@ -192,11 +211,16 @@ pub record SaysAll (said : JunitTable) (report : Report (Option (List ℕ))) : T
 -- the table lacks the setting, and none that is written before it
 abbrev pub IsFirstMissing : JunitTable → MissingSetting → Type 0
 IsFirstMissing said missing.ReportName = said.report_name ≡ None
-IsFirstMissing said missing.StoreSuccessOutput = IsSome said.report_name × (said.store_success_output ≡ None)
-IsFirstMissing said missing.StoreFailureOutput = IsSome said.report_name × IsSome said.store_success_output × (said.store_failure_output ≡ None)
-IsFirstMissing said missing.ReportSkipped = IsSome said.report_name × IsSome said.store_success_output × IsSome said.store_failure_output × (said.report_skipped ≡ None)
+IsFirstMissing said missing.StoreSuccessOutput = IsSome said.report_name
+    × (said.store_success_output ≡ None)
+IsFirstMissing said missing.StoreFailureOutput = IsSome said.report_name
+    × IsSome said.store_success_output × (said.store_failure_output ≡ None)
+IsFirstMissing said missing.ReportSkipped = IsSome said.report_name
+    × IsSome said.store_success_output × IsSome said.store_failure_output
+    × (said.report_skipped ≡ None)
 IsFirstMissing said missing.FlakyFailStatus =
-    IsSome said.report_name × IsSome said.store_success_output × IsSome said.store_failure_output × IsSome said.report_skipped × (said.flaky_fail_status ≡ None)
+    IsSome said.report_name × IsSome said.store_success_output × IsSome said.store_failure_output
+    × IsSome said.report_skipped × (said.flaky_fail_status ≡ None)
 
 -- ---- the setting's law
 
@@ -213,16 +237,24 @@ junit_table = said_as (λ members said meant. (
       (
         said.store_failure_output,
         meant.of_store_failure_output,
-        (said.report_skipped, meant.of_report_skipped, (said.flaky_fail_status, meant.of_flaky_fail_status, refl)),
+        (
+          said.report_skipped,
+          meant.of_report_skipped,
+          (said.flaky_fail_status, meant.of_flaky_fail_status, refl),
+        ),
       ),
     ),
   ),
 ))
     (then_reading (at_key path_key (optional_reading text_reading)) (λ path.
     then_reading (at_key report_name_key (optional_reading text_reading)) (λ report_name.
-    then_reading (at_key store_success_output_key (optional_reading bool_reading)) (λ store_success_output.
-    then_reading (at_key store_failure_output_key (optional_reading bool_reading)) (λ store_failure_output.
-    then_reading (at_key report_skipped_key (optional_reading (word_reading report_skip_policies report_skip_word report_skip_reads_back))) (λ report_skipped.
+    then_reading (at_key store_success_output_key (optional_reading bool_reading))
+    (λ store_success_output.
+    then_reading (at_key store_failure_output_key (optional_reading bool_reading))
+    (λ store_failure_output.
+    then_reading (at_key report_skipped_key
+    (optional_reading (word_reading report_skip_policies report_skip_word
+    report_skip_reads_back))) (λ report_skipped.
     made_of (λ flaky_fail_status. record {
       path = path;
       report_name = report_name;
@@ -230,11 +262,14 @@ junit_table = said_as (λ members said meant. (
       store_failure_output = store_failure_output;
       report_skipped = report_skipped;
       flaky_fail_status = flaky_fail_status;
-    }) (at_key flaky_fail_status_key (optional_reading (word_reading flaky_fail_statuses flaky_fail_word flaky_fail_reads_back)))))))))
+    }) (at_key flaky_fail_status_key
+    (optional_reading (word_reading flaky_fail_statuses flaky_fail_word
+    flaky_fail_reads_back)))))))))
 
 junit_meant : IsReading MeansJunit JunitFaults (λ a b. a ≡ b)
 junit_meant = kind_reading junit_table (wrong_kind junit_expected) as_table
 
 -- a value says one thing of a report or has one fault, and not both
-pub junit_reading : IsReading (λ value junit. MeansJunit value (table_of junit)) JunitFaults (λ a b. table_of a ≡ table_of b)
+pub junit_reading : IsReading (λ value junit. MeansJunit value (table_of junit)) JunitFaults
+    (λ a b. table_of a ≡ table_of b)
 junit_reading = reading_on table_of junit_meant

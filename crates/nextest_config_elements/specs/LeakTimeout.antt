@@ -36,7 +36,8 @@ abbrev pub leak_timeout_word : LeakTimeoutResult → List ℕ
 leak_timeout_word Fail = codes "fail"
 leak_timeout_word Pass = codes "pass"
 
-pub leak_timeout_reads_back : (result : LeakTimeoutResult) → value_of leak_timeout_word leak_timeout_results (leak_timeout_word result) ≡ Some result
+pub leak_timeout_reads_back : (result : LeakTimeoutResult)
+    → value_of leak_timeout_word leak_timeout_results (leak_timeout_word result) ≡ Some result
 leak_timeout_reads_back result = search rules
 
 -- ---- the table form
@@ -59,14 +60,16 @@ pub record MeansLeakTimeoutTable (members : Members) (timeout : LeakTimeoutRecor
 -- what is wrong with the table, key by key
 abbrev pub LeakTimeoutTableFaults : Members → List ℕ → Fault → Type 0
 LeakTimeoutTableFaults =
-    FaultsThen (RequiredKey period_key MeansDuration) (RequiredKeyFaults period_key DurationFaults) (λ period.
+    FaultsThen (RequiredKey period_key MeansDuration) (RequiredKeyFaults period_key DurationFaults)
+    (λ period.
     OptionalKeyFaults result_key (WordTextFaults leak_timeout_word leak_timeout_results))
 
 -- ---- the setting
 
 -- the text is a period, and a test that leaks past it passes
 abbrev pub MeansLeakTimeoutText : List ℕ → Option LeakTimeoutRecord → Type 0
-MeansLeakTimeoutText text timeout = (period : ℕ) × MeansDuration (string text) period × (timeout ≡ Some (leak_timeout period Pass))
+MeansLeakTimeoutText text timeout = (period : ℕ) × MeansDuration (string text) period
+    × (timeout ≡ Some (leak_timeout period Pass))
 
 -- what is wrong with the text: it is no duration
 abbrev pub LeakTimeoutTextFaults : List ℕ → List ℕ → Fault → Type 0
@@ -74,15 +77,22 @@ LeakTimeoutTextFaults text = DurationFaults (string text)
 
 -- what the setting takes
 abbrev pub leak_timeout_expected : List ℕ
-leak_timeout_expected = codes "a table ({ period = \"500ms\", result = \"fail\" }) or a string (\"100ms\")"
+leak_timeout_expected =
+    codes "a table ({ period = \"500ms\", result = \"fail\" }) or a string (\"100ms\")"
 
 -- the value means this timeout: as a text, or as a table
 abbrev pub MeansLeakTimeout : Data → Option LeakTimeoutRecord → Type 0
-MeansLeakTimeout value = MeansKind MeansLeakTimeoutText (λ other. MeansKind (MeansMade Some MeansLeakTimeoutTable) MeansNothing (as_table other) other) (as_str value) value
+MeansLeakTimeout value =
+    MeansKind MeansLeakTimeoutText
+    (λ other. MeansKind (MeansMade Some MeansLeakTimeoutTable) MeansNothing (as_table other) other)
+    (as_str value) value
 
 -- what is wrong with the value at a path
 abbrev pub LeakTimeoutFaults : Data → List ℕ → Fault → Type 0
-LeakTimeoutFaults value = FaultsKind LeakTimeoutTextFaults (λ other. FaultsKind LeakTimeoutTableFaults (WrongKind leak_timeout_expected) (as_table other) other) (as_str value) value
+LeakTimeoutFaults value =
+    FaultsKind LeakTimeoutTextFaults
+    (λ other. FaultsKind LeakTimeoutTableFaults (WrongKind leak_timeout_expected) (as_table other)
+    other) (as_str value) value
 
 -- a setting means this timeout; no value means none
 abbrev pub MeansLeakTimeoutSetting : Data → Option LeakTimeout → Type 0
@@ -91,16 +101,23 @@ MeansLeakTimeoutSetting value timeout = MeansLeakTimeout value (option_map leak_
 -- ---- its law
 
 text : IsReading MeansLeakTimeoutText LeakTimeoutTextFaults (λ a b. a ≡ b)
-text = reading_each equality (λ text. reading_at (made_of (λ period. Some (leak_timeout period Pass)) duration_meant) (string text))
+text = reading_each equality
+    (λ text. reading_at (made_of (λ period. Some (leak_timeout period Pass)) duration_meant)
+    (string text))
 
 table : IsReading MeansLeakTimeoutTable LeakTimeoutTableFaults (λ a b. a ≡ b)
 table = said_as (λ members t meant. (t.period, meant.of_period, (t.result, meant.of_result, refl)))
     (then_reading (required_reading duration_meant period_key) (λ period.
-    made_of (leak_timeout period) (at_key result_key (or_reading (word_reading leak_timeout_results leak_timeout_word leak_timeout_reads_back) Pass))))
+    made_of (leak_timeout period)
+    (at_key result_key (or_reading
+    (word_reading leak_timeout_results leak_timeout_word leak_timeout_reads_back) Pass))))
 
 -- a value means one timeout or has one fault, and not both
 pub leak_timeout_meant : IsReading MeansLeakTimeout LeakTimeoutFaults (λ a b. a ≡ b)
-leak_timeout_meant = kind_reading text (kind_reading (made_of Some table) (wrong_kind leak_timeout_expected) as_table) as_str
+leak_timeout_meant =
+    kind_reading text (kind_reading (made_of Some table) (wrong_kind leak_timeout_expected)
+    as_table) as_str
 
-pub leak_timeout_reading : IsReading MeansLeakTimeoutSetting LeakTimeoutFaults (λ a b. option_map leak_timeout_of a ≡ option_map leak_timeout_of b)
+pub leak_timeout_reading : IsReading MeansLeakTimeoutSetting LeakTimeoutFaults
+    (λ a b. option_map leak_timeout_of a ≡ option_map leak_timeout_of b)
 leak_timeout_reading = reading_on (option_map leak_timeout_of) leak_timeout_meant

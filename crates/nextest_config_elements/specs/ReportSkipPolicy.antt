@@ -17,7 +17,8 @@ report_skip_word policies.None = codes "none"
 report_skip_word policies.Ignored = codes "ignored"
 report_skip_word policies.All = codes "all"
 
-pub report_skip_reads_back : (policy : ReportSkipPolicy) → value_of report_skip_word report_skip_policies (report_skip_word policy) ≡ Some policy
+pub report_skip_reads_back : (policy : ReportSkipPolicy)
+    → value_of report_skip_word report_skip_policies (report_skip_word policy) ≡ Some policy
 report_skip_reads_back policy = search rules
 
 -- ---- what they report

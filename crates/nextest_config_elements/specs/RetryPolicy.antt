@@ -34,8 +34,15 @@ pub data RetryPolicyRecord : Type 0 where
 
 -- what a policy says
 abbrev pub retry_policy_of : RetryPolicy → RetryPolicyRecord
-retry_policy_of (policies.Fixed count delay jitter) = fixed (record { count = count; delay = as_nanos delay; jitter = jitter })
-retry_policy_of (policies.Exponential count delay jitter max_delay) = exponential (record { count = count; delay = as_nanos delay; jitter = jitter; max_delay = option_map as_nanos max_delay })
+retry_policy_of (policies.Fixed count delay jitter) =
+    fixed (record { count = count; delay = as_nanos delay; jitter = jitter })
+retry_policy_of (policies.Exponential count delay jitter max_delay) =
+    exponential (record {
+      count = count;
+      delay = as_nanos delay;
+      jitter = jitter;
+      max_delay = option_map as_nanos max_delay;
+    })
 
 -- so many retries, with no delay
 abbrev pub without_delay : ℕ → RetryPolicyRecord
@@ -50,7 +57,9 @@ count_of (exponential policy) = policy.count
 abbrev pub fail_message : FlakyResult → ℕ → ℕ → Option (List ℕ)
 fail_message results.Pass attempt total_attempts = None
 fail_message results.Fail attempt total_attempts =
-    Some (codes "test passed on attempt " ++ (decimal attempt ++ (codes "/" ++ (decimal total_attempts ++ codes " but is configured to fail when flaky"))))
+    Some (codes "test passed on attempt "
+    ++ (decimal attempt ++ (codes "/"
+    ++ (decimal total_attempts ++ codes " but is configured to fail when flaky"))))
 
 -- ---- the words of the results of flaky tests
 
@@ -61,7 +70,8 @@ abbrev pub flaky_result_word : FlakyResult → List ℕ
 flaky_result_word results.Fail = codes "fail"
 flaky_result_word results.Pass = codes "pass"
 
-pub flaky_result_reads_back : (result : FlakyResult) → value_of flaky_result_word flaky_results (flaky_result_word result) ≡ Some result
+pub flaky_result_reads_back : (result : FlakyResult)
+    → value_of flaky_result_word flaky_results (flaky_result_word result) ≡ Some result
 flaky_result_reads_back result = search rules
 
 -- ---- the words of the kinds of backoff
@@ -73,7 +83,8 @@ abbrev pub backoff_word : Backoff → List ℕ
 backoff_word backoffs.Fixed = codes "fixed"
 backoff_word backoffs.Exponential = codes "exponential"
 
-pub backoff_reads_back : (backoff : Backoff) → value_of backoff_word backoffs_in_order (backoff_word backoff) ≡ Some backoff
+pub backoff_reads_back : (backoff : Backoff)
+    → value_of backoff_word backoffs_in_order (backoff_word backoff) ≡ Some backoff
 backoff_reads_back backoff = search rules
 
 -- ---- the keys of a table
@@ -104,7 +115,8 @@ HasKeysOf backoff = HasOnlyKeys (backoff_key ∷ keys_beside backoff)
 
 -- another key is a fault
 abbrev pub OtherKeyFaults : Backoff → Members → List ℕ → Fault → Type 0
-OtherKeyFaults backoff = UnknownKeyFaults (backoff_key ∷ keys_beside backoff) (words_text (keys_beside backoff))
+OtherKeyFaults backoff =
+    UnknownKeyFaults (backoff_key ∷ keys_beside backoff) (words_text (keys_beside backoff))
 
 -- ---- a fixed backoff
 
@@ -124,8 +136,10 @@ pub record MeansFixed (members : Members) (policy : FixedPolicy) : Type 0 where
 abbrev pub FixedFaults : Members → List ℕ → Fault → Type 0
 FixedFaults =
     FaultsThen (RequiredKey count_key MeansU32) (RequiredKeyFaults count_key U32Faults) (λ count.
-    FaultsThen (KeyOr delay_key 0 MeansDuration) (OptionalKeyFaults delay_key DurationFaults) (λ delay.
-    FaultsThen (KeyOr jitter_key false MeansBoolean) (OptionalKeyFaults jitter_key BooleanFaults) (λ jitter.
+    FaultsThen (KeyOr delay_key 0 MeansDuration) (OptionalKeyFaults delay_key DurationFaults)
+    (λ delay.
+    FaultsThen (KeyOr jitter_key false MeansBoolean) (OptionalKeyFaults jitter_key BooleanFaults)
+    (λ jitter.
     FaultsBehind (OtherKeyFaults backoffs.Fixed) (HasKeysOf backoffs.Fixed)
     (RuleFaults (IsJitterAlone delay jitter) jitter_without_delay))))
 
@@ -163,9 +177,12 @@ ExponentialRuleFaults count delay max_delay =
 abbrev pub ExponentialFaults : Members → List ℕ → Fault → Type 0
 ExponentialFaults =
     FaultsThen (RequiredKey count_key MeansU32) (RequiredKeyFaults count_key U32Faults) (λ count.
-    FaultsThen (RequiredKey delay_key MeansDuration) (RequiredKeyFaults delay_key DurationFaults) (λ delay.
-    FaultsThen (KeyOr jitter_key false MeansBoolean) (OptionalKeyFaults jitter_key BooleanFaults) (λ jitter.
-    FaultsThen (OptionalKey max_delay_key MeansDuration) (OptionalKeyFaults max_delay_key DurationFaults) (λ max_delay.
+    FaultsThen (RequiredKey delay_key MeansDuration) (RequiredKeyFaults delay_key DurationFaults)
+    (λ delay.
+    FaultsThen (KeyOr jitter_key false MeansBoolean) (OptionalKeyFaults jitter_key BooleanFaults)
+    (λ jitter.
+    FaultsThen (OptionalKey max_delay_key MeansDuration)
+    (OptionalKeyFaults max_delay_key DurationFaults) (λ max_delay.
     FaultsBehind (OtherKeyFaults backoffs.Exponential) (HasKeysOf backoffs.Exponential)
     (ExponentialRuleFaults count delay max_delay)))))
 
@@ -173,8 +190,10 @@ ExponentialFaults =
 
 -- the table means this policy, of its backoff
 abbrev pub MeansBackoff : Backoff → Members → RetryPolicyRecord → Type 0
-MeansBackoff backoffs.Fixed table policy = (meant : FixedPolicy) × MeansFixed table meant × (policy ≡ fixed meant)
-MeansBackoff backoffs.Exponential table policy = (meant : ExponentialPolicy) × MeansExponential table meant × (policy ≡ exponential meant)
+MeansBackoff backoffs.Fixed table policy = (meant : FixedPolicy) × MeansFixed table meant
+    × (policy ≡ fixed meant)
+MeansBackoff backoffs.Exponential table policy = (meant : ExponentialPolicy)
+    × MeansExponential table meant × (policy ≡ exponential meant)
 
 -- what is wrong with the table behind its backoff
 abbrev pub BackoffFaults : Backoff → Members → List ℕ → Fault → Type 0
@@ -187,7 +206,8 @@ MeansRetryTable = MeansThen (RequiredKey backoff_key (MeansWordText backoff_word
 
 -- what is wrong with the table
 abbrev pub RetryTableFaults : Members → List ℕ → Fault → Type 0
-RetryTableFaults = FaultsThen (RequiredKey backoff_key (MeansWordText backoff_word)) (RequiredKeyFaults backoff_key (WordTextFaults backoff_word backoffs_in_order)) BackoffFaults
+RetryTableFaults = FaultsThen (RequiredKey backoff_key (MeansWordText backoff_word))
+    (RequiredKeyFaults backoff_key (WordTextFaults backoff_word backoffs_in_order)) BackoffFaults
 
 -- ---- the setting
 
@@ -202,16 +222,24 @@ MeansRetryNumber (negsuc number) policy = ⊥
 
 -- the integer is negative, or too great
 abbrev pub RetryNumberFaults : ℤ → List ℕ → Fault → Type 0
-RetryNumberFaults (pos number) at fault = ¬ IsU32 number × (fault ≡ wrong_value (integer (pos number)) at (codes "a u32"))
-RetryNumberFaults (negsuc number) at fault = fault ≡ wrong_value (integer (negsuc number)) at retries_expected
+RetryNumberFaults (pos number) at fault = ¬ IsU32 number
+    × (fault ≡ wrong_value (integer (pos number)) at (codes "a u32"))
+RetryNumberFaults (negsuc number) at fault =
+    fault ≡ wrong_value (integer (negsuc number)) at retries_expected
 
 -- the value means this policy: as an integer, or as a table
 abbrev pub MeansRetryPolicy : Data → RetryPolicyRecord → Type 0
-MeansRetryPolicy value = MeansKind MeansRetryNumber (λ other. MeansKind MeansRetryTable MeansNothing (as_table other) other) (as_integer value) value
+MeansRetryPolicy value =
+    MeansKind MeansRetryNumber
+    (λ other. MeansKind MeansRetryTable MeansNothing (as_table other) other) (as_integer value)
+    value
 
 -- what is wrong with the value at a path
 abbrev pub RetryPolicyFaults : Data → List ℕ → Fault → Type 0
-RetryPolicyFaults value = FaultsKind RetryNumberFaults (λ other. FaultsKind RetryTableFaults (WrongKind retries_expected) (as_table other) other) (as_integer value) value
+RetryPolicyFaults value =
+    FaultsKind RetryNumberFaults
+    (λ other. FaultsKind RetryTableFaults (WrongKind retries_expected) (as_table other) other)
+    (as_integer value) value
 
 -- a setting means this policy; no value means none
 abbrev pub MeansRetryPolicySetting : Data → Option RetryPolicy → Type 0
@@ -222,17 +250,42 @@ MeansRetryPolicySetting value (Some policy) = MeansRetryPolicy value (retry_poli
 
 number : IsReading MeansRetryNumber RetryNumberFaults (λ a b. a ≡ b)
 number = reading_each equality by_sign where
-  by_sign : (number : ℤ) → IsReading {D = Unit {0}} (λ u. MeansRetryNumber number) (λ u. RetryNumberFaults number) (λ a b. a ≡ b)
-  by_sign (pos number) = record { equivalence = equality; one_meaning = λ u x y a b. a.1 ∙ sym b.1; one_fault = λ u at f g a b. a.1 ∙ sym b.1; never_both = λ u at x f a b. b.0 a.0 }
-  by_sign (negsuc number) = record { equivalence = equality; one_meaning = λ u x y a b. absurd a; one_fault = λ u at f g a b. a ∙ sym b; never_both = λ u at x f a b. a }
+  by_sign : (number : ℤ)
+      → IsReading {D = Unit {0}} (λ u. MeansRetryNumber number) (λ u. RetryNumberFaults number)
+      (λ a b. a ≡ b)
+  by_sign (pos number) =
+      record {
+        equivalence = equality;
+        one_meaning = λ u x y a b. a.1 ∙ sym b.1;
+        one_fault = λ u at f g a b. a.1 ∙ sym b.1;
+        never_both = λ u at x f a b. b.0 a.0;
+      }
+  by_sign (negsuc number) =
+      record {
+        equivalence = equality;
+        one_meaning = λ u x y a b. absurd a;
+        one_fault = λ u at f g a b. a ∙ sym b;
+        never_both = λ u at x f a b. a;
+      }
 
 fixed_table : IsReading MeansFixed FixedFaults (λ a b. a ≡ b)
-fixed_table = said_as (λ members p meant. (p.count, meant.of_count, (p.delay, meant.of_delay, (p.jitter, meant.of_jitter, (meant.of_keys, (meant.delays, refl))))))
+fixed_table = said_as
+    (λ members p meant. (
+      p.count,
+      meant.of_count,
+      (
+        p.delay,
+        meant.of_delay,
+        (p.jitter, meant.of_jitter, (meant.of_keys, (meant.delays, refl))),
+      ),
+    ))
     (then_reading (required_reading u32_reading count_key) (λ count.
     then_reading (at_key delay_key (or_reading duration_meant 0)) (λ delay.
     then_reading (at_key jitter_key (or_reading bool_reading false)) (λ jitter.
-    behind_check (keys_check (backoff_key ∷ keys_beside backoffs.Fixed) (words_text (keys_beside backoffs.Fixed)))
-    (rule_reading (IsJitterAlone delay jitter) jitter_without_delay (record { count = count; delay = delay; jitter = jitter }))))))
+    behind_check (keys_check (backoff_key ∷ keys_beside backoffs.Fixed)
+    (words_text (keys_beside backoffs.Fixed)))
+    (rule_reading (IsJitterAlone delay jitter) jitter_without_delay
+    (record { count = count; delay = delay; jitter = jitter }))))))
 
 exponential_table : IsReading MeansExponential ExponentialFaults (λ a b. a ≡ b)
 exponential_table = said_as (λ members p meant. (
@@ -247,7 +300,13 @@ exponential_table = said_as (λ members p meant. (
       (
         p.max_delay,
         meant.of_max_delay,
-        (meant.of_keys, (meant.of_rules.tries, (meant.of_rules.delays, (meant.of_rules.caps, (meant.of_rules.in_order, refl))))),
+        (
+          meant.of_keys,
+          (
+            meant.of_rules.tries,
+            (meant.of_rules.delays, (meant.of_rules.caps, (meant.of_rules.in_order, refl))),
+          ),
+        ),
       ),
     ),
   ),
@@ -256,21 +315,36 @@ exponential_table = said_as (λ members p meant. (
     then_reading (required_reading duration_meant delay_key) (λ delay.
     then_reading (at_key jitter_key (or_reading bool_reading false)) (λ jitter.
     then_reading (at_key max_delay_key (optional_reading duration_meant)) (λ max_delay.
-    behind_check (keys_check (backoff_key ∷ keys_beside backoffs.Exponential) (words_text (keys_beside backoffs.Exponential)))
-    (rule_then (count ≡ 0) count_zero (rule_then (delay ≡ 0) delay_zero (rule_then (max_delay ≡ Some 0) max_delay_zero
-    (rule_reading (IsMaxBelow delay max_delay) max_delay_below_delay (record { count = count; delay = delay; jitter = jitter; max_delay = max_delay }))))))))))
+    behind_check (keys_check (backoff_key ∷ keys_beside backoffs.Exponential)
+    (words_text (keys_beside backoffs.Exponential)))
+    (rule_then (count ≡ 0) count_zero
+    (rule_then (delay ≡ 0) delay_zero (rule_then (max_delay ≡ Some 0) max_delay_zero
+    (rule_reading (IsMaxBelow delay max_delay) max_delay_below_delay
+    (record {
+      count = count;
+      delay = delay;
+      jitter = jitter;
+      max_delay = max_delay;
+    }))))))))))
 
 -- a table means one policy of a backoff or has one fault, and not both
-pub backoff_reading : (backoff : Backoff) → IsReading (MeansBackoff backoff) (BackoffFaults backoff) (λ a b. a ≡ b)
+pub backoff_reading : (backoff : Backoff)
+    → IsReading (MeansBackoff backoff) (BackoffFaults backoff) (λ a b. a ≡ b)
 backoff_reading backoffs.Fixed = made_of fixed fixed_table
 backoff_reading backoffs.Exponential = made_of exponential exponential_table
 
 -- a value means one policy or has one fault, and not both
 pub retry_policy_meant : IsReading MeansRetryPolicy RetryPolicyFaults (λ a b. a ≡ b)
 retry_policy_meant = kind_reading number
-    (kind_reading (then_reading (required_reading (word_reading backoffs_in_order backoff_word backoff_reads_back) backoff_key) backoff_reading) (wrong_kind retries_expected) as_table) as_integer
+    (kind_reading (then_reading
+    (required_reading (word_reading backoffs_in_order backoff_word backoff_reads_back)
+    backoff_key) backoff_reading) (wrong_kind retries_expected) as_table) as_integer
 
-pub retry_policy_reading : IsReading MeansRetryPolicySetting RetryPolicyFaults (λ a b. option_map retry_policy_of a ≡ option_map retry_policy_of b)
-retry_policy_reading = said_as said (reading_on (option_map retry_policy_of) (made_of Some retry_policy_meant)) where
-  said : (value : Data) (policy : Option RetryPolicy) → MeansRetryPolicySetting value policy → (told : RetryPolicyRecord) × MeansRetryPolicy value told × (option_map retry_policy_of policy ≡ Some told)
-  said value policy meant = search rules
+pub retry_policy_reading : IsReading MeansRetryPolicySetting RetryPolicyFaults
+    (λ a b. option_map retry_policy_of a ≡ option_map retry_policy_of b)
+retry_policy_reading =
+    said_as said (reading_on (option_map retry_policy_of) (made_of Some retry_policy_meant)) where
+      said : (value : Data) (policy : Option RetryPolicy) → MeansRetryPolicySetting value policy
+          → (told : RetryPolicyRecord) × MeansRetryPolicy value told
+          × (option_map retry_policy_of policy ≡ Some told)
+      said value policy meant = search rules

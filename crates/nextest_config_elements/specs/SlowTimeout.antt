@@ -20,7 +20,12 @@ pub record SlowTimeoutRecord : Type 0 where
 
 -- what a timeout says
 abbrev pub slow_timeout_of : SlowTimeout → SlowTimeoutRecord
-slow_timeout_of t = record { period = as_nanos t.period; terminate_after = t.terminate_after; grace_period = as_nanos t.grace_period; on_timeout = t.on_timeout }
+slow_timeout_of t = record {
+  period = as_nanos t.period;
+  terminate_after = t.terminate_after;
+  grace_period = as_nanos t.grace_period;
+  on_timeout = t.on_timeout;
+}
 
 -- the grace period where none is given
 abbrev pub default_grace_period : ℕ
@@ -28,7 +33,13 @@ default_grace_period = seconds 10
 
 -- a timeout of this period alone
 abbrev pub with_period : ℕ → SlowTimeoutRecord
-with_period period = record { period = period; terminate_after = None; grace_period = default_grace_period; on_timeout = Fail }
+with_period period =
+    record {
+      period = period;
+      terminate_after = None;
+      grace_period = default_grace_period;
+      on_timeout = Fail;
+    }
 
 -- ---- the words of the results
 
@@ -39,7 +50,8 @@ abbrev pub slow_timeout_word : SlowTimeoutResult → List ℕ
 slow_timeout_word Fail = codes "fail"
 slow_timeout_word Pass = codes "pass"
 
-pub slow_timeout_reads_back : (result : SlowTimeoutResult) → value_of slow_timeout_word slow_timeout_results (slow_timeout_word result) ≡ Some result
+pub slow_timeout_reads_back : (result : SlowTimeoutResult)
+    → value_of slow_timeout_word slow_timeout_results (slow_timeout_word result) ≡ Some result
 slow_timeout_reads_back result = search rules
 
 -- ---- the table form
@@ -63,16 +75,21 @@ MeansOnTimeout = MeansWordText slow_timeout_word
 -- the table means this timeout; other keys don't count
 pub record MeansSlowTimeoutTable (members : Members) (timeout : SlowTimeoutRecord) : Type 0 where
   pub of_period : RequiredKey period_key MeansDuration members timeout.period
-  pub of_terminate_after : OptionalKey terminate_after_key MeansCount members timeout.terminate_after
-  pub of_grace_period : KeyOr grace_period_key default_grace_period MeansDuration members timeout.grace_period
+  pub of_terminate_after : OptionalKey terminate_after_key MeansCount members
+      timeout.terminate_after
+  pub of_grace_period : KeyOr grace_period_key default_grace_period MeansDuration members
+      timeout.grace_period
   pub of_on_timeout : KeyOr on_timeout_key Fail MeansOnTimeout members timeout.on_timeout
 
 -- what is wrong with the table, key by key
 abbrev pub SlowTimeoutTableFaults : Members → List ℕ → Fault → Type 0
 SlowTimeoutTableFaults =
-    FaultsThen (RequiredKey period_key MeansDuration) (RequiredKeyFaults period_key DurationFaults) (λ period.
-    FaultsThen (OptionalKey terminate_after_key MeansCount) (OptionalKeyFaults terminate_after_key CountFaults) (λ terminate_after.
-    FaultsThen (KeyOr grace_period_key default_grace_period MeansDuration) (OptionalKeyFaults grace_period_key DurationFaults) (λ grace_period.
+    FaultsThen (RequiredKey period_key MeansDuration) (RequiredKeyFaults period_key DurationFaults)
+    (λ period.
+    FaultsThen (OptionalKey terminate_after_key MeansCount)
+    (OptionalKeyFaults terminate_after_key CountFaults) (λ terminate_after.
+    FaultsThen (KeyOr grace_period_key default_grace_period MeansDuration)
+    (OptionalKeyFaults grace_period_key DurationFaults) (λ grace_period.
     OptionalKeyFaults on_timeout_key (WordTextFaults slow_timeout_word slow_timeout_results))))
 
 -- ---- the setting
@@ -80,7 +97,8 @@ SlowTimeoutTableFaults =
 -- the text means no timeout where it is empty; any other is a period alone
 abbrev pub MeansSlowTimeoutText : List ℕ → Option SlowTimeoutRecord → Type 0
 MeansSlowTimeoutText [] timeout = timeout ≡ None
-MeansSlowTimeoutText (b ∷ rest) timeout = (period : ℕ) × MeansDuration (string (b ∷ rest)) period × (timeout ≡ Some (with_period period))
+MeansSlowTimeoutText (b ∷ rest) timeout = (period : ℕ) × MeansDuration (string (b ∷ rest)) period
+    × (timeout ≡ Some (with_period period))
 
 -- what is wrong with the text: it isn't empty, and is no duration
 abbrev pub SlowTimeoutTextFaults : List ℕ → List ℕ → Fault → Type 0
@@ -89,15 +107,22 @@ SlowTimeoutTextFaults (b ∷ rest) at fault = DurationFaults (string (b ∷ rest
 
 -- what the setting takes
 abbrev pub slow_timeout_expected : List ℕ
-slow_timeout_expected = codes "a table ({ period = \"60s\", terminate-after = 2 }) or a string (\"60s\")"
+slow_timeout_expected =
+    codes "a table ({ period = \"60s\", terminate-after = 2 }) or a string (\"60s\")"
 
 -- the value means this timeout, or none: as a text, or as a table
 abbrev pub MeansSlowTimeout : Data → Option SlowTimeoutRecord → Type 0
-MeansSlowTimeout value = MeansKind MeansSlowTimeoutText (λ other. MeansKind (MeansMade Some MeansSlowTimeoutTable) MeansNothing (as_table other) other) (as_str value) value
+MeansSlowTimeout value =
+    MeansKind MeansSlowTimeoutText
+    (λ other. MeansKind (MeansMade Some MeansSlowTimeoutTable) MeansNothing (as_table other) other)
+    (as_str value) value
 
 -- what is wrong with the value at a path
 abbrev pub SlowTimeoutFaults : Data → List ℕ → Fault → Type 0
-SlowTimeoutFaults value = FaultsKind SlowTimeoutTextFaults (λ other. FaultsKind SlowTimeoutTableFaults (WrongKind slow_timeout_expected) (as_table other) other) (as_str value) value
+SlowTimeoutFaults value =
+    FaultsKind SlowTimeoutTextFaults
+    (λ other. FaultsKind SlowTimeoutTableFaults (WrongKind slow_timeout_expected) (as_table other)
+    other) (as_str value) value
 
 -- a setting means this timeout, or none
 abbrev pub MeansSlowTimeoutSetting : Data → Option SlowTimeout → Type 0
@@ -107,21 +132,44 @@ MeansSlowTimeoutSetting value timeout = MeansSlowTimeout value (option_map slow_
 
 text : IsReading MeansSlowTimeoutText SlowTimeoutTextFaults (λ a b. a ≡ b)
 text = reading_each equality by_length where
-  by_length : (text : List ℕ) → IsReading {D = Unit {0}} (λ u. MeansSlowTimeoutText text) (λ u. SlowTimeoutTextFaults text) (λ a b. a ≡ b)
+  by_length : (text : List ℕ)
+      → IsReading {D = Unit {0}} (λ u. MeansSlowTimeoutText text) (λ u. SlowTimeoutTextFaults text)
+      (λ a b. a ≡ b)
   by_length [] = only_this equality None
-  by_length (b ∷ rest) = reading_at (made_of (λ period. Some (with_period period)) duration_meant) (string (b ∷ rest))
+  by_length (b ∷ rest) = reading_at (made_of (λ period. Some (with_period period)) duration_meant)
+      (string (b ∷ rest))
 
 table : IsReading MeansSlowTimeoutTable SlowTimeoutTableFaults (λ a b. a ≡ b)
-table = said_as (λ members t meant. (t.period, meant.of_period, (t.terminate_after, meant.of_terminate_after, (t.grace_period, meant.of_grace_period, (t.on_timeout, meant.of_on_timeout, refl)))))
+table = said_as (λ members t meant. (
+  t.period,
+  meant.of_period,
+  (
+    t.terminate_after,
+    meant.of_terminate_after,
+    (t.grace_period, meant.of_grace_period, (t.on_timeout, meant.of_on_timeout, refl)),
+  ),
+))
     (then_reading (required_reading duration_meant period_key) (λ period.
     then_reading (at_key terminate_after_key (optional_reading count_reading)) (λ terminate_after.
-    then_reading (at_key grace_period_key (or_reading duration_meant default_grace_period)) (λ grace_period.
-    made_of (λ on_timeout. record { period = period; terminate_after = terminate_after; grace_period = grace_period; on_timeout = on_timeout })
-    (at_key on_timeout_key (or_reading (word_reading slow_timeout_results slow_timeout_word slow_timeout_reads_back) Fail))))))
+    then_reading (at_key grace_period_key (or_reading duration_meant default_grace_period))
+    (λ grace_period.
+    made_of (λ on_timeout.
+    record {
+      period = period;
+      terminate_after = terminate_after;
+      grace_period = grace_period;
+      on_timeout = on_timeout;
+    })
+    (at_key on_timeout_key
+    (or_reading (word_reading slow_timeout_results slow_timeout_word
+    slow_timeout_reads_back) Fail))))))
 
 -- a value means one timeout, or none, or has one fault, and not both
 pub slow_timeout_meant : IsReading MeansSlowTimeout SlowTimeoutFaults (λ a b. a ≡ b)
-slow_timeout_meant = kind_reading text (kind_reading (made_of Some table) (wrong_kind slow_timeout_expected) as_table) as_str
+slow_timeout_meant =
+    kind_reading text (kind_reading (made_of Some table) (wrong_kind slow_timeout_expected)
+    as_table) as_str
 
-pub slow_timeout_reading : IsReading MeansSlowTimeoutSetting SlowTimeoutFaults (λ a b. option_map slow_timeout_of a ≡ option_map slow_timeout_of b)
+pub slow_timeout_reading : IsReading MeansSlowTimeoutSetting SlowTimeoutFaults
+    (λ a b. option_map slow_timeout_of a ≡ option_map slow_timeout_of b)
 slow_timeout_reading = reading_on (option_map slow_timeout_of) slow_timeout_meant

@@ -29,19 +29,26 @@ MeansThreadsText held threads = threads_text threads ≡ Some held
 
 -- the text is neither word
 abbrev pub ThreadsTextFaults : List ℕ → List ℕ → Fault → Type 0
-ThreadsTextFaults held at fault = ((threads : ThreadsRequired) → threads_text threads ≢ Some held) × (fault ≡ wrong_value (string held) at threads_expected)
+ThreadsTextFaults held at fault = ((threads : ThreadsRequired) → threads_text threads ≢ Some held)
+    × (fault ≡ wrong_value (string held) at threads_expected)
 
 -- the value means this: as an integer, or as a text
 abbrev pub MeansThreads : Data → ThreadsRequired → Type 0
-MeansThreads value = MeansKind (MeansMade Count (MeansNumber IsCount)) (λ other. MeansKind MeansThreadsText MeansNothing (as_str other) other) (as_integer value) value
+MeansThreads value =
+    MeansKind (MeansMade Count (MeansNumber IsCount))
+    (λ other. MeansKind MeansThreadsText MeansNothing (as_str other) other) (as_integer value) value
 
 -- what is wrong with the value at a path
 abbrev pub ThreadsFaults : Data → List ℕ → Fault → Type 0
-ThreadsFaults value = FaultsKind (IsNoCount threads_expected) (λ other. FaultsKind ThreadsTextFaults (WrongKind threads_expected) (as_str other) other) (as_integer value) value
+ThreadsFaults value =
+    FaultsKind (IsNoCount threads_expected)
+    (λ other. FaultsKind ThreadsTextFaults (WrongKind threads_expected) (as_str other) other)
+    (as_integer value) value
 
 -- ---- its law
 
-one_word : (x y : ThreadsRequired) (held : List ℕ) → threads_text x ≡ Some held → threads_text y ≡ Some held → x ≡ y
+one_word : (x y : ThreadsRequired) (held : List ℕ) → threads_text x ≡ Some held
+    → threads_text y ≡ Some held → x ≡ y
 one_word x y held a b = search rules
 
 text : IsReading MeansThreadsText ThreadsTextFaults (λ a b. a ≡ b)
@@ -54,4 +61,5 @@ text = record {
 
 -- a value means one setting or has one fault, and not both
 pub threads_reading : IsReading MeansThreads ThreadsFaults (λ a b. a ≡ b)
-threads_reading = kind_reading (count_made Count threads_expected) (kind_reading text (wrong_kind threads_expected) as_str) as_integer
+threads_reading = kind_reading (count_made Count threads_expected)
+    (kind_reading text (wrong_kind threads_expected) as_str) as_integer

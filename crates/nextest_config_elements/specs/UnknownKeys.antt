@@ -23,9 +23,10 @@ abbrev pub ComesBefore : List ℕ → List ℕ → Type 0
 ComesBefore a b = slice_cmp nat_cmp a b ≡ Less
 
 -- the key is unknown, and no unknown one comes before it
-pub record IsFirstUnknownKey (known : List (List ℕ)) (members : Members) (key : List ℕ) : Type 0 where
-  pub is_unknown : IsUnknownKey known members key
-  pub is_first : (other : List ℕ) → IsUnknownKey known members other → ¬ ComesBefore other key
+pub record IsFirstUnknownKey (known : List (List ℕ)) (members : Members) (key : List ℕ) : Type 0
+  where
+    pub is_unknown : IsUnknownKey known members key
+    pub is_first : (other : List ℕ) → IsUnknownKey known members other → ¬ ComesBefore other key
 
 -- the table has no unknown key
 abbrev pub HasOnlyKeys : List (List ℕ) → Members → Type 0
@@ -33,22 +34,29 @@ HasOnlyKeys known members = (key : List ℕ) → ¬ IsUnknownKey known members k
 
 -- the first unknown key is the fault of its table
 abbrev pub UnknownKeyFaults : List (List ℕ) → List ℕ → Members → List ℕ → Fault → Type 0
-UnknownKeyFaults known expected members at fault = (key : List ℕ) × IsFirstUnknownKey known members key × (fault ≡ unknown_key key at expected)
+UnknownKeyFaults known expected members at fault = (key : List ℕ)
+    × IsFirstUnknownKey known members key × (fault ≡ unknown_key key at expected)
 
 -- ---- its law
 
 module _ {known : List (List ℕ)} {members : Members} where
-  one_by_order : (o : Ordering) (k l : List ℕ) → slice_cmp nat_cmp k l ≡ o → IsFirstUnknownKey known members k → IsFirstUnknownKey known members l → k ≡ l
+  one_by_order : (o : Ordering) (k l : List ℕ) → slice_cmp nat_cmp k l ≡ o
+      → IsFirstUnknownKey known members k → IsFirstUnknownKey known members l → k ≡ l
   one_by_order Less k l order a b = absurd (b.is_first k a.is_unknown order)
   one_by_order Equal k l order a b = exact_bytes k l order
-  one_by_order Greater k l order a b = absurd (a.is_first l b.is_unknown (nat_list_cmp_total.antisymm l k ∙ ap ordering_reverse order))
+  one_by_order Greater k l order a b =
+      absurd (a.is_first l b.is_unknown
+      (nat_list_cmp_total.antisymm l k ∙ ap ordering_reverse order))
 
-  one_first : (k l : List ℕ) → IsFirstUnknownKey known members k → IsFirstUnknownKey known members l → k ≡ l
+  one_first : (k l : List ℕ) → IsFirstUnknownKey known members k → IsFirstUnknownKey known members l
+      → k ≡ l
   one_first k l = one_by_order (slice_cmp nat_cmp k l) k l refl
 
 -- a table has at most one first unknown key
-pub keys_check : (known : List (List ℕ)) (expected : List ℕ) → IsCheck (HasOnlyKeys known) (UnknownKeyFaults known expected)
+pub keys_check : (known : List (List ℕ)) (expected : List ℕ)
+    → IsCheck (HasOnlyKeys known) (UnknownKeyFaults known expected)
 keys_check known expected = record {
-  one_fault = λ members at f g a b. a.2 ∙ ap (λ key. unknown_key key at expected) (one_first a.0 b.0 a.1 b.1) ∙ sym b.2;
+  one_fault = λ members at f g a b. a.2
+      ∙ ap (λ key. unknown_key key at expected) (one_first a.0 b.0 a.1 b.1) ∙ sym b.2;
   never_both = λ members at f none a. none a.0 a.1.is_unknown;
 }

@@ -337,7 +337,8 @@ impl FromToml for JunitImpl {
 
     ghost laws = { junit_reading };
 
-    /// Reads the table of a profile's `junit`. It takes memory for a path and for a name of the report.
+    /// Reads the table of a profile's `junit`. It takes memory for a path and for a name of the
+    /// report.
     fn read(alloc: Global, value: &Value, at: &str) -> Result<Self, ReadFault>
         ensures meant { IfOk result (λ junit. MeansJunit (view value.now) (table_of junit)) }
         ensures refused { IfErr result (Refuses (JunitFaults (view value.now) at.now)

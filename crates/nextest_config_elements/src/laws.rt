@@ -70,7 +70,8 @@ pub fn law_setting_once()
     ensures relative_path { IsReading MeansPath PathFaults TextsAlike }
 {}
 
-/// Values are equal exactly where they are the same; refusals of a fail limit where they tell the same.
+/// Values are equal exactly where they are the same; refusals of a fail limit where they tell the
+/// same.
 pub fn law_equality()
     ensures retry_policy { IsEquality ⟦<RetryPolicy as PartialEq>⟧.eq }
     ensures flaky_result { IsEquality ⟦<FlakyResult as PartialEq>⟧.eq }

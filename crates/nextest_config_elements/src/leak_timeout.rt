@@ -42,7 +42,8 @@ impl LeakTimeout {
     fn read_table(alloc: Global, table: &Table, at: &str) -> Result<Self, ReadFault>
         ensures meant { IfOk result (λ timeout.
             MeansLeakTimeoutTable (table_view table.now) (leak_timeout_of timeout)) }
-        ensures refused { IfErr result (Refuses (LeakTimeoutTableFaults (table_view table.now) at.now)
+        ensures refused { IfErr result
+            (Refuses (LeakTimeoutTableFaults (table_view table.now) at.now)
             (WantsMemory (λ timeout. MeansLeakTimeoutTable (table_view table.now)
             (leak_timeout_of timeout)) false)) }
     {
@@ -52,7 +53,8 @@ impl LeakTimeout {
     }
 }
 
-/// Reads the value of `leak-timeout`: a duration text, or a table. A fault names its path, which begins
+/// Reads the value of `leak-timeout`: a duration text, or a table. A fault names its path, which
+/// begins
 /// with `at`: the first in the order of the fields. Other keys don't count.
 pub fn deserialize_leak_timeout(
     alloc: Global,

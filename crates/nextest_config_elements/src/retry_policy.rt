@@ -82,7 +82,8 @@ impl RetryPolicy {
     }
 }
 
-/// Reads the value of `retries`: a number of retries, or a table. A fault names its path, which begins
+/// Reads the value of `retries`: a number of retries, or a table. A fault names its path, which
+/// begins
 /// with `at`: the first in the order of the fields, then the first unknown key, then a broken rule.
 pub fn deserialize_retry_policy(
     alloc: Global,
@@ -130,9 +131,11 @@ fn out_of_range(alloc: Global, number: i64, at: &str, expected: &'static str) ->
 
 // The policy that a table means.
 fn read_table(alloc: Global, table: &Table, at: &str) -> Result<RetryPolicy, ReadFault>
-    ensures meant { IfOk result (λ policy. MeansRetryTable (table_view table.now) (retry_policy_of policy)) }
+    ensures meant { IfOk result
+        (λ policy. MeansRetryTable (table_view table.now) (retry_policy_of policy)) }
     ensures refused { IfErr result (Refuses (RetryTableFaults (table_view table.now) at.now)
-        (WantsMemory (λ policy. MeansRetryTable (table_view table.now) (retry_policy_of policy)) false)) }
+        (WantsMemory (λ policy. MeansRetryTable (table_view table.now) (retry_policy_of policy))
+        false)) }
 {
     let backoff: Backoff = required_field(alloc, table, BACKOFF_KEY, at)?;
     match backoff {
@@ -145,7 +148,8 @@ fn read_table(alloc: Global, table: &Table, at: &str) -> Result<RetryPolicy, Rea
 fn read_fixed(alloc: Global, table: &Table, at: &str) -> Result<RetryPolicy, ReadFault>
     ensures meant { IfOk result (λ policy.
         MeansBackoff Backoff.Fixed (table_view table.now) (retry_policy_of policy)) }
-    ensures refused { IfErr result (Refuses (BackoffFaults Backoff.Fixed (table_view table.now) at.now)
+    ensures refused { IfErr result
+        (Refuses (BackoffFaults Backoff.Fixed (table_view table.now) at.now)
         (WantsMemory (λ policy.
         MeansBackoff Backoff.Fixed (table_view table.now) (retry_policy_of policy)) false)) }
 {
@@ -167,7 +171,8 @@ fn read_fixed(alloc: Global, table: &Table, at: &str) -> Result<RetryPolicy, Rea
 fn read_exponential(alloc: Global, table: &Table, at: &str) -> Result<RetryPolicy, ReadFault>
     ensures meant { IfOk result (λ policy.
         MeansBackoff Backoff.Exponential (table_view table.now) (retry_policy_of policy)) }
-    ensures refused { IfErr result (Refuses (BackoffFaults Backoff.Exponential (table_view table.now) at.now)
+    ensures refused { IfErr result
+        (Refuses (BackoffFaults Backoff.Exponential (table_view table.now) at.now)
         (WantsMemory (λ policy.
         MeansBackoff Backoff.Exponential (table_view table.now) (retry_policy_of policy)) false)) }
 {
@@ -298,7 +303,8 @@ pub enum FlakyResult {
 impl FlakyResult {
     ghost use Rattle.nextest_config_elements.specs.declared.retry_policy.FlakyResult.TheVariants.{Pass};
 
-    /// What a report says of a flaky test that fails although it passed on this attempt; none where flaky
+    /// What a report says of a flaky test that fails although it passed on this attempt; none where
+    /// flaky
     /// tests pass.
     pub fn fail_message(
         self,

@@ -61,7 +61,8 @@ impl SlowTimeout {
     fn read_table(alloc: Global, table: &Table, at: &str) -> Result<Self, ReadFault>
         ensures meant { IfOk result (λ timeout.
             MeansSlowTimeoutTable (table_view table.now) (slow_timeout_of timeout)) }
-        ensures refused { IfErr result (Refuses (SlowTimeoutTableFaults (table_view table.now) at.now)
+        ensures refused { IfErr result
+            (Refuses (SlowTimeoutTableFaults (table_view table.now) at.now)
             (WantsMemory (λ timeout. MeansSlowTimeoutTable (table_view table.now)
             (slow_timeout_of timeout)) false)) }
     {
@@ -89,8 +90,10 @@ impl SlowTimeout {
     }
 }
 
-/// Reads the value of `slow-timeout`: a duration text, the empty text for no timeout, or a table. A fault
-/// names its path, which begins with `at`: the first in the order of the fields. Other keys don't count.
+/// Reads the value of `slow-timeout`: a duration text, the empty text for no timeout, or a table. A
+/// fault
+/// names its path, which begins with `at`: the first in the order of the fields. Other keys don't
+/// count.
 pub fn deserialize_slow_timeout(
     alloc: Global,
     value: &Value,

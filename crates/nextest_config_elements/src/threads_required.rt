@@ -66,7 +66,8 @@ impl FromToml for ThreadsRequired {
 
 // What the text says, if it is one of the two words.
 fn from_word(text: &str) -> Option<ThreadsRequired>
-    ensures { MatchOption result ((threads : ThreadsRequired) → threads_text threads ≢ Some text.now)
+    ensures { MatchOption result ((threads : ThreadsRequired) → threads_text threads
+        ≢ Some text.now)
         (λ threads. threads_text threads ≡ Some text.now) }
 {
     match text {

@@ -1,7 +1,10 @@
-//! The documents of nextest-runner's own tests, each by the function that it stands in. Those that it loads have
-//! no error here. Those that it refuses for a setting have one, whose text holds what the test asks for.
+//! The documents of nextest-runner's own tests, each by the function that it stands in. Those that
+//! it loads have
+//! no error here. Those that it refuses for a setting have one, whose text holds what the test asks
+//! for.
 //!
-//! An unknown `flaky-result` and a `nextest-version` of a wrong kind are refused in words of this project.
+//! An unknown `flaky-result` and a `nextest-version` of a wrong kind are refused in words of this
+//! project.
 
 use crate::blocks::Listed;
 use crate::runner::check_files;

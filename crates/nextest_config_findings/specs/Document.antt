@@ -15,8 +15,10 @@ use Rattle.nextest_config_findings.specs.declared.place.Place.TheVariants.{Top}
 abbrev pub keys_of_document : Members → List JudgedKey
 keys_of_document members = keys_at Top [] members ++ flat_map keys_in (from_table members)
 
--- the findings of a source of this kind: the faults of its values, then what it says of features, then its unknown keys
-pub record AreFindings (edition : Edition) (kind : ConfigSourceKind) (members : Members) (founds : List Found) : Type 0 where
+-- the findings of a source of this kind: the faults of its values, then what it says of features,
+-- then its unknown keys
+pub record AreFindings (edition : Edition) (kind : ConfigSourceKind) (members : Members)
+    (founds : List Found) : Type 0 where
   pub faults : List Found
   pub features : List Found
   pub unknown : List Found

@@ -27,12 +27,14 @@ behind (byte ∷ front) (first ∷ text) = if byte == first then behind front te
 -- the first element that is no text, of elements of which the first has this index
 abbrev pub first_other : ℕ → Items → Option Added
 first_other first no_items = None
-first_other first (item value rest) = if is_some (as_str value) then first_other (first + 1) rest else Some (index first, value)
+first_other first (item value rest) = if is_some (as_str value) then first_other (first + 1) rest
+    else Some (index first, value)
 
 -- a dot and a key of a table
 abbrev pub key_behind : Members → List ℕ → Option Added
 key_behind held [] = None
-key_behind held (byte ∷ text) = if byte == dot then option_map (λ value. (key text, value)) (get_member text held) else None
+key_behind held (byte ∷ text) = if byte == dot
+    then option_map (λ value. (key text, value)) (get_member text held) else None
 
 -- a bracket: the element of an array that is no text
 abbrev pub index_behind : Items → List ℕ → Option Added
@@ -67,19 +69,24 @@ IsNoDuration reason = (found : List ℕ) × (reason ≡ invalid_value found dura
 
 -- the value is a text that isn't taken for a duration, and may be one for nextest
 abbrev pub IsUnjudged : Data → Reason → Type 0
-IsUnjudged value reason = IsNoDuration reason × ((text : List ℕ) × (as_str value ≡ Some text) × MayBeDuration text)
+IsUnjudged value reason = IsNoDuration reason
+    × ((text : List ℕ) × (as_str value ≡ Some text) × MayBeDuration text)
 
 -- what is found of a fault of the value that its step leads to
 abbrev pub IsFoundKind : Data → Reason → FoundKind → Type 0
-IsFoundKind value reason kind = (IsUnjudged value reason × (kind ≡ unjudged)) ⊎ ((IsUnjudged value reason → ⊥) × (kind ≡ refused reason))
+IsFoundKind value reason kind = (IsUnjudged value reason × (kind ≡ unjudged))
+    ⊎ ((IsUnjudged value reason → ⊥) × (kind ≡ refused reason))
 
 -- what is found of a fault of a value at a path
-pub record IsFoundOf (path : List PathStep) (value : Data) (fault : Fault) (found : Found) : Type 0 where
-  pub path_is : found.path ≡ with_added path (added_step value (printed_path path) fault.path)
-  pub kind_is : IsFoundKind (led_to value (added_step value (printed_path path) fault.path)) fault.reason found.kind
+pub record IsFoundOf (path : List PathStep) (value : Data) (fault : Fault) (found : Found) : Type 0
+  where
+    pub path_is : found.path ≡ with_added path (added_step value (printed_path path) fault.path)
+    pub kind_is : IsFoundKind (led_to value (added_step value (printed_path path) fault.path))
+        fault.reason found.kind
 
 -- nothing is found of a value that means something; else what is found of its fault at its path
 abbrev pub IsFaultFound : Edition → JudgedValue → Option Found → Type 0
 IsFaultFound edition judged None = MeansSomething edition judged.place judged.value
 IsFaultFound edition judged (Some found) =
-    (fault : Fault) × PlaceFaults edition judged.place judged.value (printed_path judged.path) fault × IsFoundOf judged.path judged.value fault found
+    (fault : Fault) × PlaceFaults edition judged.place judged.value (printed_path judged.path) fault
+    × IsFoundOf judged.path judged.value fault found

@@ -17,17 +17,21 @@ features_path = key experimental_key ∷ []
 
 -- a name may be meant for the nearest feature
 abbrev pub IsFeatureMeant : List ℕ → Option Meant → Type 0
-IsFeatureMeant name hint = (word : Option (List ℕ)) × IsNearest (map word_of all_features) name word × (hint ≡ option_map the_word word)
+IsFeatureMeant name hint = (word : Option (List ℕ)) × IsNearest (map word_of all_features) name word
+    × (hint ≡ option_map the_word word)
 
 -- an unknown feature name
 abbrev pub IsNameFound : List ℕ → Option Found → Type 0
-IsNameFound name found = (hint : Option Meant) × IsFeatureMeant name hint × (found ≡ Some (found_at features_path (unknown_name name hint)))
+IsNameFound name found = (hint : Option Meant) × IsFeatureMeant name hint
+    × (found ≡ Some (found_at features_path (unknown_name name hint)))
 
 -- a tool's file that names features, known or not
 abbrev pub AreToolsFound : Features → List Found → Type 0
 AreToolsFound features founds =
     ((features ≡ no_features) × (founds ≡ []))
-    ⊎ ((features ≢ no_features) × ((names : List (List ℕ)) × AreNames features names × (founds ≡ found_at features_path (tool_names names) ∷ [])))
+    ⊎ ((features ≢ no_features)
+    × ((names : List (List ℕ)) × AreNames features names
+    × (founds ≡ found_at features_path (tool_names names) ∷ [])))
 
 -- what is found of the features that a file of this kind names
 abbrev pub AreNamedFound : ConfigSourceKind → Features → List Found → Type 0
@@ -35,9 +39,12 @@ AreNamedFound (Tool name) features founds = AreToolsFound features founds
 AreNamedFound ExplicitRepository features founds = AreFoundIn IsNameFound features.unknown founds
 AreNamedFound DiscoveredRepository features founds = AreFoundIn IsNameFound features.unknown founds
 
--- the value of `experimental` names features, of which this is found; nothing where there is none, or where it is refused
+-- the value of `experimental` names features, of which this is found; nothing where there is none,
+-- or where it is refused
 abbrev pub AreFeaturesFound : Edition → ConfigSourceKind → Option Data → List Found → Type 0
 AreFeaturesFound edition kind None founds = founds ≡ []
 AreFeaturesFound edition kind (Some value) founds =
-    (ObeysForm edition (Some value) × ((named : FeatureSetting) × MeansFeatures value named × AreNamedFound kind named.features founds))
+    (ObeysForm edition (Some value)
+    × ((named : FeatureSetting) × MeansFeatures value named
+    × AreNamedFound kind named.features founds))
     ⊎ (((fault : Fault) × ExperimentalFaults edition value experimental_key fault) × (founds ≡ []))

@@ -32,7 +32,8 @@ IsInLine byte = byte ≢ line_feed
 abbrev pub begins_character : ℕ → Bool
 begins_character byte = nat_lt byte 128 || nat_le 192 byte
 
--- the column, from 1, of what stands behind this front of a text: in its last line, as many characters further
+-- the column, from 1, of what stands behind this front of a text: in its last line, as many
+-- characters further
 pub record IsColumn (front : List ℕ) (column : ℕ) : Type 0 where
   pub before : List ℕ
   pub last : List ℕ
@@ -43,11 +44,14 @@ pub record IsColumn (front : List ℕ) (column : ℕ) : Type 0 where
 
 -- the column behind one byte more
 abbrev pub column_after : ℕ → ℕ → ℕ
-column_after column byte = if byte == line_feed then 1 else if begins_character byte then column + 1 else column
+column_after column byte = if byte == line_feed then 1 else if begins_character byte then column + 1
+    else column
 
 -- the file isn't UTF-8, at the line of its first bad byte
 abbrev pub IsNotUtf8 : List ℕ → List LocatedFinding → Type 0
-IsNotUtf8 contents located = map located_told located ≡ (line_behind (take (utf8_valid_len contents) contents), None, Some (found_at [] not_utf8)) ∷ []
+IsNotUtf8 contents located = map located_told located
+    ≡ (line_behind (take (utf8_valid_len contents) contents), None, Some (found_at [] not_utf8)) ∷
+    []
 
 -- the file isn't a document, at a place in it, with a message
 pub record IsNotToml (contents : List ℕ) (located : List LocatedFinding) : Type 0 where
@@ -56,7 +60,8 @@ pub record IsNotToml (contents : List ℕ) (located : List LocatedFinding) : Typ
   pub column : ℕ
   pub column_is : IsColumn (take place contents) column
   pub message : List ℕ
-  pub told : map located_told located ≡ (line_behind (take place contents), Some column, Some (found_at [] (not_toml message))) ∷ []
+  pub told : map located_told located
+      ≡ (line_behind (take place contents), Some column, Some (found_at [] (not_toml message))) ∷ []
 
 -- ---- the findings of a document
 
@@ -70,7 +75,8 @@ line_path found = path_behind found.path found.kind
 
 -- the line of a path, or the first one where it has none
 abbrev pub IsLineOrFirst : List ℕ → List PathStep → ℕ → Type 0
-IsLineOrFirst contents path line = IsLine contents path line ⊎ (HasNoLine contents path × (line ≡ 1))
+IsLineOrFirst contents path line = IsLine contents path line
+    ⊎ (HasNoLine contents path × (line ≡ 1))
 
 -- a finding at its line
 pub record IsAtLine (contents : List ℕ) (found : Found) (located : LocatedFinding) : Type 0 where
@@ -81,7 +87,9 @@ pub record IsAtLine (contents : List ℕ) (found : Found) (located : LocatedFind
 -- each finding at its line
 abbrev pub AreAtLines : List ℕ → List Found → List LocatedFinding → Type 0
 AreAtLines contents [] located = located ≡ []
-AreAtLines contents (found ∷ founds) located = (first : LocatedFinding) × (rest : List LocatedFinding) × (located ≡ first ∷ rest) × IsAtLine contents found first × AreAtLines contents founds rest
+AreAtLines contents (found ∷ founds) located = (first : LocatedFinding)
+    × (rest : List LocatedFinding) × (located ≡ first ∷ rest) × IsAtLine contents found first
+    × AreAtLines contents founds rest
 
 -- the same findings by their lines, those of one line as they were
 pub record AreSorted (before sorted : List LocatedFinding) : Type 0 where
@@ -90,7 +98,8 @@ pub record AreSorted (before sorted : List LocatedFinding) : Type 0 where
   pub stable : IsStableByKey (λ located. located.line) nat_cmp before sorted
 
 -- the findings of a document, by their lines
-pub record AreLocatedIn (edition : Edition) (kind : ConfigSourceKind) (contents : List ℕ) (members : Members) (located : List LocatedFinding) : Type 0 where
+pub record AreLocatedIn (edition : Edition) (kind : ConfigSourceKind) (contents : List ℕ)
+    (members : Members) (located : List LocatedFinding) : Type 0 where
   pub founds : List Found
   pub are_findings : AreFindings edition kind members founds
   pub before : List LocatedFinding
@@ -98,11 +107,14 @@ pub record AreLocatedIn (edition : Edition) (kind : ConfigSourceKind) (contents 
   pub sorted : AreSorted before located
 
 -- what is found in a file, if it is a document
-abbrev pub AreInText : Edition → ConfigSourceKind → List ℕ → Option Members → List LocatedFinding → Type 0
+abbrev pub AreInText : Edition → ConfigSourceKind → List ℕ → Option Members → List LocatedFinding
+    → Type 0
 AreInText edition kind contents None located = IsNotToml contents located
-AreInText edition kind contents (Some members) located = AreLocatedIn edition kind contents members located
+AreInText edition kind contents (Some members) located =
+    AreLocatedIn edition kind contents members located
 
 -- what is found in a file
 abbrev pub AreLocated : Edition → ConfigSourceKind → List ℕ → List LocatedFinding → Type 0
 AreLocated edition kind contents located =
-    (IsUtf8 contents × AreInText edition kind contents (parse_document contents) located) ⊎ ((IsUtf8 contents → ⊥) × IsNotUtf8 contents located)
+    (IsUtf8 contents × AreInText edition kind contents (parse_document contents) located)
+    ⊎ ((IsUtf8 contents → ⊥) × IsNotUtf8 contents located)

@@ -30,10 +30,15 @@ hint_text None = []
 
 abbrev pub finding_kind_text : FindingKind → List ℕ
 finding_kind_text (kinds.Fault kind) = kind_text kind
-finding_kind_text (kinds.ToolFeatures features) = codes "experimental features in a tool configuration: " ++ quoted_texts (map string_bytes features.keys)
-finding_kind_text (kinds.UnknownFeature name hint) = (codes "unknown feature " ++ quoted_text (string_bytes name)) ++ hint_text hint
-finding_kind_text (kinds.UnknownKey key hint) = (codes "unknown key " ++ quoted_text (string_bytes key)) ++ hint_text hint
-finding_kind_text kinds.UnjudgedDuration = codes "a duration that isn't judged here: only whole numbers, each with a unit, are read"
+finding_kind_text (kinds.ToolFeatures features) =
+    codes "experimental features in a tool configuration: "
+    ++ quoted_texts (map string_bytes features.keys)
+finding_kind_text (kinds.UnknownFeature name hint) =
+    (codes "unknown feature " ++ quoted_text (string_bytes name)) ++ hint_text hint
+finding_kind_text (kinds.UnknownKey key hint) =
+    (codes "unknown key " ++ quoted_text (string_bytes key)) ++ hint_text hint
+finding_kind_text kinds.UnjudgedDuration =
+    codes "a duration that isn't judged here: only whole numbers, each with a unit, are read"
 finding_kind_text kinds.NotUtf8 = codes "not UTF-8"
 finding_kind_text (kinds.NotToml message) = string_bytes message
 

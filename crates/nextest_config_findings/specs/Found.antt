@@ -38,8 +38,10 @@ pub record Found : Type 0 where
 abbrev pub kind_told : FindingKind → Option FoundKind
 kind_told (kinds.Fault kind) = option_map refused (reason_of kind)
 kind_told (kinds.ToolFeatures features) = Some (tool_names (map string_bytes features.keys))
-kind_told (kinds.UnknownFeature name hint) = Some (unknown_name (string_bytes name) (option_map meant_of hint))
-kind_told (kinds.UnknownKey key hint) = Some (unknown_key (string_bytes key) (option_map meant_of hint))
+kind_told (kinds.UnknownFeature name hint) =
+    Some (unknown_name (string_bytes name) (option_map meant_of hint))
+kind_told (kinds.UnknownKey key hint) =
+    Some (unknown_key (string_bytes key) (option_map meant_of hint))
 kind_told kinds.UnjudgedDuration = Some unjudged
 kind_told kinds.NotUtf8 = Some not_utf8
 kind_told (kinds.NotToml message) = Some (not_toml (string_bytes message))
@@ -71,12 +73,17 @@ Tells findings founds = map found_of findings ≡ map Some founds
 abbrev pub AreFoundIn : {A : Type 0} → (A → Option Found → Type 0) → List A → List Found → Type 0
 AreFoundIn IsFound [] founds = founds ≡ []
 AreFoundIn IsFound (x ∷ xs) founds =
-    (here : Option Found) × (rest : List Found) × IsFound x here × AreFoundIn IsFound xs rest × (founds ≡ option_to_list here ++ rest)
+    (here : Option Found) × (rest : List Found) × IsFound x here × AreFoundIn IsFound xs rest
+    × (founds ≡ option_to_list here ++ rest)
 
 -- what is found of this one comes behind other findings
-abbrev pub AddsOne : {A : Type 0} → (A → Option Found → Type 0) → A → List Finding → List Finding → Type 0
-AddsOne IsFound x before now = (here : Option Found) × IsFound x here × (map found_of now ≡ map found_of before ++ map Some (option_to_list here))
+abbrev pub AddsOne : {A : Type 0} → (A → Option Found → Type 0) → A → List Finding → List Finding
+    → Type 0
+AddsOne IsFound x before now = (here : Option Found) × IsFound x here
+    × (map found_of now ≡ map found_of before ++ map Some (option_to_list here))
 
 -- what is found of these comes behind other findings
-abbrev pub AddsFound : {A : Type 0} → (A → Option Found → Type 0) → List A → List Finding → List Finding → Type 0
-AddsFound IsFound xs before now = (founds : List Found) × AreFoundIn IsFound xs founds × (map found_of now ≡ map found_of before ++ map Some founds)
+abbrev pub AddsFound : {A : Type 0} → (A → Option Found → Type 0) → List A → List Finding
+    → List Finding → Type 0
+AddsFound IsFound xs before now = (founds : List Found) × AreFoundIn IsFound xs founds
+    × (map found_of now ≡ map found_of before ++ map Some founds)

@@ -21,13 +21,19 @@ mark_step (Key text) = key text.now
 mark_step (Index place) = index place
 
 abbrev pub judged_value : Judged → JudgedValue
-judged_value judged = record { place = judged.place; path = map mark_step judged.path.items; value = view judged.value.now }
+judged_value judged =
+    record {
+      place = judged.place;
+      path = map mark_step judged.path.items;
+      value = view judged.value.now;
+    }
 
 -- ---- what has a place right below a value
 
 -- the value at a step behind a path
 abbrev pub judged_at : List PathStep → PathStep → Place → Data → JudgedValue
-judged_at path step place value = record { place = place; path = path ++ (step ∷ []); value = value }
+judged_at path step place value =
+    record { place = place; path = path ++ (step ∷ []); value = value }
 
 -- the value at a step, if there is one
 abbrev pub if_there : List PathStep → PathStep → Place → Option Data → List JudgedValue
@@ -46,12 +52,14 @@ known_in path held (Some keys) = flat_map (at_known_key path held) keys
 -- each value of a table is a profile
 abbrev pub profiles_in : List PathStep → Members → List JudgedValue
 profiles_in path no_members = []
-profiles_in path (member name value rest) = judged_at path (key name) Profile value ∷ profiles_in path rest
+profiles_in path (member name value rest) =
+    judged_at path (key name) Profile value ∷ profiles_in path rest
 
 -- each element of an array is an override; the first one has this index
 abbrev pub overrides_in : List PathStep → ℕ → Items → List JudgedValue
 overrides_in path first no_items = []
-overrides_in path first (item value rest) = judged_at path (index first) Override value ∷ overrides_in path (suc first) rest
+overrides_in path first (item value rest) =
+    judged_at path (index first) Override value ∷ overrides_in path (suc first) rest
 
 -- in a table
 abbrev pub below_table : Place → List PathStep → Members → List JudgedValue

@@ -1,4 +1,5 @@
--- The places of a configuration file: the keys that are known there, what a value means, and what is wrong with one.
+-- The places of a configuration file: the keys that are known there, what a value means, and what
+-- is wrong with one.
 use Rattle.std.specs.Prelude.{◌≡◌, ◌⊎◌, ℕ, ℤ, Bool, true, false, List, codes, map, Option, Some, None, IsSome}
 use Rattle.std.specs.Borrow.{Bor}
 use Rattle.toml.specs.Data.{Data, as_array, as_table}
@@ -36,7 +37,8 @@ rows_of rows = map (λ row. (row.0.now, row.1)) rows
 abbrev pub keys_told : List (Bor (List ℕ) × Place) → List (List ℕ × Place)
 keys_told rows = map (λ row. (row.0.now, row.1)) rows
 
--- the keys that are known in a table at a place, with what stands there; none where its keys aren't judged
+-- the keys that are known in a table at a place, with what stands there; none where its keys aren't
+-- judged
 abbrev pub keys_of : Place → Option (List (List ℕ × Place))
 keys_of places.Top = Some (rows_of TOP.now)
 keys_of places.NextestVersion = Some (rows_of NEXTEST_VERSION.now)
@@ -61,25 +63,34 @@ is_top _ = false
 abbrev pub MeansSomething : Edition → Place → Data → Type 0
 MeansSomething edition places.Top value = Unit {0}
 MeansSomething edition places.Unread value = Unit {0}
-MeansSomething edition places.NextestVersion value = (versions : Versions) × MeansVersions value versions
-MeansSomething edition places.Experimental value = ObeysForm edition (Some value) × ((named : FeatureSetting) × MeansFeatures value named)
+MeansSomething edition places.NextestVersion value = (versions : Versions)
+    × MeansVersions value versions
+MeansSomething edition places.Experimental value = ObeysForm edition (Some value)
+    × ((named : FeatureSetting) × MeansFeatures value named)
 MeansSomething edition places.Profiles value = IsSome (as_table value)
 MeansSomething edition places.Profile value = IsSome (as_table value)
 MeansSomething edition places.Bench value = IsSome (as_table value)
 MeansSomething edition places.Overrides value = IsSome (as_array value)
 MeansSomething edition places.Override value = IsSome (as_table value)
 MeansSomething edition places.OverrideJunit value = IsSome (as_table value)
-MeansSomething edition places.Retries value = (policy : Option RetryPolicy) × MeansRetryPolicySetting value policy
-MeansSomething edition places.FlakyResult value = (result : FlakyResult) × MeansWordText flaky_result_word value result
-MeansSomething edition places.ThreadsRequired value = (threads : ThreadsRequired) × MeansThreads value threads
+MeansSomething edition places.Retries value = (policy : Option RetryPolicy)
+    × MeansRetryPolicySetting value policy
+MeansSomething edition places.FlakyResult value = (result : FlakyResult)
+    × MeansWordText flaky_result_word value result
+MeansSomething edition places.ThreadsRequired value = (threads : ThreadsRequired)
+    × MeansThreads value threads
 MeansSomething edition places.FailFast value = (limit : Option MaxFail) × MeansFailFast value limit
-MeansSomething edition places.SlowTimeout value = (timeout : Option SlowTimeout) × MeansSlowTimeoutSetting value timeout
-MeansSomething edition places.LeakTimeout value = (timeout : Option LeakTimeout) × MeansLeakTimeoutSetting value timeout
-MeansSomething edition places.GlobalTimeout value = (nanoseconds : ℕ) × MeansGlobalTimeout value nanoseconds
+MeansSomething edition places.SlowTimeout value = (timeout : Option SlowTimeout)
+    × MeansSlowTimeoutSetting value timeout
+MeansSomething edition places.LeakTimeout value = (timeout : Option LeakTimeout)
+    × MeansLeakTimeoutSetting value timeout
+MeansSomething edition places.GlobalTimeout value = (nanoseconds : ℕ)
+    × MeansGlobalTimeout value nanoseconds
 MeansSomething edition places.Priority value = (priority : ℤ) × MeansPriority value priority
 MeansSomething edition places.Junit value = (said : JunitTable) × MeansJunit value said
 MeansSomething edition places.Boolean value = (truth : Bool) × MeansBoolean value truth
-MeansSomething edition places.FlakyFailStatus value = (status : JunitFlakyFailStatus) × MeansWordText flaky_fail_word value status
+MeansSomething edition places.FlakyFailStatus value = (status : JunitFlakyFailStatus)
+    × MeansWordText flaky_fail_word value status
 
 -- ---- what is wrong with a value at a path
 
@@ -89,7 +100,8 @@ IsNoTable value at fault = (as_table value ≡ None) × (fault ≡ wrong_type va
 
 -- it is no array, where one has to stand
 abbrev pub IsNoArray : Data → List ℕ → Fault → Type 0
-IsNoArray value at fault = (as_array value ≡ None) × (fault ≡ wrong_type value at (codes "an array"))
+IsNoArray value at fault = (as_array value ≡ None)
+    × (fault ≡ wrong_type value at (codes "an array"))
 
 -- it is an array, where the edition takes tables only
 abbrev pub IsBrokenForm : Edition → Data → Type 0
@@ -99,7 +111,8 @@ IsBrokenForm TableOnly value = IsSome (as_array value)
 -- of `experimental`: its form, and where that is all right, what it holds
 abbrev pub ExperimentalFaults : Edition → Data → List ℕ → Fault → Type 0
 ExperimentalFaults edition value at fault =
-    (IsBrokenForm edition value × (fault ≡ fault_at at (custom array_form))) ⊎ (ObeysForm edition (Some value) × FeaturesFaults value at fault)
+    (IsBrokenForm edition value × (fault ≡ fault_at at (custom array_form)))
+    ⊎ (ObeysForm edition (Some value) × FeaturesFaults value at fault)
 
 -- the value is refused at the place
 abbrev pub PlaceFaults : Edition → Place → Data → List ℕ → Fault → Type 0
@@ -114,7 +127,8 @@ PlaceFaults edition places.Overrides value at fault = IsNoArray value at fault
 PlaceFaults edition places.Override value at fault = IsNoTable value at fault
 PlaceFaults edition places.OverrideJunit value at fault = IsNoTable value at fault
 PlaceFaults edition places.Retries value at fault = RetryPolicyFaults value at fault
-PlaceFaults edition places.FlakyResult value at fault = WordTextFaults flaky_result_word flaky_results value at fault
+PlaceFaults edition places.FlakyResult value at fault =
+    WordTextFaults flaky_result_word flaky_results value at fault
 PlaceFaults edition places.ThreadsRequired value at fault = ThreadsFaults value at fault
 PlaceFaults edition places.FailFast value at fault = FailFastFaults value at fault
 PlaceFaults edition places.SlowTimeout value at fault = SlowTimeoutFaults value at fault
@@ -123,4 +137,5 @@ PlaceFaults edition places.GlobalTimeout value at fault = GlobalTimeoutFaults va
 PlaceFaults edition places.Priority value at fault = PriorityFaults value at fault
 PlaceFaults edition places.Junit value at fault = JunitFaults value at fault
 PlaceFaults edition places.Boolean value at fault = BooleanFaults value at fault
-PlaceFaults edition places.FlakyFailStatus value at fault = WordTextFaults flaky_fail_word flaky_fail_statuses value at fault
+PlaceFaults edition places.FlakyFailStatus value at fault =
+    WordTextFaults flaky_fail_word flaky_fail_statuses value at fault

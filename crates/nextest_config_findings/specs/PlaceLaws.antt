@@ -25,7 +25,8 @@ IsPlaceReading edition place = IsCheck (MeansSomething edition place) (PlaceFaul
 
 -- what holds of a reading, where it doesn't count what a value means
 from_reading : {X : Type 0} {means : Data → X → Type 0} {faults : Data → List ℕ → Fault → Type 0}
-    {alike : X → X → Type 0} → IsReading means faults alike → IsCheck (λ value. (x : X) × means value x) faults
+    {alike : X → X → Type 0} → IsReading means faults alike
+    → IsCheck (λ value. (x : X) × means value x) faults
 from_reading reading = record {
   one_fault = reading.one_fault;
   never_both = λ value at f a. reading.never_both value at a.0 f a.1;
@@ -48,7 +49,8 @@ arrays = record {
 
 -- ---- `experimental`
 
-obeyed_not_broken : (edition : Edition) (value : Data) → ObeysForm edition (Some value) → IsBrokenForm edition value → ⊥
+obeyed_not_broken : (edition : Edition) (value : Data) → ObeysForm edition (Some value)
+    → IsBrokenForm edition value → ⊥
 obeyed_not_broken ArrayAllowed value kept broken = broken
 obeyed_not_broken TableOnly value kept broken = cc (subst IsSome kept broken)
 

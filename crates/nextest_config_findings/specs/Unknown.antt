@@ -60,13 +60,15 @@ is_of_top place name = not (is_top place) && is_known (rows_of TOP.now) name
 -- what an unknown key may be meant for: the key of the top, or the nearest of those that are known
 abbrev pub IsHintFor : Bool → Known → List ℕ → Option Meant → Type 0
 IsHintFor true known name hint = hint ≡ Some the_top
-IsHintFor false known name hint = (word : Option (List ℕ)) × IsNearest (map (λ row. row.0) known) name word × (hint ≡ option_map the_word word)
+IsHintFor false known name hint = (word : Option (List ℕ))
+    × IsNearest (map (λ row. row.0) known) name word × (hint ≡ option_map the_word word)
 
 -- nothing is found of a key that is known
 abbrev pub IsKeyFoundFor : Bool → JudgedKey → Option Found → Type 0
 IsKeyFoundFor true judged found = found ≡ None
 IsKeyFoundFor false judged found =
-    (hint : Option Meant) × IsHintFor (is_of_top judged.place judged.name) judged.known judged.name hint
+    (hint : Option Meant) × IsHintFor (is_of_top judged.place judged.name) judged.known judged.name
+    hint
     × (found ≡ Some (found_at judged.path (unknown_key judged.name hint)))
 
 abbrev pub IsKeyFound : JudgedKey → Option Found → Type 0

@@ -14,8 +14,10 @@ use nextest_config_sources::nextest_version::{ConfigSourceKind, Edition};
 use std::alloc::{AllocError, Global};
 use toml::Table;
 
-/// All that is wrong in the document of a source of this kind: what its readers refuse, value by value; what
-/// they don't judge; the features that a tool's file names, or the unknown feature names; and the keys that
+/// All that is wrong in the document of a source of this kind: what its readers refuse, value by
+/// value; what
+/// they don't judge; the features that a tool's file names, or the unknown feature names; and the
+/// keys that
 /// aren't known where they stand.
 pub fn findings(
     alloc: Global,
@@ -24,7 +26,8 @@ pub fn findings(
     document: &Table,
 ) -> Result<Vec<Finding>, AllocError>
     ensures { IfOk result (λ findings. (founds : List Found)
-        × AreFindings edition source.now (table_view document.now) founds × Tells findings.items founds) }
+        × AreFindings edition source.now (table_view document.now) founds
+        × Tells findings.items founds) }
 {
     let judged = Judged::all(alloc, document)?;
     let mut findings = find_faults(alloc, edition, judged.as_slice())?;

@@ -54,13 +54,15 @@ fn add_fault(
     }
 }
 
-// What is found wrong with the value. It is read with no path first, and only where it is refused with its own.
+// What is found wrong with the value. It is read with no path first, and only where it is refused
+// with its own.
 fn find_fault(
     alloc: Global,
     edition: Edition,
     judged: &Judged,
 ) -> Result<Option<Finding>, AllocError>
-    ensures { IfOk result (λ finding. (here : Option Found) × IsFaultFound edition (judged_value judged.now) here
+    ensures { IfOk result (λ finding. (here : Option Found)
+        × IsFaultFound edition (judged_value judged.now) here
         × (option_map found_of finding ≡ option_map Some here)) }
 {
     if means_something(alloc, edition, judged) {
@@ -100,8 +102,10 @@ fn finding_of(
     fault: ReadFault,
 ) -> Result<Finding, AllocError>
     requires { at.now ≡ printed_path (map step_of steps.items) }
-    ensures { IfOk result (λ finding. (told : Fault) × (found : Found) × (fault_of fault ≡ Some told)
-        × IsFoundOf (map step_of steps.items) (view value.now) told found × (found_of finding ≡ Some found)) }
+    ensures { IfOk result (λ finding. (told : Fault) × (found : Found)
+        × (fault_of fault ≡ Some told)
+        × IsFoundOf (map step_of steps.items) (view value.now) told found
+        × (found_of finding ≡ Some found)) }
 {
     let ReadFault { path, kind } = fault;
     match added_step(value, at, path.as_str()) {
@@ -121,7 +125,8 @@ fn finding_of(
 
 // What is found of a fault of the value.
 fn kind_of(alloc: Global, value: &Value, kind: FaultKind) -> Result<FindingKind, AllocError>
-    ensures { IfOk result (λ found. (reason : Reason) × (told : FoundKind) × (reason_of kind ≡ Some reason)
+    ensures { IfOk result (λ found. (reason : Reason) × (told : FoundKind)
+        × (reason_of kind ≡ Some reason)
         × IsFoundKind (view value.now) reason told × (kind_told found ≡ Some told)) }
 {
     if kind.is_memory() {
@@ -148,7 +153,8 @@ fn is_unjudged(alloc: Global, value: &Value, kind: &FaultKind) -> Result<bool, A
     }
 }
 
-// The step that the path of a fault adds to `at`, the path of the value, with the value that it leads to.
+// The step that the path of a fault adds to `at`, the path of the value, with the value that it
+// leads to.
 fn added_step<'v, 'p>(value: &'v Value, at: &str, path: &'p str) -> Option<(Mark<'p>, &'v Value)>
     ensures { option_map (λ added. (mark_step added.0, view added.1.now)) result
         ≡ added_step (view value.now) at.now path.now }

@@ -38,7 +38,8 @@ pub(crate) fn find_features(
     document: &Table,
 ) -> Result<Vec<Finding>, AllocError>
     ensures { IfOk result (λ findings. (founds : List Found) × AreFeaturesFound edition source.now
-        (get_member experimental_key (table_view document.now)) founds × Tells findings.items founds) }
+        (get_member experimental_key (table_view document.now)) founds
+        × Tells findings.items founds) }
 {
     match at_key(document, EXPERIMENTAL_KEY) {
         Some(value) => find_named(alloc, source, edition, value),
@@ -54,7 +55,8 @@ fn find_named(
     value: &Value,
 ) -> Result<Vec<Finding>, AllocError>
     ensures { IfOk result (λ findings. (founds : List Found)
-        × AreFeaturesFound edition source.now (Some (view value.now)) founds × Tells findings.items founds) }
+        × AreFeaturesFound edition source.now (Some (view value.now)) founds
+        × Tells findings.items founds) }
 {
     match read_experimental(alloc, edition, value, EXPERIMENTAL_KEY) {
         Ok(named) => findings_of(alloc, source, &named),
@@ -111,7 +113,8 @@ fn tool_features(alloc: Global, named: &ExperimentalDeserialize) -> Result<Vec<F
 // Each name is no feature's.
 fn unknown_features(alloc: Global, unknown: &BTreeSet<String>) -> Result<Vec<Finding>, AllocError>
     ensures { IfOk result (λ findings. (founds : List Found)
-        × AreFoundIn IsNameFound (map string_bytes unknown.now.keys) founds × Tells findings.items founds) }
+        × AreFoundIn IsNameFound (map string_bytes unknown.now.keys) founds
+        × Tells findings.items founds) }
 {
     let mut findings = Vec::new(alloc);
     for name in unknown {
@@ -142,7 +145,8 @@ fn nearest_feature(alloc: Global, name: &str) -> Result<Option<Hint>, AllocError
 
 // A finding at the key where features are named.
 fn finding_at(alloc: Global, kind: FindingKind) -> Result<Finding, AllocError>
-    ensures { IfOk result (λ finding. found_of finding ≡ option_map (found_at features_path) (kind_told kind)) }
+    ensures { IfOk result
+        (λ finding. found_of finding ≡ option_map (found_at features_path) (kind_told kind)) }
 {
     let mut path = Vec::new(alloc);
     path.push(Step::Key(String::from_str(alloc, EXPERIMENTAL_KEY)?))?;

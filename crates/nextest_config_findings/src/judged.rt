@@ -32,10 +32,12 @@ pub(crate) struct Judged<'a> {
 const DEEPEST: usize = 5;
 
 impl<'a> Judged<'a> {
-    /// The values of a document that have a place, depth-first: those at the keys of a table in the order in
+    /// The values of a document that have a place, depth-first: those at the keys of a table in the
+    /// order in
     /// which its place knows them, profiles by their names, overrides by index.
     pub(crate) fn all(alloc: Global, document: &'a Table) -> Result<Vec<Judged<'a>>, AllocError>
-        ensures { IfOk result (λ all. map judged_value all.items ≡ from_table (table_view document.now)) }
+        ensures { IfOk result
+            (λ all. map judged_value all.items ≡ from_table (table_view document.now)) }
     {
         let mut all = Vec::new(alloc);
         for judged in below_table(alloc, Place::Top, &[], document)? {
@@ -194,7 +196,8 @@ fn known_in<'a>(
     table: &'a Table,
 ) -> Result<Vec<Judged<'a>>, AllocError>
     ensures { IfOk result (λ all. map judged_value all.items
-        ≡ flat_map (at_known_key (map mark_step path.now) (table_view table.now)) (keys_told keys.now)) }
+        ≡ flat_map (at_known_key (map mark_step path.now) (table_view table.now))
+        (keys_told keys.now)) }
 {
     let mut all = Vec::new(alloc);
     for (key, place) in keys {

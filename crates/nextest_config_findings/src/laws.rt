@@ -18,7 +18,8 @@ pub fn law_findings_once()
         → AreFindings edition kind members a → AreFindings edition kind members b → a ≡ b }
 {}
 
-/// Each finding of a document is a warning exactly where each value that has a place means something
+/// Each finding of a document is a warning exactly where each value that has a place means
+/// something
 /// there, or is a duration that isn't judged, and the document names no feature if it is a tool's.
 pub fn law_no_error()
     ensures { (edition : Edition) (kind : ConfigSourceKind) (members : Members)

@@ -55,8 +55,10 @@ pub(crate) enum Place {
     FlakyFailStatus,
 }
 
-// The keys that are known in each table, with what stands there: first those whose values are read here or
-// lead on to such, in the order in which they are judged. A key that a later nextest knows is one more line.
+// The keys that are known in each table, with what stands there: first those whose values are read
+// here or
+// lead on to such, in the order in which they are judged. A key that a later nextest knows is one
+// more line.
 
 pub(crate) const TOP: &[(&str, Place)] = &[
     ("nextest-version", Place::NextestVersion),
@@ -185,7 +187,8 @@ impl Place {
         matches!(self, Place::Top)
     }
 
-    /// Whether the value means something at this place; a fault names its path, which begins with `at`.
+    /// Whether the value means something at this place; a fault names its path, which begins with
+    /// `at`.
     pub(crate) fn check(
         self,
         alloc: Global,

@@ -21,7 +21,8 @@ pub(crate) fn find_unknown(
     judged: &[Judged],
 ) -> Result<Vec<Finding>, AllocError>
     ensures { IfOk result (λ findings. (founds : List Found) × AreFoundIn IsKeyFound
-        (keys_at Place.Top [] (table_view document.now) ++ flat_map keys_in (map judged_value judged.now)) founds
+        (keys_at Place.Top [] (table_view document.now)
+        ++ flat_map keys_in (map judged_value judged.now)) founds
         × Tells findings.items founds) }
 {
     let mut findings = Vec::new(alloc);
@@ -55,7 +56,8 @@ fn add_keys(
     table: &Table,
     findings: &mut Vec<Finding>,
 ) -> Result<(), AllocError>
-    ensures { OnOk result (AddsFound IsKeyFound (keys_at place (map mark_step path.now) (table_view table.now))
+    ensures { OnOk result
+        (AddsFound IsKeyFound (keys_at place (map mark_step path.now) (table_view table.now))
         findings.old.items findings.new.items) }
 {
     match place.keys() {
@@ -74,7 +76,8 @@ fn add_unknown(
     findings: &mut Vec<Finding>,
 ) -> Result<(), AllocError>
     ensures { OnOk result (AddsFound IsKeyFound
-        (map (key_at place (keys_told known.now) (map mark_step path.now)) (names_of (table_view table.now)))
+        (map (key_at place (keys_told known.now) (map mark_step path.now))
+        (names_of (table_view table.now)))
         findings.old.items findings.new.items) }
 {
     for name in table.keys() {
@@ -114,7 +117,8 @@ fn hint_for(
     known: &[(&'static str, Place)],
     name: &str,
 ) -> Result<Option<Hint>, AllocError>
-    ensures { IfOk result (λ hint. IsHintFor (is_of_top place name.now) (keys_told known.now) name.now
+    ensures { IfOk result
+        (λ hint. IsHintFor (is_of_top place name.now) (keys_told known.now) name.now
         (option_map meant_of hint)) }
 {
     if is_of_top(place, name) {

@@ -17,7 +17,8 @@ pub(crate) fn find(rt: &impl Runner, kind: &str, input: &str) -> Option<()> {
     tell(rt, found)
 }
 
-/// Finds what is wrong in the file that the input is, of a source of this kind; `ÿ` is a byte that isn't UTF-8.
+/// Finds what is wrong in the file that the input is, of a source of this kind; `ÿ` is a byte that
+/// isn't UTF-8.
 pub(crate) fn locate(rt: &impl Runner, kind: &str, input: &str) -> Option<()> {
     let source = source_of(rt, kind)?;
     let contents = contents_of(rt, input)?;

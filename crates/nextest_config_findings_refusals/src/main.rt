@@ -1,4 +1,5 @@
-//! `nextest_config_findings_refusals CALL INPUT` makes a call of the library of findings twice and prints what
+//! `nextest_config_findings_refusals CALL INPUT` makes a call of the library of findings twice and
+//! prints what
 //! it answered, for `tests/refusals`.
 #![tactic(auto)]
 

@@ -35,35 +35,50 @@ IsNearest words name None = AllByRecursion (λ word. ¬ IsClose name word) words
 -- ---- the law
 
 -- what holds of each element holds of the one in the middle
-at_middle : (P : List ℕ → Type 0) (before : List (List ℕ)) (word : List ℕ) (after : List (List ℕ)) → AllByRecursion P (before ++ (word ∷ after)) → P word
+at_middle : (P : List ℕ → Type 0) (before : List (List ℕ)) (word : List ℕ) (after : List (List ℕ))
+    → AllByRecursion P (before ++ (word ∷ after)) → P word
 at_middle P [] word after holds = holds.0
 at_middle P (first ∷ before) word after holds = at_middle P before word after holds.1
 
 -- of two words that are the first of the least by one measure, both are one
-one_least : (f : List ℕ → ℕ) (word other : List ℕ) (before after front rest : List (List ℕ)) → before ++ (word ∷ after) ≡ front ++ (other ∷ rest)
+one_least : (f : List ℕ → ℕ) (word other : List ℕ) (before after front rest : List (List ℕ))
+    → before ++ (word ∷ after) ≡ front ++ (other ∷ rest)
     → AllByRecursion (λ x. f word < f x) before → AllByRecursion (λ x. f word ≤ f x) after
-    → AllByRecursion (λ x. f other < f x) front → AllByRecursion (λ x. f other ≤ f x) rest → word ≡ other
+    → AllByRecursion (λ x. f other < f x) front → AllByRecursion (λ x. f other ≤ f x) rest
+    → word ≡ other
 one_least f word other [] after [] rest same farther none_nearer also_farther also_none = cc same
-one_least f word other [] after (first ∷ front) rest same farther none_nearer also_farther also_none =
+one_least f word other [] after (first ∷ front) rest same farther none_nearer also_farther also_none
+    =
     let here : word ≡ first = cc same in
-    let not_above : f word ≤ f other = at_middle (λ x. f word ≤ f x) front other rest (subst (AllByRecursion (λ x. f word ≤ f x)) (ap (drop 1) same) none_nearer) in
+    let not_above : f word ≤ f other =
+    at_middle (λ x. f word ≤ f x) front other rest
+    (subst (AllByRecursion (λ x. f word ≤ f x)) (ap (drop 1) same) none_nearer) in
     absurd (omega (arith, ap f here, also_farther.0))
-one_least f word other (first ∷ before) after [] rest same farther none_nearer also_farther also_none =
+one_least f word other (first ∷ before) after [] rest same farther none_nearer also_farther
+    also_none =
     let here : first ≡ other = cc same in
-    let not_above : f other ≤ f word = at_middle (λ x. f other ≤ f x) before word after (subst (AllByRecursion (λ x. f other ≤ f x)) (ap (drop 1) (sym same)) also_none) in
+    let not_above : f other ≤ f word =
+    at_middle (λ x. f other ≤ f x) before word after
+    (subst (AllByRecursion (λ x. f other ≤ f x)) (ap (drop 1) (sym same)) also_none) in
     absurd (omega (arith, ap f here, farther.0))
-one_least f word other (first ∷ before) after (next ∷ front) rest same farther none_nearer also_farther also_none =
-    one_least f word other before after front rest (ap (drop 1) same) farther.1 none_nearer also_farther.1 also_none
+one_least f word other (first ∷ before) after (next ∷ front) rest same farther none_nearer
+    also_farther also_none =
+    one_least f word other before after front rest (ap (drop 1) same) farther.1 none_nearer
+    also_farther.1 also_none
 
 -- where no word is close, none is the nearest
-never_both : (words : List (List ℕ)) (name word : List ℕ) → IsNearestWord words name word → AllByRecursion (λ other. ¬ IsClose name other) words → ⊥
+never_both : (words : List (List ℕ)) (name word : List ℕ) → IsNearestWord words name word
+    → AllByRecursion (λ other. ¬ IsClose name other) words → ⊥
 never_both words name word nearest none =
-    at_middle (λ other. ¬ IsClose name other) nearest.before word nearest.after (subst (AllByRecursion (λ other. ¬ IsClose name other)) nearest.whole none) nearest.close
+    at_middle (λ other. ¬ IsClose name other) nearest.before word nearest.after
+    (subst (AllByRecursion (λ other. ¬ IsClose name other)) nearest.whole none) nearest.close
 
 -- a name has one nearest word, or none
-pub nearest_once : (words : List (List ℕ)) (name : List ℕ) (a b : Option (List ℕ)) → IsNearest words name a → IsNearest words name b → a ≡ b
+pub nearest_once : (words : List (List ℕ)) (name : List ℕ) (a b : Option (List ℕ))
+    → IsNearest words name a → IsNearest words name b → a ≡ b
 nearest_once words name None None h k = refl
 nearest_once words name None (Some word) h k = absurd (never_both words name word k h)
 nearest_once words name (Some word) None h k = absurd (never_both words name word h k)
 nearest_once words name (Some word) (Some other) h k =
-    ap Some (one_least (distance name) word other h.before h.after k.before k.after (sym h.whole ∙ k.whole) h.farther_before h.none_nearer k.farther_before k.none_nearer)
+    ap Some (one_least (distance name) word other h.before h.after k.before k.after
+    (sym h.whole ∙ k.whole) h.farther_before h.none_nearer k.farther_before k.none_nearer)

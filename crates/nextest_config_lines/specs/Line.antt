@@ -50,13 +50,15 @@ pub record LeadsIn (text : List ℕ) (path : List PathStep) (front : List ℕ) :
 pub record IsLastBefore (text front before : List ℕ) : Type 0 where
   pub read : (before ≡ []) ⊎ IsReadFront text before
   pub shorter : length before < length front
-  pub is_last : (other : List ℕ) → IsReadFront text other → length other < length front → length other ≤ length before
+  pub is_last : (other : List ℕ) → IsReadFront text other → length other < length front
+      → length other ≤ length before
 
 -- the number of the line, from 1, that begins behind this front
 abbrev pub line_behind : List ℕ → ℕ
 line_behind front = suc (count_by (λ byte. byte == line_feed) front)
 
--- the line of a path that isn't empty: the one behind the last front that reads before the first one in which the path leads to a value
+-- the line of a path that isn't empty: the one behind the last front that reads before the first
+-- one in which the path leads to a value
 pub record IsLineOf (text : List ℕ) (path : List PathStep) (line : ℕ) : Type 0 where
   pub front : List ℕ
   pub leads : LeadsIn text path front

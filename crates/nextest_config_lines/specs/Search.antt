@@ -31,10 +31,12 @@ pub record IsLastLineEnd (text : List ℕ) (floor high place : ℕ) : Type 0 whe
 
 -- no front that ends behind the first place, and no later than the second, is a document
 abbrev pub NoneReads : List ℕ → ℕ → ℕ → Type 0
-NoneReads text floor end = (other : List ℕ) → IsReadFront text other → floor < length other → length other ≤ end → ⊥
+NoneReads text floor end = (other : List ℕ) → IsReadFront text other → floor < length other
+    → length other ≤ end → ⊥
 
 -- the place of the last such front that is a document, and whether the path leads to a value there
-pub record IsLastThatReads (text : List ℕ) (path : List PathStep) (floor end place : ℕ) (leads : Bool) : Type 0 where
+pub record IsLastThatReads (text : List ℕ) (path : List PathStep) (floor end place : ℕ)
+    (leads : Bool) : Type 0 where
   pub behind : floor < place
   pub up_to : place ≤ end
   pub read : IsReadFront text (take place text)

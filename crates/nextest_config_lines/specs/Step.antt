@@ -15,7 +15,8 @@ abbrev pub step_of : Step → PathStep
 step_of (Key text) = key (string_bytes text)
 step_of (Index place) = index place
 
--- a key that needs no quotes: letters and digits of ASCII, `-` and `_`, at least one (TOML 1.1, "Keys")
+-- a key that needs no quotes: letters and digits of ASCII, `-` and `_`, at least one (TOML 1.1,
+-- "Keys")
 abbrev pub is_bare_key : List ℕ → Bool
 is_bare_key text = not (length text == 0) && list_all is_bare text
 

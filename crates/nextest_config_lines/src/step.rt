@@ -15,7 +15,8 @@ pub enum Step {
     Index(usize),
 }
 
-/// A path as it prints: keys parted by dots, those that aren't bare (TOML 1.1, "Keys") between quotes, and
+/// A path as it prints: keys parted by dots, those that aren't bare (TOML 1.1, "Keys") between
+/// quotes, and
 /// indexes between brackets.
 #[derive(Clone, Copy, Debug)]
 pub struct PathText<'a>(pub &'a [Step]);
@@ -35,7 +36,8 @@ impl fmt::Display for PathText<'_> {
 
 // A step, which stands behind another one or not.
 fn write_step<W: fmt::Write>(f: &mut fmt::Formatter<W>, step: &Step, behind: bool) -> fmt::Result
-    ensures { WritesOnOk W.write_str_gives f.old result (step_text behind (step_of step.now)) f.new }
+    ensures { WritesOnOk W.write_str_gives f.old result (step_text behind (step_of step.now))
+        f.new }
 {
     match step {
         Step::Key(key) => {

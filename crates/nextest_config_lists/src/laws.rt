@@ -3,8 +3,10 @@
 ghost use Rattle.std.specs.Prelude.{◌≡◌, ◌+◌, ◌-◌, ◌/◌, ◌^◌, ◌<◌, ◌≤◌, ℕ};
 ghost use Rattle.nextest_config_lists.specs.Choice.{halvings};
 
-/// A place among up to one isn't halved away. Of more places the first half has half of them, rounded
-/// down, and the place is halved once, and then within the half that holds it. So it is halved at most
+/// A place among up to one isn't halved away. Of more places the first half has half of them,
+/// rounded
+/// down, and the place is halved once, and then within the half that holds it. So it is halved at
+/// most
 /// as often as their number has binary digits.
 pub fn law_halvings()
     ensures alone { (n i : ℕ) → n ≤ 1 → halvings n i ≡ 0 }

@@ -37,13 +37,15 @@ pub trait Merge {
 ///
 /// # Errors
 ///
-/// A request for memory was refused. The join of the value and the pieces is what it was, so calling
+/// A request for memory was refused. The join of the value and the pieces is what it was, so
+/// calling
 /// again goes on where this call stopped.
 pub fn merge_all<T: Merge>(into: &mut T, pieces: &mut [T]) -> Result<(), AllocError>
     ensures joined { OnOk result (T.seen into.new
         ≡ T.join (T.seen into.old) (total T.join T.neutral (map T.seen pieces.old))) }
     ensures emptied { OnOk result (AllByRecursion (λ piece. T.seen piece ≡ T.neutral) pieces.new) }
-    ensures kept { OnErr result (T.join (T.seen into.new) (total T.join T.neutral (map T.seen pieces.new))
+    ensures kept { OnErr result
+        (T.join (T.seen into.new) (total T.join T.neutral (map T.seen pieces.new))
         ≡ T.join (T.seen into.old) (total T.join T.neutral (map T.seen pieces.old))) }
 {
     for piece in pieces.iter_mut() {
@@ -121,7 +123,8 @@ pub trait ReadPiece: Merge {
         ensures read { IfOk result (λ it. piece context.now source.now it) }
         ensures refused { IfErr result (IsRefusalOfOne told (wrong context.now) source.now) };
 
-    ghost reads_one: { (context : Self.Context) → IsReadingOne Self.seen (piece context) (wrong context) };
+    ghost reads_one: { (context : Self.Context)
+        → IsReadingOne Self.seen (piece context) (wrong context) };
 
     // As every type's is; but nothing says so of a type parameter.
     ghost size_in_range: { FitsInMemory Self.row };

@@ -18,4 +18,8 @@ in_a_row Nothing b c = refl
 in_a_row Something b c = refl
 
 pub leaves_join : IsMonoid first_leaf Nothing
-leaves_join = record { associative = in_a_row; neutral_first = λ leaf. refl; neutral_last = none_last }
+leaves_join = record {
+  associative = in_a_row;
+  neutral_first = λ leaf. refl;
+  neutral_last = none_last;
+}

@@ -1,4 +1,5 @@
-//! What values lend and iterate over, and how they stand beside one another. None of it takes memory.
+//! What values lend and iterate over, and how they stand beside one another. None of it takes
+//! memory.
 
 use nextest_config::nextest_version::{
     ConfigSource, ConfigSourceKind, ExperimentalConfig, ExperimentalDeserialize,

@@ -17,13 +17,19 @@ verdict_word says false = says
 -- the current version isn't enough for the one that a place asks in this role
 abbrev pub shortfall_text : List ℕ → Parts → List ℕ → Place → Parts → List ℕ
 shortfall_text says asked role place current =
-    says ++ (codes ": " ++ (parts_text asked ++ (codes " " ++ (role ++ (codes " by " ++ (place_text place ++ (codes ", current " ++ parts_text current)))))))
+    says ++ (codes ": " ++ (parts_text asked
+    ++ (codes " " ++ (role
+    ++ (codes " by " ++ (place_text place
+    ++ (codes ", current " ++ parts_text current)))))))
 
 -- a verdict on the current version
 abbrev pub verdict_text : Parts → Verdict → List ℕ
 verdict_text current satisfied = codes "satisfied: " ++ parts_text current
-verdict_text current (warn s) = shortfall_text (verdict_word (codes "warning") s.overridden) s.asked (codes "recommended") s.place s.current
-verdict_text current (error s) = shortfall_text (verdict_word (codes "error") s.overridden) s.asked (codes "required") s.place s.current
+verdict_text current (warn s) = shortfall_text (verdict_word (codes "warning") s.overridden) s.asked
+    (codes "recommended") s.place s.current
+verdict_text current (error s) =
+    shortfall_text (verdict_word (codes "error") s.overridden) s.asked (codes "required") s.place
+    s.current
 
 -- the words of the known features, or that there is none
 abbrev pub known_text : List ConfigExperimental → List ℕ
@@ -32,17 +38,23 @@ known_text (feature ∷ features) = comma_list (map word_of (feature ∷ feature
 
 -- the line of a source that has unknown feature names
 abbrev pub unknown_line : Unknown → List ℕ
-unknown_line unknown = codes "unknown in " ++ (place_text unknown.place ++ (codes ": " ++ (quoted_texts unknown.names ++ codes "\n")))
+unknown_line unknown =
+    codes "unknown in " ++ (place_text unknown.place
+    ++ (codes ": " ++ (quoted_texts unknown.names ++ codes "\n")))
 
 -- the line of a source that names its features in an array
 abbrev pub array_line : Place → List ℕ
 array_line place = codes "deprecated array form in " ++ (place_text place ++ codes "\n")
 
--- the lines of the features: the known ones, the sources that have unknown feature names, and those that name theirs in an array
+-- the lines of the features: the known ones, the sources that have unknown feature names, and those
+-- that name theirs in an array
 abbrev pub features_text : Experimental → List ℕ
 features_text experimental =
-    codes "known: " ++ (known_text experimental.known ++ (codes "\n" ++ (flat_map unknown_line experimental.unknown ++ flat_map array_line experimental.arrays)))
+    codes "known: " ++ (known_text experimental.known
+    ++ (codes "\n" ++ (flat_map unknown_line experimental.unknown
+    ++ flat_map array_line experimental.arrays)))
 
 -- the lines of a list that reads
 abbrev pub read_text : Parts → Verdict → Experimental → List ℕ
-read_text current v experimental = verdict_text current v ++ (codes "\n" ++ features_text experimental)
+read_text current v experimental = verdict_text current v
+    ++ (codes "\n" ++ features_text experimental)

@@ -3,7 +3,8 @@
 use crate::rows::{Runner, done, shown};
 use nextest_config_values::read::ReadFault;
 
-/// A value of which a call tells something. `By` is who says what: `()` here, a type of their own in tests.
+/// A value of which a call tells something. `By` is who says what: `()` here, a type of their own
+/// in tests.
 pub trait Told<By> {
     /// What the call tells of the value.
     fn told(&self, rt: &impl Runner, call: &str) -> String;

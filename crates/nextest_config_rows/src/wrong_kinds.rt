@@ -1,4 +1,5 @@
-//! Values of each kind, at each reader: a kind that it doesn't take is refused with what it expects.
+//! Values of each kind, at each reader: a kind that it doesn't take is refused with what it
+//! expects.
 
 use crate::rows::{Runner, Subject, compare, copied, done, is_row, parts};
 
@@ -27,7 +28,8 @@ datetime | 1979-05-27T07:32:00.5-07:00 | datetime
 
 /// Tries values of each kind at readers.
 ///
-/// Each line is `CALL | INPUT | KINDS | PATH | EXPECTED`: where the value stands in place of the `@`, the
+/// Each line is `CALL | INPUT | KINDS | PATH | EXPECTED`: where the value stands in place of the
+/// `@`, the
 /// call takes these kinds at this path.
 pub fn check_kinds<S: Subject>(rt: &impl Runner, readers: &str) {
     for row in readers.lines() {

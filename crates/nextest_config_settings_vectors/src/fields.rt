@@ -21,13 +21,15 @@ struct Percent {
 impl FromToml for Percent {
     ghost means = { λ value it. MeansAs as_integer (MeansNumber (λ n. n ≤ 100)) value it.percent };
 
-    ghost faults = { FaultsAs as_integer (codes "a percentage") (IsOutside (λ n. n ≤ 100) (codes "a percentage")) };
+    ghost faults = { FaultsAs as_integer (codes "a percentage")
+        (IsOutside (λ n. n ≤ 100) (codes "a percentage")) };
 
     ghost needs_memory = { false };
 
     ghost alike = { λ a b. a.percent ≡ b.percent };
 
-    ghost laws = { reading_on (λ it. it.percent) (number_reading (λ n. n ≤ 100) (codes "a percentage")) };
+    ghost laws = { reading_on (λ it. it.percent)
+        (number_reading (λ n. n ≤ 100) (codes "a percentage")) };
 
     fn read(alloc: Global, value: &Value, at: &str) -> Result<Self, ReadFault> {
         let Some(number) = value.as_integer() else {

@@ -1,4 +1,5 @@
--- What a configuration source asks of the nextest version, and the experimental features that it names.
+-- What a configuration source asks of the nextest version, and the experimental features that it
+-- names.
 pub mod VersionText
 pub mod VersionTextLaws
 pub mod Precedence

@@ -1,4 +1,5 @@
--- Characters that rules and printed texts name, by their codes; in UTF-8 each but the last is one byte with the same code.
+-- Characters that rules and printed texts name, by their codes; in UTF-8 each but the last is one
+-- byte with the same code.
 use Rattle.std.specs.Prelude.{ℕ}
 
 abbrev pub nul : ℕ

@@ -11,7 +11,8 @@ IsEquality = IsEqualityBy (λ x. x)
 
 -- a refusal that tells something is equal exactly to those that tell the same
 abbrev pub IsEqualityOfTold : {X Y : Type 0} → (X → Option Y) → (X → X → Bool) → Type 0
-IsEqualityOfTold {X} {Y} told eq = (a b : X) (fault : Y) → told a ≡ Some fault → IsTrue (eq a b) ↔ (told b ≡ Some fault)
+IsEqualityOfTold {X} {Y} told eq = (a b : X) (fault : Y) → told a ≡ Some fault
+    → IsTrue (eq a b) ↔ (told b ≡ Some fault)
 
 -- a copy is the value that it is made of
 abbrev pub IsCopy : {X : Type 0} → (X → X → Type 0) → Type 0

@@ -18,7 +18,8 @@ pub record Argument : Type 0 where
 abbrev pub argument_of : ToolConfigFile → Argument
 argument_of file = record { tool = file.tool; path = string_bytes file.config_file }
 
--- the text is NAME:PATH, cut at its first colon, with the name of a tool and a path that begins with a slash
+-- the text is NAME:PATH, cut at its first colon, with the name of a tool and a path that begins
+-- with a slash
 pub record IsToolArgument (text : List ℕ) (argument : Argument) : Type 0 where
   pub name : List ℕ
   pub cut : IsCutAtColon text name argument.path
@@ -37,9 +38,11 @@ pub data ArgumentFault : Type 0 where
 -- what a refusal says, unless memory was refused
 abbrev pub argument_fault : ToolConfigFileParseError → Option ArgumentFault
 argument_fault (errors.InvalidFormat input) = Some (invalid_format (string_bytes input))
-argument_fault (errors.InvalidToolName input error) = option_map (invalid_tool_name (string_bytes input)) (tool_name_fault error)
+argument_fault (errors.InvalidToolName input error) =
+    option_map (invalid_tool_name (string_bytes input)) (tool_name_fault error)
 argument_fault (errors.EmptyConfigFile input) = Some (empty_config_file (string_bytes input))
-argument_fault (errors.ConfigFileNotAbsolute path) = Some (config_file_not_absolute (string_bytes path))
+argument_fault (errors.ConfigFileNotAbsolute path) =
+    Some (config_file_not_absolute (string_bytes path))
 argument_fault errors.Memory = None
 
 -- the path is empty, or doesn't begin with a slash
@@ -51,7 +54,8 @@ IsPathFault text path refusal =
 -- the name is no tool's; or it is one, and the path has a fault
 abbrev pub IsPartsFault : List ℕ → List ℕ → List ℕ → ArgumentFault → Type 0
 IsPartsFault text name path refusal =
-    ((fault : NameFault ToolNameFlaw) × IsToolNameFault name fault × (refusal ≡ invalid_tool_name text fault))
+    ((fault : NameFault ToolNameFlaw) × IsToolNameFault name fault
+    × (refusal ≡ invalid_tool_name text fault))
     ⊎ ((tool : List ℕ) × IsToolName name tool × IsPathFault text path refusal)
 
 -- there is no colon; or one of the parts around the first colon has a fault
@@ -65,5 +69,8 @@ abbrev pub RefusesArgument : (ArgumentFault → Type 0) → ToolConfigFileParseE
 RefusesArgument IsFault error = FaultOrMemory (argument_fault error) (error ≡ errors.Memory) IsFault
 
 -- the refusal of a text whose tool name is refused
-abbrev pub RefusesTool : List ℕ → Option (NameFault ToolNameFlaw) → ToolConfigFileParseError → Type 0
-RefusesTool text told error = FaultOrMemory told (error ≡ errors.Memory) (λ fault. RefusesArgument (λ f. f ≡ invalid_tool_name text fault) error)
+abbrev pub RefusesTool : List ℕ → Option (NameFault ToolNameFlaw) → ToolConfigFileParseError
+    → Type 0
+RefusesTool text told error =
+    FaultOrMemory told (error ≡ errors.Memory)
+    (λ fault. RefusesArgument (λ f. f ≡ invalid_tool_name text fault) error)

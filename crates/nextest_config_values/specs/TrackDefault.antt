@@ -11,10 +11,12 @@ abbrev pub MeansTracked : {X : Type 0} → (Data → X → Type 0) → Data → 
 MeansTracked means value tracked = means value tracked.value × (tracked.is_deserialized ≡ true)
 
 -- their values are alike, and their marks the same
-abbrev pub AreTrackedAlike : {X : Type 0} → (X → X → Type 0) → TrackDefault X → TrackDefault X → Type 0
+abbrev pub AreTrackedAlike : {X : Type 0} → (X → X → Type 0) → TrackDefault X → TrackDefault X
+    → Type 0
 AreTrackedAlike alike a b = alike a.value b.value × (a.is_deserialized ≡ b.is_deserialized)
 
-module _ {X : Type 0} (means : Data → X → Type 0) (faults : Data → List ℕ → Fault → Type 0) (alike : X → X → Type 0) (laws : IsReading means faults alike) where
+module _ {X : Type 0} (means : Data → X → Type 0) (faults : Data → List ℕ → Fault → Type 0)
+    (alike : X → X → Type 0) (laws : IsReading means faults alike) where
   pub tracked_reading : IsReading (MeansTracked means) faults (AreTrackedAlike alike)
   tracked_reading = record {
     equivalence = record {

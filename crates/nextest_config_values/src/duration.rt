@@ -100,7 +100,8 @@ pub fn parse_duration(s: &str) -> Result<Duration, DurationFault>
     Ok(Duration::from_nanos_u128(nanoseconds))
 }
 
-// The nanoseconds of a number with its unit, and the text behind it. The text begins at the offset `at`.
+// The nanoseconds of a number with its unit, and the text behind it. The text begins at the offset
+// `at`.
 fn read_item(text: &str, at: usize) -> Result<(u128, &str), DurationFault>
     requires { at + length text.now < 2 ^ 64 }
     ensures read { IfOk result (λ x. IsReadItem (chars text.now) x.0 (chars x.1.now)) }
@@ -126,11 +127,13 @@ fn read_item(text: &str, at: usize) -> Result<(u128, &str), DurationFault>
     }
 }
 
-// The run at the beginning of the text up to the first character that ends it, and what stands behind it.
+// The run at the beginning of the text up to the first character that ends it, and what stands
+// behind it.
 fn split_run<F: FnMut(char) -> bool + Drop>(text: &str, ends: F) -> (&str, &str)
     requires { F.IsAlwaysCallable ends }
     ensures whole { text.now ≡ result.0.now ++ result.1.now }
-    ensures run { (kind : ℕ → Bool) → AlwaysReturns F.FnMut (λ c answer. answer ≡ not (kind c.0)) ends
+    ensures run { (kind : ℕ → Bool)
+        → AlwaysReturns F.FnMut (λ c answer. answer ≡ not (kind c.0)) ends
         → IsCutBehind kind text.now result.0.now result.1.now }
 {
     let end = text.find(ends).unwrap_or(text.len());

@@ -22,7 +22,8 @@ use std::hash::Hash;
 
 /// No text has two identifiers, two faults as one, or both.
 pub fn law_identifier_once()
-    ensures one_identifier { (text m n : List ℕ) → IsIdentifier text m → IsIdentifier text n → m ≡ n }
+    ensures one_identifier { (text m n : List ℕ) → IsIdentifier text m → IsIdentifier text n
+        → m ≡ n }
     ensures one_fault { (text : List ℕ) (e f : NameFault IdentifierFlaw)
         → IsIdentifierFault text e → IsIdentifierFault text f → e ≡ f }
     ensures never_both { (text n : List ℕ) (f : NameFault IdentifierFlaw)
@@ -50,11 +51,14 @@ pub fn law_argument_once()
 
 /// Identifiers and tool names are ordered, compared and hashed as their texts are.
 pub fn law_name_order()
-    ensures identifier_order { (a b : List ℕ) → ⟦<ConfigIdentifier as Ord>⟧.cmp a b ≡ slice_cmp nat_cmp a b }
-    ensures identifier_equality { (a b : List ℕ) → IsTrue (⟦<ConfigIdentifier as PartialEq>⟧.eq a b) ↔ (a ≡ b) }
+    ensures identifier_order { (a b : List ℕ) → ⟦<ConfigIdentifier as Ord>⟧.cmp a b
+        ≡ slice_cmp nat_cmp a b }
+    ensures identifier_equality { (a b : List ℕ) → IsTrue (⟦<ConfigIdentifier as PartialEq>⟧.eq a b)
+        ↔ (a ≡ b) }
     ensures identifier_hash { (a : List ℕ) → ⟦<ConfigIdentifier as Hash>⟧.hash_input a ≡ fed.str a }
     ensures tool_name_order { (a b : List ℕ) → ⟦<ToolName as Ord>⟧.cmp a b ≡ slice_cmp nat_cmp a b }
-    ensures tool_name_equality { (a b : List ℕ) → IsTrue (⟦<ToolName as PartialEq>⟧.eq a b) ↔ (a ≡ b) }
+    ensures tool_name_equality { (a b : List ℕ) → IsTrue (⟦<ToolName as PartialEq>⟧.eq a b)
+        ↔ (a ≡ b) }
     ensures tool_name_hash { (a : List ℕ) → ⟦<ToolName as Hash>⟧.hash_input a ≡ fed.str a }
 {}
 
@@ -62,24 +66,29 @@ pub fn law_name_order()
 /// and so for tool names.
 pub fn law_same_normal_form()
     ensures identifiers { (s t : List ℕ) → normal_chars s ≡ normal_chars t
-        → SameAnswers (IsIdentifier s) (IsIdentifier t) × SameAnswers (IsIdentifierFault s) (IsIdentifierFault t) }
+        → SameAnswers (IsIdentifier s) (IsIdentifier t)
+        × SameAnswers (IsIdentifierFault s) (IsIdentifierFault t) }
     ensures tool_names { (s t : List ℕ) → normal_chars s ≡ normal_chars t
-        → SameAnswers (IsToolName s) (IsToolName t) × SameAnswers (IsToolNameFault s) (IsToolNameFault t) }
+        → SameAnswers (IsToolName s) (IsToolName t)
+        × SameAnswers (IsToolNameFault s) (IsToolNameFault t) }
 {}
 
-/// No text is spelled by two lists of items, wherever white space stands; none has two durations, two
+/// No text is spelled by two lists of items, wherever white space stands; none has two durations,
+/// two
 /// faults as one, or both.
 pub fn law_duration_once()
     ensures one_spelling { (text : List ℕ) (items others : List Item)
         → Spells items text → Spells others text → items ≡ others }
-    ensures one_duration { (text : List ℕ) (m n : ℕ) → IsDuration text m → IsDuration text n → m ≡ n }
+    ensures one_duration { (text : List ℕ) (m n : ℕ) → IsDuration text m → IsDuration text n
+        → m ≡ n }
     ensures one_fault { (text : List ℕ) (e f : DurationFault)
         → IsDurationFault text e → IsDurationFault text f → e ≡ f }
     ensures never_both { (text : List ℕ) (nanoseconds : ℕ) (f : DurationFault)
         → IsDuration text nanoseconds → IsDurationFault text f → ⊥ }
 {}
 
-/// Values are equal exactly where they say the same. Of refusals that may hold one of a name this is
+/// Values are equal exactly where they say the same. Of refusals that may hold one of a name this
+/// is
 /// said where they tell a fault.
 pub fn law_equality()
     ensures duration_fault { IsEquality ⟦<DurationFault as PartialEq>⟧.eq }

@@ -100,7 +100,8 @@ fn invalid_tool_name(alloc: Global, input: &str, error: InvalidToolName) -> Tool
 
 // The path of an argument, which has to begin with a slash.
 fn absolute_path(alloc: Global, input: &str, path: &str) -> Result<String, ToolConfigFileParseError>
-    ensures accepted { IfOk result (λ kept. (string_bytes kept ≡ path.now) × BeginsWithSlash path.now) }
+    ensures accepted { IfOk result (λ kept. (string_bytes kept ≡ path.now)
+        × BeginsWithSlash path.now) }
     ensures refused { IfErr result (RefusesArgument (IsPathFault input.now path.now)) }
 {
     if path.is_empty() {

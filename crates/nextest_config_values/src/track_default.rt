@@ -36,7 +36,8 @@ impl<T> TrackDefault<T> {
 }
 
 impl<T: Default> Default for TrackDefault<T> {
-    ghost is_default = { λ tracked. T.is_default tracked.value × (tracked.is_deserialized ≡ false) };
+    ghost is_default = { λ tracked. T.is_default tracked.value
+        × (tracked.is_deserialized ≡ false) };
 
     fn default() -> Self {
         TrackDefault::with_default_value(T::default())

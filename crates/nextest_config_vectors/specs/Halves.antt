@@ -10,7 +10,8 @@ IsNumber least source numbers = (source < least) × (numbers ≡ source ∷ [])
 abbrev pub IsTooLarge : ℕ → ℕ → ℕ → Type 0
 IsTooLarge least source told = (least ≤ source) × (told ≡ source)
 
-pub reads_numbers : {X : Type 0} (numbers : X → List ℕ) (least : ℕ) → IsReadingOne numbers (λ source x. IsNumber least source (numbers x)) (IsTooLarge least)
+pub reads_numbers : {X : Type 0} (numbers : X → List ℕ) (least : ℕ)
+    → IsReadingOne numbers (λ source x. IsNumber least source (numbers x)) (IsTooLarge least)
 reads_numbers numbers least = record {
   one_piece = λ source a b h k. h.1 ∙ sym k.1;
   one_error = λ source a b h k. h.1 ∙ sym k.1;

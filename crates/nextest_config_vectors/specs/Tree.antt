@@ -21,4 +21,8 @@ in_a_row (Between first last) (Between from to) Nothing = refl
 in_a_row (Between first last) (Between from to) (Between more end) = refl
 
 pub ends_join : IsMonoid join_ends Nothing
-ends_join = record { associative = in_a_row; neutral_first = λ ends. refl; neutral_last = none_last }
+ends_join = record {
+  associative = in_a_row;
+  neutral_first = λ ends. refl;
+  neutral_last = none_last;
+}

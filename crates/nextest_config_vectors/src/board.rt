@@ -6,7 +6,8 @@ mod commands;
 use crate::runner::check;
 use crate::tree::Tree;
 
-// The number of leaves and the changes; then the ends of a new tree, and after each change the ends, with
+// The number of leaves and the changes; then the ends of a new tree, and after each change the
+// ends, with
 // the number of choices that it took.
 const ROWS: &str = "
 tree | 0: | -

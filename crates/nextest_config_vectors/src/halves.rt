@@ -74,7 +74,11 @@ impl Merge for Numbers {
         self.numbers.append(&mut later.numbers)
     }
 
-    ghost laws = { record { associative = append_assoc; neutral_first = λ _. refl; neutral_last = append-nil } };
+    ghost laws = { record {
+      associative = append_assoc;
+      neutral_first = λ _. refl;
+      neutral_last = append-nil;
+    } };
 }
 
 impl ReadPiece for Numbers {

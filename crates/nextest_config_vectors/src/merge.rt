@@ -93,7 +93,11 @@ impl Merge for Numbers {
         self.numbers.append(&mut later.numbers)
     }
 
-    ghost laws = { record { associative = append_assoc; neutral_first = λ _. refl; neutral_last = append-nil } };
+    ghost laws = { record {
+      associative = append_assoc;
+      neutral_first = λ _. refl;
+      neutral_last = append-nil;
+    } };
 }
 
 /// Numbers of pieces, joined while the piece that a call names is refused once, and joined again.

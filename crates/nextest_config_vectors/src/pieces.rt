@@ -1,4 +1,5 @@
-//! The promise of this project as one contract, from public contracts alone: what sources ask of a current
+//! The promise of this project as one contract, from public contracts alone: what sources ask of a
+//! current
 //! version, however their list is cut.
 
 ghost use Rattle.std.specs.Prelude.{◌≡◌, ◌≤◌, IfErr, IfOk, length, map, OnOk, take};
@@ -15,12 +16,14 @@ use nextest_config::nextest_version::{
 use semver::Version;
 use std::alloc::{AllocError, Global};
 
-/// The verdict on the current version of sources that are read in pieces, with so many sources in each and
+/// The verdict on the current version of sources that are read in pieces, with so many sources in
+/// each and
 /// the others in a last one, and merged in order.
 ///
 /// # Errors
 ///
-/// The first source of the whole list that is refused, with its position in it; or a request for memory was
+/// The first source of the whole list that is refused, with its position in it; or a request for
+/// memory was
 /// refused.
 pub fn eval_in_pieces(
     alloc: Global,

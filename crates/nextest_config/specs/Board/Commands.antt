@@ -24,7 +24,8 @@ Changes (withdraw slot) = IsChanged slot None
 -- the board changes so, by one command after the other
 abbrev pub ChangesInTurn : List Command → BoardState → BoardState → Type 0
 ChangesInTurn [] old new = old ≡ new
-ChangesInTurn (command ∷ commands) old new = (between : BoardState) × Changes command old between × ChangesInTurn commands between new
+ChangesInTurn (command ∷ commands) old new = (between : BoardState) × Changes command old between
+    × ChangesInTurn commands between new
 
 -- a board of so many slots, none of which holds a source
 abbrev pub empty_board : ℕ → BoardState
@@ -38,7 +39,8 @@ source_left (withdraw slot) = None
 -- the slot holds the versions that the source asks, and nothing where there is none
 abbrev pub HoldsSource : Option Source → Option SourceAsk → Type 0
 HoldsSource None held = held ≡ None
-HoldsSource (Some source) held = (ask : Ask) × IsRead source ask × (held ≡ Some (asked_at source.place ask.versions))
+HoldsSource (Some source) held = (ask : Ask) × IsRead source ask
+    × (held ≡ Some (asked_at source.place ask.versions))
 
 -- the command leaves this in its slot
 abbrev pub Leaves : Command → Option SourceAsk → Type 0
@@ -60,14 +62,16 @@ pub record IsLeft (commands : List Command) (slot : ℕ) (held : Option SourceAs
 
 -- the slot holds what its last command leaves, and nothing where it has no command
 abbrev pub HoldsLast : List Command → ℕ → Option SourceAsk → Type 0
-HoldsLast commands slot held = IsLeft commands slot held ⊎ (AllByRecursion (IsOfOther slot) commands × (held ≡ None))
+HoldsLast commands slot held = IsLeft commands slot held
+    ⊎ (AllByRecursion (IsOfOther slot) commands × (held ≡ None))
 
 -- ---- the sources themselves
 
 -- the sources that the slots hold after the commands, of those that they held before
 abbrev pub sources_after : List Command → List (Option Source) → List (Option Source)
 sources_after [] held = held
-sources_after (command ∷ commands) held = sources_after commands (set held (slot_in command) (source_left command))
+sources_after (command ∷ commands) held =
+    sources_after commands (set held (slot_in command) (source_left command))
 
 -- the sources that are there, in the order of the slots
 abbrev pub present : List (Option Source) → List Source

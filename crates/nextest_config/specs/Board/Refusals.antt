@@ -21,5 +21,6 @@ IsRefusedSource source refusals.Memory = Unit {0}
 -- the board has no such slot; or it has, and the source is refused, or memory was
 abbrev pub IsRefusedPut : ℕ → ℕ → Source → BoardRefusal → Type 0
 IsRefusedPut slots slot source (refusals.NoSuchSlot told) = (told ≡ slots) × (slots ≤ slot)
-IsRefusedPut slots slot source (refusals.Refused error) = (slot < slots) × IsErrorOf source (refusal_of error)
+IsRefusedPut slots slot source (refusals.Refused error) = (slot < slots)
+    × IsErrorOf source (refusal_of error)
 IsRefusedPut slots slot source refusals.Memory = slot < slots

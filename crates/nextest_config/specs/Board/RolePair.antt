@@ -16,11 +16,16 @@ version_at asked = plain asked.numbers
 
 -- the numbers of a version, asked from this slot
 abbrev pub asked_in : ℕ → Version → AskedAt
-asked_in slot version = record { numbers = (version.major, version.minor, version.patch); slot = slot }
+asked_in slot version =
+    record { numbers = (version.major, version.minor, version.patch); slot = slot }
 
 -- what a source asks, from this slot
 abbrev pub pair_in : ℕ → NextestVersionDeserialize → RolePair
-pair_in slot asked = record { required = option_map (asked_in slot) asked.required; recommended = option_map (asked_in slot) asked.recommended }
+pair_in slot asked =
+    record {
+      required = option_map (asked_in slot) asked.required;
+      recommended = option_map (asked_in slot) asked.recommended;
+    }
 
 -- the later one, unless its version is below the earlier one's
 abbrev pub later_asked : Option AskedAt → Option AskedAt → Option AskedAt
@@ -45,7 +50,9 @@ both required recommended = record { required = required; recommended = recommen
 
 pub pairs_join : IsMonoid later_pair no_pair
 pairs_join = record {
-  associative = λ a b c. ap₂ both (asked_join.associative a.required b.required c.required) (asked_join.associative a.recommended b.recommended c.recommended);
+  associative = λ a b c. ap₂ both (asked_join.associative a.required b.required c.required)
+      (asked_join.associative a.recommended b.recommended c.recommended);
   neutral_first = λ pair. refl;
-  neutral_last = λ pair. ap₂ both (asked_join.neutral_last pair.required) (asked_join.neutral_last pair.recommended);
+  neutral_last = λ pair. ap₂ both (asked_join.neutral_last pair.required)
+      (asked_join.neutral_last pair.recommended);
 }

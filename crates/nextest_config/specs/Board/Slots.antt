@@ -14,7 +14,11 @@ use Rattle.nextest_config_sources.specs.declared.nextest_version.source.ConfigSo
 
 -- the versions that a source at this place asks; a board keeps no features
 abbrev pub asked_at : Place → Versions → SourceAsk
-asked_at place versions = record { place = place; ask = record { versions = versions; features = no_features; array = false } }
+asked_at place versions =
+    record {
+      place = place;
+      ask = record { versions = versions; features = no_features; array = false };
+    }
 
 -- what the slots hold, and how many choices the last change took
 pub record BoardState : Type 0 where
@@ -29,7 +33,10 @@ board_list (Some asked ∷ slots) = asked ∷ board_list slots
 
 -- what a slot with this source and this pair holds
 abbrev pub slot_of : Option ConfigSource → RolePair → Option SourceAsk
-slot_of source pair = option_map (λ s. asked_at (place_of s) (versions (option_map version_at pair.required) (option_map version_at pair.recommended))) source
+slot_of source pair =
+    option_map (λ s. asked_at (place_of s)
+    (versions (option_map version_at pair.required) (option_map version_at pair.recommended)))
+    source
 
 -- what the slots hold
 abbrev pub slots_of : List (Option ConfigSource) → List RolePair → List (Option SourceAsk)
@@ -52,16 +59,23 @@ abbrev pub AreHeld : ℕ → List (Option ConfigSource) → List RolePair → Ty
 AreHeld slot [] [] = Unit {0}
 AreHeld slot [] (pair ∷ pairs) = ⊥
 AreHeld slot (source ∷ sources) [] = ⊥
-AreHeld slot (source ∷ sources) (pair ∷ pairs) = IsHeld slot source pair × AreHeld (suc slot) sources pairs
+AreHeld slot (source ∷ sources) (pair ∷ pairs) = IsHeld slot source pair
+    × AreHeld (suc slot) sources pairs
 
 -- what is asked, with the place of the source in its slot
 abbrev pub kept_in : List (Option ConfigSource) → Option AskedAt → Option Kept
 kept_in sources None = None
-kept_in sources (Some asked) = option_map (λ source. record { version = version_at asked; place = place_of source }) (get_or sources asked.slot None)
+kept_in sources (Some asked) =
+    option_map (λ source. record { version = version_at asked; place = place_of source })
+    (get_or sources asked.slot None)
 
 -- the same in each role
 abbrev pub roles_in : List (Option ConfigSource) → RolePair → Roles
-roles_in sources pair = record { required = kept_in sources pair.required; recommended = kept_in sources pair.recommended }
+roles_in sources pair =
+    record {
+      required = kept_in sources pair.required;
+      recommended = kept_in sources pair.recommended;
+    }
 
 -- the slot now holds this, and the other slots what they held; the choices are counted anew
 pub record IsChanged (slot : ℕ) (held : Option SourceAsk) (old new : BoardState) : Type 0 where
@@ -76,8 +90,9 @@ pub record IsPut (slot : ℕ) (source : Source) (old new : BoardState) : Type 0 
   pub changed : IsChanged slot (Some (asked_at source.place ask.versions)) old new
 
 -- what is kept of the source in this slot is what the source asks
-pub record IsReadInto (slot : ℕ) (source : Source) (place : ConfigSource) (pair : RolePair) : Type 0 where
-  pub ask : Ask
-  pub read : IsRead source ask
-  pub held : IsHeld slot (Some place) pair
-  pub kept : slot_of (Some place) pair ≡ Some (asked_at source.place ask.versions)
+pub record IsReadInto (slot : ℕ) (source : Source) (place : ConfigSource) (pair : RolePair) : Type 0
+  where
+    pub ask : Ask
+    pub read : IsRead source ask
+    pub held : IsHeld slot (Some place) pair
+    pub kept : slot_of (Some place) pair ≡ Some (asked_at source.place ask.versions)

@@ -42,12 +42,15 @@ RefusesBy IsSuch error = FaultOrMemory (refusal_of error) (kind_of error ≡ kin
 
 -- the one source is refused so, at position 0; or there was no memory
 abbrev pub IsRefusedSo : Refusal → PieceRefusal ConfigParseError → Type 0
-IsRefusedSo refusal (pieces.Refused position error) = (position ≡ 0) × (refusal_of error ≡ Some refusal)
+IsRefusedSo refusal (pieces.Refused position error) = (position ≡ 0)
+    × (refusal_of error ≡ Some refusal)
 IsRefusedSo refusal pieces.Memory = Unit {0}
 
 -- the same for this kind of error of the source of that place
 abbrev pub IsKindOf : Place → ConfigParseErrorKind → PieceRefusal ConfigParseError → Type 0
-IsKindOf place kind refusal = FaultOrMemory (wrong_of kind) (kind ≡ kinds.Memory → refusal ≡ pieces.Memory) (λ wrong. IsRefusedSo (refusal_at place wrong) refusal)
+IsKindOf place kind refusal =
+    FaultOrMemory (wrong_of kind) (kind ≡ kinds.Memory → refusal ≡ pieces.Memory)
+    (λ wrong. IsRefusedSo (refusal_at place wrong) refusal)
 
 -- the same refusal, of a list
 abbrev pub list_refusal : PieceRefusal ConfigParseError → ListRefusal

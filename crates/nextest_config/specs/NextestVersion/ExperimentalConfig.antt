@@ -20,7 +20,8 @@ pub record Unknown : Type 0 where
   pub place : Place
   pub names : List (List ℕ)
 
--- the features that are enabled, the unknown names of each source that has some, and the sources that name theirs in an array
+-- the features that are enabled, the unknown names of each source that has some, and the sources
+-- that name theirs in an array
 pub record Experimental : Type 0 where
   pub known : List ConfigExperimental
   pub unknown : List Unknown
@@ -36,7 +37,12 @@ unknown_of entry = unknown_from entry.source entry.names
 
 -- what a configuration has of features
 abbrev pub experimental_of : ExperimentalConfig → Experimental
-experimental_of config = record { known = config.known.keys; unknown = map unknown_of config.unknown.items; arrays = map place_of config.array_sources.items }
+experimental_of config =
+    record {
+      known = config.known.keys;
+      unknown = map unknown_of config.unknown.items;
+      arrays = map place_of config.array_sources.items;
+    }
 
 -- what no source names
 abbrev pub no_experimental : Experimental
@@ -54,11 +60,17 @@ array_at place false = []
 
 -- what a source at this place names, on its own
 abbrev pub features_from : Place → FeatureSetting → Experimental
-features_from place named = record { known = named.features.known; unknown = entry_at place named.features.unknown; arrays = array_at place named.array }
+features_from place named =
+    record {
+      known = named.features.known;
+      unknown = entry_at place named.features.unknown;
+      arrays = array_at place named.array;
+    }
 
 -- ---- the join of features
 
--- what is seen of features where they are joined: whether each is enabled, and the unknown names and the arrays, in order
+-- what is seen of features where they are joined: whether each is enabled, and the unknown names
+-- and the arrays, in order
 pub record SeenFeatures : Type 0 where
   pub enables : ConfigExperimental → Bool
   pub unknown : List Unknown
@@ -70,13 +82,19 @@ has_feature = is_member (eq_by_cmp feature_cmp)
 
 -- what is seen of these features
 abbrev pub seen_features : Experimental → SeenFeatures
-seen_features features = record { enables = has_feature features.known; unknown = features.unknown; arrays = features.arrays }
+seen_features features =
+    record {
+      enables = has_feature features.known;
+      unknown = features.unknown;
+      arrays = features.arrays;
+    }
 
 -- what is seen of no features
 abbrev pub no_features_seen : SeenFeatures
 no_features_seen = seen_features no_experimental
 
--- the join: a feature is enabled where either side enables it, and the later unknown names and arrays come behind the earlier ones
+-- the join: a feature is enabled where either side enables it, and the later unknown names and
+-- arrays come behind the earlier ones
 abbrev pub join_features : SeenFeatures → SeenFeatures → SeenFeatures
 join_features earlier later = record {
   enables = λ feature. earlier.enables feature || later.enables feature;
@@ -91,7 +109,8 @@ pub record AreSeenAs (seen : SeenFeatures) (features : Experimental) : Type 0 wh
 
 -- the second is the first one joined with what a source at this place names
 abbrev pub AddsFeatures : Place → FeatureSetting → Experimental → Experimental → Type 0
-AddsFeatures place named before = AreSeenAs (join_features (seen_features before) (seen_features (features_from place named)))
+AddsFeatures place named before =
+    AreSeenAs (join_features (seen_features before) (seen_features (features_from place named)))
 
 -- ---- the iterators over the unknown names and the arrays
 

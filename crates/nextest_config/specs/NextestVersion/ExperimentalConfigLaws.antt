@@ -12,7 +12,18 @@ or_false false = refl
 
 pub features_join : IsMonoid join_features no_features_seen
 features_join = record {
-  associative = λ a b c i. record { enables = λ feature. or_assoc (a.enables feature) (b.enables feature) (c.enables feature) i; unknown = append_assoc a.unknown b.unknown c.unknown i; arrays = append_assoc a.arrays b.arrays c.arrays i };
+  associative = λ a b c i.
+      record {
+        enables = λ feature. or_assoc (a.enables feature) (b.enables feature)
+            (c.enables feature) i;
+        unknown = append_assoc a.unknown b.unknown c.unknown i;
+        arrays =
+            append_assoc a.arrays b.arrays c.arrays i;
+      };
   neutral_first = λ features. refl;
-  neutral_last = λ features i. record { enables = λ feature. or_false (features.enables feature) i; unknown = append-nil features.unknown i; arrays = append-nil features.arrays i };
+  neutral_last = λ features i. record {
+    enables = λ feature. or_false (features.enables feature) i;
+    unknown = append-nil features.unknown i;
+    arrays = append-nil features.arrays i;
+  };
 }

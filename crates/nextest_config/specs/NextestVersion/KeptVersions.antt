@@ -36,7 +36,10 @@ kept_of kept_as.None = None
 
 -- what a configuration keeps
 abbrev pub roles_of : NextestVersionConfig → Roles
-roles_of config = record { required = kept_of config.required; recommended = kept_of config.recommended }
+roles_of config = record {
+  required = kept_of config.required;
+  recommended = kept_of config.recommended;
+}
 
 -- no version is kept
 abbrev pub no_roles : Roles
@@ -48,7 +51,11 @@ asked_from place asked = option_map (λ version. record { version = version; pla
 
 -- the roles that one source asks, from its place
 abbrev pub roles_from : Place → Versions → Roles
-roles_from place versions = record { required = asked_from place versions.required; recommended = asked_from place versions.recommended }
+roles_from place versions =
+    record {
+      required = asked_from place versions.required;
+      recommended = asked_from place versions.recommended;
+    }
 
 -- the join of two kept versions: the later one, unless its version is below the earlier one's
 abbrev pub join_kept : Option Kept → Option Kept → Option Kept

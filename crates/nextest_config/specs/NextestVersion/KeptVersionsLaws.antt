@@ -13,7 +13,9 @@ both required recommended = record { required = required; recommended = recommen
 
 pub roles_join : IsMonoid join_roles no_roles
 roles_join = record {
-  associative = λ a b c. ap₂ both (kept_join.associative a.required b.required c.required) (kept_join.associative a.recommended b.recommended c.recommended);
+  associative = λ a b c. ap₂ both (kept_join.associative a.required b.required c.required)
+      (kept_join.associative a.recommended b.recommended c.recommended);
   neutral_first = λ roles. refl;
-  neutral_last = λ roles. ap₂ both (kept_join.neutral_last roles.required) (kept_join.neutral_last roles.recommended);
+  neutral_last = λ roles. ap₂ both (kept_join.neutral_last roles.required)
+      (kept_join.neutral_last roles.recommended);
 }

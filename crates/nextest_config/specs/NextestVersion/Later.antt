@@ -11,7 +11,8 @@ use Rattle.nextest_config_sources.specs.NextestVersion.PrecedenceLaws.{below_tra
 abbrev pub later_of : {A : Type 0} → (A → Parts) → Option A → Option A → Option A
 later_of version None later = later
 later_of version (Some earlier) None = Some earlier
-later_of version (Some earlier) (Some later) = if is_below (version later) (version earlier) then Some earlier else Some later
+later_of version (Some earlier) (Some later) = if is_below (version later) (version earlier)
+    then Some earlier else Some later
 
 -- ---- the choice is associative
 
@@ -21,13 +22,16 @@ not_below u v above below = false≢true (sym above ∙ below)
 -- of three, whether the second is below the first, and the third below the second
 three_in_a_row : {A : Type 0} (version : A → Parts) (a b c : A) (second third : Bool)
     → is_below (version b) (version a) ≡ second → is_below (version c) (version b) ≡ third
-    → later_of version (later_of version (Some a) (Some b)) (Some c) ≡ later_of version (Some a) (later_of version (Some b) (Some c))
-three_in_a_row version a b c true true e f = rw (f, e, below_trans (version c) (version b) (version a) f e) refl
+    → later_of version (later_of version (Some a) (Some b)) (Some c)
+    ≡ later_of version (Some a) (later_of version (Some b) (Some c))
+three_in_a_row version a b c true true e f =
+    rw (f, e, below_trans (version c) (version b) (version a) f e) refl
 three_in_a_row version a b c true false e f = rw (f, e) refl
 three_in_a_row version a b c false true e f = rw (e, f, e) refl
 three_in_a_row version a b c false false e f =
     let above = false_from_ne_true (is_below (version c) (version a))
-            (not_below_trans (version c) (version b) (version a) (not_below (version c) (version b) f) (not_below (version b) (version a) e)) in
+    (not_below_trans (version c) (version b) (version a)
+    (not_below (version c) (version b) f) (not_below (version b) (version a) e)) in
     rw (f, e, f, above) refl
 
 none_last : {A : Type 0} (version : A → Parts) (a : Option A) → later_of version a None ≡ a
@@ -40,7 +44,8 @@ in_a_row version None b c = refl
 in_a_row version (Some a) None c = refl
 in_a_row version (Some a) (Some b) None = none_last version (later_of version (Some a) (Some b))
 in_a_row version (Some a) (Some b) (Some c) =
-    three_in_a_row version a b c (is_below (version b) (version a)) (is_below (version c) (version b)) refl refl
+    three_in_a_row version a b c (is_below (version b) (version a))
+    (is_below (version c) (version b)) refl refl
 
 pub later_joins : {A : Type 0} (version : A → Parts) → IsMonoid (later_of version) None
 later_joins version = record {

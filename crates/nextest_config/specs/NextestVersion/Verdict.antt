@@ -13,7 +13,8 @@ use Rattle.nextest_config.specs.declared.nextest_version.verdict.NextestVersionE
 use Rattle.nextest_config.specs.declared.nextest_version.verdict.Severity.{Severity}
 use Rattle.nextest_config.specs.declared.nextest_version.verdict.Severity.TheVariants as severities
 
--- what a version falls short of: the version asked for, the current one, the place that asked, and whether the check is overridden
+-- what a version falls short of: the version asked for, the current one, the place that asked, and
+-- whether the check is overridden
 pub record Shortfall : Type 0 where
   pub asked : Parts
   pub current : Parts
@@ -39,9 +40,12 @@ shortfall asked current source overridden = record {
 abbrev pub verdict_of : NextestVersionEval → Verdict
 verdict_of evals.Satisfied = satisfied
 verdict_of (evals.Error required current source) = error (shortfall required current source false)
-verdict_of (evals.Warn recommended current source) = warn (shortfall recommended current source false)
-verdict_of (evals.ErrorOverride required current source) = error (shortfall required current source true)
-verdict_of (evals.WarnOverride recommended current source) = warn (shortfall recommended current source true)
+verdict_of (evals.Warn recommended current source) =
+    warn (shortfall recommended current source false)
+verdict_of (evals.ErrorOverride required current source) =
+    error (shortfall required current source true)
+verdict_of (evals.WarnOverride recommended current source) =
+    warn (shortfall recommended current source true)
 
 -- the kept version that the current one isn't enough for
 abbrev pub unmet : Option Kept → Parts → Option Kept
@@ -50,7 +54,8 @@ unmet (Some kept) current = if is_enough current kept.version then None else Som
 
 -- the current version isn't enough for the kept one
 abbrev pub short_of : Kept → Parts → Bool → Shortfall
-short_of kept current overridden = record { asked = kept.version; current = current; place = kept.place; overridden = overridden }
+short_of kept current overridden =
+    record { asked = kept.version; current = current; place = kept.place; overridden = overridden }
 
 -- an unmet required version is an error; else an unmet recommended one is a warning
 abbrev pub judged : Option Kept → Option Kept → Parts → Bool → Verdict
@@ -60,7 +65,8 @@ judged None None current overridden = satisfied
 
 -- the verdict of two roles
 abbrev pub verdict : Roles → Parts → Bool → Verdict
-verdict roles current overridden = judged (unmet roles.required current) (unmet roles.recommended current) current overridden
+verdict roles current overridden =
+    judged (unmet roles.required current) (unmet roles.recommended current) current overridden
 
 -- how grave a verdict is, overridden or not
 abbrev pub severity_of : Verdict → Severity
@@ -100,7 +106,9 @@ IsNoGraver v other = gravity other ≤ gravity v
 
 -- the other verdict names no greater version
 abbrev pub NamesNoGreater : Verdict → Verdict → Type 0
-NamesNoGreater v other = IfSome (named_version v) (λ version. IfSome (named_version other) (λ greater. ¬ IsBelow version greater))
+NamesNoGreater v other =
+    IfSome (named_version v)
+    (λ version. IfSome (named_version other) (λ greater. ¬ IsBelow version greater))
 
 -- a verdict as grave as this one names no greater version
 abbrev pub IsNoGreaterOfItsKind : Verdict → Verdict → Type 0
@@ -110,7 +118,8 @@ IsNoGreaterOfItsKind v other = gravity other ≡ gravity v → NamesNoGreater v 
 abbrev pub IsOtherOfItsKind : Verdict → Verdict → Type 0
 IsOtherOfItsKind v other = gravity other ≡ gravity v → named_version other ≢ named_version v
 
--- the verdict stands at a position of greatest severity, none of that severity names a greater version, and no later one of that severity the same version
+-- the verdict stands at a position of greatest severity, none of that severity names a greater
+-- version, and no later one of that severity the same version
 pub record IsGravest (verdicts : List Verdict) (v : Verdict) : Type 0 where
   pub before : List Verdict
   pub after : List Verdict
@@ -121,9 +130,11 @@ pub record IsGravest (verdicts : List Verdict) (v : Verdict) : Type 0 where
 
 -- all verdicts are satisfied and this one is, or it is the gravest
 abbrev pub IsSelected : List Verdict → Verdict → Type 0
-IsSelected verdicts v = (AllByRecursion IsSatisfied verdicts × (v ≡ satisfied)) ⊎ IsGravest verdicts v
+IsSelected verdicts v = (AllByRecursion IsSatisfied verdicts × (v ≡ satisfied))
+    ⊎ IsGravest verdicts v
 
--- the second verdict is of the same kind, overridden or not, and names the same version; the place that it names may be another
+-- the second verdict is of the same kind, overridden or not, and names the same version; the place
+-- that it names may be another
 abbrev pub SaysTheSame : Verdict → Verdict → Type 0
 SaysTheSame satisfied v = v ≡ satisfied
 SaysTheSame (warn shortfall) v = (place : Place) × (v ≡ warn (record shortfall { place = place }))

@@ -57,8 +57,10 @@ Reads sources = (asked : List SourceAsk) × AreRead sources asked
 abbrev pub IsFirstRefused : List Source → ℕ → Refusal → Type 0
 IsFirstRefused = IsFirstWrong IsReadAs IsRefused
 
--- the first refused position of the first refused part, counted from the beginning of the first part, and its error
-pub record IsFirstRefusedAmong (parts : List (List Source)) (position : ℕ) (refusal : Refusal) : Type 0 where
+-- the first refused position of the first refused part, counted from the beginning of the first
+-- part, and its error
+pub record IsFirstRefusedAmong (parts : List (List Source)) (position : ℕ) (refusal : Refusal)
+    : Type 0 where
   pub before : List (List Source)
   pub part : List Source
   pub after : List (List Source)
@@ -82,16 +84,18 @@ AsksOther role version asked = role asked.ask ≢ Some version
 abbrev pub AsksNoGreater : (Ask → Option Parts) → Parts → SourceAsk → Type 0
 AsksNoGreater role version asked = IfSome (role asked.ask) (λ greater. ¬ IsBelow version greater)
 
--- in this role the version is asked, none greater is, and its place is that of the last position that asks it
-pub record IsGreatest (role : Ask → Option Parts) (asked : List SourceAsk) (kept : Kept) : Type 0 where
-  pub before : List SourceAsk
-  pub last : SourceAsk
-  pub after : List SourceAsk
-  pub whole : asked ≡ before ++ (last ∷ after)
-  pub version : role last.ask ≡ Some kept.version
-  pub place : last.place ≡ kept.place
-  pub others_later : AllByRecursion (AsksOther role kept.version) after
-  pub none_greater : AllByRecursion (AsksNoGreater role kept.version) asked
+-- in this role the version is asked, none greater is, and its place is that of the last position
+-- that asks it
+pub record IsGreatest (role : Ask → Option Parts) (asked : List SourceAsk) (kept : Kept) : Type 0
+  where
+    pub before : List SourceAsk
+    pub last : SourceAsk
+    pub after : List SourceAsk
+    pub whole : asked ≡ before ++ (last ∷ after)
+    pub version : role last.ask ≡ Some kept.version
+    pub place : last.place ≡ kept.place
+    pub others_later : AllByRecursion (AsksOther role kept.version) after
+    pub none_greater : AllByRecursion (AsksNoGreater role kept.version) asked
 
 -- a version is kept in this role exactly where some position asks one
 abbrev pub StandsIn : (Ask → Option Parts) → List SourceAsk → Option Kept → Type 0
@@ -100,11 +104,13 @@ StandsIn role asked (Some kept) = IsGreatest role asked kept
 
 -- some position enables the feature
 abbrev pub IsEnabledBySome : List SourceAsk → ConfigExperimental → Type 0
-IsEnabledBySome asked feature = (one : SourceAsk) × Contains asked one × Contains one.ask.features.known feature
+IsEnabledBySome asked feature = (one : SourceAsk) × Contains asked one
+    × Contains one.ask.features.known feature
 
 -- the features that some position enables, in their order
 pub record AreEnabled (asked : List SourceAsk) (known : List ConfigExperimental) : Type 0 where
-  pub of_some : (feature : ConfigExperimental) → Contains known feature ↔ IsEnabledBySome asked feature
+  pub of_some : (feature : ConfigExperimental) → Contains known feature
+      ↔ IsEnabledBySome asked feature
   pub in_order : FeaturesInOrder known
 
 -- the entry of a position with unknown names
@@ -122,7 +128,11 @@ pub record Configuration : Type 0 where
 
 -- what was read
 abbrev pub configuration_of : VersionOnlyConfig → Configuration
-configuration_of config = record { roles = roles_of config.nextest_version; experimental = experimental_of config.experimental }
+configuration_of config =
+    record {
+      roles = roles_of config.nextest_version;
+      experimental = experimental_of config.experimental;
+    }
 
 -- the configuration that asks nothing
 abbrev pub neutral : Configuration
@@ -138,7 +148,8 @@ pub record StandsForAsks (asked : List SourceAsk) (configuration : Configuration
 
 -- the configuration stands for the sources
 abbrev pub StandsFor : List Source → Configuration → Type 0
-StandsFor sources configuration = (asked : List SourceAsk) × AreRead sources asked × StandsForAsks asked configuration
+StandsFor sources configuration = (asked : List SourceAsk) × AreRead sources asked
+    × StandsForAsks asked configuration
 
 -- the configuration stands for the one source
 abbrev pub StandsForOne : Source → Configuration → Type 0
@@ -148,22 +159,28 @@ StandsForOne source = StandsFor (source ∷ [])
 
 -- the verdict of a source read alone
 abbrev pub alone : Parts → Bool → SourceAsk → Verdict
-alone current overridden asked = verdict (roles_from asked.place asked.ask.versions) current overridden
+alone current overridden asked =
+    verdict (roles_from asked.place asked.ask.versions) current overridden
 
--- for each current version and both flags, the verdict of the roles is selected from the verdicts of the asks alone
+-- for each current version and both flags, the verdict of the roles is selected from the verdicts
+-- of the asks alone
 abbrev pub SelectsAmong : List SourceAsk → Roles → Type 0
-SelectsAmong asked roles = (current : Parts) (overridden : Bool) → IsSelected (map (alone current overridden) asked) (verdict roles current overridden)
+SelectsAmong asked roles = (current : Parts) (overridden : Bool)
+    → IsSelected (map (alone current overridden) asked) (verdict roles current overridden)
 
 -- the roles select among what the sources ask
 abbrev pub SelectsFor : List Source → Roles → Type 0
-SelectsFor sources roles = (asked : List SourceAsk) × AreRead sources asked × SelectsAmong asked roles
+SelectsFor sources roles = (asked : List SourceAsk) × AreRead sources asked
+    × SelectsAmong asked roles
 
 -- the verdict is selected from those of the sources, each read alone
 abbrev pub IsSelectedFor : List Source → Parts → Bool → Verdict → Type 0
-IsSelectedFor sources current overridden v = (asked : List SourceAsk) × AreRead sources asked × IsSelected (map (alone current overridden) asked) v
+IsSelectedFor sources current overridden v = (asked : List SourceAsk) × AreRead sources asked
+    × IsSelected (map (alone current overridden) asked) v
 
 -- some source, read alone, gives this verdict, which names its place
-pub record IsFromSource (current : Parts) (overridden : Bool) (asked : List SourceAsk) (v : Verdict) : Type 0 where
+pub record IsFromSource (current : Parts) (overridden : Bool) (asked : List SourceAsk) (v : Verdict)
+    : Type 0 where
   pub before : List SourceAsk
   pub source : SourceAsk
   pub after : List SourceAsk
@@ -173,27 +190,38 @@ pub record IsFromSource (current : Parts) (overridden : Bool) (asked : List Sour
 
 -- the list is refused at the first refused position with its one error, or there was no memory
 abbrev pub IsRefusalOf : List Source → ListRefusal → Type 0
-IsRefusalOf sources (refusals.Refused position error) = (refusal : Refusal) × (refusal_of error ≡ Some refusal) × IsFirstRefused sources position refusal
+IsRefusalOf sources (refusals.Refused position error) = (refusal : Refusal)
+    × (refusal_of error ≡ Some refusal) × IsFirstRefused sources position refusal
 IsRefusalOf sources refusals.Memory = Unit {0}
 
 -- the error is that of the first refused position of the list, or there was no memory
 abbrev pub IsErrorOfList : List Source → ConfigParseError → Type 0
-IsErrorOfList sources = RefusesBy (λ refusal. (position : ℕ) × IsFirstRefused sources position refusal)
+IsErrorOfList sources =
+    RefusesBy (λ refusal. (position : ℕ) × IsFirstRefused sources position refusal)
 
--- the two keep the same versions, know the same features and have the same entries of unknown names and the same arrays in some order; and on each current version both verdicts say the same
+-- the two keep the same versions, know the same features and have the same entries of unknown names
+-- and the same arrays in some order; and on each current version both verdicts say the same
 pub record Agree (configuration other : Configuration) : Type 0 where
-  pub required : option_map kept_version configuration.roles.required ≡ option_map kept_version other.roles.required
-  pub recommended : option_map kept_version configuration.roles.recommended ≡ option_map kept_version other.roles.recommended
+  pub required : option_map kept_version configuration.roles.required
+      ≡ option_map kept_version other.roles.required
+  pub recommended : option_map kept_version configuration.roles.recommended
+      ≡ option_map kept_version other.roles.recommended
   pub known : configuration.experimental.known ≡ other.experimental.known
   pub unknown : IsReordering configuration.experimental.unknown other.experimental.unknown
   pub arrays : IsReordering configuration.experimental.arrays other.experimental.arrays
-  pub verdicts : (current : Parts) (overridden : Bool) → SaysTheSame (verdict configuration.roles current overridden) (verdict other.roles current overridden)
+  pub verdicts : (current : Parts) (overridden : Bool)
+      → SaysTheSame (verdict configuration.roles current overridden)
+      (verdict other.roles current overridden)
 
 -- ---- the join of configurations
 
 -- what a source at this place asks, on its own
 abbrev pub configuration_from : Place → Ask → Configuration
-configuration_from place ask = record { roles = roles_from place ask.versions; experimental = features_from place (record { features = ask.features; array = ask.array }) }
+configuration_from place ask =
+    record {
+      roles = roles_from place ask.versions;
+      experimental = features_from place (record { features = ask.features; array = ask.array });
+    }
 
 -- what is seen of a configuration where it is joined
 pub record SeenConfiguration : Type 0 where
@@ -202,7 +230,8 @@ pub record SeenConfiguration : Type 0 where
 
 -- what is seen of this configuration
 abbrev pub seen_configuration : Configuration → SeenConfiguration
-seen_configuration configuration = record { roles = configuration.roles; experimental = seen_features configuration.experimental }
+seen_configuration configuration =
+    record { roles = configuration.roles; experimental = seen_features configuration.experimental }
 
 -- what is seen of the configuration that asks nothing
 abbrev pub neutral_seen : SeenConfiguration
@@ -222,10 +251,13 @@ pub record IsSeenAs (seen : SeenConfiguration) (configuration : Configuration) :
 
 -- the join of these configurations, in order, is seen of this one
 abbrev pub IsJoinOf : List Configuration → Configuration → Type 0
-IsJoinOf configurations = IsSeenAs (total join_configurations neutral_seen (map seen_configuration configurations))
+IsJoinOf configurations =
+    IsSeenAs (total join_configurations neutral_seen (map seen_configuration configurations))
 
 -- the new configuration is the old one joined with what the source asks
 pub record Adds (source : Source) (old new : Configuration) : Type 0 where
   pub ask : Ask
   pub read : IsRead source ask
-  pub joined : IsSeenAs (join_configurations (seen_configuration old) (seen_configuration (configuration_from source.place ask))) new
+  pub joined : IsSeenAs
+      (join_configurations (seen_configuration old)
+      (seen_configuration (configuration_from source.place ask))) new

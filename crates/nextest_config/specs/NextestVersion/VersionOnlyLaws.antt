@@ -20,69 +20,102 @@ both roles experimental = record { roles = roles; experimental = experimental }
 
 pub configurations_join : IsMonoid join_configurations neutral_seen
 configurations_join = record {
-  associative = λ a b c. ap₂ both (roles_join.associative a.roles b.roles c.roles) (features_join.associative a.experimental b.experimental c.experimental);
-  neutral_first = λ a. ap₂ both (roles_join.neutral_first a.roles) (features_join.neutral_first a.experimental);
-  neutral_last = λ a. ap₂ both (roles_join.neutral_last a.roles) (features_join.neutral_last a.experimental);
+  associative = λ a b c. ap₂ both (roles_join.associative a.roles b.roles c.roles)
+      (features_join.associative a.experimental b.experimental c.experimental);
+  neutral_first = λ a.
+      ap₂ both (roles_join.neutral_first a.roles) (features_join.neutral_first a.experimental);
+  neutral_last = λ a. ap₂ both (roles_join.neutral_last a.roles)
+      (features_join.neutral_last a.experimental);
 }
 
 -- ---- one source
 
 pub read_once : (source : Source) (a b : SourceAsk) → IsReadAs source a → IsReadAs source b → a ≡ b
 read_once source a b h k = ap₂ (λ (place : Place) (ask : Ask). record { place = place; ask = ask })
-    (h.place ∙ sym k.place) (text_asks_once source.edition source.place.kind source.contents a.ask b.ask h.read k.read)
+    (h.place ∙ sym k.place)
+    (text_asks_once source.edition source.place.kind source.contents a.ask b.ask h.read k.read)
 
 pub one_error : (source : Source) (a b : Refusal) → IsRefused source a → IsRefused source b → a ≡ b
-one_error source a b h k = ap₂ (λ (place : Place) (wrong : Wrong). record { place = place; wrong = wrong })
-    (h.named ∙ sym k.named) (one_wrong source.edition source.place.kind source.contents a.wrong b.wrong h.wrong k.wrong)
+one_error source a b h k =
+    ap₂ (λ (place : Place) (wrong : Wrong). record { place = place; wrong = wrong })
+    (h.named ∙ sym k.named)
+    (one_wrong source.edition source.place.kind source.contents a.wrong b.wrong h.wrong k.wrong)
 
-pub read_not_refused : (source : Source) (ask : Ask) (refusal : Refusal) → IsRead source ask → IsRefused source refusal → ⊥
-read_not_refused source ask refusal read refused = text_not_wrong source.edition source.place.kind source.contents ask refusal.wrong read refused.wrong
+pub read_not_refused : (source : Source) (ask : Ask) (refusal : Refusal) → IsRead source ask
+    → IsRefused source refusal → ⊥
+read_not_refused source ask refusal read refused =
+    text_not_wrong source.edition source.place.kind source.contents ask refusal.wrong read
+    refused.wrong
 
 -- a list of one has its one element in the middle
-only_one : {X : Type 0} (a : X) (before : List X) (x : X) (after : List X) → (a ∷ []) ≡ before ++ (x ∷ after) → a ≡ x
+only_one : {X : Type 0} (a : X) (before : List X) (x : X) (after : List X)
+    → (a ∷ []) ≡ before ++ (x ∷ after) → a ≡ x
 only_one a [] x after whole = cc whole
 only_one a (y ∷ []) x after whole = cc whole
 only_one a (y ∷ z ∷ before) x after whole = cc whole
 
 -- what stands in a role for one ask is what it asks, from its place
-role_alone : (role : Ask → Option Parts) (a : SourceAsk) (kept : Option Kept) → StandsIn role (a ∷ []) kept → asked_from a.place (role a.ask) ≡ kept
+role_alone : (role : Ask → Option Parts) (a : SourceAsk) (kept : Option Kept)
+    → StandsIn role (a ∷ []) kept → asked_from a.place (role a.ask) ≡ kept
 role_alone role a None none = ap (asked_from a.place) none.0
 role_alone role a (Some kept) h =
     let here : a ≡ h.last = only_one a h.before h.last h.after h.whole in
     ap (λ (b : SourceAsk). asked_from b.place (role b.ask)) here ∙ ap₂ asked_from h.place h.version
 
-alone_once : (a : SourceAsk) (c d : Configuration) → StandsForAsks (a ∷ []) c → StandsForAsks (a ∷ []) d → c ≡ d
+alone_once : (a : SourceAsk) (c d : Configuration) → StandsForAsks (a ∷ []) c
+    → StandsForAsks (a ∷ []) d → c ≡ d
 alone_once a c d h k =
-    let required = sym (role_alone (λ ask. ask.versions.required) a c.roles.required h.required) ∙ role_alone (λ ask. ask.versions.required) a d.roles.required k.required in
-    let recommended = sym (role_alone (λ ask. ask.versions.recommended) a c.roles.recommended h.recommended) ∙ role_alone (λ ask. ask.versions.recommended) a d.roles.recommended k.recommended in
-    let known = features_in_one_order c.experimental.known d.experimental.known h.known.in_order k.known.in_order (λ f. iff.trans (h.known.of_some f) (iff.symm (k.known.of_some f))) in
-    let roles : c.roles ≡ d.roles = ap₂ (λ (r m : Option Kept). record { required = r; recommended = m }) required recommended in
-    let experimental : c.experimental ≡ d.experimental = λ i. record { known = known i; unknown = (h.unknown ∙ sym k.unknown) i; arrays = (h.arrays ∙ sym k.arrays) i } in
-    ap₂ (λ (r : Roles) (e : Experimental). record { roles = r; experimental = e }) roles experimental
+    let required = sym (role_alone (λ ask. ask.versions.required) a c.roles.required h.required)
+    ∙ role_alone (λ ask. ask.versions.required) a d.roles.required k.required in
+    let recommended = sym
+    (role_alone (λ ask. ask.versions.recommended) a c.roles.recommended h.recommended)
+    ∙ role_alone (λ ask. ask.versions.recommended) a d.roles.recommended k.recommended in
+    let known = features_in_one_order c.experimental.known d.experimental.known h.known.in_order
+    k.known.in_order (λ f. iff.trans (h.known.of_some f) (iff.symm (k.known.of_some f))) in
+    let roles : c.roles ≡ d.roles =
+    ap₂ (λ (r m : Option Kept). record { required = r; recommended = m }) required recommended
+    in
+    let experimental : c.experimental ≡ d.experimental =
+    λ i. record {
+      known = known i;
+      unknown = (h.unknown ∙ sym k.unknown) i;
+      arrays = (h.arrays ∙ sym k.arrays) i;
+    } in
+    ap₂ (λ (r : Roles) (e : Experimental). record { roles = r; experimental = e }) roles
+    experimental
 
-one_alone : (source : Source) (c d : Configuration) → StandsForOne source c → StandsForOne source d → c ≡ d
+one_alone : (source : Source) (c d : Configuration) → StandsForOne source c → StandsForOne source d
+    → c ≡ d
 one_alone source c d ([], read, stands) k = absurd read
 one_alone source c d (a ∷ b ∷ asked, read, stands) k = absurd read.1
 one_alone source c d (a ∷ [], read, stands) ([], more_read, more) = absurd more_read
 one_alone source c d (a ∷ [], read, stands) (x ∷ y ∷ others, more_read, more) = absurd more_read.1
 one_alone source c d (a ∷ [], read, stands) (x ∷ [], more_read, more) =
-    alone_once a c d stands (subst (λ (b : SourceAsk). StandsForAsks (b ∷ []) d) (read_once source x a more_read.0 read.0) more)
+    alone_once a c d stands
+    (subst (λ (b : SourceAsk). StandsForAsks (b ∷ []) d)
+    (read_once source x a more_read.0 read.0) more)
 
-one_told : (source : Source) (a b : Option Refusal) → IsErrorOf source a → IsErrorOf source b → a ≡ b
+one_told : (source : Source) (a b : Option Refusal) → IsErrorOf source a → IsErrorOf source b
+    → a ≡ b
 one_told source None b h k = absurd h
 one_told source (Some a) None h k = absurd k
 one_told source (Some a) (Some b) h k = ap Some (one_error source a b h k)
 
-none_alone : (source : Source) (c : Configuration) (told : Option Refusal) → StandsForOne source c → IsErrorOf source told → ⊥
+none_alone : (source : Source) (c : Configuration) (told : Option Refusal) → StandsForOne source c
+    → IsErrorOf source told → ⊥
 none_alone source c None stands h = h
 none_alone source c (Some refusal) ([], read, stands) h = read
-none_alone source c (Some refusal) (a ∷ asked, read, stands) h = read_not_refused source a.ask refusal read.0.read h
+none_alone source c (Some refusal) (a ∷ asked, read, stands) h =
+    read_not_refused source a.ask refusal read.0.read h
 
 -- one configuration stands for a source, or it has one error
 pub one_read : {X Y : Type 0} (source_of : X → Source) (configuration_of : Y → Configuration)
-    → IsReadingOne (λ y. seen_configuration (configuration_of y)) (λ x y. StandsForOne (source_of x) (configuration_of y)) (λ x told. IsErrorOf (source_of x) told)
+    → IsReadingOne (λ y. seen_configuration (configuration_of y))
+    (λ x y. StandsForOne (source_of x) (configuration_of y))
+    (λ x told. IsErrorOf (source_of x) told)
 one_read source_of configuration_of = record {
-  one_piece = λ x a b h k. ap seen_configuration (one_alone (source_of x) (configuration_of a) (configuration_of b) h k);
+  one_piece = λ x a b h k.
+      ap seen_configuration (one_alone (source_of x) (configuration_of a) (configuration_of b) h k);
   one_error = λ x a b h k. one_told (source_of x) a b h k;
   never_both = λ x a told h k. none_alone (source_of x) (configuration_of a) told h k;
 }

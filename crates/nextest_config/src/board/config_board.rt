@@ -46,7 +46,8 @@ impl Model for ConfigBoard {
 impl ConfigBoard {
     /// A board with so many empty slots.
     pub fn new(alloc: Global, n: usize) -> Result<Self, AllocError>
-        ensures { IfOk result (λ board. board ≡ record { slots = replicate n None; selections = 0 }) }
+        ensures { IfOk result
+            (λ board. board ≡ record { slots = replicate n None; selections = 0 }) }
     {
         Ok(ConfigBoard {
             alloc,
@@ -56,7 +57,8 @@ impl ConfigBoard {
         })
     }
 
-    /// The verdict on the current version, of the sources as they are. Where all are satisfied it takes
+    /// The verdict on the current version, of the sources as they are. Where all are satisfied it
+    /// takes
     /// no memory.
     pub fn eval(
         &self,

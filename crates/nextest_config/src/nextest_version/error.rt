@@ -136,7 +136,8 @@ impl ListRefusal {
 
     // The error of the source that is refused, without its position.
     pub(crate) fn into_error(self) -> ConfigParseError
-        ensures { (sources : List Source) → IsRefusalOf sources self → IsErrorOfList sources result }
+        ensures { (sources : List Source) → IsRefusalOf sources self
+            → IsErrorOfList sources result }
     {
         match self {
             ListRefusal::Refused { position: _, error } => error,

@@ -137,7 +137,8 @@ impl Merge for ExperimentalConfig {
 
     ghost neutral = { no_features_seen };
 
-    /// Joins with the features that later sources name: those that either side enables, and the unknown
+    /// Joins with the features that later sources name: those that either side enables, and the
+    /// unknown
     /// names and the arrays of the later ones behind those of the earlier ones.
     fn merge(&mut self, later: &mut Self) -> Result<(), AllocError> {
         let known = (&self.known | &later.known)?;

@@ -26,7 +26,8 @@ impl<'a> File<'a> {
         repository: &'a RepositoryText,
         tools: &'a [ToolText],
     ) -> Result<Vec<File<'a>>, AllocError>
-        ensures { IfOk result (λ files. map file_given files.items ≡ givens_of repository.now tools.now) }
+        ensures { IfOk result
+            (λ files. map file_given files.items ≡ givens_of repository.now tools.now) }
     {
         let mut files = Vec::new(alloc);
         for tool in tools.iter().rev() {

@@ -63,7 +63,8 @@ impl NextestVersionReq {
 
     /// The version, if a source asked for one.
     pub fn version(&self) -> Option<&Version>
-        ensures { option_map (λ v. parts_of v.now) result ≡ option_map kept_version (kept_of self.now) }
+        ensures { option_map (λ v. parts_of v.now) result
+            ≡ option_map kept_version (kept_of self.now) }
     {
         match self {
             NextestVersionReq::Version { version, source: _ } => Some(version),
@@ -85,7 +86,8 @@ impl NextestVersionReq {
         }
     }
 
-    // What is kept instead once this version is asked from this source; `None` where nothing changes.
+    // What is kept instead once this version is asked from this source; `None` where nothing
+    // changes.
     fn raised(
         &self,
         alloc: Global,
@@ -149,10 +151,12 @@ impl Merge for NextestVersionReq {
 
     ghost neutral = { None };
 
-    /// Joins with what a later part keeps: the greater version stays, and of equal ones the later. It
+    /// Joins with what a later part keeps: the greater version stays, and of equal ones the later.
+    /// It
     /// takes no memory.
     fn merge(&mut self, later: &mut Self) -> Result<(), AllocError>
-        ensures joined { OnOk result (kept_of self.new ≡ join_kept (kept_of self.old) (kept_of later.old)) }
+        ensures joined { OnOk result
+            (kept_of self.new ≡ join_kept (kept_of self.old) (kept_of later.old)) }
         ensures emptied { OnOk result (kept_of later.new ≡ None) }
         ensures unchanged { OnErr result (kept_of self.new ≡ kept_of self.old) }
         ensures later_unchanged { OnErr result (kept_of later.new ≡ kept_of later.old) }
@@ -182,7 +186,8 @@ impl Merge for NextestVersionConfig {
 
     /// Joins each role. It takes no memory.
     fn merge(&mut self, later: &mut Self) -> Result<(), AllocError>
-        ensures joined { OnOk result (roles_of self.new ≡ join_roles (roles_of self.old) (roles_of later.old)) }
+        ensures joined { OnOk result
+            (roles_of self.new ≡ join_roles (roles_of self.old) (roles_of later.old)) }
         ensures emptied { OnOk result (roles_of later.new ≡ no_roles) }
         ensures unchanged { OnErr result (roles_of self.new ≡ roles_of self.old) }
         ensures later_unchanged { OnErr result (roles_of later.new ≡ roles_of later.old) }
@@ -202,7 +207,8 @@ impl NextestVersionConfig {
     ghost use Rattle.nextest_config_sources.specs.NextestVersion.Source.{place_of};
     ghost use Rattle.nextest_config.specs.NextestVersion.Verdict.{satisfied, verdict, verdict_of};
 
-    /// Takes in what a later source asks: in each role the greater version is kept, and of equal ones
+    /// Takes in what a later source asks: in each role the greater version is kept, and of equal
+    /// ones
     /// the later.
     pub fn accumulate(
         &mut self,
@@ -250,7 +256,8 @@ impl NextestVersionConfig {
     ) -> Result<NextestVersionEval, AllocError>
         ensures value { IfOk result (λ eval. verdict_of eval
             ≡ verdict (roles_of self.now) (parts_of current.now) override_version_check) }
-        ensures satisfied { verdict (roles_of self.now) (parts_of current.now) override_version_check
+        ensures satisfied { verdict (roles_of self.now) (parts_of current.now)
+            override_version_check
             ≡ satisfied → IsOk result }
     {
         NextestVersionEval::judged(

@@ -50,7 +50,8 @@ pub enum Severity {
 impl NextestVersionEval {
     ghost use Rattle.nextest_config.specs.NextestVersion.Verdict.{error, judged, satisfied, severity_of, shortfall, verdict_of, warn};
 
-    /// The verdict on the current version, of the versions that it isn't enough for in the two roles,
+    /// The verdict on the current version, of the versions that it isn't enough for in the two
+    /// roles,
     /// each with the source that asks it.
     pub(crate) fn judged(
         alloc: Global,

@@ -56,13 +56,15 @@ impl VersionOnlyConfig {
             StandsFor (map source_of sources.now) (configuration_of config)) }
         ensures selected { IfOk result (λ config.
             SelectsFor (map source_of sources.now) (configuration_of config).roles) }
-        ensures only { Reads (map source_of sources.now) → IfErr result (λ refusal. refusal ≡ Memory) }
+        ensures only { Reads (map source_of sources.now)
+            → IfErr result (λ refusal. refusal ≡ Memory) }
         ensures refused { IfErr result (IsRefusalOf (map source_of sources.now)) }
     {
         VersionOnlyConfig::from_list_with(alloc, Edition::ArrayAllowed, sources)
     }
 
-    /// Reads the sources under the edition, lowest priority first, up to the first one that is refused.
+    /// Reads the sources under the edition, lowest priority first, up to the first one that is
+    /// refused.
     pub fn from_list_with(
         alloc: Global,
         edition: Edition,
@@ -80,7 +82,8 @@ impl VersionOnlyConfig {
         Ok(read_halves::<VersionOnlyConfig>(alloc, &edition, sources)?)
     }
 
-    /// Reads the tools' files, the last one first, and then the repository's, up to the first one that
+    /// Reads the tools' files, the last one first, and then the repository's, up to the first one
+    /// that
     /// is refused: a tool that is named earlier has the higher priority, and the repository has the
     /// highest.
     pub fn from_sources(
@@ -100,7 +103,8 @@ impl VersionOnlyConfig {
         VersionOnlyConfig::from_sources_with(alloc, Edition::ArrayAllowed, repository, tools)
     }
 
-    /// Reads the tools' files, the last one first, and then the repository's, under the edition, up to
+    /// Reads the tools' files, the last one first, and then the repository's, under the edition, up
+    /// to
     /// the first one that is refused.
     pub fn from_sources_with(
         alloc: Global,

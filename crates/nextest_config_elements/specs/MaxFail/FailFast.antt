@@ -40,21 +40,30 @@ HasInteger held number = IsNumberText held number × FitsSigned w64 number
 -- what is expected in place of a text: by a positive integer, by another one, and by no integer
 abbrev pub IsExpected : List ℕ → List ℕ → Type 0
 IsExpected held expected =
-    ((number : ℤ) × HasInteger held number × (pos 0 <ℤ number) × (expected ≡ codes "the string \"all\" (numbers must be specified without quotes)"))
-    ⊎ (((number : ℤ) × HasInteger held number × (number ≤ℤ pos 0) × (expected ≡ codes "the string \"all\" (numbers must be positive and without quotes)"))
-    ⊎ (((number : ℤ) → ¬ (HasInteger held number)) × (expected ≡ codes "the string \"all\" or a positive integer")))
+    ((number : ℤ) × HasInteger held number × (pos 0 <ℤ number)
+    × (expected ≡ codes "the string \"all\" (numbers must be specified without quotes)"))
+    ⊎ (((number : ℤ) × HasInteger held number × (number ≤ℤ pos 0)
+    × (expected ≡ codes "the string \"all\" (numbers must be positive and without quotes)"))
+    ⊎ (((number : ℤ) → ¬ (HasInteger held number))
+    × (expected ≡ codes "the string \"all\" or a positive integer")))
 
 -- the text isn't `all`
 abbrev pub MaxFailTextFaults : List ℕ → List ℕ → Fault → Type 0
-MaxFailTextFaults held at fault = (held ≢ codes "all") × (expected : List ℕ) × IsExpected held expected × (fault ≡ wrong_value (string held) at expected)
+MaxFailTextFaults held at fault = (held ≢ codes "all") × (expected : List ℕ)
+    × IsExpected held expected × (fault ≡ wrong_value (string held) at expected)
 
 -- what the key holds
 abbrev pub MeansMaxFail : Data → MaxFailCount → Type 0
-MeansMaxFail value = MeansKind (MeansMade Count (MeansNumber IsCount)) (λ other. MeansKind MeansMaxFailText MeansNothing (as_str other) other) (as_integer value) value
+MeansMaxFail value =
+    MeansKind (MeansMade Count (MeansNumber IsCount))
+    (λ other. MeansKind MeansMaxFailText MeansNothing (as_str other) other) (as_integer value) value
 
 -- what is wrong with it
 abbrev pub MaxFailFaults : Data → List ℕ → Fault → Type 0
-MaxFailFaults value = FaultsKind (IsNoCount max_fail_expected) (λ other. FaultsKind MaxFailTextFaults (WrongKind max_fail_expected) (as_str other) other) (as_integer value) value
+MaxFailFaults value =
+    FaultsKind (IsNoCount max_fail_expected)
+    (λ other. FaultsKind MaxFailTextFaults (WrongKind max_fail_expected) (as_str other) other)
+    (as_integer value) value
 
 -- ---- `terminate`
 
@@ -83,7 +92,9 @@ pub record MeansFailFastTable (members : Members) (limit : MaxFail) : Type 0 whe
 
 -- what is wrong with the table: at `max-fail`, and behind it at `terminate`
 abbrev pub FailFastTableFaults : Members → List ℕ → Fault → Type 0
-FailFastTableFaults = FaultsThen (RequiredKey max_fail_key MeansMaxFail) (RequiredKeyFaults max_fail_key MaxFailFaults) (λ count.
+FailFastTableFaults =
+    FaultsThen (RequiredKey max_fail_key MeansMaxFail)
+    (RequiredKeyFaults max_fail_key MaxFailFaults) (λ count.
     OptionalKeyFaults terminate_key TerminateFaults)
 
 -- the boolean sets this limit
@@ -96,7 +107,9 @@ TruthFaults held at fault = ⊥
 
 -- the value sets this limit: as a boolean, or as a table
 abbrev pub MeansLimit : Data → MaxFail → Type 0
-MeansLimit value = MeansKind MeansFailFastTruth (λ other. MeansKind MeansFailFastTable MeansNothing (as_table other) other) (as_bool value) value
+MeansLimit value = MeansKind MeansFailFastTruth
+    (λ other. MeansKind MeansFailFastTable MeansNothing (as_table other) other) (as_bool value)
+    value
 
 -- a value that is all right always sets a limit
 abbrev pub MeansFailFast : Data → Option MaxFail → Type 0
@@ -104,4 +117,7 @@ MeansFailFast = MeansMade Some MeansLimit
 
 -- what is wrong with the value at a path
 abbrev pub FailFastFaults : Data → List ℕ → Fault → Type 0
-FailFastFaults value = FaultsKind TruthFaults (λ other. FaultsKind FailFastTableFaults (WrongKind fail_fast_expected) (as_table other) other) (as_bool value) value
+FailFastFaults value =
+    FaultsKind TruthFaults
+    (λ other. FaultsKind FailFastTableFaults (WrongKind fail_fast_expected) (as_table other) other)
+    (as_bool value) value

@@ -44,16 +44,19 @@ pub record IsCountText (count : List ℕ) (max_fail : ℕ) : Type 0 where
 
 -- the limit with this count and this mode
 abbrev pub IsCountLimit : List ℕ → TerminateMode → MaxFail → Type 0
-IsCountLimit count mode limit = (max_fail : ℕ) × IsCountText count max_fail × (limit ≡ Count max_fail mode)
+IsCountLimit count mode limit = (max_fail : ℕ) × IsCountText count max_fail
+    × (limit ≡ Count max_fail mode)
 
 -- the text has this limit
 abbrev pub IsLimitText : List ℕ → MaxFail → Type 0
 IsLimitText text All = IsAllText text
-IsLimitText text (Count max_fail mode) = (count : List ℕ) × HasCount text count mode × IsCountText count max_fail
+IsLimitText text (Count max_fail mode) = (count : List ℕ) × HasCount text count mode
+    × IsCountText count max_fail
 
 -- ---- why a text has none
 
--- why a text has no limit: the word behind the colon, the count and its reason, or a number that isn't positive
+-- why a text has no limit: the word behind the colon, the count and its reason, or a number that
+-- isn't positive
 pub data LimitFault : Type 0 where
   bad_mode : List ℕ → LimitFault
   bad_count : List ℕ → CountFault → LimitFault
@@ -75,11 +78,13 @@ abbrev pub IsCountFault : List ℕ → CountFault → Type 0
 IsCountFault count Empty = count ≡ []
 IsCountFault count InvalidDigit = (count ≢ []) × ((number : ℤ) → ¬ (IsNumberText count number))
 IsCountFault count TooLarge = (number : ℤ) × IsNumberText count number × (pos (2 ^ 63) ≤ℤ number)
-IsCountFault count TooSmall = (number : ℤ) × IsNumberText count number × (number <ℤ neg_ℤ (pos (2 ^ 63)))
+IsCountFault count TooSmall = (number : ℤ) × IsNumberText count number
+    × (number <ℤ neg_ℤ (pos (2 ^ 63)))
 
 -- the count is a number of an isize, zero or below
 abbrev pub IsNotPositive : List ℕ → Type 0
-IsNotPositive count = (number : ℤ) × IsNumberText count number × FitsSigned w64 number × (number ≤ℤ pos 0)
+IsNotPositive count = (number : ℤ) × IsNumberText count number × FitsSigned w64 number
+    × (number ≤ℤ pos 0)
 
 -- the fault of a count
 abbrev pub IsBadCount : List ℕ → LimitFault → Type 0
@@ -89,11 +94,14 @@ IsBadCount count not_positive = IsNotPositive count
 
 -- what stands behind the first colon is no mode's word
 abbrev pub IsBadMode : List ℕ → LimitFault → Type 0
-IsBadMode text fault = ¬ (IsAllText text) × (count word : List ℕ) × IsCutAtColon text count word × IsNoMode word × (fault ≡ bad_mode word)
+IsBadMode text fault = ¬ (IsAllText text) × (count word : List ℕ) × IsCutAtColon text count word
+    × IsNoMode word × (fault ≡ bad_mode word)
 
 -- the fault of a text without a limit: that of its mode, or behind a mode that of its count
 abbrev pub IsLimitFault : List ℕ → LimitFault → Type 0
-IsLimitFault text fault = IsBadMode text fault ⊎ ((count : List ℕ) × (mode : TerminateMode) × HasCount text count mode × IsBadCount count fault)
+IsLimitFault text fault = IsBadMode text fault
+    ⊎ ((count : List ℕ) × (mode : TerminateMode) × HasCount text count mode
+    × IsBadCount count fault)
 
 -- the refusal is a fault of which this holds, or memory was refused
 abbrev pub RefusesLimit : (LimitFault → Type 0) → MaxFailParseError → Type 0
@@ -101,9 +109,13 @@ RefusesLimit IsFault error = FaultOrMemory (limit_fault error) (error ≡ errors
 
 -- how a fault prints
 abbrev pub limit_fault_text : LimitFault → List ℕ
-limit_fault_text (bad_mode text) = codes "invalid terminate mode '" ++ (text ++ codes "', expected 'wait' or 'immediate'")
+limit_fault_text (bad_mode text) = codes "invalid terminate mode '"
+    ++ (text ++ codes "', expected 'wait' or 'immediate'")
 limit_fault_text (bad_count text Empty) = codes "cannot parse integer from empty string parsing ''"
-limit_fault_text (bad_count text InvalidDigit) = codes "invalid digit found in string parsing '" ++ (text ++ codes "'")
-limit_fault_text (bad_count text TooLarge) = codes "number too large to fit in target type parsing '" ++ (text ++ codes "'")
-limit_fault_text (bad_count text TooSmall) = codes "number too small to fit in target type parsing '" ++ (text ++ codes "'")
+limit_fault_text (bad_count text InvalidDigit) = codes "invalid digit found in string parsing '"
+    ++ (text ++ codes "'")
+limit_fault_text (bad_count text TooLarge) =
+    codes "number too large to fit in target type parsing '" ++ (text ++ codes "'")
+limit_fault_text (bad_count text TooSmall) =
+    codes "number too small to fit in target type parsing '" ++ (text ++ codes "'")
 limit_fault_text not_positive = codes "max-fail may not be <= 0"

@@ -6,7 +6,8 @@ use Rattle.std.specs.Str.Parse.{IsNumeral, digits_value, signed_digits_value, st
 use Rattle.nextest_config_elements.specs.MaxFail.NumberText.{IsNumberText, Sign, minus, plus, sign_text, signed_number, unsigned}
 
 -- digits begin with no sign
-unsigned_parts : (digits : List ℕ) → IsNumeral 10 digits → (starts_with_minus digits ≡ false) × (without_leading_plus digits ≡ digits)
+unsigned_parts : (digits : List ℕ) → IsNumeral 10 digits → (starts_with_minus digits ≡ false)
+    × (without_leading_plus digits ≡ digits)
 unsigned_parts [] h = absurd (omega (arith, h.0))
 unsigned_parts (c ∷ cs) h =
     let range = digit_from_value c h.1.0 in
@@ -15,7 +16,9 @@ unsigned_parts (c ∷ cs) h =
     (no_minus, rw no_plus refl)
 
 signed_parts : (sign : Sign) (digits : List ℕ) → IsNumeral 10 digits
-    → IsNumeral 10 (without_leading_sign (sign_text sign ++ digits)) × (signed_number sign (digits_value 10 digits) ≡ signed_digits_value 10 (sign_text sign ++ digits))
+    → IsNumeral 10 (without_leading_sign (sign_text sign ++ digits))
+    × (signed_number sign (digits_value 10 digits)
+    ≡ signed_digits_value 10 (sign_text sign ++ digits))
 signed_parts unsigned digits h =
     let parts = unsigned_parts digits h in
     (rw (parts.0, parts.1) h, rw (parts.0, parts.1) refl)
@@ -23,18 +26,39 @@ signed_parts plus digits h = (h, refl)
 signed_parts minus digits h = (h, refl)
 
 -- what the parts of a number's text are to the standard library
-pub number_parts : (text : List ℕ) (number : ℤ) → IsNumberText text number → IsNumeral 10 (without_leading_sign text) × (number ≡ signed_digits_value 10 text)
+pub number_parts : (text : List ℕ) (number : ℤ) → IsNumberText text number
+    → IsNumeral 10 (without_leading_sign text) × (number ≡ signed_digits_value 10 text)
 number_parts text number h =
     let parts = signed_parts h.sign h.digits h.numeral in
     (rw h.whole parts.0, rw h.whole (h.value ∙ parts.1))
 
-pub number_from_parts : (text : List ℕ) → IsNumeral 10 (without_leading_sign text) → IsNumberText text (signed_digits_value 10 text)
+pub number_from_parts : (text : List ℕ) → IsNumeral 10 (without_leading_sign text)
+    → IsNumberText text (signed_digits_value 10 text)
 number_from_parts [] h = absurd (omega (arith, h.0))
 number_from_parts (c ∷ cs) h = elim (cases_Bool (eqb c 45)) [
-  | inl negative ↦ record { sign = minus; digits = cs; whole = ap (λ b. b ∷ cs) (eqb-true c 45 negative); numeral = rw negative at h; value = rw negative refl }
+  | inl negative ↦ record {
+    sign = minus;
+    digits = cs;
+    whole = ap (λ b. b ∷ cs) (eqb-true c 45 negative);
+    numeral = rw negative at h;
+    value =
+        rw negative refl;
+  }
   | inr other ↦ elim (cases_Bool (eqb c 43)) [
-    | inl positive ↦ record { sign = plus; digits = cs; whole = ap (λ b. b ∷ cs) (eqb-true c 43 positive); numeral = rw (other, positive) at h; value = rw (other, positive) refl }
-    | inr none ↦ record { sign = unsigned; digits = c ∷ cs; whole = refl; numeral = rw (other, none) at h; value = rw (other, none) refl }
+    | inl positive ↦ record {
+      sign = plus;
+      digits = cs;
+      whole = ap (λ b. b ∷ cs) (eqb-true c 43 positive);
+      numeral = rw (other, positive) at h;
+      value = rw (other, positive) refl;
+    }
+    | inr none ↦ record {
+      sign = unsigned;
+      digits = c ∷ cs;
+      whole = refl;
+      numeral = rw (other, none) at h;
+      value = rw (other, none) refl;
+    }
   ]
 ]
 

@@ -9,6 +9,7 @@ halvings_within (suc most) n i =
     else if ltb i (n / 2) then suc (halvings_within most (n / 2) i)
     else suc (halvings_within most (n - n / 2) (i - n / 2))
 
--- none for up to one place; else one more than that of the half that holds place i, counted within it
+-- none for up to one place; else one more than that of the half that holds place i, counted within
+-- it
 unfoldable pub halvings : ℕ → ℕ → ℕ
 halvings n i = halvings_within n n i

@@ -8,7 +8,8 @@ use super::choose::Choose;
 use std::alloc::{AllocError, Global};
 use std::marker::Model;
 
-/// Leaves in order, with the choice over all of them. The tree knows nothing of them but how to choose.
+/// Leaves in order, with the choice over all of them. The tree knows nothing of them but how to
+/// choose.
 #[derive(Debug, Drop)]
 pub struct ChoiceTree<K: Choose> {
     leaves: Vec<K>,
@@ -35,7 +36,8 @@ impl<K: Choose> ChoiceTree<K> {
         })
     }
 
-    /// Replaces the leaf at the slot, and counts the choices that this takes: one for each time that the
+    /// Replaces the leaf at the slot, and counts the choices that this takes: one for each time
+    /// that the
     /// leaves are halved until that slot is left.
     pub fn set(&mut self, slot: usize, leaf: K, count: &mut K::Count)
         requires slot_within { slot < length self.old }
@@ -66,8 +68,10 @@ fn nothing_chosen<K: Choose>(alloc: Global, n: usize) -> Result<Vec<K>, AllocErr
     Ok(chosen)
 }
 
-// Puts the leaf at the slot, chooses anew in each range that has the slot, and gives the choice over
-// all leaves. The nodes of a range are those of its first half, its own, and those of its second half.
+// Puts the leaf at the slot, chooses anew in each range that has the slot, and gives the choice
+// over
+// all leaves. The nodes of a range are those of its first half, its own, and those of its second
+// half.
 fn set_within<K: Choose>(
     leaves: &mut [K],
     nodes: &mut [K],

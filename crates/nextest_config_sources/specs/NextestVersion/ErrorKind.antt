@@ -6,7 +6,8 @@ use Rattle.nextest_config_values.specs.declared.read.fault.ReadFault.{ReadFault}
 use Rattle.nextest_config_sources.specs.declared.nextest_version.error_kind.ConfigParseErrorKind.{ConfigParseErrorKind}
 use Rattle.nextest_config_sources.specs.declared.nextest_version.error_kind.ConfigParseErrorKind.TheVariants as kinds
 
--- the contents are no TOML document, or a setting is refused, or a tool's source names these features
+-- the contents are no TOML document, or a setting is refused, or a tool's source names these
+-- features
 pub data Wrong : Type 0 where
   not_toml : Wrong
   setting : Fault → Wrong
@@ -16,7 +17,8 @@ pub data Wrong : Type 0 where
 abbrev pub wrong_of : ConfigParseErrorKind → Option Wrong
 wrong_of kinds.TomlParseError = Some not_toml
 wrong_of (kinds.VersionOnlyDeserializeError fault) = option_map setting (fault_of fault)
-wrong_of (kinds.ExperimentalFeaturesInToolConfig features) = Some (tool_features (map string_bytes features.keys))
+wrong_of (kinds.ExperimentalFeaturesInToolConfig features) =
+    Some (tool_features (map string_bytes features.keys))
 wrong_of kinds.Memory = None
 
 -- whether memory was refused
@@ -32,17 +34,22 @@ RefusesSource IsSuch kind = FaultOrMemory (wrong_of kind) (kind ≡ kinds.Memory
 
 -- what the refusal of a setting makes of its source
 abbrev pub IsSettingKind : ReadFault → ConfigParseErrorKind → Type 0
-IsSettingKind refused kind = FaultOrMemory (fault_of refused) (kind ≡ kinds.Memory) (λ fault. wrong_of kind ≡ Some (setting fault))
+IsSettingKind refused kind =
+    FaultOrMemory (fault_of refused) (kind ≡ kinds.Memory)
+    (λ fault. wrong_of kind ≡ Some (setting fault))
 
 -- how it prints
 abbrev pub wrong_text : Wrong → List ℕ
 wrong_text not_toml = codes "not a TOML document"
 wrong_text (setting fault) = fault_text fault
-wrong_text (tool_features names) = codes "experimental features in a tool configuration: " ++ quoted_texts names
+wrong_text (tool_features names) = codes "experimental features in a tool configuration: "
+    ++ quoted_texts names
 
 -- how a kind of error prints
 abbrev pub error_kind_text : ConfigParseErrorKind → List ℕ
-error_kind_text (kinds.VersionOnlyDeserializeError fault) = path_text (string_bytes fault.path) ++ kind_text fault.kind
+error_kind_text (kinds.VersionOnlyDeserializeError fault) = path_text (string_bytes fault.path)
+    ++ kind_text fault.kind
 error_kind_text kinds.TomlParseError = wrong_text not_toml
-error_kind_text (kinds.ExperimentalFeaturesInToolConfig features) = wrong_text (tool_features (map string_bytes features.keys))
+error_kind_text (kinds.ExperimentalFeaturesInToolConfig features) =
+    wrong_text (tool_features (map string_bytes features.keys))
 error_kind_text kinds.Memory = codes "out of memory"

@@ -32,7 +32,8 @@ variable_of features.Benchmarks = Some (codes "NEXTEST_EXPERIMENTAL_BENCHMARKS")
 
 -- the feature has a variable, and its value is `1`
 abbrev pub IsEnabled : BTreeMap (String Global) (String Global) → ConfigExperimental → Type 0
-IsEnabled variables feature = (name : List ℕ) × (variable_of feature ≡ Some name) × (option_map string_bytes (get_by_text variables name) ≡ Some (codes "1"))
+IsEnabled variables feature = (name : List ℕ) × (variable_of feature ≡ Some name)
+    × (option_map string_bytes (get_by_text variables name) ≡ Some (codes "1"))
 
 -- the place of a feature in their order
 abbrev pub place_among : ConfigExperimental → ℕ

@@ -42,10 +42,13 @@ pub record AreSetsInOrder (named : Features) : Type 0 where
   pub known_in_order : FeaturesInOrder named.known
   pub unknown_in_order : TextsInOrder named.unknown
 
--- the features are those that are enabled, and the other names those that stand there and are no feature's word
-pub record AreNamed (IsEnabled : ConfigExperimental → Type 0) (StandsThere : List ℕ → Type 0) (named : Features) : Type 0 where
+-- the features are those that are enabled, and the other names those that stand there and are no
+-- feature's word
+pub record AreNamed (IsEnabled : ConfigExperimental → Type 0) (StandsThere : List ℕ → Type 0)
+    (named : Features) : Type 0 where
   pub of_known : (feature : ConfigExperimental) → Contains named.known feature ↔ IsEnabled feature
-  pub of_unknown : (text : List ℕ) → Contains named.unknown text ↔ (StandsThere text × IsUnknown text)
+  pub of_unknown : (text : List ℕ) → Contains named.unknown text
+      ↔ (StandsThere text × IsUnknown text)
   pub in_order : AreSetsInOrder named
 
 -- ---- the array form
@@ -74,35 +77,44 @@ item_path at index = at ++ (codes "[" ++ (decimal index ++ codes "]"))
 
 -- the element at an index is no text
 abbrev pub ItemFaults : Data → ℕ → List ℕ → Fault → Type 0
-ItemFaults value index at fault = (as_str value ≡ None) × (fault ≡ wrong_type value (item_path at index) text_expected)
+ItemFaults value index at fault = (as_str value ≡ None)
+    × (fault ≡ wrong_type value (item_path at index) text_expected)
 
 -- the first element that is no text
 abbrev pub FeatureArrayFaults : Items → List ℕ → Fault → Type 0
-FeatureArrayFaults items at fault = (index : ℕ) × (value : Data) × (get_item index items ≡ Some value) × ((earlier : ℕ) → earlier < index → IsTextAt items earlier) × ItemFaults value index at fault
+FeatureArrayFaults items at fault = (index : ℕ) × (value : Data)
+    × (get_item index items ≡ Some value)
+    × ((earlier : ℕ) → earlier < index → IsTextAt items earlier) × ItemFaults value index at fault
 
 -- ---- the table form
 
 -- whether the key of a feature is true; a missing key is false
 abbrev pub MeansSwitch : ConfigExperimental → Members → Bool → Type 0
-MeansSwitch feature members = MeansOr false (MeansAs as_bool MeansTruth) (get_member (word_of feature) members)
+MeansSwitch feature members =
+    MeansOr false (MeansAs as_bool MeansTruth) (get_member (word_of feature) members)
 
 -- the value at the key of a feature is no boolean
 abbrev pub SwitchFaults : ConfigExperimental → Members → List ℕ → Fault → Type 0
-SwitchFaults feature members at = OptionalFaults (FaultsAs as_bool (codes "a boolean") HasNoFault) (get_member (word_of feature) members) (path_of at (word_of feature))
+SwitchFaults feature members at =
+    OptionalFaults (FaultsAs as_bool (codes "a boolean") HasNoFault)
+    (get_member (word_of feature) members) (path_of at (word_of feature))
 
 -- the text is a key of the table and no feature's word
 abbrev pub IsUnknownFeatureKey : Members → List ℕ → Type 0
 IsUnknownFeatureKey members text = IsSome (get_member text members) × IsUnknown text
 
--- the value at the key of each feature is a boolean, if there is one; a feature is enabled where it is true; other keys are names whatever their values are
+-- the value at the key of each feature is a boolean, if there is one; a feature is enabled where it
+-- is true; other keys are names whatever their values are
 pub record MeansFeatureTable (members : Members) (named : Features) : Type 0 where
   pub of_switches : (feature : ConfigExperimental) → (on : Bool) × MeansSwitch feature members on
-  pub of_names : AreNamed (λ feature. MeansSwitch feature members true) (λ text. IsSome (get_member text members)) named
+  pub of_names : AreNamed (λ feature. MeansSwitch feature members true)
+      (λ text. IsSome (get_member text members)) named
 
 -- the first of these features whose key has a value that is no boolean
 abbrev pub FirstSwitchFaults : List ConfigExperimental → Members → List ℕ → Fault → Type 0
 FirstSwitchFaults [] = λ members at fault. ⊥
-FirstSwitchFaults (feature ∷ rest) = FaultsThen (MeansSwitch feature) (SwitchFaults feature) (λ on. FirstSwitchFaults rest)
+FirstSwitchFaults (feature ∷ rest) =
+    FaultsThen (MeansSwitch feature) (SwitchFaults feature) (λ on. FirstSwitchFaults rest)
 
 -- the first of the features in their order
 abbrev pub FeatureTableFaults : Members → List ℕ → Fault → Type 0
@@ -120,19 +132,27 @@ InForm array means held setting = means held setting.features × (setting.array 
 
 -- the value names these: as an array, or as a table
 abbrev pub MeansFeatures : Data → FeatureSetting → Type 0
-MeansFeatures value = MeansKind (InForm true MeansFeatureArray) (λ other. MeansKind (InForm false MeansFeatureTable) MeansNothing (as_table other) other) (as_array value) value
+MeansFeatures value =
+    MeansKind (InForm true MeansFeatureArray)
+    (λ other. MeansKind (InForm false MeansFeatureTable) MeansNothing (as_table other) other)
+    (as_array value) value
 
 -- what is wrong with the value at a path
 abbrev pub FeaturesFaults : Data → List ℕ → Fault → Type 0
-FeaturesFaults value = FaultsKind FeatureArrayFaults (λ other. FaultsKind FeatureTableFaults (WrongKind features_expected) (as_table other) other) (as_array value) value
+FeaturesFaults value =
+    FaultsKind FeatureArrayFaults
+    (λ other. FaultsKind FeatureTableFaults (WrongKind features_expected) (as_table other) other)
+    (as_array value) value
 
 -- ---- the names of both sets
 
 -- the text is the word of one of the features
 abbrev pub IsWordAmong : List ConfigExperimental → List ℕ → Type 0
-IsWordAmong known text = (feature : ConfigExperimental) × Contains known feature × (word_of feature ≡ text)
+IsWordAmong known text = (feature : ConfigExperimental) × Contains known feature
+    × (word_of feature ≡ text)
 
 -- the names of the features that are enabled and of those that are unknown, in byte order
 pub record AreNames (features : Features) (names : List (List ℕ)) : Type 0 where
-  pub of_both : (text : List ℕ) → Contains names text ↔ (Contains features.unknown text ⊎ IsWordAmong features.known text)
+  pub of_both : (text : List ℕ)
+      → Contains names text ↔ (Contains features.unknown text ⊎ IsWordAmong features.known text)
   pub in_order : TextsInOrder names

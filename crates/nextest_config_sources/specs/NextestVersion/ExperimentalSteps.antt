@@ -5,12 +5,16 @@ use Rattle.nextest_config_sources.specs.NextestVersion.Experimental.{IsUnknown, 
 use Rattle.nextest_config_sources.specs.NextestVersion.ExperimentalDeserialize.{AreSetsInOrder, Features}
 use Rattle.nextest_config_sources.specs.declared.nextest_version.experimental.ConfigExperimental.{ConfigExperimental}
 
--- the second has what the first has, and this name: as the feature whose word it is, or else as another name
+-- the second has what the first has, and this name: as the feature whose word it is, or else as
+-- another name
 pub record AddsText (before : Features) (text : List ℕ) (after : Features) : Type 0 where
-  pub more_known : (feature : ConfigExperimental) → Contains after.known feature ↔ (Contains before.known feature ⊎ (word_of feature ≡ text))
-  pub more_unknown : (other : List ℕ) → Contains after.unknown other ↔ (Contains before.unknown other ⊎ ((text ≡ other) × IsUnknown other))
+  pub more_known : (feature : ConfigExperimental) → Contains after.known feature
+      ↔ (Contains before.known feature ⊎ (word_of feature ≡ text))
+  pub more_unknown : (other : List ℕ) → Contains after.unknown other
+      ↔ (Contains before.unknown other ⊎ ((text ≡ other) × IsUnknown other))
   pub still_in_order : AreSetsInOrder before → AreSetsInOrder after
 
 -- the value is a text, which is added
 abbrev pub AddsItem : Features → Data → Features → Type 0
-AddsItem before value after = (text : List ℕ) × (as_str value ≡ Some text) × AddsText before text after
+AddsItem before value after = (text : List ℕ) × (as_str value ≡ Some text)
+    × AddsText before text after

@@ -50,7 +50,8 @@ ObeysOrder _ _ = Unit {0}
 
 -- both stand, and the required version is above the recommended one
 abbrev pub OrderFaults : Option Parts → Option Parts → List ℕ → Fault → Type 0
-OrderFaults (Some required) (Some recommended) at fault = IsBelow recommended required × (fault ≡ fault_at at (custom (required_above_recommended required recommended)))
+OrderFaults (Some required) (Some recommended) at fault = IsBelow recommended required
+    × (fault ≡ fault_at at (custom (required_above_recommended required recommended)))
 OrderFaults _ _ at fault = ⊥
 
 -- the table asks for the versions at its two keys; other keys don't count
@@ -59,44 +60,69 @@ pub record MeansVersionTable (members : Members) (asked : Versions) : Type 0 whe
   pub of_recommended : OptionalKey recommended_key MeansVersion members asked.recommended
   pub in_order : ObeysOrder asked.required asked.recommended
 
--- what is wrong with the table: at `required`, behind it at `recommended`, and behind both in their order
+-- what is wrong with the table: at `required`, behind it at `recommended`, and behind both in their
+-- order
 abbrev pub VersionTableFaults : Members → List ℕ → Fault → Type 0
-VersionTableFaults = FaultsThen (OptionalKey required_key MeansVersion) (OptionalKeyFaults required_key VersionFaults) (λ required.
-    FaultsThen (OptionalKey recommended_key MeansVersion) (OptionalKeyFaults recommended_key VersionFaults) (λ recommended members. OrderFaults required recommended))
+VersionTableFaults =
+    FaultsThen (OptionalKey required_key MeansVersion)
+    (OptionalKeyFaults required_key VersionFaults) (λ required.
+    FaultsThen (OptionalKey recommended_key MeansVersion)
+    (OptionalKeyFaults recommended_key VersionFaults)
+    (λ recommended members. OrderFaults required recommended))
 
 -- the text asks this: its version is required
 abbrev pub MeansVersionText : List ℕ → Versions → Type 0
-MeansVersionText text asked = (version : Parts) × HasVersion text version × (asked ≡ requires version)
+MeansVersionText text asked = (version : Parts) × HasVersion text version
+    × (asked ≡ requires version)
 
 -- what the setting takes
 abbrev pub versions_expected : List ℕ
-versions_expected = codes "a table ({ required = \"0.9.20\", recommended = \"0.9.30\" }) or a string (\"0.9.50\")"
+versions_expected = codes
+    "a table ({ required = \"0.9.20\", recommended = \"0.9.30\" }) or a string (\"0.9.50\")"
 
 -- the value asks this: as a text, or as a table
 abbrev pub MeansVersions : Data → Versions → Type 0
-MeansVersions value = MeansKind MeansVersionText (λ other. MeansKind MeansVersionTable MeansNothing (as_table other) other) (as_str value) value
+MeansVersions value =
+    MeansKind MeansVersionText
+    (λ other. MeansKind MeansVersionTable MeansNothing (as_table other) other) (as_str value) value
 
 -- what is wrong with the value at a path
 abbrev pub VersionsFaults : Data → List ℕ → Fault → Type 0
-VersionsFaults value = FaultsKind VersionTextFaults (λ other. FaultsKind VersionTableFaults (WrongKind versions_expected) (as_table other) other) (as_str value) value
+VersionsFaults value =
+    FaultsKind VersionTextFaults
+    (λ other. FaultsKind VersionTableFaults (WrongKind versions_expected) (as_table other) other)
+    (as_str value) value
 
 -- ---- its law
 
-role : (key : List ℕ) → IsReading (OptionalKey key MeansVersion) (OptionalKeyFaults key VersionFaults) (λ a b. a ≡ b)
+role : (key : List ℕ)
+    → IsReading (OptionalKey key MeansVersion) (OptionalKeyFaults key VersionFaults) (λ a b. a ≡ b)
 role key = at_key key (optional_reading version_reading)
 
-order : (required recommended : Option Parts) → IsReading {D = Members} (λ members asked. ObeysOrder required recommended × (asked ≡ versions required recommended)) (λ members. OrderFaults required recommended) (λ a b. a ≡ b)
-order (Some required) (Some recommended) = rule_reading (IsBelow recommended required) (required_above_recommended required recommended) (versions (Some required) (Some recommended))
+order : (required recommended : Option Parts)
+    → IsReading {D = Members} (λ members asked. ObeysOrder required recommended
+    × (asked ≡ versions required recommended)) (λ members. OrderFaults required recommended)
+    (λ a b. a ≡ b)
+order (Some required) (Some recommended) =
+    rule_reading (IsBelow recommended required) (required_above_recommended required recommended)
+    (versions (Some required) (Some recommended))
 order (Some required) None = nothing_wrong (versions (Some required) None)
 order None recommended = nothing_wrong (versions None recommended)
 
 table : IsReading MeansVersionTable VersionTableFaults (λ a b. a ≡ b)
-table = said_as (λ members asked meant. (asked.required, meant.of_required, (asked.recommended, meant.of_recommended, (meant.in_order, refl))))
-    (then_reading (role required_key) (λ required. then_reading (role recommended_key) (order required)))
+table = said_as (λ members asked meant. (
+  asked.required,
+  meant.of_required,
+  (asked.recommended, meant.of_recommended, (meant.in_order, refl)),
+))
+    (then_reading (role required_key)
+    (λ required. then_reading (role recommended_key) (order required)))
 
 -- a value asks one thing or has one fault, and not both
 pub versions_meant : IsReading MeansVersions VersionsFaults (λ a b. a ≡ b)
-versions_meant = kind_reading (made_of requires text_reading) (kind_reading table (wrong_kind versions_expected) as_table) as_str
+versions_meant = kind_reading (made_of requires text_reading)
+    (kind_reading table (wrong_kind versions_expected) as_table) as_str
 
-pub versions_reading : IsReading (λ value d. MeansVersions value (versions_of d)) VersionsFaults VersionsAlike
+pub versions_reading : IsReading (λ value d. MeansVersions value (versions_of d)) VersionsFaults
+    VersionsAlike
 versions_reading = reading_on versions_of versions_meant

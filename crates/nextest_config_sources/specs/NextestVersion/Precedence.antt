@@ -1,4 +1,5 @@
--- The precedence of versions (SemVer 2.0.0, item 11): the numbers in turn, then the pre-release; build metadata doesn't count.
+-- The precedence of versions (SemVer 2.0.0, item 11): the numbers in turn, then the pre-release;
+-- build metadata doesn't count.
 use Rattle.std.specs.Prelude.{◌≡◌, ◌<◌, [], Bool, true, not, ◌⊎◌}
 use Rattle.std.specs.Ordering.{nat_cmp, ordering_then, is_lt}
 use Rattle.std.specs.declared.cmp.Ordering.{Ordering}
@@ -8,7 +9,8 @@ use Rattle.nextest_config_sources.specs.NextestVersion.VersionText.{Numbers}
 
 -- how two versions compare
 abbrev pub precedence : Parts → Parts → Ordering
-precedence v w = ordering_then (nat_cmp v.0 w.0) (ordering_then (nat_cmp v.1 w.1) (ordering_then (nat_cmp v.2 w.2) (pre_cmp v.3 w.3)))
+precedence v w = ordering_then (nat_cmp v.0 w.0)
+    (ordering_then (nat_cmp v.1 w.1) (ordering_then (nat_cmp v.2 w.2) (pre_cmp v.3 w.3)))
 
 -- the first version is below the second
 abbrev pub is_below : Parts → Parts → Bool
@@ -26,7 +28,8 @@ is_enough current asked = not (is_below current asked)
 abbrev pub IsEnough : Parts → Parts → Type 0
 IsEnough current asked = is_enough current asked ≡ true
 
--- a greater major; or the same major and a greater minor; or the same minor, too, and a greater patch; or the same numbers and no pre-release
+-- a greater major; or the same major and a greater minor; or the same minor, too, and a greater
+-- patch; or the same numbers and no pre-release
 abbrev pub IsEnoughByNumbers : Parts → Numbers → Type 0
 IsEnoughByNumbers current asked =
     (asked.0 < current.0)

@@ -12,7 +12,8 @@ use Rattle.nextest_config_sources.specs.NextestVersion.Precedence.{IsBelow, prec
 pub precedence_total : IsTotalOrder precedence
 precedence_total = then_total (on_total (λ (v : Parts). v.0) nat_cmp_total)
     (then_total (on_total (λ (v : Parts). v.1) nat_cmp_total)
-    (then_total (on_total (λ (v : Parts). v.2) nat_cmp_total) (on_total (λ (v : Parts). v.3) pre_total)))
+    (then_total (on_total (λ (v : Parts). v.2) nat_cmp_total)
+    (on_total (λ (v : Parts). v.3) pre_total)))
 
 below_less : (o : Ordering) → is_lt o ≡ true → o ≡ Less
 below_less Less h = refl
@@ -27,11 +28,14 @@ not_below_itself v h =
 pub below_trans : (u v w : Parts) → IsBelow u v → IsBelow v w → IsBelow u w
 below_trans u v w h k = ap is_lt (precedence_total.trans u v w (below_less _ h) (below_less _ k))
 
-not_below_by : (o : Ordering) (u v w : Parts) → precedence u v ≡ o → ¬ IsBelow u v → ¬ IsBelow v w → ¬ IsBelow u w
+not_below_by : (o : Ordering) (u v w : Parts) → precedence u v ≡ o → ¬ IsBelow u v → ¬ IsBelow v w
+    → ¬ IsBelow u w
 not_below_by Less u v w e above more h = above (ap is_lt e)
-not_below_by Equal u v w e above more h = more (ap is_lt (sym (precedence_total.congr u v w e) ∙ below_less _ h))
+not_below_by Equal u v w e above more h =
+    more (ap is_lt (sym (precedence_total.congr u v w e) ∙ below_less _ h))
 not_below_by Greater u v w e above more h =
-    more (ap is_lt (precedence_total.trans v u w (precedence_total.antisymm v u ∙ ap ordering_reverse e) (below_less _ h)))
+    more (ap is_lt (precedence_total.trans v u w
+    (precedence_total.antisymm v u ∙ ap ordering_reverse e) (below_less _ h)))
 
 pub not_below_trans : (u v w : Parts) → ¬ IsBelow u v → ¬ IsBelow v w → ¬ IsBelow u w
 not_below_trans u v w above more = not_below_by (precedence u v) u v w refl above more

@@ -36,7 +36,8 @@ place_of source = record { kind = source.kind; path = string_bytes source.path }
 
 -- these contents, at the place of this source
 abbrev pub given_at : ConfigSource → Option (String Global) → Given
-given_at source contents = record { place = place_of source; contents = option_map string_bytes contents }
+given_at source contents =
+    record { place = place_of source; contents = option_map string_bytes contents }
 
 -- a source and its contents
 abbrev pub given_of : SourceText → Given
@@ -60,7 +61,10 @@ tool_given text = record {
 -- a repository's file
 abbrev pub repository_given : RepositoryText → Given
 repository_given text = record {
-  place = record { kind = if text.explicit then ExplicitRepository else DiscoveredRepository; path = string_bytes text.path };
+  place = record {
+    kind = if text.explicit then ExplicitRepository else DiscoveredRepository;
+    path = string_bytes text.path;
+  };
   contents = option_map string_bytes text.contents;
 }
 

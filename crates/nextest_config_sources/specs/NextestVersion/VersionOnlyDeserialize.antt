@@ -13,7 +13,8 @@ use Rattle.nextest_config_sources.specs.declared.nextest_version.source.ConfigSo
 use Rattle.nextest_config_sources.specs.declared.nextest_version.source.ConfigSourceKind.TheVariants.{Tool, ExplicitRepository, DiscoveredRepository}
 use Rattle.nextest_config_sources.specs.declared.nextest_version.version_only_deserialize.VersionOnlyDeserialize.{VersionOnlyDeserialize}
 
--- what one source asks: at most one version in each role, the features that it enables, and the unknown feature names in it; and whether it names them in an array
+-- what one source asks: at most one version in each role, the features that it enables, and the
+-- unknown feature names in it; and whether it names them in an array
 pub record Ask : Type 0 where
   pub versions : Versions
   pub features : Features
@@ -25,7 +26,11 @@ nothing = record { versions = no_versions; features = no_features; array = false
 
 -- what was read of a source
 abbrev pub ask_of : VersionOnlyDeserialize → Ask
-ask_of d = record { versions = versions_of d.nextest_version; features = features_of d.experimental; array = d.experimental.array }
+ask_of d = record {
+  versions = versions_of d.nextest_version;
+  features = features_of d.experimental;
+  array = d.experimental.array;
+}
 
 -- the key of the versions
 abbrev pub version_key : List ℕ
@@ -62,16 +67,20 @@ ObeysToolRule ExplicitRepository features = Unit {0}
 ObeysToolRule DiscoveredRepository features = Unit {0}
 
 -- the table of a document asks this under the edition
-pub record Asks (edition : Edition) (kind : ConfigSourceKind) (members : Members) (ask : Ask) : Type 0 where
+pub record Asks (edition : Edition) (kind : ConfigSourceKind) (members : Members) (ask : Ask)
+    : Type 0 where
   pub of_versions : AsksVersions (get_member version_key members) ask.versions
   pub of_form : ObeysForm edition (get_member experimental_key members)
-  pub of_features : AsksFeatures (get_member experimental_key members) (record { features = ask.features; array = ask.array })
+  pub of_features : AsksFeatures (get_member experimental_key members)
+      (record { features = ask.features; array = ask.array })
   pub of_tool : ObeysToolRule kind ask.features
 
--- a source is in its grammar with this ask: it has no contents and asks nothing, or its contents are a document whose table asks it
+-- a source is in its grammar with this ask: it has no contents and asks nothing, or its contents
+-- are a document whose table asks it
 abbrev pub TextAsks : Edition → ConfigSourceKind → Option (List ℕ) → Ask → Type 0
 TextAsks edition kind None ask = ask ≡ nothing
-TextAsks edition kind (Some text) ask = (members : Members) × (parse_document text ≡ Some members) × Asks edition kind members ask
+TextAsks edition kind (Some text) ask = (members : Members) × (parse_document text ≡ Some members)
+    × Asks edition kind members ask
 
 -- ---- a source outside its grammar
 
@@ -86,28 +95,39 @@ BreaksForm TableOnly found wrong = IsSome (array_in found) × (wrong ≡ broken_
 
 -- a tool's source names a feature
 abbrev pub BreaksToolRule : ConfigSourceKind → Features → Wrong → Type 0
-BreaksToolRule (Tool name) features wrong = (features ≢ no_features) × ((names : List (List ℕ)) × AreNames features names × (wrong ≡ tool_features names))
+BreaksToolRule (Tool name) features wrong = (features ≢ no_features)
+    × ((names : List (List ℕ)) × AreNames features names × (wrong ≡ tool_features names))
 BreaksToolRule ExplicitRepository features wrong = ⊥
 BreaksToolRule DiscoveredRepository features wrong = ⊥
 
 -- the value at the key is refused
 abbrev pub IsWrongSetting : (Data → List ℕ → Fault → Type 0) → List ℕ → Members → Wrong → Type 0
-IsWrongSetting faults key members wrong = (fault : Fault) × OptionalFaults faults (get_member key members) key fault × (wrong ≡ setting fault)
+IsWrongSetting faults key members wrong = (fault : Fault)
+    × OptionalFaults faults (get_member key members) key fault × (wrong ≡ setting fault)
 
--- what is wrong with the contents of `experimental`; where they are all right, that a tool names a feature
+-- what is wrong with the contents of `experimental`; where they are all right, that a tool names a
+-- feature
 abbrev pub IsWrongNamed : ConfigSourceKind → Members → Wrong → Type 0
 IsWrongNamed kind members =
-    Then (IsWrongSetting FeaturesFaults experimental_key members) (AsksFeatures (get_member experimental_key members)) (λ named. BreaksToolRule kind named.features)
+    Then (IsWrongSetting FeaturesFaults experimental_key members)
+    (AsksFeatures (get_member experimental_key members))
+    (λ named. BreaksToolRule kind named.features)
 
--- what is wrong with the form of `experimental`; where that is all right, what is wrong with its contents
+-- what is wrong with the form of `experimental`; where that is all right, what is wrong with its
+-- contents
 abbrev pub IsWrongBehind : Edition → ConfigSourceKind → Members → Wrong → Type 0
 IsWrongBehind edition kind members wrong =
-    BreaksForm edition (get_member experimental_key members) wrong ⊎ (ObeysForm edition (get_member experimental_key members) × IsWrongNamed kind members wrong)
+    BreaksForm edition (get_member experimental_key members) wrong
+    ⊎ (ObeysForm edition (get_member experimental_key members)
+    × IsWrongNamed kind members wrong)
 
--- what is wrong with a table: at `nextest-version`; where that is all right, what is wrong behind it
+-- what is wrong with a table: at `nextest-version`; where that is all right, what is wrong behind
+-- it
 abbrev pub IsWrongTable : Edition → ConfigSourceKind → Members → Wrong → Type 0
 IsWrongTable edition kind members =
-    Then (IsWrongSetting VersionsFaults version_key members) (AsksVersions (get_member version_key members)) (λ versions. IsWrongBehind edition kind members)
+    Then (IsWrongSetting VersionsFaults version_key members)
+    (AsksVersions (get_member version_key members))
+    (λ versions. IsWrongBehind edition kind members)
 
 -- what is wrong with the document, if it is one
 abbrev pub IsWrongDocument : Edition → ConfigSourceKind → Option Members → Wrong → Type 0

@@ -1,4 +1,5 @@
--- Version texts: the three numbers of SemVer 2.0.0 (item 2) joined by dots, and `x.y`, which stands for `x.y.0`.
+-- Version texts: the three numbers of SemVer 2.0.0 (item 2) joined by dots, and `x.y`, which stands
+-- for `x.y.0`.
 use Rattle.std.specs.Prelude.{◌≡◌, ◌≢◌, ℕ, ◌<◌, ◌^◌, List, [], ◌∷◌, ◌++◌, length, slice_index, ◌⊎◌}
 use Rattle.std.specs.List.{AllByRecursion}
 use Rattle.std.specs.Str.Parse.{AllDigits, digits_value}
@@ -64,7 +65,8 @@ pub record HasFirstMark (mark : ℕ) (text : List ℕ) : Type 0 where
 abbrev pub IsVersionFault : List ℕ → BrokenRule → Type 0
 IsVersionFault text pre_release = HasFirstMark hyphen text
 IsVersionFault text build_metadata = HasFirstMark plus_sign text
-IsVersionFault text (not_version written) = (written ≡ text) × AllByRecursion IsPlain text × ((numbers : Numbers) → ¬ IsVersionText text numbers)
+IsVersionFault text (not_version written) = (written ≡ text) × AllByRecursion IsPlain text
+    × ((numbers : Numbers) → ¬ IsVersionText text numbers)
 IsVersionFault text _ = ⊥
 
 -- these are the parts of the text's version
@@ -81,7 +83,8 @@ BreaksVersion text _ = ⊥
 
 -- the text has no version, since it breaks a rule
 abbrev pub VersionTextFaults : List ℕ → List ℕ → Fault → Type 0
-VersionTextFaults text at fault = (rule : BrokenRule) × IsVersionFault text rule × (fault ≡ fault_at at (custom rule))
+VersionTextFaults text at fault = (rule : BrokenRule) × IsVersionFault text rule
+    × (fault ≡ fault_at at (custom rule))
 
 -- the value is a text with this version
 abbrev pub MeansVersion : Data → Parts → Type 0

@@ -25,12 +25,19 @@ numeral_text text n h =
 
 no_leading_zero : (n : ℕ) → n < 2 ^ 64 → get_or (decimal n) 0 0 ≡ 48 → length (decimal n) ≡ 1
 no_leading_zero zero small first = rw (decimal_digit 0 (omega arith)) refl
-no_leading_zero (suc n) small first = absurd (omega (arith, first_decimal (suc n) (omega arith) small))
+no_leading_zero (suc n) small first =
+    absurd (omega (arith, first_decimal (suc n) (omega arith) small))
 
 pub decimal_numeral : (n : ℕ) → n < 2 ^ 64 → IsNumeral (decimal n) n
 decimal_numeral n small =
     let model = decimal_is_IsNumeral n small in
-    record { some = decimal_nonempty n small; digits = model.0.1; no_leading_zero = no_leading_zero n small; value = model.1; fits = small }
+    record {
+      some = decimal_nonempty n small;
+      digits = model.0.1;
+      no_leading_zero = no_leading_zero n small;
+      value = model.1;
+      fits = small;
+    }
 
 -- ---- bytes of numerals
 
@@ -43,13 +50,17 @@ digits_no_dot (b ∷ ds) h = (λ e. absurd (omega (arith, rw e at h.0)), digits_
 
 digits_plain : (ds : List ℕ) → AllDigits 10 ds → AllByRecursion IsPlain ds
 digits_plain [] h = tt
-digits_plain (b ∷ ds) h = ((λ e. absurd (omega (arith, rw e at h.0)), λ e. absurd (omega (arith, rw e at h.0))), digits_plain ds h.1)
+digits_plain (b ∷ ds) h = (
+  (λ e. absurd (omega (arith, rw e at h.0)), λ e. absurd (omega (arith, rw e at h.0))),
+  digits_plain ds h.1,
+)
 
 dot_plain : IsPlain dot
 dot_plain = (λ e. cc e, λ e. cc e)
 
 -- a text is cut at its last dot in one way
-cut_last : (x y u v : List ℕ) → x ++ (dot ∷ u) ≡ y ++ (dot ∷ v) → AllByRecursion NotDot u → AllByRecursion NotDot v → (x ≡ y) × (u ≡ v)
+cut_last : (x y u v : List ℕ) → x ++ (dot ∷ u) ≡ y ++ (dot ∷ v) → AllByRecursion NotDot u
+    → AllByRecursion NotDot v → (x ≡ y) × (u ≡ v)
 cut_last [] [] u v e a b = (refl, cc e)
 cut_last [] (c ∷ y) u v e a b =
     let rest : u ≡ y ++ (dot ∷ v) = cc e in
@@ -73,22 +84,37 @@ plain_text n = rw append-nil
 
 three_text : (text : List ℕ) (n : Numbers) → IsThree text n → text ≡ dotted_numbers n
 three_text text n h =
-    rw (← numeral_text h.major n.0 h.major_is, ← numeral_text h.minor n.1 h.minor_is, ← numeral_text h.patch n.2 h.patch_is) h.whole
+    rw (
+      ← numeral_text h.major n.0 h.major_is,
+      ← numeral_text h.minor n.1 h.minor_is,
+      ← numeral_text h.patch n.2 h.patch_is,
+    ) h.whole
 
 pub three_read : (text : List ℕ) (n : Numbers) → IsThree text n → version_parts text ≡ Ok (plain n)
 three_read text n h =
-    subst (λ (t : List ℕ). version_parts t ≡ Ok (plain n)) (plain_text n ∙ sym (three_text text n h))
-    (version_parts-complete (plain n) (h.major_is.fits, h.minor_is.fits, h.patch_is.fits, refl, refl))
+    subst (λ (t : List ℕ). version_parts t ≡ Ok (plain n))
+    (plain_text n ∙ sym (three_text text n h))
+    (version_parts-complete (plain n) (
+      h.major_is.fits,
+      h.minor_is.fits,
+      h.patch_is.fits,
+      refl,
+      refl,
+    ))
 
-no_marks : (pre build : List ℕ) → AllByRecursion IsPlain (marked hyphen pre ++ marked plus_sign build) → (pre ≡ []) × (build ≡ [])
+no_marks : (pre build : List ℕ)
+    → AllByRecursion IsPlain (marked hyphen pre ++ marked plus_sign build) → (pre ≡ [])
+    × (build ≡ [])
 no_marks [] [] h = (refl, refl)
 no_marks [] (b ∷ build) h = absurd (h.0.1 refl)
 no_marks (b ∷ pre) build h = absurd (h.0.0 refl)
 
 plain_parts : (p : Parts) → p.3 ≡ [] → p.4 ≡ [] → p ≡ plain (p.0, p.1, p.2)
-plain_parts p no_pre no_build = ap₂ (λ (pre build : List ℕ). (p.0, p.1, p.2, pre, build)) no_pre no_build
+plain_parts p no_pre no_build =
+    ap₂ (λ (pre build : List ℕ). (p.0, p.1, p.2, pre, build)) no_pre no_build
 
-pub read_three : (text : List ℕ) (p : Parts) → AllByRecursion IsPlain text → version_parts text ≡ Ok p → (numbers : Numbers) × IsThree text numbers × (p ≡ plain numbers)
+pub read_three : (text : List ℕ) (p : Parts) → AllByRecursion IsPlain text
+    → version_parts text ≡ Ok p → (numbers : Numbers) × IsThree text numbers × (p ≡ plain numbers)
 read_three text p unmarked read =
     let sound = version_parts-sound text p read in
     let all = subst (AllByRecursion IsPlain) (sym sound.0) unmarked in
@@ -114,13 +140,23 @@ abbrev pub third : List ℕ
 third = dot ∷ 48 ∷ []
 
 zero_numeral : IsNumeral (48 ∷ []) 0
-zero_numeral = subst (λ (t : List ℕ). IsNumeral t 0) (decimal_digit 0 (omega arith)) (decimal_numeral 0 (omega arith))
+zero_numeral = subst (λ (t : List ℕ). IsNumeral t 0) (decimal_digit 0 (omega arith))
+    (decimal_numeral 0 (omega arith))
 
 two_is_three : (text : List ℕ) (n : Numbers) → IsTwo text n → IsThree (text ++ third) n
 two_is_three text n h =
-    let whole : text ++ third ≡ h.major ++ (dot ∷ (h.minor ++ third)) = rw h.whole (append_assoc h.major (dot ∷ h.minor) third) in
+    let whole : text ++ third ≡ h.major ++ (dot ∷ (h.minor ++ third)) =
+    rw h.whole (append_assoc h.major (dot ∷ h.minor) third) in
     let patch_is : IsNumeral (48 ∷ []) n.2 = rw h.patch_is zero_numeral in
-    record { major = h.major; minor = h.minor; patch = 48 ∷ []; whole = whole; major_is = h.major_is; minor_is = h.minor_is; patch_is = patch_is }
+    record {
+      major = h.major;
+      minor = h.minor;
+      patch = 48 ∷ [];
+      whole = whole;
+      major_is = h.major_is;
+      minor_is = h.minor_is;
+      patch_is = patch_is;
+    }
 
 third_plain : AllByRecursion IsPlain third
 third_plain = (dot_plain, ((λ e. cc e, λ e. cc e), tt))
@@ -128,13 +164,28 @@ third_plain = (dot_plain, ((λ e. cc e, λ e. cc e), tt))
 zero_no_dot : AllByRecursion NotDot (48 ∷ [])
 zero_no_dot = (λ e. cc e, tt)
 
-pub read_two : (text : List ℕ) (p : Parts) → AllByRecursion IsPlain text → version_parts (text ++ third) ≡ Ok p → (numbers : Numbers) × IsTwo text numbers × (p ≡ plain numbers)
+pub read_two : (text : List ℕ) (p : Parts) → AllByRecursion IsPlain text
+    → version_parts (text ++ third) ≡ Ok p → (numbers : Numbers) × IsTwo text numbers
+    × (p ≡ plain numbers)
 read_two text p unmarked read =
-    let (numbers, h, parts) = read_three (text ++ third) p (all_joined IsPlain text third unmarked third_plain) read in
-    let ends : text ++ third ≡ (h.major ++ (dot ∷ h.minor)) ++ (dot ∷ h.patch) = h.whole ∙ sym (append_assoc h.major (dot ∷ h.minor) (dot ∷ h.patch)) in
-    let cut = cut_last text (h.major ++ (dot ∷ h.minor)) (48 ∷ []) h.patch ends zero_no_dot (digits_no_dot h.patch h.patch_is.digits) in
-    let patch_is : numbers.2 ≡ 0 = sym h.patch_is.value ∙ ap (digits_value 10) (sym cut.1) in
-    (numbers, record { major = h.major; minor = h.minor; whole = cut.0; major_is = h.major_is; minor_is = h.minor_is; patch_is = patch_is }, parts)
+    let (numbers, h, parts) =
+    read_three (text ++ third) p (all_joined IsPlain text third unmarked third_plain) read in
+    let ends : text ++ third ≡ (h.major ++ (dot ∷ h.minor)) ++ (dot ∷ h.patch) =
+    h.whole ∙ sym (append_assoc h.major (dot ∷ h.minor) (dot ∷ h.patch)) in
+    let cut = cut_last text (h.major ++ (dot ∷ h.minor)) (48 ∷ []) h.patch ends zero_no_dot
+    (digits_no_dot h.patch h.patch_is.digits) in
+    let patch_is : numbers.2 ≡ 0 = sym h.patch_is.value ∙ ap (digits_value 10) (sym cut.1) in (
+      numbers,
+      record {
+        major = h.major;
+        minor = h.minor;
+        whole = cut.0;
+        major_is = h.major_is;
+        minor_is = h.minor_is;
+        patch_is = patch_is;
+      },
+      parts,
+    )
 
 -- ---- one version, and no fault beside it
 
@@ -148,24 +199,30 @@ three_or_two : (text : List ℕ) (m n : Numbers) → IsThree text m → IsTwo te
 three_or_two text m n h k =
     let cuts : (h.major ++ (dot ∷ h.minor)) ++ (dot ∷ h.patch) ≡ k.major ++ (dot ∷ k.minor) =
     append_assoc h.major (dot ∷ h.minor) (dot ∷ h.patch) ∙ sym h.whole ∙ k.whole in
-    let cut = cut_last (h.major ++ (dot ∷ h.minor)) k.major h.patch k.minor cuts (digits_no_dot h.patch h.patch_is.digits) (digits_no_dot k.minor k.minor_is.digits) in
+    let cut = cut_last (h.major ++ (dot ∷ h.minor)) k.major h.patch k.minor cuts
+    (digits_no_dot h.patch h.patch_is.digits) (digits_no_dot k.minor k.minor_is.digits) in
     let one = subst (AllByRecursion NotDot) (sym cut.0) (digits_no_dot k.major k.major_is.digits) in
     all_middle NotDot h.major dot h.minor one refl
 
-pub version_once : (text : List ℕ) (m n : Numbers) → IsVersionText text m → IsVersionText text n → m ≡ n
+pub version_once : (text : List ℕ) (m n : Numbers) → IsVersionText text m → IsVersionText text n
+    → m ≡ n
 version_once text m n (inl h) (inl k) = three_once text m n h k
 version_once text m n (inl h) (inr k) = absurd (three_or_two text m n h k)
 version_once text m n (inr h) (inl k) = absurd (three_or_two text n m k h)
-version_once text m n (inr h) (inr k) = three_once (text ++ third) m n (two_is_three text m h) (two_is_three text n k)
+version_once text m n (inr h) (inr k) =
+    three_once (text ++ third) m n (two_is_three text m h) (two_is_three text n k)
 
 version_plain : (text : List ℕ) (n : Numbers) → IsVersionText text n → AllByRecursion IsPlain text
 version_plain text n (inl h) =
     let patch = digits_plain h.patch h.patch_is.digits in
-    let minor = all_joined IsPlain h.minor (dot ∷ h.patch) (digits_plain h.minor h.minor_is.digits) (dot_plain, patch) in
-    rw h.whole (all_joined IsPlain h.major (dot ∷ (h.minor ++ (dot ∷ h.patch))) (digits_plain h.major h.major_is.digits) (dot_plain, minor))
+    let minor = all_joined IsPlain h.minor (dot ∷ h.patch) (digits_plain h.minor h.minor_is.digits)
+    (dot_plain, patch) in
+    rw h.whole (all_joined IsPlain h.major (dot ∷ (h.minor ++ (dot ∷ h.patch)))
+    (digits_plain h.major h.major_is.digits) (dot_plain, minor))
 version_plain text n (inr h) =
     let minor = digits_plain h.minor h.minor_is.digits in
-    rw h.whole (all_joined IsPlain h.major (dot ∷ h.minor) (digits_plain h.major h.major_is.digits) (dot_plain, minor))
+    rw h.whole (all_joined IsPlain h.major (dot ∷ h.minor) (digits_plain h.major h.major_is.digits)
+    (dot_plain, minor))
 
 hyphen_is_mark : ¬ IsPlain hyphen
 hyphen_is_mark p = p.0 refl
@@ -173,22 +230,31 @@ hyphen_is_mark p = p.0 refl
 plus_is_mark : ¬ IsPlain plus_sign
 plus_is_mark p = p.1 refl
 
-not_unmarked : (mark : ℕ) (text : List ℕ) → ¬ IsPlain mark → HasFirstMark mark text → AllByRecursion IsPlain text → ⊥
-not_unmarked mark text is_mark h plain = is_mark (all_middle IsPlain h.before mark h.after (subst (AllByRecursion IsPlain) h.whole plain))
+not_unmarked : (mark : ℕ) (text : List ℕ) → ¬ IsPlain mark → HasFirstMark mark text
+    → AllByRecursion IsPlain text → ⊥
+not_unmarked mark text is_mark h plain =
+    is_mark (all_middle IsPlain h.before mark h.after
+    (subst (AllByRecursion IsPlain) h.whole plain))
 
-pub version_not_fault : (text : List ℕ) (n : Numbers) (rule : BrokenRule) → IsVersionText text n → IsVersionFault text rule → ⊥
-version_not_fault text n pre_release h k = not_unmarked hyphen text hyphen_is_mark k (version_plain text n h)
-version_not_fault text n build_metadata h k = not_unmarked plus_sign text plus_is_mark k (version_plain text n h)
+pub version_not_fault : (text : List ℕ) (n : Numbers) (rule : BrokenRule) → IsVersionText text n
+    → IsVersionFault text rule → ⊥
+version_not_fault text n pre_release h k =
+    not_unmarked hyphen text hyphen_is_mark k (version_plain text n h)
+version_not_fault text n build_metadata h k =
+    not_unmarked plus_sign text plus_is_mark k (version_plain text n h)
 version_not_fault text n (not_version written) h k = k.2 n h
 version_not_fault text n _ h k = absurd k
 
-pub no_version : (text : List ℕ) → IsErr (version_parts text) → IsErr (version_parts (text ++ third)) → (n : Numbers) → ¬ IsVersionText text n
+pub no_version : (text : List ℕ) → IsErr (version_parts text)
+    → IsErr (version_parts (text ++ third)) → (n : Numbers) → ¬ IsVersionText text n
 no_version text three two n (inl h) = absurd (false≢true (rw (three_read text n h) at three))
-no_version text three two n (inr h) = absurd (false≢true (rw (three_read (text ++ third) n (two_is_three text n h)) at two))
+no_version text three two n (inr h) =
+    absurd (false≢true (rw (three_read (text ++ third) n (two_is_three text n h)) at two))
 
 -- ---- one rule
 
-one_mark : (b d a c : List ℕ) (m n : ℕ) → b ++ (m ∷ a) ≡ d ++ (n ∷ c) → AllByRecursion IsPlain b → AllByRecursion IsPlain d → ¬ IsPlain m → ¬ IsPlain n → m ≡ n
+one_mark : (b d a c : List ℕ) (m n : ℕ) → b ++ (m ∷ a) ≡ d ++ (n ∷ c) → AllByRecursion IsPlain b
+    → AllByRecursion IsPlain d → ¬ IsPlain m → ¬ IsPlain n → m ≡ n
 one_mark [] [] a c m n e p q mark other = cc e
 one_mark [] (x ∷ d) a c m n e p q mark other =
     let same : m ≡ x = cc e in
@@ -202,18 +268,24 @@ one_mark (x ∷ b) (y ∷ d) a c m n e p q mark other =
 
 not_both_marks : (text : List ℕ) → HasFirstMark hyphen text → HasFirstMark plus_sign text → ⊥
 not_both_marks text h k =
-    let same = one_mark h.before k.before h.after k.after hyphen plus_sign (sym h.whole ∙ k.whole) h.first k.first hyphen_is_mark plus_is_mark in
+    let same = one_mark h.before k.before h.after k.after hyphen plus_sign (sym h.whole ∙ k.whole)
+    h.first k.first hyphen_is_mark plus_is_mark in
     cc same
 
-pub one_rule : (text : List ℕ) (r s : BrokenRule) → IsVersionFault text r → IsVersionFault text s → r ≡ s
+pub one_rule : (text : List ℕ) (r s : BrokenRule) → IsVersionFault text r → IsVersionFault text s
+    → r ≡ s
 one_rule text pre_release pre_release h k = refl
 one_rule text pre_release build_metadata h k = absurd (not_both_marks text h k)
-one_rule text pre_release (not_version w) h k = absurd (not_unmarked hyphen text hyphen_is_mark h k.1)
+one_rule text pre_release (not_version w) h k =
+    absurd (not_unmarked hyphen text hyphen_is_mark h k.1)
 one_rule text build_metadata pre_release h k = absurd (not_both_marks text k h)
 one_rule text build_metadata build_metadata h k = refl
-one_rule text build_metadata (not_version w) h k = absurd (not_unmarked plus_sign text plus_is_mark h k.1)
-one_rule text (not_version w) pre_release h k = absurd (not_unmarked hyphen text hyphen_is_mark k h.1)
-one_rule text (not_version w) build_metadata h k = absurd (not_unmarked plus_sign text plus_is_mark k h.1)
+one_rule text build_metadata (not_version w) h k =
+    absurd (not_unmarked plus_sign text plus_is_mark h k.1)
+one_rule text (not_version w) pre_release h k =
+    absurd (not_unmarked hyphen text hyphen_is_mark k h.1)
+one_rule text (not_version w) build_metadata h k =
+    absurd (not_unmarked plus_sign text plus_is_mark k h.1)
 one_rule text (not_version w) (not_version v) h k = ap not_version (h.0 ∙ sym k.0)
 one_rule text pre_release _ h k = absurd k
 one_rule text build_metadata _ h k = absurd k
@@ -226,16 +298,26 @@ pub text_reading : IsReading HasVersion VersionTextFaults (λ a b. a ≡ b)
 text_reading = record {
   equivalence = equality;
   one_meaning = λ text x y a b. a.2 ∙ ap plain (version_once text a.0 b.0 a.1 b.1) ∙ sym b.2;
-  one_fault = λ text at f g a b. a.2 ∙ ap (λ rule. fault_at at (custom rule)) (one_rule text a.0 b.0 a.1 b.1) ∙ sym b.2;
+  one_fault = λ text at f g a b. a.2
+      ∙ ap (λ rule. fault_at at (custom rule)) (one_rule text a.0 b.0 a.1 b.1) ∙ sym b.2;
   never_both = λ text at x f a b. version_not_fault text a.0 b.0 a.1 b.1;
 }
 
 pub version_reading : IsReading MeansVersion VersionFaults (λ a b. a ≡ b)
-version_reading = reading_as as_str text_expected HasVersion (λ text value. VersionTextFaults text) (λ a b. a ≡ b) (held text_reading)
+version_reading = reading_as as_str text_expected HasVersion (λ text value. VersionTextFaults text)
+    (λ a b. a ≡ b) (held text_reading)
 
 -- ---- the scan for a mark
 
-pub mark_at : (mark : ℕ) (text bytes : List ℕ) (i : ℕ) → bytes ≡ text → i < length bytes → get_or bytes i 0 ≡ mark → AllByRecursion IsPlain (take i text) → HasFirstMark mark text
+pub mark_at : (mark : ℕ) (text bytes : List ℕ) (i : ℕ) → bytes ≡ text → i < length bytes
+    → get_or bytes i 0 ≡ mark → AllByRecursion IsPlain (take i text) → HasFirstMark mark text
 mark_at mark text bytes i same within here before =
-    let rest : drop i text ≡ mark ∷ drop (i + 1) bytes = rw (← same, ← here) (drop_more bytes i 0 within) in
-    record { before = take i text; after = drop (i + 1) bytes; whole = sym (take-append-drop i text) ∙ ap (λ (r : List ℕ). take i text ++ r) rest; first = before }
+    let rest : drop i text ≡ mark ∷ drop (i + 1) bytes =
+    rw (← same, ← here) (drop_more bytes i 0 within) in
+    record {
+      before = take i text;
+      after = drop (i + 1) bytes;
+      whole = sym (take-append-drop i text)
+          ∙ ap (λ (r : List ℕ). take i text ++ r) rest;
+      first = before;
+    }

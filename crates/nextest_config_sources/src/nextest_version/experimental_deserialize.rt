@@ -60,7 +60,8 @@ impl ExperimentalDeserialize {
 
     /// The names of the known features and of the unknown ones.
     pub fn feature_names(&self, alloc: Global) -> Result<BTreeSet<String>, AllocError>
-        ensures { IfOk result (λ names. AreNames (features_of self.now) (map string_bytes names.keys)) }
+        ensures { IfOk result
+            (λ names. AreNames (features_of self.now) (map string_bytes names.keys)) }
     {
         let mut names = known_words(alloc, &self.known)?;
         for name in &self.unknown {
@@ -127,7 +128,8 @@ impl ExperimentalDeserialize {
 
     // Adds a name.
     fn add(&mut self, alloc: Global, text: &str) -> Result<(), AllocError>
-        ensures added { OnOk result (AddsText (features_of self.old) text.now (features_of self.new)) }
+        ensures added { OnOk result
+            (AddsText (features_of self.old) text.now (features_of self.new)) }
         ensures form { self.new.array ≡ self.old.array }
     {
         match ConfigExperimental::from_str(text) {
@@ -224,7 +226,8 @@ fn read_switch(
 // The keys of a table that are no feature's word.
 fn unknown_keys(alloc: Global, table: &Table) -> Result<BTreeSet<String>, AllocError>
     ensures unknown { IfOk result (λ unknown. (text : List ℕ)
-        → Contains (map string_bytes unknown.keys) text ↔ IsUnknownFeatureKey (table_view table.now) text) }
+        → Contains (map string_bytes unknown.keys) text ↔ IsUnknownFeatureKey (table_view table.now)
+        text) }
     ensures in_order { IfOk result (λ unknown. TextsInOrder (map string_bytes unknown.keys)) }
 {
     let mut unknown = BTreeSet::new(alloc);
@@ -250,7 +253,8 @@ fn add_text(alloc: Global, texts: &mut BTreeSet<String>, text: &str) -> Result<(
 
 // The fault of an element that is no text.
 fn item_fault(alloc: Global, value: &Value, index: usize, at: &str) -> ReadFault
-    ensures { RefusesAs (wrong_type (view value.now) (item_path at.now index) text_expected) result }
+    ensures { RefusesAs (wrong_type (view value.now) (item_path at.now index) text_expected)
+        result }
 {
     match format!(in alloc; "{at}[{index}]") {
         Ok(path) => ReadFault::invalid_type(alloc, value, path.as_str(), "a string"),

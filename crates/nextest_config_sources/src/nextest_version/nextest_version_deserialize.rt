@@ -54,7 +54,8 @@ impl NextestVersionDeserialize {
 
     // What a table asks.
     fn read_table(alloc: Global, table: &Table, at: &str) -> Result<Self, ReadFault>
-        ensures meant { IfOk result (λ d. MeansVersionTable (table_view table.now) (versions_of d)) }
+        ensures meant { IfOk result
+            (λ d. MeansVersionTable (table_view table.now) (versions_of d)) }
         ensures refused { IfErr result (Refuses
             (VersionTableFaults (table_view table.now) at.now) (Unit {0})) }
     {

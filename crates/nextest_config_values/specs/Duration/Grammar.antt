@@ -1,4 +1,5 @@
--- Durations as texts, in the manner of humantime: whole numbers, each with a unit. Texts are read by their characters.
+-- Durations as texts, in the manner of humantime: whole numbers, each with a unit. Texts are read
+-- by their characters.
 use Rattle.std.specs.Prelude.{◌≡◌, ◌≢◌, ℕ, ◌+◌, ◌*◌, ◌<◌, ◌≤◌, ◌^◌, ◌&&◌, Bool, not, IsTrue, List, [], ◌∷◌, ◌++◌, length, codes, chars, encode_utf8_all, Option, Some, None, option_map}
 use Rattle.std.specs.Char.{is_ascii_digit, is_whitespace}
 use Rattle.std.specs.Duration.{FitsDuration, as_nanos}
@@ -21,13 +22,23 @@ units =
     (codes "nanos", 1) ∷ (codes "nsec", 1) ∷ (codes "ns", 1)
     ∷ (codes "usec", 1_000) ∷ (codes "us", 1_000) ∷ (micro_sign ∷ codes "s", 1_000)
     ∷ (codes "millis", 1_000_000) ∷ (codes "msec", 1_000_000) ∷ (codes "ms", 1_000_000)
-    ∷ (codes "seconds", 1_000_000_000) ∷ (codes "second", 1_000_000_000) ∷ (codes "secs", 1_000_000_000) ∷ (codes "sec", 1_000_000_000) ∷ (codes "s", 1_000_000_000)
-    ∷ (codes "minutes", 60_000_000_000) ∷ (codes "minute", 60_000_000_000) ∷ (codes "mins", 60_000_000_000) ∷ (codes "min", 60_000_000_000) ∷ (codes "m", 60_000_000_000)
-    ∷ (codes "hours", 3_600_000_000_000) ∷ (codes "hour", 3_600_000_000_000) ∷ (codes "hrs", 3_600_000_000_000) ∷ (codes "hr", 3_600_000_000_000) ∷ (codes "h", 3_600_000_000_000)
-    ∷ (codes "days", 86_400_000_000_000) ∷ (codes "day", 86_400_000_000_000) ∷ (codes "d", 86_400_000_000_000)
-    ∷ (codes "weeks", 604_800_000_000_000) ∷ (codes "week", 604_800_000_000_000) ∷ (codes "wks", 604_800_000_000_000) ∷ (codes "wk", 604_800_000_000_000) ∷ (codes "w", 604_800_000_000_000)
-    ∷ (codes "months", 2_630_016_000_000_000) ∷ (codes "month", 2_630_016_000_000_000) ∷ (codes "M", 2_630_016_000_000_000)
-    ∷ (codes "years", 31_557_600_000_000_000) ∷ (codes "year", 31_557_600_000_000_000) ∷ (codes "yrs", 31_557_600_000_000_000) ∷ (codes "yr", 31_557_600_000_000_000) ∷ (codes "y", 31_557_600_000_000_000)
+    ∷ (codes "seconds", 1_000_000_000) ∷ (codes "second", 1_000_000_000) ∷
+    (codes "secs", 1_000_000_000) ∷ (codes "sec", 1_000_000_000) ∷ (codes "s", 1_000_000_000)
+    ∷ (codes "minutes", 60_000_000_000) ∷ (codes "minute", 60_000_000_000) ∷
+    (codes "mins", 60_000_000_000) ∷ (codes "min", 60_000_000_000) ∷ (codes "m", 60_000_000_000)
+    ∷ (codes "hours", 3_600_000_000_000) ∷ (codes "hour", 3_600_000_000_000) ∷
+    (codes "hrs", 3_600_000_000_000) ∷ (codes "hr", 3_600_000_000_000) ∷
+    (codes "h", 3_600_000_000_000)
+    ∷ (codes "days", 86_400_000_000_000) ∷ (codes "day", 86_400_000_000_000) ∷
+    (codes "d", 86_400_000_000_000)
+    ∷ (codes "weeks", 604_800_000_000_000) ∷ (codes "week", 604_800_000_000_000) ∷
+    (codes "wks", 604_800_000_000_000) ∷ (codes "wk", 604_800_000_000_000) ∷
+    (codes "w", 604_800_000_000_000)
+    ∷ (codes "months", 2_630_016_000_000_000) ∷ (codes "month", 2_630_016_000_000_000) ∷
+    (codes "M", 2_630_016_000_000_000)
+    ∷ (codes "years", 31_557_600_000_000_000) ∷ (codes "year", 31_557_600_000_000_000) ∷
+    (codes "yrs", 31_557_600_000_000_000) ∷ (codes "yr", 31_557_600_000_000_000) ∷
+    (codes "y", 31_557_600_000_000_000)
     ∷ []
 
 -- the length in the first row with this word
@@ -88,7 +99,8 @@ pub record IsItemText (text : List ℕ) (item : Item) : Type 0 where
 -- one item behind the other, and white space behind the last
 abbrev pub Spells : List Item → List ℕ → Type 0
 Spells [] text = AreAll is_whitespace text
-Spells (item ∷ items) text = (here behind : List ℕ) × (text ≡ here ++ behind) × IsItemText here item × Spells items behind
+Spells (item ∷ items) text = (here behind : List ℕ) × (text ≡ here ++ behind) × IsItemText here item
+    × Spells items behind
 
 -- the cut isn't inside a word
 abbrev pub IsUncut : List ℕ → List ℕ → Type 0
@@ -103,7 +115,8 @@ abbrev pub total : List Item → ℕ
 total [] = 0
 total (item ∷ items) = item.number * item.unit + total items
 
--- the text is that many nanoseconds: one item or more, and their sum is at most (2^64 - 1) s and 999999999 ns
+-- the text is that many nanoseconds: one item or more, and their sum is at most (2^64 - 1) s and
+-- 999999999 ns
 pub record IsDuration (text : List ℕ) (nanoseconds : ℕ) : Type 0 where
   pub items : List Item
   pub some : items ≢ []
@@ -114,7 +127,8 @@ pub record IsDuration (text : List ℕ) (nanoseconds : ℕ) : Type 0 where
 
 -- ---- faults
 
--- a front of the text that is white space or is spelled by items whose numbers fit, and that doesn't end inside a word
+-- a front of the text that is white space or is spelled by items whose numbers fit, and that
+-- doesn't end inside a word
 pub record IsFront (text front behind : List ℕ) (items : List Item) : Type 0 where
   pub whole : text ≡ front ++ behind
   pub spelled : Spells items front
@@ -124,9 +138,11 @@ pub record IsFront (text front behind : List ℕ) (items : List Item) : Type 0 w
 -- the longest one
 pub record IsLongestFront (text front behind : List ℕ) (items : List Item) : Type 0 where
   pub is_front : IsFront text front behind items
-  pub longest : (other rest : List ℕ) (others : List Item) → IsFront text other rest others → length other ≤ length front
+  pub longest : (other rest : List ℕ) (others : List Item) → IsFront text other rest others
+      → length other ≤ length front
 
--- what the text begins with: digits, white space and a word, each as long as can be, and each possibly empty
+-- what the text begins with: digits, white space and a word, each as long as can be, and each
+-- possibly empty
 pub record IsNext (text digits gap word behind : List ℕ) : Type 0 where
   pub whole : text ≡ digits ++ (gap ++ (word ++ behind))
   pub of_digits : IsRun is_ascii_digit digits (gap ++ (word ++ behind))
@@ -150,19 +166,24 @@ IsEndFault items _ = ⊥
 -- the fault at what comes next, which stands at this offset
 abbrev pub IsNextFault : ℕ → List ℕ → List ℕ → List ℕ → DurationFault → Type 0
 IsNextFault place digits gap word (faults.NumberExpected at) = (digits ≡ []) × (at ≡ place)
-IsNextFault place digits gap word (faults.NumberTooLarge at) = (2 ^ 64 ≤ digits_value 10 digits) × (at ≡ place)
-IsNextFault place digits gap word (faults.UnitMissing at) = AreFittingDigits digits × (word ≡ []) × (at ≡ place + offset (digits ++ gap))
-IsNextFault place digits gap word (faults.UnitUnknown at) = AreFittingDigits digits × (word ≢ []) × (unit_length word ≡ None) × (at ≡ place + offset (digits ++ gap))
+IsNextFault place digits gap word (faults.NumberTooLarge at) = (2 ^ 64 ≤ digits_value 10 digits)
+    × (at ≡ place)
+IsNextFault place digits gap word (faults.UnitMissing at) = AreFittingDigits digits × (word ≡ [])
+    × (at ≡ place + offset (digits ++ gap))
+IsNextFault place digits gap word (faults.UnitUnknown at) = AreFittingDigits digits × (word ≢ [])
+    × (unit_length word ≡ None) × (at ≡ place + offset (digits ++ gap))
 IsNextFault place digits gap word _ = ⊥
 
 -- the fault behind the longest front: nothing follows, or something that is no item
 abbrev pub IsFaultBehind : List ℕ → List ℕ → List Item → DurationFault → Type 0
 IsFaultBehind front [] items fault = IsEndFault items fault
-IsFaultBehind front (c ∷ cs) items fault = (digits gap word behind : List ℕ) × IsNext (c ∷ cs) digits gap word behind × IsNextFault (offset front) digits gap word fault
+IsFaultBehind front (c ∷ cs) items fault = (digits gap word behind : List ℕ)
+    × IsNext (c ∷ cs) digits gap word behind × IsNextFault (offset front) digits gap word fault
 
 -- the fault of a text that is no duration
 abbrev pub IsDurationFault : List ℕ → DurationFault → Type 0
-IsDurationFault text fault = (front behind : List ℕ) × (items : List Item) × IsLongestFront (chars text) front behind items × IsFaultBehind front behind items fault
+IsDurationFault text fault = (front behind : List ℕ) × (items : List Item)
+    × IsLongestFront (chars text) front behind items × IsFaultBehind front behind items fault
 
 -- ---- TOML values
 
@@ -172,7 +193,8 @@ duration_expected = codes "a duration"
 
 -- the text is no duration
 abbrev pub DurationTextFaults : List ℕ → Data → List ℕ → Fault → Type 0
-DurationTextFaults held value at fault = ((nanoseconds : ℕ) → ¬ IsDuration held nanoseconds) × (fault ≡ wrong_value value at duration_expected)
+DurationTextFaults held value at fault = ((nanoseconds : ℕ) → ¬ IsDuration held nanoseconds)
+    × (fault ≡ wrong_value value at duration_expected)
 
 -- the value is a text of that many nanoseconds
 abbrev pub MeansDuration : Data → ℕ → Type 0

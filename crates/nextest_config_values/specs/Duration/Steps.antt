@@ -13,7 +13,8 @@ pub record IsCutBehind (kind : ℕ → Bool) (text run behind : List ℕ) : Type
   pub run_utf8 : IsUtf8 run
   pub behind_utf8 : IsUtf8 behind
 
--- the text begins with an item of that many nanoseconds whose number fits, and no word goes on behind it
+-- the text begins with an item of that many nanoseconds whose number fits, and no word goes on
+-- behind it
 pub record IsReadItem (text : List ℕ) (nanoseconds : ℕ) (behind : List ℕ) : Type 0 where
   pub item : Item
   pub here : List ℕ
@@ -25,7 +26,8 @@ pub record IsReadItem (text : List ℕ) (nanoseconds : ℕ) (behind : List ℕ) 
 
 -- what stands at this offset has this fault
 abbrev pub IsFaultAt : ℕ → List ℕ → DurationFault → Type 0
-IsFaultAt place text fault = (digits gap word behind : List ℕ) × IsNext text digits gap word behind × IsNextFault place digits gap word fault
+IsFaultAt place text fault = (digits gap word behind : List ℕ) × IsNext text digits gap word behind
+    × IsNextFault place digits gap word fault
 
 -- a table of names, by their bytes
 abbrev pub rows : List (Bor (List ℕ) × ℕ) → List (List ℕ × ℕ)

@@ -34,7 +34,8 @@ MeansPathText held path = (string_bytes path ≡ held) × IsRelativePath held
 
 -- the text is no relative path
 abbrev pub PathTextFaults : List ℕ → Data → List ℕ → Fault → Type 0
-PathTextFaults held value at fault = ¬ (IsRelativePath held) × (fault ≡ wrong_value value at (codes "a relative path with no parent components"))
+PathTextFaults held value at fault = ¬ (IsRelativePath held)
+    × (fault ≡ wrong_value value at (codes "a relative path with no parent components"))
 
 -- the value is a text that is a relative path
 abbrev pub MeansPath : Data → String Global → Type 0
@@ -63,11 +64,14 @@ abbrev pub begins_with_slash : List ℕ → Bool
 begins_with_slash [] = false
 begins_with_slash (b ∷ rest) = b == slash
 
--- what has to stand between the path and another one: a slash, unless the path is empty or ends with one
+-- what has to stand between the path and another one: a slash, unless the path is empty or ends
+-- with one
 abbrev pub separator : List ℕ → List ℕ
 separator [] = []
 separator (b ∷ rest) = if begins_with_slash (reverse (b ∷ rest)) then [] else slash ∷ []
 
--- the join of two paths: the second one where it begins with a slash; else both, with the separator between
+-- the join of two paths: the second one where it begins with a slash; else both, with the separator
+-- between
 abbrev pub joined_path : List ℕ → List ℕ → List ℕ
-joined_path first second = if begins_with_slash second then second else first ++ (separator first ++ second)
+joined_path first second = if begins_with_slash second then second
+    else first ++ (separator first ++ second)

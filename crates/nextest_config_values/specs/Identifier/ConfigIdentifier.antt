@@ -40,11 +40,13 @@ IsIdentifierForm cs = IsPlainIdentifier cs ⊎ ((tool name : List ℕ) × IsMark
 abbrev pub AreFlawed : List ℕ → List ℕ → InvalidIdentifierKind → Type 0
 AreFlawed tool name kind = IsPlainFlaw tool kind ⊎ (IsPlainIdentifier tool × IsPlainFlaw name kind)
 
--- characters that are no identifier: unmarked, and flawed as a whole; marked, and with no colon behind the mark; or marked, and the first part that is flawed
+-- characters that are no identifier: unmarked, and flawed as a whole; marked, and with no colon
+-- behind the mark; or marked, and the first part that is flawed
 abbrev pub IsIdentifierFlaw : List ℕ → IdentifierFlaw → Type 0
 IsIdentifierFlaw cs (Whole kind) = IsUnmarked cs × IsPlainFlaw cs kind
 IsIdentifierFlaw cs OneComponent = (rest : List ℕ) × (cs ≡ tool_mark ++ rest) × HasNoColon rest
-IsIdentifierFlaw cs (Component kind) = (rest tool name : List ℕ) × (cs ≡ tool_mark ++ rest) × IsCutAtColon rest tool name × AreFlawed tool name kind
+IsIdentifierFlaw cs (Component kind) = (rest tool name : List ℕ) × (cs ≡ tool_mark ++ rest)
+    × IsCutAtColon rest tool name × AreFlawed tool name kind
 
 -- the text's identifier
 abbrev pub IsIdentifier : List ℕ → List ℕ → Type 0

@@ -22,18 +22,27 @@ true_not_false b holds fails = cc (holds, fails)
 
 no_colon_behind : (cs : List ℕ) → AllByRecursion GoesOn cs → HasNoColon cs
 no_colon_behind [] h = tt
-no_colon_behind (c ∷ cs) h = (λ e. true_not_false _ (subst GoesOn e h.0) (is_xid_continue-ascii 58 (lit< tt)), no_colon_behind cs h.1)
+no_colon_behind (c ∷ cs) h = (
+  λ e. true_not_false _ (subst GoesOn e h.0) (is_xid_continue-ascii 58 (lit< tt)),
+  no_colon_behind cs h.1,
+)
 
 pub plain_no_colon : (cs : List ℕ) → IsPlainIdentifier cs → HasNoColon cs
 plain_no_colon [] h = absurd h
-plain_no_colon (c ∷ cs) h = (λ e. true_not_false (is_xid_start c) h.0 (ap is_xid_start e ∙ is_xid_start-ascii 58 (lit< tt)), no_colon_behind cs h.1)
+plain_no_colon (c ∷ cs) h = (
+  λ e. true_not_false (is_xid_start c) h.0 (ap is_xid_start e ∙ is_xid_start-ascii 58 (lit< tt)),
+  no_colon_behind cs h.1,
+)
 
 pub plain_no_at_sign : (cs rest : List ℕ) → IsPlainIdentifier cs → cs ≢ 64 ∷ rest
-plain_no_at_sign cs rest h e = true_not_false (is_xid_start 64) (subst IsPlainIdentifier e h).0 (is_xid_start-ascii 64 (lit< tt))
+plain_no_at_sign cs rest h e =
+    true_not_false (is_xid_start 64) (subst IsPlainIdentifier e h).0
+    (is_xid_start-ascii 64 (lit< tt))
 
 -- ---- cuts
 
-pub one_cut : (xs ys a b : List ℕ) → HasNoColon xs → HasNoColon ys → xs ++ (58 ∷ a) ≡ ys ++ (58 ∷ b) → (xs ≡ ys) × (a ≡ b)
+pub one_cut : (xs ys a b : List ℕ) → HasNoColon xs → HasNoColon ys → xs ++ (58 ∷ a) ≡ ys ++ (58 ∷ b)
+    → (xs ≡ ys) × (a ≡ b)
 one_cut [] [] a b h k e = (refl, cc e)
 one_cut [] (y ∷ ys) a b h k e = absurd (k.0 (cc e))
 one_cut (x ∷ xs) [] a b h k e = absurd (h.0 (cc e))
@@ -45,7 +54,8 @@ pub no_colon_uncut : (xs a : List ℕ) → HasNoColon (xs ++ (58 ∷ a)) → ⊥
 no_colon_uncut [] a h = h.0 refl
 no_colon_uncut (x ∷ xs) a h = no_colon_uncut xs a h.1
 
-pub same_cut : (text x y u v : List ℕ) → IsCutAtColon text x y → IsCutAtColon text u v → (x ≡ u) × (y ≡ v)
+pub same_cut : (text x y u v : List ℕ) → IsCutAtColon text x y → IsCutAtColon text u v → (x ≡ u)
+    × (y ≡ v)
 same_cut text x y u v cut other = one_cut x u y v cut.first other.first (sym cut.cut ∙ other.cut)
 
 pub uncut : (text x y : List ℕ) → HasNoColon text → IsCutAtColon text x y → ⊥
@@ -56,51 +66,66 @@ behind_mark a b cs e f = ap (drop 6) (sym e ∙ f)
 
 -- ---- flaws
 
-one_plain_flaw : (cs : List ℕ) (k l : InvalidIdentifierKind) → IsPlainFlaw cs k → IsPlainFlaw cs l → k ≡ l
+one_plain_flaw : (cs : List ℕ) (k l : InvalidIdentifierKind) → IsPlainFlaw cs k → IsPlainFlaw cs l
+    → k ≡ l
 one_plain_flaw cs k l a b = search rules
 
-plain_not_flawed : (cs : List ℕ) (k : InvalidIdentifierKind) → IsPlainIdentifier cs → IsPlainFlaw cs k → ⊥
+plain_not_flawed : (cs : List ℕ) (k : InvalidIdentifierKind) → IsPlainIdentifier cs
+    → IsPlainFlaw cs k → ⊥
 plain_not_flawed cs k h a = search rules
 
-one_flawed_component : (tool name : List ℕ) (k l : InvalidIdentifierKind) → AreFlawed tool name k → AreFlawed tool name l → k ≡ l
+one_flawed_component : (tool name : List ℕ) (k l : InvalidIdentifierKind) → AreFlawed tool name k
+    → AreFlawed tool name l → k ≡ l
 one_flawed_component tool name k l a b = search (rules, one_plain_flaw, plain_not_flawed)
 
 same_components : (cs : List ℕ) (r : List ℕ) (x y : List ℕ) (s : List ℕ) (u v : List ℕ)
-    → cs ≡ tool_mark ++ r → IsCutAtColon r x y → cs ≡ tool_mark ++ s → IsCutAtColon s u v → (x ≡ u) × (y ≡ v)
+    → cs ≡ tool_mark ++ r → IsCutAtColon r x y → cs ≡ tool_mark ++ s → IsCutAtColon s u v → (x ≡ u)
+    × (y ≡ v)
 same_components cs r x y s u v e cut f other =
     one_cut x u y v cut.first other.first (sym cut.cut ∙ behind_mark r s cs e f ∙ other.cut)
 
-one_component_no_cut : (cs rest s x y : List ℕ) → cs ≡ tool_mark ++ rest → HasNoColon rest → cs ≡ tool_mark ++ s → IsCutAtColon s x y → ⊥
-one_component_no_cut cs rest s x y e none f cut = no_colon_uncut x y (subst HasNoColon (behind_mark rest s cs e f ∙ cut.cut) none)
+one_component_no_cut : (cs rest s x y : List ℕ) → cs ≡ tool_mark ++ rest → HasNoColon rest
+    → cs ≡ tool_mark ++ s → IsCutAtColon s x y → ⊥
+one_component_no_cut cs rest s x y e none f cut =
+    no_colon_uncut x y (subst HasNoColon (behind_mark rest s cs e f ∙ cut.cut) none)
 
-pub one_identifier_flaw : (cs : List ℕ) (f g : IdentifierFlaw) → IsIdentifierFlaw cs f → IsIdentifierFlaw cs g → f ≡ g
+pub one_identifier_flaw : (cs : List ℕ) (f g : IdentifierFlaw) → IsIdentifierFlaw cs f
+    → IsIdentifierFlaw cs g → f ≡ g
 one_identifier_flaw cs (Whole k) g a b = search (rules, one_plain_flaw)
 one_identifier_flaw cs OneComponent (Whole l) a b = absurd (b.0 a.0 a.1)
 one_identifier_flaw cs OneComponent OneComponent a b = refl
-one_identifier_flaw cs OneComponent (Component l) a b = absurd (one_component_no_cut cs a.0 b.0 b.1 b.2 a.1 a.2 b.3 b.4)
+one_identifier_flaw cs OneComponent (Component l) a b =
+    absurd (one_component_no_cut cs a.0 b.0 b.1 b.2 a.1 a.2 b.3 b.4)
 one_identifier_flaw cs (Component k) (Whole l) a b = absurd (b.0 a.0 a.3)
-one_identifier_flaw cs (Component k) OneComponent a b = absurd (one_component_no_cut cs b.0 a.0 a.1 a.2 b.1 b.2 a.3 a.4)
+one_identifier_flaw cs (Component k) OneComponent a b =
+    absurd (one_component_no_cut cs b.0 a.0 a.1 a.2 b.1 b.2 a.3 a.4)
 one_identifier_flaw cs (Component k) (Component l) a b =
     let same = same_components cs a.0 a.1 a.2 b.0 b.1 b.2 a.3 a.4 b.3 b.4 in
     ap Component (one_flawed_component b.1 b.2 k l (rw (← same.0, ← same.1) a.5) b.5)
 
-pair_cut : (cs tool name : List ℕ) → IsMarkedPair cs tool name → IsCutAtColon (tool ++ (58 ∷ name)) tool name
+pair_cut : (cs tool name : List ℕ) → IsMarkedPair cs tool name
+    → IsCutAtColon (tool ++ (58 ∷ name)) tool name
 pair_cut cs tool name h = record { cut = refl; first = plain_no_colon tool h.tool_is_plain }
 
-pub identifier_not_flawed : (cs : List ℕ) (f : IdentifierFlaw) → IsIdentifierForm cs → IsIdentifierFlaw cs f → ⊥
+pub identifier_not_flawed : (cs : List ℕ) (f : IdentifierFlaw) → IsIdentifierForm cs
+    → IsIdentifierFlaw cs f → ⊥
 identifier_not_flawed cs (Whole k) h a = search (rules, plain_not_flawed)
 identifier_not_flawed cs OneComponent (inl h) a = plain_no_at_sign cs _ h a.1
 identifier_not_flawed cs (Component k) (inl h) a = plain_no_at_sign cs _ h a.3
-identifier_not_flawed cs OneComponent (inr h) a = one_component_no_cut cs a.0 _ h.0 h.1 a.1 a.2 h.2.marked (pair_cut cs h.0 h.1 h.2)
+identifier_not_flawed cs OneComponent (inr h) a =
+    one_component_no_cut cs a.0 _ h.0 h.1 a.1 a.2 h.2.marked (pair_cut cs h.0 h.1 h.2)
 identifier_not_flawed cs (Component k) (inr h) a =
-    let same = same_components cs a.0 a.1 a.2 _ h.0 h.1 a.3 a.4 h.2.marked (pair_cut cs h.0 h.1 h.2) in
+    let same = same_components cs a.0 a.1 a.2 _ h.0 h.1 a.3 a.4 h.2.marked (pair_cut cs h.0 h.1 h.2)
+    in
     let flawed : AreFlawed h.0 h.1 k = rw (← same.0, ← same.1) a.5 in
     search (rules, plain_not_flawed)
 
-pub one_tool_name_flaw : (cs : List ℕ) (f g : ToolNameFlaw) → IsToolNameFlaw cs f → IsToolNameFlaw cs g → f ≡ g
+pub one_tool_name_flaw : (cs : List ℕ) (f g : ToolNameFlaw) → IsToolNameFlaw cs f
+    → IsToolNameFlaw cs g → f ≡ g
 one_tool_name_flaw cs f g a b = search rules
 
-pub tool_name_not_flawed : (cs : List ℕ) (f : ToolNameFlaw) → IsPlainIdentifier cs → IsToolNameFlaw cs f → ⊥
+pub tool_name_not_flawed : (cs : List ℕ) (f : ToolNameFlaw) → IsPlainIdentifier cs
+    → IsToolNameFlaw cs f → ⊥
 tool_name_not_flawed cs of_names.StartsWithToolPrefix h a = plain_no_at_sign cs _ h a.1
 tool_name_not_flawed cs f h a = search rules
 
@@ -109,22 +134,35 @@ tool_name_not_flawed cs f h a = search rules
 module _ {Flaw : Type 0} (IsInGrammar : List ℕ → Type 0) (IsFlaw : List ℕ → Flaw → Type 0)
     (one_flaw : (cs : List ℕ) (f g : Flaw) → IsFlaw cs f → IsFlaw cs g → f ≡ g)
     (not_flawed : (cs : List ℕ) (f : Flaw) → IsInGrammar cs → IsFlaw cs f → ⊥) where
-  pub one_normal_fault : (text : List ℕ) (r s : NameFault Flaw) → IsNormalFault IsFlaw text r → IsNormalFault IsFlaw text s → r ≡ s
-  one_normal_fault text (flawed f x) (flawed g y) a b = rw (one_flaw (normal_chars text) f g a.0 b.0, a.1, b.1) refl
+  pub one_normal_fault : (text : List ℕ) (r s : NameFault Flaw) → IsNormalFault IsFlaw text r
+      → IsNormalFault IsFlaw text s → r ≡ s
+  one_normal_fault text (flawed f x) (flawed g y) a b =
+      rw (one_flaw (normal_chars text) f g a.0 b.0, a.1, b.1) refl
 
-  pub no_normal_fault : (text kept : List ℕ) (r : NameFault Flaw) → IsNormalText IsInGrammar text kept → IsNormalFault IsFlaw text r → ⊥
+  pub no_normal_fault : (text kept : List ℕ) (r : NameFault Flaw)
+      → IsNormalText IsInGrammar text kept → IsNormalFault IsFlaw text r → ⊥
   no_normal_fault text kept (flawed f x) h a = not_flawed (normal_chars text) f h.0 a.0
 
-  pub name_reading : (reason : NameFault Flaw → Reason) → IsReading (MeansAs as_str (IsNormalText IsInGrammar)) (FaultsAs as_str text_expected (NameFaults reason IsFlaw)) (λ x y. x ≡ y)
-  name_reading reason = reading_as as_str text_expected (IsNormalText IsInGrammar) (NameFaults reason IsFlaw) (λ x y. x ≡ y) (record {
-    equivalence = equality;
-    one_meaning = λ value x y a b. a.1 ∙ sym b.1;
-    one_fault = λ value at f g a b. a.2 ∙ ap (λ r. fault_at at (reason r)) (one_normal_fault value.0 a.0 b.0 a.1 b.1) ∙ sym b.2;
-    never_both = λ value at x f a b. no_normal_fault value.0 x b.0 a b.1;
-  })
+  pub name_reading : (reason : NameFault Flaw → Reason)
+      → IsReading (MeansAs as_str (IsNormalText IsInGrammar))
+      (FaultsAs as_str text_expected (NameFaults reason IsFlaw)) (λ x y. x ≡ y)
+  name_reading reason =
+      reading_as as_str text_expected (IsNormalText IsInGrammar) (NameFaults reason IsFlaw)
+      (λ x y. x ≡ y) (record {
+        equivalence = equality;
+        one_meaning = λ value x y a b. a.1 ∙ sym b.1;
+        one_fault = λ value at f g a b. a.2
+            ∙ ap (λ r. fault_at at (reason r)) (one_normal_fault value.0 a.0 b.0 a.1 b.1) ∙ sym b.2;
+        never_both = λ value at x f a b. no_normal_fault value.0 x b.0 a b.1;
+      })
 
-pub identifier_reading : IsReading (MeansAs as_str IsIdentifier) (FaultsAs as_str text_expected IdentifierFaults) (λ x y. x ≡ y)
-identifier_reading = name_reading IsIdentifierForm IsIdentifierFlaw one_identifier_flaw identifier_not_flawed identifier
+pub identifier_reading : IsReading (MeansAs as_str IsIdentifier)
+    (FaultsAs as_str text_expected IdentifierFaults) (λ x y. x ≡ y)
+identifier_reading =
+    name_reading IsIdentifierForm IsIdentifierFlaw one_identifier_flaw identifier_not_flawed
+    identifier
 
-pub tool_name_reading : IsReading (MeansAs as_str IsToolName) (FaultsAs as_str text_expected ToolNameFaults) (λ x y. x ≡ y)
-tool_name_reading = name_reading IsPlainIdentifier IsToolNameFlaw one_tool_name_flaw tool_name_not_flawed tool_name
+pub tool_name_reading : IsReading (MeansAs as_str IsToolName)
+    (FaultsAs as_str text_expected ToolNameFaults) (λ x y. x ≡ y)
+tool_name_reading = name_reading IsPlainIdentifier IsToolNameFlaw one_tool_name_flaw
+    tool_name_not_flawed tool_name

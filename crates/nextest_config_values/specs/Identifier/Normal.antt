@@ -28,12 +28,16 @@ abbrev pub IsNormalText : (List ℕ → Type 0) → List ℕ → List ℕ → Ty
 IsNormalText IsInGrammar text kept = IsInGrammar (normal_chars text) × (kept ≡ normal_form text)
 
 -- the text's normal form has this flaw, and is named
-abbrev pub IsNormalFault : {Flaw : Type 0} → (List ℕ → Flaw → Type 0) → List ℕ → NameFault Flaw → Type 0
-IsNormalFault IsFlaw text (flawed flaw named) = IsFlaw (normal_chars text) flaw × (named ≡ normal_form text)
+abbrev pub IsNormalFault : {Flaw : Type 0} → (List ℕ → Flaw → Type 0) → List ℕ → NameFault Flaw
+    → Type 0
+IsNormalFault IsFlaw text (flawed flaw named) = IsFlaw (normal_chars text) flaw
+    × (named ≡ normal_form text)
 
 -- the fault of a TOML text, as the reason of a refusal
-abbrev pub NameFaults : {Flaw : Type 0} → (NameFault Flaw → Reason) → (List ℕ → Flaw → Type 0) → List ℕ → Data → List ℕ → Fault → Type 0
-NameFaults {Flaw} reason IsFlaw text value at fault = (told : NameFault Flaw) × IsNormalFault IsFlaw text told × (fault ≡ fault_at at (reason told))
+abbrev pub NameFaults : {Flaw : Type 0} → (NameFault Flaw → Reason) → (List ℕ → Flaw → Type 0)
+    → List ℕ → Data → List ℕ → Fault → Type 0
+NameFaults {Flaw} reason IsFlaw text value at fault = (told : NameFault Flaw)
+    × IsNormalFault IsFlaw text told × (fault ≡ fault_at at (reason told))
 
 -- the same answers
 abbrev pub SameAnswers : {X : Type 0} → (X → Type 0) → (X → Type 0) → Type 0

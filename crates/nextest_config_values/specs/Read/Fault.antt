@@ -26,7 +26,8 @@ pub data BrokenRule : Type 0 where
   max_delay_below_delay : BrokenRule
   priority_outside : ℤ → BrokenRule
 
--- a reason: what was found and what was expected, the path of a missing key, a broken rule, or a refused name
+-- a reason: what was found and what was expected, the path of a missing key, a broken rule, or a
+-- refused name
 pub data Reason : Type 0 where
   invalid_type : List ℕ → List ℕ → Reason
   invalid_value : List ℕ → List ℕ → Reason
@@ -47,7 +48,8 @@ abbrev pub broken_rule : Rule → BrokenRule
 broken_rule rules_of.PreRelease = pre_release
 broken_rule rules_of.BuildMetadata = build_metadata
 broken_rule (rules_of.NotVersion text) = not_version (string_bytes text)
-broken_rule (rules_of.RequiredAboveRecommended required recommended) = required_above_recommended (parts_of required) (parts_of recommended)
+broken_rule (rules_of.RequiredAboveRecommended required recommended) =
+    required_above_recommended (parts_of required) (parts_of recommended)
 broken_rule rules_of.ArrayForm = array_form
 broken_rule rules_of.JitterWithoutDelay = jitter_without_delay
 broken_rule rules_of.CountZero = count_zero
@@ -59,9 +61,12 @@ broken_rule (rules_of.Priority priority) = priority_outside priority
 -- what a kind of fault says, unless memory was refused
 abbrev pub reason_of : FaultKind → Option Reason
 reason_of (kinds.InvalidType found expected) = Some (invalid_type (string_bytes found) expected.now)
-reason_of (kinds.InvalidValue found expected) = Some (invalid_value (string_bytes found) expected.now)
-reason_of (kinds.UnknownVariant found expected) = Some (unknown_variant (string_bytes found) expected.now)
-reason_of (kinds.UnknownField found expected) = Some (unknown_field (string_bytes found) expected.now)
+reason_of (kinds.InvalidValue found expected) =
+    Some (invalid_value (string_bytes found) expected.now)
+reason_of (kinds.UnknownVariant found expected) =
+    Some (unknown_variant (string_bytes found) expected.now)
+reason_of (kinds.UnknownField found expected) =
+    Some (unknown_field (string_bytes found) expected.now)
 reason_of (kinds.MissingField key) = Some (missing_field (string_bytes key))
 reason_of (kinds.Custom rule) = Some (custom (broken_rule rule))
 reason_of (kinds.Identifier error) = option_map identifier (identifier_fault error)
@@ -88,14 +93,20 @@ rule_text pre_release = codes "pre-release identifiers are not supported in next
 rule_text build_metadata = codes "build metadata is not supported in nextest-version"
 rule_text (not_version text) = codes "invalid version " ++ quoted_text text
 rule_text (required_above_recommended required recommended) =
-    codes "required version (" ++ (parts_text required ++ (codes ") must not be greater than recommended version (" ++ (parts_text recommended ++ codes ")")))
+    codes "required version ("
+    ++ (parts_text required
+    ++ (codes ") must not be greater than recommended version ("
+    ++ (parts_text recommended ++ codes ")")))
 rule_text array_form = codes "the array form of `experimental` isn't supported, use a table"
-rule_text jitter_without_delay = codes "`jitter` cannot be true if `delay` isn't specified or is zero"
+rule_text jitter_without_delay =
+    codes "`jitter` cannot be true if `delay` isn't specified or is zero"
 rule_text count_zero = codes "`count` cannot be zero with exponential backoff"
 rule_text delay_zero = codes "`delay` cannot be zero with exponential backoff"
 rule_text max_delay_zero = codes "`max-delay` cannot be zero with exponential backoff"
-rule_text max_delay_below_delay = codes "`max-delay` cannot be less than delay with exponential backoff"
-rule_text (priority_outside priority) = codes "priority " ++ (signed_decimal priority ++ codes " must be between -100 and 100")
+rule_text max_delay_below_delay =
+    codes "`max-delay` cannot be less than delay with exponential backoff"
+rule_text (priority_outside priority) =
+    codes "priority " ++ (signed_decimal priority ++ codes " must be between -100 and 100")
 
 -- what was found, and what was expected
 abbrev pub mismatch_text : List ℕ → List ℕ → List ℕ
@@ -109,7 +120,8 @@ unknown_text found expected = found ++ (codes "`, expected " ++ expected)
 abbrev pub reason_text : Reason → List ℕ
 reason_text (invalid_type found expected) = codes "invalid type: " ++ mismatch_text found expected
 reason_text (invalid_value found expected) = codes "invalid value: " ++ mismatch_text found expected
-reason_text (unknown_variant found expected) = codes "unknown variant `" ++ unknown_text found expected
+reason_text (unknown_variant found expected) = codes "unknown variant `"
+    ++ unknown_text found expected
 reason_text (unknown_field found expected) = codes "unknown field `" ++ unknown_text found expected
 reason_text (missing_field key) = codes "missing configuration field \"" ++ (key ++ codes "\"")
 reason_text (custom rule) = rule_text rule
@@ -169,7 +181,8 @@ missing key at = fault_at at (missing_field (path_of at key))
 
 -- ---- refusals
 
--- the refusal is a fault of which this holds; or memory was refused, and that only where it was wanted
+-- the refusal is a fault of which this holds; or memory was refused, and that only where it was
+-- wanted
 abbrev pub Refuses : (Fault → Type 0) → Type 0 → ReadFault → Type 0
 Refuses IsFault wanted fault = FaultOrMemory (fault_of fault) (IsMemory fault × wanted) IsFault
 
@@ -183,8 +196,11 @@ RefusesOne IsFault = Refuses IsFault ((fault : Fault) × IsFault fault)
 
 -- the refusal of this kind at a path
 abbrev pub RefusesKind : List ℕ → FaultKind → ReadFault → Type 0
-RefusesKind at kind fault = FaultOrMemory (reason_of kind) (IsMemory fault) (λ reason. RefusesAs (fault_at at reason) fault)
+RefusesKind at kind fault =
+    FaultOrMemory (reason_of kind) (IsMemory fault) (λ reason. RefusesAs (fault_at at reason) fault)
 
 -- the kind of the refusal of a name: running out of memory is that of the whole
-abbrev pub IsNameKind : {Flaw : Type 0} → (NameFault Flaw → Reason) → Option (NameFault Flaw) → FaultKind → Type 0
-IsNameKind reason told kind = FaultOrMemory told (kind ≡ kinds.Memory) (λ fault. reason_of kind ≡ Some (reason fault))
+abbrev pub IsNameKind : {Flaw : Type 0} → (NameFault Flaw → Reason) → Option (NameFault Flaw)
+    → FaultKind → Type 0
+IsNameKind reason told kind =
+    FaultOrMemory told (kind ≡ kinds.Memory) (λ fault. reason_of kind ≡ Some (reason fault))

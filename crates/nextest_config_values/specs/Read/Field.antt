@@ -25,7 +25,8 @@ OptionalFaults faults None path fault = ⊥
 OptionalFaults faults (Some value) path fault = faults value path fault
 
 -- a missing key is a fault at the table's path
-abbrev pub RequiredFaults : (Data → List ℕ → Fault → Type 0) → List ℕ → Option Data → List ℕ → Fault → Type 0
+abbrev pub RequiredFaults : (Data → List ℕ → Fault → Type 0) → List ℕ → Option Data → List ℕ → Fault
+    → Type 0
 RequiredFaults faults key None at fault = fault ≡ missing key at
 RequiredFaults faults key (Some value) at fault = faults value (path_of at key) fault
 
@@ -54,12 +55,15 @@ abbrev pub KeyOr : {X : Type 0} → List ℕ → X → (Data → X → Type 0) �
 KeyOr key default means members = MeansOr default means (get_member key members)
 
 -- what is wrong at a required key
-abbrev pub RequiredKeyFaults : List ℕ → (Data → List ℕ → Fault → Type 0) → Members → List ℕ → Fault → Type 0
+abbrev pub RequiredKeyFaults : List ℕ → (Data → List ℕ → Fault → Type 0) → Members → List ℕ → Fault
+    → Type 0
 RequiredKeyFaults key faults members = RequiredFaults faults key (get_member key members)
 
 -- what is wrong at a key that may be missing
-abbrev pub OptionalKeyFaults : List ℕ → (Data → List ℕ → Fault → Type 0) → Members → List ℕ → Fault → Type 0
-OptionalKeyFaults key faults members at = OptionalFaults faults (get_member key members) (path_of at key)
+abbrev pub OptionalKeyFaults : List ℕ → (Data → List ℕ → Fault → Type 0) → Members → List ℕ → Fault
+    → Type 0
+OptionalKeyFaults key faults members at =
+    OptionalFaults faults (get_member key members) (path_of at key)
 
 -- ---- in turn
 
@@ -72,17 +76,22 @@ abbrev pub Then : {X F : Type 0} → (F → Type 0) → (X → Type 0) → (X �
 Then {X} {F} first means later fault = first fault ⊎ ((x : X) × means x × later x fault)
 
 -- the faults of a first part, or of what comes behind it
-abbrev pub FaultsThen : {D X : Type 0} → (D → X → Type 0) → (D → List ℕ → Fault → Type 0) → (X → D → List ℕ → Fault → Type 0) → D → List ℕ → Fault → Type 0
-FaultsThen means faults later value at fault = Then (faults value at) (means value) (λ x. later x value at) fault
+abbrev pub FaultsThen : {D X : Type 0} → (D → X → Type 0) → (D → List ℕ → Fault → Type 0)
+    → (X → D → List ℕ → Fault → Type 0) → D → List ℕ → Fault → Type 0
+FaultsThen means faults later value at fault =
+    Then (faults value at) (means value) (λ x. later x value at) fault
 
 -- what is wrong with the value by a check, or behind it where the check passes
-abbrev pub FaultsBehind : {D : Type 0} → (D → List ℕ → Fault → Type 0) → (D → Type 0) → (D → List ℕ → Fault → Type 0) → D → List ℕ → Fault → Type 0
-FaultsBehind checked Passes later value at fault = checked value at fault ⊎ (Passes value × later value at fault)
+abbrev pub FaultsBehind : {D : Type 0} → (D → List ℕ → Fault → Type 0) → (D → Type 0)
+    → (D → List ℕ → Fault → Type 0) → D → List ℕ → Fault → Type 0
+FaultsBehind checked Passes later value at fault = checked value at fault
+    ⊎ (Passes value × later value at fault)
 
 -- a rule is broken
 abbrev pub RuleFaults : {D : Type 0} → Type 0 → BrokenRule → D → List ℕ → Fault → Type 0
 RuleFaults IsBroken rule value at fault = IsBroken × (fault ≡ fault_at at (custom rule))
 
 -- a rule is broken, or what is wrong behind it
-abbrev pub RuleThen : {D : Type 0} → Type 0 → BrokenRule → (D → List ℕ → Fault → Type 0) → D → List ℕ → Fault → Type 0
+abbrev pub RuleThen : {D : Type 0} → Type 0 → BrokenRule → (D → List ℕ → Fault → Type 0) → D
+    → List ℕ → Fault → Type 0
 RuleThen IsBroken rule = FaultsBehind (RuleFaults IsBroken rule) (λ value. ¬ IsBroken)

@@ -31,7 +31,8 @@ MeansNumber IsIn held number = (held ≡ pos number) × IsIn number
 
 -- the integer is no number of the range
 abbrev pub IsOutside : (ℕ → Type 0) → List ℕ → ℤ → Data → List ℕ → Fault → Type 0
-IsOutside IsIn expected held value at fault = ((number : ℕ) → IsIn number → held ≢ pos number) × (fault ≡ wrong_value value at expected)
+IsOutside IsIn expected held value at fault = ((number : ℕ) → IsIn number → held ≢ pos number)
+    × (fault ≡ wrong_value value at expected)
 
 -- the number fits a u32
 abbrev pub IsU32 : ℕ → Type 0
@@ -91,7 +92,8 @@ held_itself = record {
   never_both = λ value at x f a b. b;
 }
 
-held_number : (IsIn : ℕ → Type 0) (expected : List ℕ) → IsHeldReading (MeansNumber IsIn) (IsOutside IsIn expected) (λ x y. x ≡ y)
+held_number : (IsIn : ℕ → Type 0) (expected : List ℕ)
+    → IsHeldReading (MeansNumber IsIn) (IsOutside IsIn expected) (λ x y. x ≡ y)
 held_number IsIn expected = record {
   equivalence = equality;
   one_meaning = λ value x y a b. cc (a.0, b.0);
@@ -101,27 +103,35 @@ held_number IsIn expected = record {
 
 -- the reading of a boolean
 pub bool_reading : IsReading MeansBoolean BooleanFaults (λ x y. x ≡ y)
-bool_reading = reading_as as_bool (codes "a boolean") MeansTruth HasNoFault (λ x y. x ≡ y) held_itself
+bool_reading = reading_as as_bool (codes "a boolean") MeansTruth HasNoFault (λ x y. x ≡ y)
+    held_itself
 
 -- the reading of a text
 pub text_reading : IsReading MeansString StringFaults (λ x y. x ≡ y)
 text_reading = reading_as as_str text_expected MeansText HasNoFault (λ x y. x ≡ y) held_itself
 
-pub string_reading : IsReading (λ value text. MeansString value (string_bytes text)) StringFaults TextsAlike
+pub string_reading : IsReading (λ value text. MeansString value (string_bytes text)) StringFaults
+    TextsAlike
 string_reading = reading_on string_bytes text_reading
 
 -- the reading of an integer of a range
 pub number_reading : (IsIn : ℕ → Type 0) (expected : List ℕ)
-    → IsReading (MeansAs as_integer (MeansNumber IsIn)) (FaultsAs as_integer expected (IsOutside IsIn expected)) (λ x y. x ≡ y)
-number_reading IsIn expected = reading_as as_integer expected (MeansNumber IsIn) (IsOutside IsIn expected) (λ x y. x ≡ y) (held_number IsIn expected)
+    → IsReading (MeansAs as_integer (MeansNumber IsIn))
+    (FaultsAs as_integer expected (IsOutside IsIn expected)) (λ x y. x ≡ y)
+number_reading IsIn expected =
+    reading_as as_integer expected (MeansNumber IsIn) (IsOutside IsIn expected) (λ x y. x ≡ y)
+    (held_number IsIn expected)
 
 -- the reading of a count
 pub count_reading : IsReading MeansCount CountFaults (λ x y. x ≡ y)
 count_reading = number_reading IsCount count_expected
 
 -- the reading of what is made of a count
-pub count_made : {X : Type 0} (make : ℕ → X) (expected : List ℕ) → IsReading (MeansMade make (MeansNumber IsCount)) (IsNoCount expected) (λ x y. x ≡ y)
-count_made make expected = made_of make (reading_of (λ (held : ℤ). (held, integer held)) (λ at. at) (held_number IsCount expected))
+pub count_made : {X : Type 0} (make : ℕ → X) (expected : List ℕ)
+    → IsReading (MeansMade make (MeansNumber IsCount)) (IsNoCount expected) (λ x y. x ≡ y)
+count_made make expected =
+    made_of make (reading_of (λ (held : ℤ). (held, integer held)) (λ at. at)
+    (held_number IsCount expected))
 
 -- the reading of a number that fits a u32
 pub u32_reading : IsReading MeansU32 U32Faults (λ x y. x ≡ y)

@@ -7,9 +7,11 @@ use Rattle.std.specs.Str.{chars}
 use Rattle.toml.specs.Data.{Data, string, integer, float, boolean, datetime, array, table}
 use Rattle.nextest_config_values.specs.Characters.{backslash, carriage_return, double_quote, line_feed, nul, tab}
 
--- a character with no escape of its own: as `\u{..}` with its code in lower case hexadecimal, where it is a control character (U+0000 to U+001F, U+007F to U+009F)
+-- a character with no escape of its own: as `\u{..}` with its code in lower case hexadecimal, where
+-- it is a control character (U+0000 to U+001F, U+007F to U+009F)
 abbrev pub unnamed_character : ℕ → List ℕ
-unnamed_character c = if is_control c then flat_map encode_utf8 (escape_unicode c) else encode_utf8 c
+unnamed_character c = if is_control c then flat_map encode_utf8 (escape_unicode c)
+    else encode_utf8 c
 
 -- a character between the quotes
 abbrev pub quoted_character : ℕ → List ℕ
@@ -38,7 +40,8 @@ quoted_texts texts = comma_list (map quoted_text texts)
 
 -- a value, as a refusal says that it was found
 abbrev pub found_text : Data → List ℕ
-found_text (boolean truth) = codes "boolean `" ++ ((if truth then codes "true" else codes "false") ++ codes "`")
+found_text (boolean truth) =
+    codes "boolean `" ++ ((if truth then codes "true" else codes "false") ++ codes "`")
 found_text (integer number) = codes "integer `" ++ (signed_decimal number ++ codes "`")
 found_text (string text) = codes "string " ++ quoted_text text
 found_text (array elements) = codes "sequence"

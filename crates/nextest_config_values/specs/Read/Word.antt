@@ -20,12 +20,14 @@ abbrev pub words_text : List (List ℕ) → List ℕ
 words_text [] = []
 words_text (word ∷ []) = backquoted_word word
 words_text (word ∷ other ∷ []) = backquoted_word word ++ (codes " or " ++ backquoted_word other)
-words_text (word ∷ other ∷ third ∷ rest) = codes "one of " ++ backquoted_words (word ∷ other ∷ third ∷ rest)
+words_text (word ∷ other ∷ third ∷ rest) =
+    codes "one of " ++ backquoted_words (word ∷ other ∷ third ∷ rest)
 
 -- the first value with this word
 abbrev pub value_of : {X : Type 0} → (X → List ℕ) → List X → List ℕ → Option X
 value_of word [] text = None
-value_of word (x ∷ xs) text = if pointwise nat_eq (word x) text then Some x else value_of word xs text
+value_of word (x ∷ xs) text = if pointwise nat_eq (word x) text then Some x
+    else value_of word xs text
 
 -- the text is the word of this value
 abbrev pub MeansWord : {X : Type 0} → (X → List ℕ) → List ℕ → X → Type 0
@@ -33,7 +35,8 @@ MeansWord word held x = word x ≡ held
 
 -- the text is no value's word
 abbrev pub IsNoWord : {X : Type 0} → (X → List ℕ) → List ℕ → List ℕ → Data → List ℕ → Fault → Type 0
-IsNoWord {X} word expected held value at fault = ((x : X) → word x ≢ held) × (fault ≡ unknown_word held at expected)
+IsNoWord {X} word expected held value at fault = ((x : X) → word x ≢ held)
+    × (fault ≡ unknown_word held at expected)
 
 -- the value is a text that is the word of this one
 abbrev pub MeansWordText : {X : Type 0} → (X → List ℕ) → Data → X → Type 0
@@ -43,14 +46,17 @@ MeansWordText word = MeansAs as_str (MeansWord word)
 abbrev pub WordTextFaults : {X : Type 0} → (X → List ℕ) → List X → Data → List ℕ → Fault → Type 0
 WordTextFaults word all = FaultsAs as_str text_expected (IsNoWord word (words_text (map word all)))
 
-module _ {X : Type 0} (all : List X) (word : X → List ℕ) (reads_back : (x : X) → value_of word all (word x) ≡ Some x) where
+module _ {X : Type 0} (all : List X) (word : X → List ℕ)
+    (reads_back : (x : X) → value_of word all (word x) ≡ Some x) where
   -- a word is that of one value
   one_value : (x y : X) → word x ≡ word y → x ≡ y
   one_value x y same =
-      let found : Some x ≡ Some y = sym (reads_back x) ∙ ap (value_of word all) same ∙ reads_back y in
+      let found : Some x ≡ Some y = sym (reads_back x) ∙ ap (value_of word all) same ∙ reads_back y
+      in
       cc found
 
-  held_word : (expected : List ℕ) → IsHeldReading (MeansWord word) (IsNoWord word expected) (λ x y. x ≡ y)
+  held_word : (expected : List ℕ)
+      → IsHeldReading (MeansWord word) (IsNoWord word expected) (λ x y. x ≡ y)
   held_word expected = record {
     equivalence = equality;
     one_meaning = λ value x y a b. one_value x y (a ∙ sym b);
@@ -58,5 +64,9 @@ module _ {X : Type 0} (all : List X) (word : X → List ℕ) (reads_back : (x : 
     never_both = λ value at x f a b. b.0 x a;
   }
 
-  pub word_reading : {expected : List ℕ} → IsReading (MeansAs as_str (MeansWord word)) (FaultsAs as_str text_expected (IsNoWord word expected)) (λ x y. x ≡ y)
-  word_reading {expected} = reading_as as_str text_expected (MeansWord word) (IsNoWord word expected) (λ x y. x ≡ y) (held_word expected)
+  pub word_reading : {expected : List ℕ}
+      → IsReading (MeansAs as_str (MeansWord word))
+      (FaultsAs as_str text_expected (IsNoWord word expected)) (λ x y. x ≡ y)
+  word_reading {expected} =
+      reading_as as_str text_expected (MeansWord word) (IsNoWord word expected) (λ x y. x ≡ y)
+      (held_word expected)

@@ -44,9 +44,11 @@ impl ConfigIdentifier {
     /// The identifier that the text is, once it is brought to Normalization Form C (UAX 15).
     pub fn new(alloc: Global, identifier: &str) -> Result<Self, InvalidIdentifier>
         ensures accepted { IfOk result (IsIdentifier identifier.now) }
-        ensures refused { IfErr result (λ error. FaultOrMemory (identifier_fault error) (error ≡ Memory)
+        ensures refused { IfErr result
+            (λ error. FaultOrMemory (identifier_fault error) (error ≡ Memory)
             (IsIdentifierFault identifier.now)) }
-        ensures inline { (kept : List ℕ) → IsIdentifier identifier.now kept → IsQuicklyNormal identifier.now
+        ensures inline { (kept : List ℕ) → IsIdentifier identifier.now kept
+            → IsQuicklyNormal identifier.now
             → FitsInline identifier.now → IsOk result }
     {
         let text = KeptText::normal(alloc, identifier)?;
@@ -122,7 +124,8 @@ fn judge_components(components: &str) -> Result<(), IdentifierFlaw>
 
 // Judges the two components in turn.
 fn judge_pair(tool: &str, name: &str) -> Result<(), InvalidIdentifierKind>
-    ensures accepted { OnOk result (IsPlainIdentifier (chars tool.now) × IsPlainIdentifier (chars name.now)) }
+    ensures accepted { OnOk result (IsPlainIdentifier (chars tool.now)
+        × IsPlainIdentifier (chars name.now)) }
     ensures refused { IfErr result (AreFlawed (chars tool.now) (chars name.now)) }
 {
     is_valid_identifier_unicode(tool)?;

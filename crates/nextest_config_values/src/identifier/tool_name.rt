@@ -19,7 +19,8 @@ use toml::Value;
 // What no tool name begins with, since tool identifiers do.
 const TOOL_PREFIX: &str = "@tool";
 
-/// The name of a tool: a character of XID_Start, then characters of XID_Continue and `-` (UAX 31). It
+/// The name of a tool: a character of XID_Start, then characters of XID_Continue and `-` (UAX 31).
+/// It
 /// is kept in Normalization Form C.
 #[derive(Debug, PartialEq, Eq, PartialOrd, Ord, Hash, Drop)]
 pub struct ToolName {
@@ -44,7 +45,8 @@ impl ToolName {
     /// The tool name that the text is, once it is brought to Normalization Form C (UAX 15).
     pub fn new(alloc: Global, name: &str) -> Result<Self, InvalidToolName>
         ensures accepted { IfOk result (IsToolName name.now) }
-        ensures refused { IfErr result (λ error. FaultOrMemory (tool_name_fault error) (error ≡ Memory)
+        ensures refused { IfErr result
+            (λ error. FaultOrMemory (tool_name_fault error) (error ≡ Memory)
             (IsToolNameFault name.now)) }
         ensures inline { (kept : List ℕ) → IsToolName name.now kept → IsQuicklyNormal name.now
             → FitsInline name.now → IsOk result }
@@ -74,7 +76,8 @@ impl ToolName {
     }
 }
 
-// Judges a text in Normalization Form C. The prefix comes first, since it says more than that `@` is
+// Judges a text in Normalization Form C. The prefix comes first, since it says more than that `@`
+// is
 // no character of XID_Start.
 fn judge(text: &str) -> Result<(), ToolNameFlaw>
     ensures accepted { OnOk result (IsPlainIdentifier (chars text.now)) }

@@ -13,7 +13,8 @@ use std::alloc::{AllocError, Global};
 use std::fmt::{self, Display};
 use toml::Value;
 
-/// A refused TOML value: the path of its key, empty for the value that was handed in, and the reason.
+/// A refused TOML value: the path of its key, empty for the value that was handed in, and the
+/// reason.
 #[derive(Debug, PartialEq, Eq, Drop)]
 pub struct ReadFault {
     pub path: String,
@@ -92,7 +93,8 @@ pub enum Rule {
 }
 
 impl ReadFault {
-    /// The fault of this kind at this path, or `Memory` where the kind says that memory was refused or
+    /// The fault of this kind at this path, or `Memory` where the kind says that memory was refused
+    /// or
     /// the path finds no room.
     pub fn new(alloc: Global, at: &str, kind: FaultKind) -> ReadFault
         ensures { RefusesKind at.now kind result }

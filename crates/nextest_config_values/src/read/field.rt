@@ -17,9 +17,11 @@ pub fn optional_field<T: FromToml>(
     key: &str,
     at: &str,
 ) -> Result<Option<T>, ReadFault>
-    ensures meant { IfOk result (MeansOptional T.means (get_member key.now (table_view table.now))) }
+    ensures meant { IfOk result
+        (MeansOptional T.means (get_member key.now (table_view table.now))) }
     ensures refused { IfErr result (Refuses
-        (OptionalFaults T.faults (get_member key.now (table_view table.now)) (path_of at.now key.now))
+        (OptionalFaults T.faults (get_member key.now (table_view table.now))
+        (path_of at.now key.now))
         (WantsIfPresent T.means T.needs_memory (get_member key.now (table_view table.now)))) }
 {
     match value_at(table, key) {
@@ -38,7 +40,8 @@ pub fn required_field<T: FromToml>(
     key: &str,
     at: &str,
 ) -> Result<T, ReadFault>
-    ensures meant { IfOk result (MeansRequired T.means (get_member key.now (table_view table.now))) }
+    ensures meant { IfOk result
+        (MeansRequired T.means (get_member key.now (table_view table.now))) }
     ensures refused { IfErr result (Refuses
         (RequiredFaults T.faults key.now (get_member key.now (table_view table.now)) at.now)
         (WantsIfRequired T.means T.needs_memory (get_member key.now (table_view table.now)))) }
@@ -57,9 +60,11 @@ pub fn field_or<T: FromToml + Drop>(
     at: &str,
     default: T,
 ) -> Result<T, ReadFault>
-    ensures meant { IfOk result (MeansOr default T.means (get_member key.now (table_view table.now))) }
+    ensures meant { IfOk result
+        (MeansOr default T.means (get_member key.now (table_view table.now))) }
     ensures refused { IfErr result (Refuses
-        (OptionalFaults T.faults (get_member key.now (table_view table.now)) (path_of at.now key.now))
+        (OptionalFaults T.faults (get_member key.now (table_view table.now))
+        (path_of at.now key.now))
         (WantsIfPresent T.means T.needs_memory (get_member key.now (table_view table.now)))) }
 {
     match value_at(table, key) {
@@ -76,7 +81,8 @@ fn value_at<'v>(table: &'v Table, key: &str) -> Option<&'v Value>
     table.get(key)
 }
 
-// Reads the value of a key. The path is put together only after a fault, and only where it isn't the
+// Reads the value of a key. The path is put together only after a fault, and only where it isn't
+// the
 // key itself.
 fn read_field<T: FromToml>(
     alloc: Global,

@@ -27,7 +27,8 @@ pub trait FromToml: Sized {
     // The two say the same.
     ghost alike: { Self → Self → Type 0 };
 
-    /// Reads the value; a fault names its path, which begins with `at`. A `Memory` has the empty path.
+    /// Reads the value; a fault names its path, which begins with `at`. A `Memory` has the empty
+    /// path.
     fn read(alloc: Global, value: &Value, at: &str) -> Result<Self, ReadFault>
         ensures meant { IfOk result (means (view value.now)) }
         ensures refused { IfErr result (Refuses (faults (view value.now) at.now)

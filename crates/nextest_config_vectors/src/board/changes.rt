@@ -16,7 +16,8 @@ const SLOTS: usize = 5;
 // How many choices a change of each slot takes.
 const HALVINGS: [usize; SLOTS] = [2, 2, 2, 3, 3];
 
-// What a slot is to hold, `@` being the number that the rule gives. An empty text is a withdrawal, and the
+// What a slot is to hold, `@` being the number that the rule gives. An empty text is a withdrawal,
+// and the
 // last text is refused.
 const SOURCES: [&str; 9] = [
     "",
@@ -110,7 +111,8 @@ fn hold(rt: &impl Runner, followed: &mut Followed, slot: usize, source: String)
     followed.sources[slot] = source;
 }
 
-// Ends the test where the board tells another verdict than the list of its sources, or other choices than
+// Ends the test where the board tells another verdict than the list of its sources, or other
+// choices than
 // its last change took.
 fn compare_all(rt: &impl Runner, followed: &mut Followed) {
     let list = listed(rt, &followed.sources);
