@@ -52,25 +52,16 @@ run-lint:
 
 build: $(BUILT)
 
-$(BUILT) &: $(SOURCES)
+# A first run, which asks for little, leaves the program behind.
+bin/nextest_config_check: $(SOURCES)
 	@$(MAKE) --no-print-directory toolchain
-	@$(MAKE) --no-print-directory --jobs=4 $(addprefix prove-,$(notdir $(CHECK) $(COMMAND)))
-	@mkdir -p bin
-	cp $(COMMAND)/out/nextest_config_cli bin/nextest-config
-	cp $(PROGRAM) bin/nextest_config_check
+	cd $(CHECK) && rt run -- 0.0.0 < /dev/null > /dev/null
+	@mkdir -p bin && cp $(PROGRAM) $@
 
-# Proves a crate behind those that it stands on, as crates.txt has them. A program is run once, which leaves it behind.
-define prove
-prove-$(1): $(addprefix prove-,$(filter nextest_config%,$(shell sed -n 's/^$(1)://p' crates.txt)))
-	cd crates/$(1) && rt $(if $(wildcard crates/$(1)/src/main.rt),run --jobs $$(JOBS) -- $$(ASKED) < /dev/null > /dev/null,lib --jobs $$(JOBS))
-endef
-$(foreach name,$(notdir $(wildcard crates/*)),$(eval $(call prove,$(name))))
-
-# Beside the others there are others; beside the one that they all stand on there is nothing.
-JOBS := 2
-prove-nextest_config_values: JOBS := 4
-prove-nextest_config_check: ASKED := 0.0.0
-prove-nextest_config_cli: ASKED := --version
+bin/nextest-config: $(SOURCES) | bin/nextest_config_check
+	@$(MAKE) --no-print-directory toolchain
+	cd $(COMMAND) && rt run -- --version > /dev/null
+	@mkdir -p bin && cp $(COMMAND)/out/nextest_config_cli $@
 
 install: $(BUILT)
 	install -d $(DESTDIR)$(PREFIX)/bin
