@@ -3,10 +3,10 @@ use Rattle.std.proofs.Common.{◌≡◌, ℕ, ◌<◌, ◌≤◌, Bool, List, []
 use Rattle.std.specs.List.{AllByRecursion}
 use Rattle.semver.specs.Parse.{Parts}
 use Rattle.toml.specs.Data.{Data, Members, as_str, as_table, get_member}
-use Rattle.nextest_config_values.specs.Read.{MeansKind, MeansNothing, MeansOptional}
+use Rattle.nextest_config_values.specs.Read.{either, optional}
 use Rattle.nextest_config_sources.specs.NextestVersion.Source.{Source}
 use Rattle.nextest_config.specs.NextestVersion.Verdict.{Verdict}
-use Rattle.nextest_config_sources.specs.NextestVersion.{Ask, AsksVersions, IsBelow, IsEnoughByNumbers, MeansVersion, MeansVersionTable, MeansVersionText, Numbers, plain, TextAsks, version_key, Versions}
+use Rattle.nextest_config_sources.specs.NextestVersion.{Ask, AsksVersions, IsBelow, in_order, IsEnoughByNumbers, Numbers, plain, recommended_key, required_key, TextAsks, version_key, version_reading, version_table, Versions, versions, versions_reading}
 use Rattle.nextest_config.specs.NextestVersion.{alone, AreRead, asked_from, error, gravity, IsGravest, IsNoGraver, IsNoGreaterOfItsKind, IsOtherOfItsKind, IsSatisfied, IsSelected, IsSelectedFor, judged, Kept, named_version, NamesNoGreater, satisfied, SourceAsk, unmet, warn}
 use Rattle.nextest_config.specs.NextestVersion.VersionOnlyLaws.{read_once}
 use Rattle.nextest_config_values.proofs.Elements.{all_middle, one_last}
@@ -34,25 +34,35 @@ pub record AsksPlain (versions : Versions) : Type 0 where
   pub of_required : IsPlainVersion versions.required
   pub of_recommended : IsPlainVersion versions.recommended
 
-role_plain : (found : Option Data) (asked : Option Parts) → MeansOptional MeansVersion found asked → IsPlainVersion asked
-role_plain None asked h = rw h tt
-role_plain (Some value) asked h = rw h.1 (h.2.2.0, h.2.2.2)
+-- what holds of all that is meant either way
+either_all : {K X : Type 0} (Holds : X → Type 0) (means : K → X → Type 0) (other : X → Type 0) → ((k : K) (x : X) → means k x → Holds x) → ((x : X) → other x → Holds x) → (found : Option K) (x : X) → either found means other x → Holds x
+either_all Holds means other says else_says (Some k) = says k
+either_all Holds means other says else_says None = else_says
 
-table_plain : (table : Option Members) (value : Data) (versions : Versions) → MeansKind MeansVersionTable MeansNothing table value versions → AsksPlain versions
-table_plain (Some found) value versions h = record { of_required = role_plain _ _ h.of_required; of_recommended = role_plain _ _ h.of_recommended }
-table_plain None value versions h = absurd h
+version_plain : (value : Data) (version : Parts) → version_reading.means value version → IsPlainVersion (Some version)
+version_plain value = either_all (λ version. IsPlainVersion (Some version)) _ _ (λ text version h. (h.0, h.2)) (λ version h. absurd h) (as_str value)
 
-form_plain : (text : Option (List ℕ)) (value : Data) (versions : Versions) → MeansKind MeansVersionText (λ other. MeansKind MeansVersionTable MeansNothing (as_table other) other) text value versions → AsksPlain versions
-form_plain (Some text) value versions h = rw h.2 (record { of_required = (h.1.0, h.1.2); of_recommended = tt })
-form_plain None value versions h = table_plain (as_table value) value versions h
+role_plain : (key : List ℕ) (table : Members) (asked : Option Parts) → (optional key version_reading).means table asked → IsPlainVersion asked
+role_plain key table = either_all IsPlainVersion _ _ (λ value asked h. rw h.2 (version_plain value h.0 h.1)) (λ asked h. rw h tt) (get_member key table)
 
-value_plain : (found : Option Data) (versions : Versions) → AsksVersions found versions → AsksPlain versions
-value_plain None versions h = rw h (record { of_required = tt; of_recommended = tt })
-value_plain (Some value) versions h = form_plain (as_str value) value versions h
+in_order_are : (required recommended : Option Parts) (asked : Versions) → (in_order required recommended).means tt asked → asked ≡ versions required recommended
+in_order_are (Some required) (Some recommended) asked h = h.1
+in_order_are (Some required) None asked h = h
+in_order_are None recommended asked h = h
+
+table_plain : (table : Members) (asked : Versions) → version_table.means table asked → AsksPlain asked
+table_plain table asked (required, of_required, (recommended, of_recommended, h)) =
+    rw (in_order_are required recommended asked h) (record { of_required = role_plain required_key table required of_required; of_recommended = role_plain recommended_key table recommended of_recommended })
+
+value_plain : (value : Data) (asked : Versions) → versions_reading.means value asked → AsksPlain asked
+value_plain value = either_all AsksPlain _ _ (λ text asked h. rw h.2 (record { of_required = (h.1.0, h.1.2); of_recommended = tt })) (either_all AsksPlain _ _ table_plain (λ asked h. absurd h) (as_table value)) (as_str value)
+
+asked_plain : (table : Members) (asked : Versions) → AsksVersions table asked → AsksPlain asked
+asked_plain table = either_all AsksPlain _ _ value_plain (λ asked h. rw h (record { of_required = tt; of_recommended = tt })) (get_member version_key table)
 
 pub text_plain : (edition : Edition) (kind : ConfigSourceKind) (contents : Option (List ℕ)) (ask : Ask) → TextAsks edition kind contents ask → AsksPlain ask.versions
 text_plain edition kind None ask h = rw h (record { of_required = tt; of_recommended = tt })
-text_plain edition kind (Some text) ask h = value_plain (get_member version_key h.0) ask.versions h.2.of_versions
+text_plain edition kind (Some text) ask h = asked_plain h.0 ask.versions h.2.of_versions
 
 abbrev pub IsPlainAsked : SourceAsk → Type 0
 IsPlainAsked asked = AsksPlain asked.ask.versions

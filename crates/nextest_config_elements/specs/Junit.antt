@@ -1,11 +1,10 @@
 -- The setting `junit`, and the report that a profile writes by it.
 use Rattle.std.specs.Prelude.{◌≡◌, ◌⊎◌, ℕ, Bool, List, [], ◌∷◌, codes, Option, Some, None, IsSome, option_map, string_bytes}
-use Rattle.std.proofs.Common.{refl, rules}
+use Rattle.std.proofs.Common.{rules}
 use Rattle.toml.specs.Data.{Data, Members, as_table}
 use Rattle.nextest_config_values.specs.Helpers.Paths.{joined_path}
-use Rattle.nextest_config_values.specs.Read.Fault.{Fault}
-use Rattle.nextest_config_values.specs.Read.{at_key, bool_reading, BooleanFaults, FaultsKind, FaultsThen, IsReading, kind_reading, made_of, MeansBoolean, MeansKind, MeansNothing, MeansString, MeansWordText, optional_reading, OptionalKey, OptionalKeyFaults, reading_on, said_as, StringFaults, text_reading, then_reading, value_of, word_reading, WordTextFaults, wrong_kind, WrongKind}
-use Rattle.nextest_config_elements.specs.ReportSkipPolicy.{report_skip_policies, report_skip_reads_back, report_skip_word}
+use Rattle.nextest_config_values.specs.Read.{bool_reading, held, kind, made_of, optional, Reading, text_reading, then, value_of, word_reading, wrong_kind}
+use Rattle.nextest_config_elements.specs.ReportSkipPolicy.{report_skip_reading}
 use Rattle.nextest_config_elements.specs.declared.junit.DefaultJunitImpl.{DefaultJunitImpl}
 use Rattle.nextest_config_elements.specs.declared.junit.JunitConfig.{JunitConfig}
 use Rattle.nextest_config_elements.specs.declared.junit.JunitFlakyFailStatus.{JunitFlakyFailStatus}
@@ -78,6 +77,9 @@ pub flaky_fail_reads_back : (status : JunitFlakyFailStatus)
     → value_of flaky_fail_word flaky_fail_statuses (flaky_fail_word status) ≡ Some status
 flaky_fail_reads_back status = search rules
 
+abbrev pub flaky_fail_reading : Reading Data JunitFlakyFailStatus
+flaky_fail_reading = word_reading flaky_fail_statuses flaky_fail_word flaky_fail_reads_back
+
 -- ---- the table
 
 -- what a table says of a report; all of it may be missing
@@ -129,62 +131,33 @@ report_skipped_key = codes "report-skipped"
 abbrev pub flaky_fail_status_key : List ℕ
 flaky_fail_status_key = codes "flaky-fail-status"
 
--- the value is the word of a policy
-abbrev pub MeansReportSkipped : Data → ReportSkipPolicy → Type 0
-MeansReportSkipped = MeansWordText report_skip_word
-
--- the value is the word of a status
-abbrev pub MeansFlakyFailStatus : Data → JunitFlakyFailStatus → Type 0
-MeansFlakyFailStatus = MeansWordText flaky_fail_word
-
--- the table says this; other keys don't count
-pub record MeansJunitTable (members : Members) (said : JunitTable) : Type 0 where
-  pub of_path : OptionalKey path_key MeansString members said.path
-  pub of_report_name : OptionalKey report_name_key MeansString members said.report_name
-  pub of_store_success_output : OptionalKey store_success_output_key MeansBoolean members
-      said.store_success_output
-  pub of_store_failure_output : OptionalKey store_failure_output_key MeansBoolean members
-      said.store_failure_output
-  pub of_report_skipped : OptionalKey report_skipped_key MeansReportSkipped members
-      said.report_skipped
-  pub of_flaky_fail_status : OptionalKey flaky_fail_status_key MeansFlakyFailStatus members
-      said.flaky_fail_status
+-- other keys don't count
+abbrev pub junit_table : Reading Members JunitTable
+junit_table =
+    then (optional path_key text_reading) (λ path.
+    then (optional report_name_key text_reading) (λ report_name.
+    then (optional store_success_output_key bool_reading) (λ store_success_output.
+    then (optional store_failure_output_key bool_reading) (λ store_failure_output.
+    then (optional report_skipped_key report_skip_reading) (λ report_skipped.
+    made_of (λ flaky_fail_status. record {
+      path = path;
+      report_name = report_name;
+      store_success_output = store_success_output;
+      store_failure_output = store_failure_output;
+      report_skipped = report_skipped;
+      flaky_fail_status = flaky_fail_status;
+    }) (optional flaky_fail_status_key flaky_fail_reading))))))
 
 -- the table has a text, which is kept in memory of its own
 abbrev pub HasText : JunitTable → Type 0
 HasText said = IsSome said.path ⊎ IsSome said.report_name
 
--- memory is wanted where the table has a text, or means nothing
-abbrev pub WantsTexts : Members → Type 0
-WantsTexts members = (said : JunitTable) → MeansJunitTable members said → HasText said
-
--- what is wrong with the table, key by key
-abbrev pub JunitTableFaults : Members → List ℕ → Fault → Type 0
-JunitTableFaults =
-    FaultsThen (OptionalKey path_key MeansString) (OptionalKeyFaults path_key StringFaults) (λ path.
-    FaultsThen (OptionalKey report_name_key MeansString)
-    (OptionalKeyFaults report_name_key StringFaults) (λ report_name.
-    FaultsThen (OptionalKey store_success_output_key MeansBoolean)
-    (OptionalKeyFaults store_success_output_key BooleanFaults) (λ store_success_output.
-    FaultsThen (OptionalKey store_failure_output_key MeansBoolean)
-    (OptionalKeyFaults store_failure_output_key BooleanFaults) (λ store_failure_output.
-    FaultsThen (OptionalKey report_skipped_key MeansReportSkipped)
-    (OptionalKeyFaults report_skipped_key
-    (WordTextFaults report_skip_word report_skip_policies)) (λ report_skipped.
-    OptionalKeyFaults flaky_fail_status_key
-    (WordTextFaults flaky_fail_word flaky_fail_statuses))))))
-
 -- what the setting takes
 abbrev pub junit_expected : List ℕ
 junit_expected = codes "a table"
 
--- the value is a table that says this
-abbrev pub MeansJunit : Data → JunitTable → Type 0
-MeansJunit value = MeansKind MeansJunitTable MeansNothing (as_table value) value
-
--- what is wrong with the value at a path
-abbrev pub JunitFaults : Data → List ℕ → Fault → Type 0
-JunitFaults value = FaultsKind JunitTableFaults (WrongKind junit_expected) (as_table value) value
+abbrev pub junit_reading : Reading Data JunitTable
+junit_reading = kind as_table (held junit_table) (wrong_kind junit_expected)
 
 -- ---- the default profile
 
@@ -221,55 +194,3 @@ IsFirstMissing said missing.ReportSkipped = IsSome said.report_name
 IsFirstMissing said missing.FlakyFailStatus =
     IsSome said.report_name × IsSome said.store_success_output × IsSome said.store_failure_output
     × IsSome said.report_skipped × (said.flaky_fail_status ≡ None)
-
--- ---- the setting's law
-
-pub junit_table : IsReading MeansJunitTable JunitTableFaults (λ a b. a ≡ b)
-junit_table = said_as (λ members said meant. (
-  said.path,
-  meant.of_path,
-  (
-    said.report_name,
-    meant.of_report_name,
-    (
-      said.store_success_output,
-      meant.of_store_success_output,
-      (
-        said.store_failure_output,
-        meant.of_store_failure_output,
-        (
-          said.report_skipped,
-          meant.of_report_skipped,
-          (said.flaky_fail_status, meant.of_flaky_fail_status, refl),
-        ),
-      ),
-    ),
-  ),
-))
-    (then_reading (at_key path_key (optional_reading text_reading)) (λ path.
-    then_reading (at_key report_name_key (optional_reading text_reading)) (λ report_name.
-    then_reading (at_key store_success_output_key (optional_reading bool_reading))
-    (λ store_success_output.
-    then_reading (at_key store_failure_output_key (optional_reading bool_reading))
-    (λ store_failure_output.
-    then_reading (at_key report_skipped_key
-    (optional_reading (word_reading report_skip_policies report_skip_word
-    report_skip_reads_back))) (λ report_skipped.
-    made_of (λ flaky_fail_status. record {
-      path = path;
-      report_name = report_name;
-      store_success_output = store_success_output;
-      store_failure_output = store_failure_output;
-      report_skipped = report_skipped;
-      flaky_fail_status = flaky_fail_status;
-    }) (at_key flaky_fail_status_key
-    (optional_reading (word_reading flaky_fail_statuses flaky_fail_word
-    flaky_fail_reads_back)))))))))
-
-junit_meant : IsReading MeansJunit JunitFaults (λ a b. a ≡ b)
-junit_meant = kind_reading junit_table (wrong_kind junit_expected) as_table
-
--- a value says one thing of a report or has one fault, and not both
-pub junit_reading : IsReading (λ value junit. MeansJunit value (table_of junit)) JunitFaults
-    (λ a b. table_of a ≡ table_of b)
-junit_reading = reading_on table_of junit_meant

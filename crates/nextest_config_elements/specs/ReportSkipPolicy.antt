@@ -1,7 +1,8 @@
 -- The setting `report-skipped`: which skipped tests are reported.
 use Rattle.std.specs.Prelude.{◌≡◌, ◌≢◌, ℕ, List, [], ◌∷◌, codes, Some}
 use Rattle.std.proofs.Common.{rules}
-use Rattle.nextest_config_values.specs.Read.{value_of}
+use Rattle.toml.specs.Data.{Data}
+use Rattle.nextest_config_values.specs.Read.{Reading, value_of, word_reading}
 use Rattle.nextest_config_elements.specs.declared.report_skip_policy.MismatchReason.{MismatchReason}
 use Rattle.nextest_config_elements.specs.declared.report_skip_policy.MismatchReason.TheVariants as reasons
 use Rattle.nextest_config_elements.specs.declared.report_skip_policy.ReportSkipPolicy.{ReportSkipPolicy}
@@ -20,6 +21,9 @@ report_skip_word policies.All = codes "all"
 pub report_skip_reads_back : (policy : ReportSkipPolicy)
     → value_of report_skip_word report_skip_policies (report_skip_word policy) ≡ Some policy
 report_skip_reads_back policy = search rules
+
+abbrev pub report_skip_reading : Reading Data ReportSkipPolicy
+report_skip_reading = word_reading report_skip_policies report_skip_word report_skip_reads_back
 
 -- ---- what they report
 

@@ -1,11 +1,10 @@
 -- The setting `slow-timeout`: when a test is slow, and when it is terminated.
-use Rattle.std.specs.Prelude.{◌≡◌, ℕ, List, [], ◌∷◌, codes, Option, Some, None, option_map}
-use Rattle.std.proofs.Common.{refl, rules}
+use Rattle.std.specs.Prelude.{◌≡◌, ℕ, List, [], ◌∷◌, codes, Option, Some, None}
+use Rattle.std.proofs.Common.{rules}
 use Rattle.std.specs.Duration.{as_nanos}
-use Rattle.toml.specs.Data.{Data, string, Members, as_str, as_table}
-use Rattle.nextest_config_values.specs.Duration.{DurationFaults, MeansDuration, duration_meant}
-use Rattle.nextest_config_values.specs.Read.Fault.{Fault}
-use Rattle.nextest_config_values.specs.Read.{at_key, count_reading, CountFaults, equality, FaultsKind, FaultsThen, IsReading, kind_reading, KeyOr, made_of, MeansCount, MeansKind, MeansMade, MeansNothing, MeansWordText, only_this, optional_reading, OptionalKey, OptionalKeyFaults, or_reading, reading_at, reading_each, reading_on, required_reading, RequiredKey, RequiredKeyFaults, said_as, then_reading, value_of, word_reading, WordTextFaults, wrong_kind, WrongKind}
+use Rattle.toml.specs.Data.{Data, Members, as_str, as_table}
+use Rattle.nextest_config_values.specs.Duration.{duration_reading}
+use Rattle.nextest_config_values.specs.Read.{count_reading, held, kind, made_of, only, optional, or_default, Reading, required, then, value_of, word_reading, wrong_kind}
 use Rattle.nextest_config_elements.specs.Durations.{seconds}
 use Rattle.nextest_config_elements.specs.declared.slow_timeout.SlowTimeout.{SlowTimeout}
 use Rattle.nextest_config_elements.specs.declared.slow_timeout.SlowTimeoutResult.{SlowTimeoutResult}
@@ -68,108 +67,34 @@ grace_period_key = codes "grace-period"
 abbrev pub on_timeout_key : List ℕ
 on_timeout_key = codes "on-timeout"
 
--- the value is the word of a result
-abbrev pub MeansOnTimeout : Data → SlowTimeoutResult → Type 0
-MeansOnTimeout = MeansWordText slow_timeout_word
-
--- the table means this timeout; other keys don't count
-pub record MeansSlowTimeoutTable (members : Members) (timeout : SlowTimeoutRecord) : Type 0 where
-  pub of_period : RequiredKey period_key MeansDuration members timeout.period
-  pub of_terminate_after : OptionalKey terminate_after_key MeansCount members
-      timeout.terminate_after
-  pub of_grace_period : KeyOr grace_period_key default_grace_period MeansDuration members
-      timeout.grace_period
-  pub of_on_timeout : KeyOr on_timeout_key Fail MeansOnTimeout members timeout.on_timeout
-
--- what is wrong with the table, key by key
-abbrev pub SlowTimeoutTableFaults : Members → List ℕ → Fault → Type 0
-SlowTimeoutTableFaults =
-    FaultsThen (RequiredKey period_key MeansDuration) (RequiredKeyFaults period_key DurationFaults)
-    (λ period.
-    FaultsThen (OptionalKey terminate_after_key MeansCount)
-    (OptionalKeyFaults terminate_after_key CountFaults) (λ terminate_after.
-    FaultsThen (KeyOr grace_period_key default_grace_period MeansDuration)
-    (OptionalKeyFaults grace_period_key DurationFaults) (λ grace_period.
-    OptionalKeyFaults on_timeout_key (WordTextFaults slow_timeout_word slow_timeout_results))))
+-- the table has a period, and may have the rest; other keys don't count
+abbrev pub slow_timeout_table : Reading Members SlowTimeoutRecord
+slow_timeout_table =
+    then (required period_key duration_reading) (λ period.
+    then (optional terminate_after_key count_reading) (λ terminate_after.
+    then (or_default grace_period_key default_grace_period duration_reading) (λ grace_period.
+    made_of (λ on_timeout. record {
+      period = period;
+      terminate_after = terminate_after;
+      grace_period = grace_period;
+      on_timeout = on_timeout;
+    }) (or_default on_timeout_key Fail
+    (word_reading slow_timeout_results slow_timeout_word slow_timeout_reads_back)))))
 
 -- ---- the setting
 
 -- the text means no timeout where it is empty; any other is a period alone
-abbrev pub MeansSlowTimeoutText : List ℕ → Option SlowTimeoutRecord → Type 0
-MeansSlowTimeoutText [] timeout = timeout ≡ None
-MeansSlowTimeoutText (b ∷ rest) timeout = (period : ℕ) × MeansDuration (string (b ∷ rest)) period
-    × (timeout ≡ Some (with_period period))
-
--- what is wrong with the text: it isn't empty, and is no duration
-abbrev pub SlowTimeoutTextFaults : List ℕ → List ℕ → Fault → Type 0
-SlowTimeoutTextFaults [] at fault = ⊥
-SlowTimeoutTextFaults (b ∷ rest) at fault = DurationFaults (string (b ∷ rest)) at fault
+abbrev pub slow_timeout_text : List ℕ → Reading Data (Option SlowTimeoutRecord)
+slow_timeout_text [] = only None
+slow_timeout_text (b ∷ rest) = made_of (λ period. Some (with_period period)) duration_reading
 
 -- what the setting takes
 abbrev pub slow_timeout_expected : List ℕ
 slow_timeout_expected =
     codes "a table ({ period = \"60s\", terminate-after = 2 }) or a string (\"60s\")"
 
--- the value means this timeout, or none: as a text, or as a table
-abbrev pub MeansSlowTimeout : Data → Option SlowTimeoutRecord → Type 0
-MeansSlowTimeout value =
-    MeansKind MeansSlowTimeoutText
-    (λ other. MeansKind (MeansMade Some MeansSlowTimeoutTable) MeansNothing (as_table other) other)
-    (as_str value) value
-
--- what is wrong with the value at a path
-abbrev pub SlowTimeoutFaults : Data → List ℕ → Fault → Type 0
-SlowTimeoutFaults value =
-    FaultsKind SlowTimeoutTextFaults
-    (λ other. FaultsKind SlowTimeoutTableFaults (WrongKind slow_timeout_expected) (as_table other)
-    other) (as_str value) value
-
--- a setting means this timeout, or none
-abbrev pub MeansSlowTimeoutSetting : Data → Option SlowTimeout → Type 0
-MeansSlowTimeoutSetting value timeout = MeansSlowTimeout value (option_map slow_timeout_of timeout)
-
--- ---- its law
-
-text : IsReading MeansSlowTimeoutText SlowTimeoutTextFaults (λ a b. a ≡ b)
-text = reading_each equality by_length where
-  by_length : (text : List ℕ)
-      → IsReading {D = Unit {0}} (λ u. MeansSlowTimeoutText text) (λ u. SlowTimeoutTextFaults text)
-      (λ a b. a ≡ b)
-  by_length [] = only_this equality None
-  by_length (b ∷ rest) = reading_at (made_of (λ period. Some (with_period period)) duration_meant)
-      (string (b ∷ rest))
-
-table : IsReading MeansSlowTimeoutTable SlowTimeoutTableFaults (λ a b. a ≡ b)
-table = said_as (λ members t meant. (
-  t.period,
-  meant.of_period,
-  (
-    t.terminate_after,
-    meant.of_terminate_after,
-    (t.grace_period, meant.of_grace_period, (t.on_timeout, meant.of_on_timeout, refl)),
-  ),
-))
-    (then_reading (required_reading duration_meant period_key) (λ period.
-    then_reading (at_key terminate_after_key (optional_reading count_reading)) (λ terminate_after.
-    then_reading (at_key grace_period_key (or_reading duration_meant default_grace_period))
-    (λ grace_period.
-    made_of (λ on_timeout.
-    record {
-      period = period;
-      terminate_after = terminate_after;
-      grace_period = grace_period;
-      on_timeout = on_timeout;
-    })
-    (at_key on_timeout_key
-    (or_reading (word_reading slow_timeout_results slow_timeout_word
-    slow_timeout_reads_back) Fail))))))
-
--- a value means one timeout, or none, or has one fault, and not both
-pub slow_timeout_meant : IsReading MeansSlowTimeout SlowTimeoutFaults (λ a b. a ≡ b)
-slow_timeout_meant =
-    kind_reading text (kind_reading (made_of Some table) (wrong_kind slow_timeout_expected)
-    as_table) as_str
-
-pub slow_timeout_reading : IsReading MeansSlowTimeoutSetting SlowTimeoutFaults
-    (λ a b. option_map slow_timeout_of a ≡ option_map slow_timeout_of b)
-slow_timeout_reading = reading_on (option_map slow_timeout_of) slow_timeout_meant
+-- a text, or a table
+abbrev pub slow_timeout_reading : Reading Data (Option SlowTimeoutRecord)
+slow_timeout_reading =
+    kind as_str slow_timeout_text
+    (kind as_table (held (made_of Some slow_timeout_table)) (wrong_kind slow_timeout_expected))

@@ -6,8 +6,7 @@ use Rattle.std.proofs.lemmas.Map.Lookups.{exact_bytes}
 use Rattle.std.specs.Cmp.Lexicographic.{slice_cmp}
 use Rattle.std.specs.Ordering.{ordering_reverse}
 use Rattle.toml.specs.Data.{Members, get_member}
-use Rattle.nextest_config_values.specs.Read.Fault.{Fault}
-use Rattle.nextest_config_values.specs.Read.{IsCheck, unknown_key}
+use Rattle.nextest_config_values.specs.Read.{Check, unknown_key}
 
 -- the text is one of these
 abbrev pub IsOneOf : List (List ℕ) → List ℕ → Type 0
@@ -32,13 +31,6 @@ pub record IsFirstUnknownKey (known : List (List ℕ)) (members : Members) (key 
 abbrev pub HasOnlyKeys : List (List ℕ) → Members → Type 0
 HasOnlyKeys known members = (key : List ℕ) → ¬ IsUnknownKey known members key
 
--- the first unknown key is the fault of its table
-abbrev pub UnknownKeyFaults : List (List ℕ) → List ℕ → Members → List ℕ → Fault → Type 0
-UnknownKeyFaults known expected members at fault = (key : List ℕ)
-    × IsFirstUnknownKey known members key × (fault ≡ unknown_key key at expected)
-
--- ---- its law
-
 module _ {known : List (List ℕ)} {members : Members} where
   one_by_order : (o : Ordering) (k l : List ℕ) → slice_cmp nat_cmp k l ≡ o
       → IsFirstUnknownKey known members k → IsFirstUnknownKey known members l → k ≡ l
@@ -48,14 +40,16 @@ module _ {known : List (List ℕ)} {members : Members} where
       absurd (a.is_first l b.is_unknown
       (nat_list_cmp_total.antisymm l k ∙ ap ordering_reverse order))
 
-  one_first : (k l : List ℕ) → IsFirstUnknownKey known members k → IsFirstUnknownKey known members l
+  pub one_first : (k l : List ℕ) → IsFirstUnknownKey known members k → IsFirstUnknownKey known members l
       → k ≡ l
   one_first k l = one_by_order (slice_cmp nat_cmp k l) k l refl
 
--- a table has at most one first unknown key
-pub keys_check : (known : List (List ℕ)) (expected : List ℕ)
-    → IsCheck (HasOnlyKeys known) (UnknownKeyFaults known expected)
+-- the first unknown key is the fault of its table
+abbrev pub keys_check : List (List ℕ) → List ℕ → Check Members
 keys_check known expected = record {
+  passes = HasOnlyKeys known;
+  faults = λ members at fault. (key : List ℕ) × IsFirstUnknownKey known members key
+      × (fault ≡ unknown_key key at expected);
   one_fault = λ members at f g a b. a.2
       ∙ ap (λ key. unknown_key key at expected) (one_first a.0 b.0 a.1 b.1) ∙ sym b.2;
   never_both = λ members at f none a. none a.0 a.1.is_unknown;

@@ -1,7 +1,8 @@
 //! The timeout of a whole run.
 
-ghost use Rattle.std.specs.Prelude.{false};
-ghost use Rattle.nextest_config_elements.specs.GlobalTimeout.{global_timeout_of, global_timeout_reading, GlobalTimeoutFaults, GlobalTimeoutsAlike, MeansGlobalTimeout};
+ghost use Rattle.std.specs.Prelude.{ℕ};
+ghost use Rattle.nextest_config_values.specs.Duration.{duration_reading};
+ghost use Rattle.nextest_config_elements.specs.GlobalTimeout.{global_timeout_of};
 
 use nextest_config_values::read::{FromToml, ReadFault};
 use std::alloc::Global;
@@ -16,15 +17,11 @@ pub struct GlobalTimeout {
 }
 
 impl FromToml for GlobalTimeout {
-    ghost means = { λ value timeout. MeansGlobalTimeout value (global_timeout_of timeout) };
+    ghost Seen = { ℕ };
 
-    ghost faults = { GlobalTimeoutFaults };
+    ghost seen = { global_timeout_of };
 
-    ghost needs_memory = { false };
-
-    ghost alike = { GlobalTimeoutsAlike };
-
-    ghost laws = { global_timeout_reading };
+    ghost reading = { duration_reading };
 
     fn read(alloc: Global, value: &Value, at: &str) -> Result<Self, ReadFault> {
         let period = Duration::read(alloc, value, at)?;

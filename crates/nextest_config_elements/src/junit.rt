@@ -1,9 +1,9 @@
 //! The JUnit report.
 
-ghost use Rattle.std.specs.Prelude.{◌≡◌, None, true, IfErr, IfOk, IsOk, option_map};
+ghost use Rattle.std.specs.Prelude.{◌≡◌, None, IfErr, IfOk, IsOk, option_map};
 ghost use Rattle.toml.specs.View.{table_view, view};
-ghost use Rattle.nextest_config_values.specs.Read.{Refuses, WantsMemory};
-ghost use Rattle.nextest_config_elements.specs.Junit.{default_of, empty_table, flaky_fail_reads_back, flaky_fail_statuses, flaky_fail_word, HasText, IsFirstMissing, junit_reading, JunitFaults, JunitTable, JunitTableFaults, MeansJunit, MeansJunitTable, report_in, report_of, SaysAll, settings_of, table_of, WantsTexts};
+ghost use Rattle.nextest_config_values.specs.Read.{RefusesBy};
+ghost use Rattle.nextest_config_elements.specs.Junit.{default_of, empty_table, flaky_fail_reads_back, flaky_fail_statuses, flaky_fail_word, HasText, IsFirstMissing, junit_reading, junit_table, JunitTable, report_in, report_of, SaysAll, settings_of, table_of};
 
 use crate::report_skip_policy::ReportSkipPolicy;
 use nextest_config_values::helpers::join_path;
@@ -305,9 +305,8 @@ impl JunitImpl {
     // What a table says.
     fn read_table(alloc: Global, table: &Table, at: &str) -> Result<Self, ReadFault>
         ensures meant { IfOk result (λ junit.
-            MeansJunitTable (table_view table.now) (table_of junit)) }
-        ensures refused { IfErr result (Refuses (JunitTableFaults (table_view table.now) at.now)
-            (WantsTexts (table_view table.now))) }
+            junit_table.means (table_view table.now) (table_of junit)) }
+        ensures refused { IfErr result (RefusesBy junit_table (table_view table.now) at.now) }
     {
         let path: Option<String> = optional_field(alloc, table, PATH_KEY, at)?;
         let report_name: Option<String> = optional_field(alloc, table, REPORT_NAME_KEY, at)?;
@@ -327,24 +326,20 @@ impl JunitImpl {
 }
 
 impl FromToml for JunitImpl {
-    ghost means = { λ value junit. MeansJunit value (table_of junit) };
+    ghost Seen = { JunitTable };
 
-    ghost faults = { JunitFaults };
+    ghost seen = { table_of };
 
-    ghost needs_memory = { true };
-
-    ghost alike = { λ a b. table_of a ≡ table_of b };
-
-    ghost laws = { junit_reading };
+    ghost reading = { junit_reading };
 
     /// Reads the table of a profile's `junit`. It takes memory for a path and for a name of the
     /// report.
     fn read(alloc: Global, value: &Value, at: &str) -> Result<Self, ReadFault>
-        ensures meant { IfOk result (λ junit. MeansJunit (view value.now) (table_of junit)) }
-        ensures refused { IfErr result (Refuses (JunitFaults (view value.now) at.now)
-            (WantsMemory (λ junit. MeansJunit (view value.now) (table_of junit)) true)) }
-        ensures texts { (said : JunitTable) → MeansJunit (view value.now) said → ¬ HasText said
-            → IsOk result }
+        ensures meant { IfOk result (λ junit.
+            junit_reading.means (view value.now) (table_of junit)) }
+        ensures refused { IfErr result (RefusesBy junit_reading (view value.now) at.now) }
+        ensures texts { (said : JunitTable) → junit_reading.means (view value.now) said
+            → ¬ HasText said → IsOk result }
     {
         match value.as_table() {
             Some(table) => JunitImpl::read_table(alloc, table, at),

@@ -1,14 +1,14 @@
 //! Laws of the definitions, for every value. They call nothing.
 
-ghost use Rattle.std.specs.Prelude.{◌≡◌, ◌↔◌, ℕ, ◌<◌, ◌≤◌, ◌^◌, ℤ, ◌<ℤ◌, IsTrue, List, option_map};
+ghost use Rattle.std.specs.Prelude.{◌≡◌, ◌↔◌, ℕ, ◌<◌, ◌≤◌, ◌^◌, ℤ, ◌<ℤ◌, IsTrue, List};
 ghost use Rattle.std.specs.Ordering.{MatchOrdering};
 ghost use Rattle.nextest_config_values.specs.Equality.{IsCopy, IsEquality, IsEqualityBy};
-ghost use Rattle.nextest_config_values.specs.Helpers.Paths.{MeansPath, PathFaults};
-ghost use Rattle.nextest_config_values.specs.Read.{IsReading, TextsAlike};
-ghost use Rattle.nextest_config_elements.specs.LeakTimeout.{leak_timeout_of, LeakTimeoutFaults, MeansLeakTimeoutSetting};
-ghost use Rattle.nextest_config_elements.specs.MaxFail.{FailFastFaults, IsLimitFault, IsLimitText, IsReached, limit_fault, limit_text, LimitFault, MeansFailFast};
-ghost use Rattle.nextest_config_elements.specs.RetryPolicy.{MeansRetryPolicySetting, retry_policy_of, RetryPolicyFaults};
-ghost use Rattle.nextest_config_elements.specs.SlowTimeout.{MeansSlowTimeoutSetting, slow_timeout_of, SlowTimeoutFaults};
+ghost use Rattle.nextest_config_values.specs.Helpers.Paths.{relative_path_reading};
+ghost use Rattle.nextest_config_values.specs.Read.{IsReading};
+ghost use Rattle.nextest_config_elements.specs.LeakTimeout.{leak_timeout_reading};
+ghost use Rattle.nextest_config_elements.specs.MaxFail.{fail_fast_reading, IsLimitFault, IsLimitText, IsReached, limit_fault, limit_text, LimitFault};
+ghost use Rattle.nextest_config_elements.specs.RetryPolicy.{retry_policy_reading};
+ghost use Rattle.nextest_config_elements.specs.SlowTimeout.{slow_timeout_reading};
 ghost use Rattle.nextest_config_elements.specs.declared.max_fail.MaxFail.{MaxFail};
 ghost use Rattle.nextest_config_elements.specs.declared.max_fail.MaxFail.TheVariants.{All, Count};
 ghost use Rattle.nextest_config_elements.specs.declared.max_fail.TerminateMode.{TerminateMode};
@@ -60,14 +60,11 @@ pub fn law_priority_order()
 /// No value of the settings that may set nothing, `slow-timeout`, `leak-timeout`, `retries` and
 /// `fail-fast`, and none of a relative path means two things, has two faults at one path, or both.
 pub fn law_setting_once()
-    ensures slow_timeout { IsReading MeansSlowTimeoutSetting SlowTimeoutFaults
-        (λ a b. option_map slow_timeout_of a ≡ option_map slow_timeout_of b) }
-    ensures leak_timeout { IsReading MeansLeakTimeoutSetting LeakTimeoutFaults
-        (λ a b. option_map leak_timeout_of a ≡ option_map leak_timeout_of b) }
-    ensures retries { IsReading MeansRetryPolicySetting RetryPolicyFaults
-        (λ a b. option_map retry_policy_of a ≡ option_map retry_policy_of b) }
-    ensures fail_fast { IsReading MeansFailFast FailFastFaults ◌≡◌ }
-    ensures relative_path { IsReading MeansPath PathFaults TextsAlike }
+    ensures slow_timeout { IsReading slow_timeout_reading.means slow_timeout_reading.faults }
+    ensures leak_timeout { IsReading leak_timeout_reading.means leak_timeout_reading.faults }
+    ensures retries { IsReading retry_policy_reading.means retry_policy_reading.faults }
+    ensures fail_fast { IsReading fail_fast_reading.means fail_fast_reading.faults }
+    ensures relative_path { IsReading relative_path_reading.means relative_path_reading.faults }
 {}
 
 /// Values are equal exactly where they are the same; refusals of a fail limit where they tell the

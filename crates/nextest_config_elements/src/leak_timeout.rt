@@ -1,9 +1,9 @@
 //! The timeout of handles that a test leaks.
 
-ghost use Rattle.std.specs.Prelude.{◌≡◌, false, IfOk, IfErr, option_map};
+ghost use Rattle.std.specs.Prelude.{◌≡◌, IfOk, IfErr, option_map};
 ghost use Rattle.toml.specs.View.{table_view, view};
-ghost use Rattle.nextest_config_values.specs.Read.{Refuses, WantsMemory};
-ghost use Rattle.nextest_config_elements.specs.LeakTimeout.{default_leak_timeout, leak_timeout_of, leak_timeout_reads_back, leak_timeout_results, leak_timeout_word, LeakTimeoutFaults, LeakTimeoutTableFaults, MeansLeakTimeoutSetting, MeansLeakTimeoutTable};
+ghost use Rattle.nextest_config_values.specs.Read.{RefusesBy};
+ghost use Rattle.nextest_config_elements.specs.LeakTimeout.{default_leak_timeout, leak_timeout_of, leak_timeout_reading, leak_timeout_reads_back, leak_timeout_results, leak_timeout_table, leak_timeout_word};
 
 use nextest_config_values::read::{FromToml, ReadFault, Word, field_or, required_field};
 use std::alloc::Global;
@@ -41,11 +41,9 @@ impl LeakTimeout {
     // The timeout that a table means.
     fn read_table(alloc: Global, table: &Table, at: &str) -> Result<Self, ReadFault>
         ensures meant { IfOk result (λ timeout.
-            MeansLeakTimeoutTable (table_view table.now) (leak_timeout_of timeout)) }
+            leak_timeout_table.means (table_view table.now) (leak_timeout_of timeout)) }
         ensures refused { IfErr result
-            (Refuses (LeakTimeoutTableFaults (table_view table.now) at.now)
-            (WantsMemory (λ timeout. MeansLeakTimeoutTable (table_view table.now)
-            (leak_timeout_of timeout)) false)) }
+            (RefusesBy leak_timeout_table (table_view table.now) at.now) }
     {
         let period: Duration = required_field(alloc, table, PERIOD_KEY, at)?;
         let result = field_or(alloc, table, RESULT_KEY, at, LeakTimeoutResult::default())?;
@@ -61,9 +59,9 @@ pub fn deserialize_leak_timeout(
     value: &Value,
     at: &str,
 ) -> Result<Option<LeakTimeout>, ReadFault>
-    ensures meant { IfOk result (MeansLeakTimeoutSetting (view value.now)) }
-    ensures refused { IfErr result (Refuses (LeakTimeoutFaults (view value.now) at.now)
-        (WantsMemory (MeansLeakTimeoutSetting (view value.now)) false)) }
+    ensures meant { IfOk result (λ timeout.
+        leak_timeout_reading.means (view value.now) (option_map leak_timeout_of timeout)) }
+    ensures refused { IfErr result (RefusesBy leak_timeout_reading (view value.now) at.now) }
 {
     match value.as_str() {
         Some(_) => {

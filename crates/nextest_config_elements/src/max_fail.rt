@@ -1,6 +1,6 @@
 //! The fail limit.
 
-ghost use Rattle.std.specs.Prelude.{◌≡◌, ◌↔◌, ◌++◌, ℕ, [], ◌∷◌, IfErr, IfOk, IsTrue, MatchOption, refl, Some};
+ghost use Rattle.std.specs.Prelude.{◌≡◌, ◌↔◌, ◌++◌, ℕ, [], ◌∷◌, IfErr, IfOk, IsTrue, MatchOption, Some};
 ghost use Rattle.std.specs.Fmt.{WritesOnOk, WritesStyledOnOk};
 ghost use Rattle.std.specs.Str.Parse.{AllDigits, IsNumeral, without_leading_sign};
 ghost use Rattle.nextest_config_values.specs.Read.{told_text};
@@ -50,13 +50,14 @@ impl Default for TerminateMode {
 
 impl Word for TerminateMode {
     ghost use Rattle.nextest_config_elements.specs.declared.max_fail.TerminateMode.TheVariants.{Wait, Immediate};
+    ghost use Rattle.nextest_config_elements.specs.MaxFail.FailFast.{mode_reads_back};
     ghost use Rattle.nextest_config_elements.specs.MaxFail.Limit.{mode_word};
 
     ghost all = { Wait ∷ Immediate ∷ [] };
 
     ghost word = { mode_word };
 
-    ghost reads_back = { elim [ Wait ↦ refl | Immediate ↦ refl ] };
+    ghost reads_back = { mode_reads_back };
 
     fn all() -> &'static [Self] {
         &[TerminateMode::Wait, TerminateMode::Immediate]

@@ -1,10 +1,10 @@
 //! The priority of tests.
 
-ghost use Rattle.std.specs.Prelude.{◌≡◌, ◌↔◌, false, IfErr, IfOk, IsOk, pos, refl, Some};
+ghost use Rattle.std.specs.Prelude.{◌≡◌, ◌↔◌, IfErr, IfOk, IsOk, pos, refl, Some};
 ghost use Rattle.std.proofs.Common.{rules};
 ghost use Rattle.std.specs.Cmp.Rules.{comparing};
 ghost use Rattle.std.specs.Ordering.{int_cmp};
-ghost use Rattle.nextest_config_elements.specs.Priority.{IsPriority, MeansPriority, priority_reading, PriorityFaults};
+ghost use Rattle.nextest_config_elements.specs.Priority.{IsPriority, priority_reading};
 
 use nextest_config_values::read::{FaultKind, FromToml, ReadFault, Rule};
 use std::alloc::Global;
@@ -94,15 +94,11 @@ impl Ord for TestPriority {
 }
 
 impl FromToml for TestPriority {
-    ghost means = { MeansPriority };
+    ghost Seen = { Self };
 
-    ghost faults = { PriorityFaults };
+    ghost seen = { λ priority. priority };
 
-    ghost needs_memory = { false };
-
-    ghost alike = { ◌≡◌ };
-
-    ghost laws = { priority_reading };
+    ghost reading = { priority_reading };
 
     fn read(alloc: Global, value: &Value, at: &str) -> Result<Self, ReadFault> {
         let Some(number) = value.as_integer() else {

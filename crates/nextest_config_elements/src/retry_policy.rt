@@ -1,11 +1,10 @@
 //! Retries.
 
-ghost use Rattle.std.specs.Prelude.{◌≡◌, ◌↔◌, ◌∷◌, ℕ, false, IfOk, IfErr, IsOk, IsTrue, List, MatchOption, OnOk, option_map, string_bytes};
+ghost use Rattle.std.specs.Prelude.{◌≡◌, ◌↔◌, ◌∷◌, ℕ, IfOk, IfErr, IsOk, IsTrue, List, MatchOption, OnOk, option_map, string_bytes};
 ghost use Rattle.std.specs.Duration.{as_nanos};
-ghost use Rattle.toml.specs.Data.{integer};
 ghost use Rattle.toml.specs.View.{table_view, view};
-ghost use Rattle.nextest_config_values.specs.Read.{broken_rule, custom, fault_at, Refuses, RefusesAs, RefusesOne, WantsMemory, words_text, wrong_value};
-ghost use Rattle.nextest_config_elements.specs.RetryPolicy.{backoff_key, backoff_reads_back, backoff_word, BackoffFaults, backoffs_in_order, count_of, ExponentialRuleFaults, fail_message, flaky_result_reads_back, flaky_result_word, flaky_results, HasKeysOf, keys_beside, MeansBackoff, MeansRetryNumber, MeansRetryPolicySetting, MeansRetryTable, ObeysExponentialRules, OtherKeyFaults, retry_policy_of, RetryNumberFaults, RetryPolicyFaults, RetryTableFaults, without_delay};
+ghost use Rattle.nextest_config_values.specs.Read.{broken_rule, custom, fault_at, RefusesAs, RefusesBy, RefusesOne, words_text};
+ghost use Rattle.nextest_config_elements.specs.RetryPolicy.{backoff_key, backoff_reads_back, backoff_word, backoffs_in_order, count_of, exponential_rules, exponential_table, fail_message, fixed_table, flaky_result_reads_back, flaky_result_word, flaky_results, keys_beside, other_keys, retry_number, retry_policy_of, retry_policy_reading, retry_table, without_delay};
 ghost use Rattle.nextest_config_elements.specs.UnknownKeys.{IsOneOf};
 
 use nextest_config_values::read::{
@@ -90,12 +89,12 @@ pub fn deserialize_retry_policy(
     value: &Value,
     at: &str,
 ) -> Result<Option<RetryPolicy>, ReadFault>
-    ensures meant { IfOk result (MeansRetryPolicySetting (view value.now)) }
-    ensures refused { IfErr result (Refuses (RetryPolicyFaults (view value.now) at.now)
-        (WantsMemory (MeansRetryPolicySetting (view value.now)) false)) }
+    ensures meant { IfOk result (λ policy.
+        retry_policy_reading.means (view value.now) (option_map retry_policy_of policy)) }
+    ensures refused { IfErr result (RefusesBy retry_policy_reading (view value.now) at.now) }
 {
     if let Some(number) = value.as_integer() {
-        let policy = read_number(alloc, number, at)?;
+        let policy = read_number(alloc, value, number, at)?;
         return Ok(Some(policy));
     }
     match value.as_table() {
@@ -107,35 +106,31 @@ pub fn deserialize_retry_policy(
     }
 }
 
-// The policy that an integer means.
-fn read_number(alloc: Global, number: i64, at: &str) -> Result<RetryPolicy, ReadFault>
-    ensures meant { IfOk result (λ policy. MeansRetryNumber number (retry_policy_of policy)) }
-    ensures refused { IfErr result (Refuses (RetryNumberFaults number at.now)
-        (WantsMemory (λ policy. MeansRetryNumber number (retry_policy_of policy)) false)) }
+// The policy that a value with this integer means.
+fn read_number(
+    alloc: Global,
+    value: &Value,
+    number: i64,
+    at: &str,
+) -> Result<RetryPolicy, ReadFault>
+    ensures meant { IfOk result (λ policy.
+        (retry_number number).means (view value.now) (retry_policy_of policy)) }
+    ensures refused { IfErr result (RefusesBy (retry_number number) (view value.now) at.now) }
 {
     if number < 0 {
-        return Err(out_of_range(alloc, number, at, EXPECTED));
+        return Err(ReadFault::invalid_value(alloc, value, at, EXPECTED));
     }
     match u32::try_from(number) {
         Ok(count) => Ok(RetryPolicy::new_without_delay(count)),
-        Err(_) => Err(out_of_range(alloc, number, at, "a u32")),
+        Err(_) => Err(ReadFault::invalid_value(alloc, value, at, "a u32")),
     }
-}
-
-// The fault of an integer that is no number of retries.
-fn out_of_range(alloc: Global, number: i64, at: &str, expected: &'static str) -> ReadFault
-    ensures { RefusesAs (wrong_value (integer number) at.now expected.now) result }
-{
-    ReadFault::invalid_value(alloc, &Value::Integer(number), at, expected)
 }
 
 // The policy that a table means.
 fn read_table(alloc: Global, table: &Table, at: &str) -> Result<RetryPolicy, ReadFault>
-    ensures meant { IfOk result
-        (λ policy. MeansRetryTable (table_view table.now) (retry_policy_of policy)) }
-    ensures refused { IfErr result (Refuses (RetryTableFaults (table_view table.now) at.now)
-        (WantsMemory (λ policy. MeansRetryTable (table_view table.now) (retry_policy_of policy))
-        false)) }
+    ensures meant { IfOk result (λ policy.
+        retry_table.means (table_view table.now) (retry_policy_of policy)) }
+    ensures refused { IfErr result (RefusesBy retry_table (table_view table.now) at.now) }
 {
     let backoff: Backoff = required_field(alloc, table, BACKOFF_KEY, at)?;
     match backoff {
@@ -147,11 +142,8 @@ fn read_table(alloc: Global, table: &Table, at: &str) -> Result<RetryPolicy, Rea
 // The policy that a table with a fixed backoff means.
 fn read_fixed(alloc: Global, table: &Table, at: &str) -> Result<RetryPolicy, ReadFault>
     ensures meant { IfOk result (λ policy.
-        MeansBackoff Backoff.Fixed (table_view table.now) (retry_policy_of policy)) }
-    ensures refused { IfErr result
-        (Refuses (BackoffFaults Backoff.Fixed (table_view table.now) at.now)
-        (WantsMemory (λ policy.
-        MeansBackoff Backoff.Fixed (table_view table.now) (retry_policy_of policy)) false)) }
+        fixed_table.means (table_view table.now) (retry_policy_of policy)) }
+    ensures refused { IfErr result (RefusesBy fixed_table (table_view table.now) at.now) }
 {
     let count = required_field(alloc, table, COUNT_KEY, at)?;
     let delay = field_or(alloc, table, DELAY_KEY, at, Duration::ZERO)?;
@@ -170,11 +162,8 @@ fn read_fixed(alloc: Global, table: &Table, at: &str) -> Result<RetryPolicy, Rea
 // The policy that a table with an exponential backoff means.
 fn read_exponential(alloc: Global, table: &Table, at: &str) -> Result<RetryPolicy, ReadFault>
     ensures meant { IfOk result (λ policy.
-        MeansBackoff Backoff.Exponential (table_view table.now) (retry_policy_of policy)) }
-    ensures refused { IfErr result
-        (Refuses (BackoffFaults Backoff.Exponential (table_view table.now) at.now)
-        (WantsMemory (λ policy.
-        MeansBackoff Backoff.Exponential (table_view table.now) (retry_policy_of policy)) false)) }
+        exponential_table.means (table_view table.now) (retry_policy_of policy)) }
+    ensures refused { IfErr result (RefusesBy exponential_table (table_view table.now) at.now) }
 {
     let count = required_field(alloc, table, COUNT_KEY, at)?;
     let delay: Duration = required_field(alloc, table, DELAY_KEY, at)?;
@@ -195,9 +184,10 @@ fn read_exponential(alloc: Global, table: &Table, at: &str) -> Result<RetryPolic
 // The first rule that an exponential backoff breaks.
 fn first_broken(count: u32, delay: Duration, max_delay: Option<Duration>) -> Option<Rule>
     ensures { MatchOption result
-        (ObeysExponentialRules count (as_nanos delay) (option_map as_nanos max_delay))
-        (λ rule. (at : List ℕ) → ExponentialRuleFaults count (as_nanos delay)
-        (option_map as_nanos max_delay) (tt {0}) at (fault_at at (custom (broken_rule rule)))) }
+        ((exponential_rules count (as_nanos delay) (option_map as_nanos max_delay)).passes (tt {0}))
+        (λ rule. (at : List ℕ) →
+        (exponential_rules count (as_nanos delay) (option_map as_nanos max_delay)).faults
+        (tt {0}) at (fault_at at (custom (broken_rule rule)))) }
 {
     if count == 0 {
         return Some(Rule::CountZero);
@@ -257,9 +247,9 @@ impl Word for Backoff {
 impl Backoff {
     // Refuses the first key, in byte order, that doesn't belong to this backoff.
     fn check_keys(self, alloc: Global, table: &Table, at: &str) -> Result<(), ReadFault>
-        ensures kept { OnOk result (HasKeysOf self (table_view table.now)) }
+        ensures kept { OnOk result ((other_keys self).passes (table_view table.now)) }
         ensures refused { IfErr result
-            (RefusesOne (OtherKeyFaults self (table_view table.now) at.now)) }
+            (RefusesOne ((other_keys self).faults (table_view table.now) at.now)) }
     {
         for key in table.keys() {
             if !self.has_key(key.as_str()) {

@@ -1,11 +1,11 @@
 //! The timeout of slow tests.
 
-ghost use Rattle.std.specs.Prelude.{◌≡◌, false, IfOk, IfErr, option_map};
+ghost use Rattle.std.specs.Prelude.{◌≡◌, IfOk, IfErr, option_map};
 ghost use Rattle.std.specs.Duration.{as_nanos};
 ghost use Rattle.toml.specs.View.{table_view, view};
-ghost use Rattle.nextest_config_values.specs.Read.{Refuses, WantsMemory};
+ghost use Rattle.nextest_config_values.specs.Read.{RefusesBy};
 ghost use Rattle.nextest_config_elements.specs.Durations.{seconds};
-ghost use Rattle.nextest_config_elements.specs.SlowTimeout.{default_grace_period, MeansSlowTimeoutSetting, MeansSlowTimeoutTable, slow_timeout_of, slow_timeout_reads_back, slow_timeout_results, slow_timeout_word, SlowTimeoutFaults, SlowTimeoutTableFaults, with_period};
+ghost use Rattle.nextest_config_elements.specs.SlowTimeout.{default_grace_period, slow_timeout_of, slow_timeout_reading, slow_timeout_reads_back, slow_timeout_results, slow_timeout_table, slow_timeout_word, with_period};
 
 use nextest_config_values::read::{
     FromToml, NonZeroCount, ReadFault, Word, field_or, optional_field, required_field,
@@ -60,11 +60,9 @@ impl SlowTimeout {
     // The timeout that a table means.
     fn read_table(alloc: Global, table: &Table, at: &str) -> Result<Self, ReadFault>
         ensures meant { IfOk result (λ timeout.
-            MeansSlowTimeoutTable (table_view table.now) (slow_timeout_of timeout)) }
+            slow_timeout_table.means (table_view table.now) (slow_timeout_of timeout)) }
         ensures refused { IfErr result
-            (Refuses (SlowTimeoutTableFaults (table_view table.now) at.now)
-            (WantsMemory (λ timeout. MeansSlowTimeoutTable (table_view table.now)
-            (slow_timeout_of timeout)) false)) }
+            (RefusesBy slow_timeout_table (table_view table.now) at.now) }
     {
         let period: Duration = required_field(alloc, table, PERIOD_KEY, at)?;
         let terminate_after: Option<NonZeroCount> = optional_field(
@@ -99,9 +97,9 @@ pub fn deserialize_slow_timeout(
     value: &Value,
     at: &str,
 ) -> Result<Option<SlowTimeout>, ReadFault>
-    ensures meant { IfOk result (MeansSlowTimeoutSetting (view value.now)) }
-    ensures refused { IfErr result (Refuses (SlowTimeoutFaults (view value.now) at.now)
-        (WantsMemory (MeansSlowTimeoutSetting (view value.now)) false)) }
+    ensures meant { IfOk result (λ timeout.
+        slow_timeout_reading.means (view value.now) (option_map slow_timeout_of timeout)) }
+    ensures refused { IfErr result (RefusesBy slow_timeout_reading (view value.now) at.now) }
 {
     if let Some(text) = value.as_str() {
         if text.is_empty() {

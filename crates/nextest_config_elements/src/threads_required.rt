@@ -1,8 +1,7 @@
 //! The threads that a test takes.
 
-ghost use Rattle.std.specs.Prelude.{◌≡◌, ◌≢◌, ℕ, false, pos, Some, MatchOption};
-ghost use Rattle.nextest_config_values.specs.Read.{IsCount, MeansNumber};
-ghost use Rattle.nextest_config_elements.specs.ThreadsRequired.{MeansThreads, thread_count, threads_reading, threads_text, ThreadsFaults};
+ghost use Rattle.std.specs.Prelude.{◌≡◌, ◌≢◌, ℕ, Some, MatchOption};
+ghost use Rattle.nextest_config_elements.specs.ThreadsRequired.{thread_count, threads_reading, threads_text};
 ghost use Rattle.nextest_config_elements.specs.declared.threads_required.ThreadsRequired.{ThreadsRequired};
 
 use nextest_config_values::read::{FromToml, ReadFault};
@@ -37,15 +36,11 @@ impl ThreadsRequired {
 }
 
 impl FromToml for ThreadsRequired {
-    ghost means = { MeansThreads };
+    ghost Seen = { Self };
 
-    ghost faults = { ThreadsFaults };
+    ghost seen = { λ threads. threads };
 
-    ghost needs_memory = { false };
-
-    ghost alike = { ◌≡◌ };
-
-    ghost laws = { threads_reading };
+    ghost reading = { threads_reading };
 
     fn read(alloc: Global, value: &Value, at: &str) -> Result<Self, ReadFault> {
         if let Some(number) = value.as_integer() {

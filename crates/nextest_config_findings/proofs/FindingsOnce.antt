@@ -5,7 +5,7 @@ use Rattle.std.proofs.Common.{sym, ap, ap₂, refl, subst, ◌∙◌, inl, inr}
 use Rattle.toml.specs.Data.{Data, get_member, Members}
 use Rattle.nextest_config_values.specs.Read.Fault.{Fault}
 use Rattle.nextest_config_values.specs.Read.{Reason}
-use Rattle.nextest_config_sources.specs.NextestVersion.{all_features, experimental_key, Features, features_meant, FeatureSetting, texts_in_one_order, word_of}
+use Rattle.nextest_config_sources.specs.NextestVersion.{all_features, experimental_key, Features, features_reading, FeatureSetting, texts_in_one_order, word_of}
 use Rattle.nextest_config_sources.specs.declared.nextest_version.edition.Edition.{Edition}
 use Rattle.nextest_config_sources.specs.declared.nextest_version.source.ConfigSourceKind.{ConfigSourceKind}
 use Rattle.nextest_config_sources.specs.declared.nextest_version.source.ConfigSourceKind.TheVariants.{DiscoveredRepository, ExplicitRepository, Tool}
@@ -16,9 +16,8 @@ use Rattle.nextest_config_findings.specs.Faults.{added_step, IsFaultFound, IsFou
 use Rattle.nextest_config_findings.specs.Features.{AreFeaturesFound, AreNamedFound, AreToolsFound, features_path, IsNameFound}
 use Rattle.nextest_config_findings.specs.Found.{AreFoundIn, Found, found_at, FoundKind, Meant, the_word, tool_names, unknown_key, unknown_name}
 use Rattle.nextest_config_findings.specs.Judged.{from_table, JudgedValue}
-use Rattle.nextest_config_findings.specs.PlaceLaws.{place_reading}
+use Rattle.nextest_config_findings.specs.Place.{experimental_check, place_check}
 use Rattle.nextest_config_findings.specs.Unknown.{IsHintFor, IsKeyFound, IsKeyFoundFor, is_known, is_of_top, JudgedKey, Known}
-use Rattle.nextest_config_findings.specs.declared.place.Place.TheVariants.{Experimental}
 
 -- one thing is found in a list, where one is found of each element
 found_once : {A : Type 0} (IsFound : A → Option Found → Type 0) → ((x : A) (a b : Option Found) → IsFound x a → IsFound x b → a ≡ b)
@@ -44,11 +43,11 @@ one_found path value fault a b h k =
 fault_found_once : (edition : Edition) (judged : JudgedValue) (a b : Option Found) → IsFaultFound edition judged a → IsFaultFound edition judged b → a ≡ b
 fault_found_once edition judged None None h k = refl
 fault_found_once edition judged None (Some b) h (fault, faulty, is) =
-    absurd ((place_reading edition judged.place).never_both judged.value (printed_path judged.path) fault h faulty)
+    absurd ((place_check edition judged.place).never_both judged.value (printed_path judged.path) fault h faulty)
 fault_found_once edition judged (Some a) None (fault, faulty, is) k =
-    absurd ((place_reading edition judged.place).never_both judged.value (printed_path judged.path) fault k faulty)
+    absurd ((place_check edition judged.place).never_both judged.value (printed_path judged.path) fault k faulty)
 fault_found_once edition judged (Some a) (Some b) (fault, faulty, is) (other, also, is_too) =
-    let same : fault ≡ other = (place_reading edition judged.place).one_fault judged.value (printed_path judged.path) fault other faulty also in
+    let same : fault ≡ other = (place_check edition judged.place).one_fault judged.value (printed_path judged.path) fault other faulty also in
     let is_so : IsFoundOf judged.path judged.value other a = subst (λ (f : Fault). IsFoundOf judged.path judged.value f a) same is in
     ap Some (one_found judged.path judged.value other a b is_so is_too)
 
@@ -93,12 +92,12 @@ features_once : (edition : Edition) (kind : ConfigSourceKind) (found : Option Da
     → AreFeaturesFound edition kind found a → AreFeaturesFound edition kind found b → a ≡ b
 features_once edition kind None a b h k = h ∙ sym k
 features_once edition kind (Some value) a b (inl (kept, (named, means, are))) (inl (kept_too, (other, means_too, are_too))) =
-    let same : other ≡ named = features_meant.one_meaning value other named means_too means in
+    let same : other ≡ named = features_reading.law.one_meaning value other named means_too means in
     named_once kind named.features a b are (subst (λ (n : FeatureSetting). AreNamedFound kind n.features b) same are_too)
 features_once edition kind (Some value) a b (inl (kept, (named, means, are))) (inr ((fault, faulty), none)) =
-    absurd ((place_reading edition Experimental).never_both value experimental_key fault (kept, (named, means)) faulty)
+    absurd ((experimental_check edition).never_both value experimental_key fault (kept, (named, means)) faulty)
 features_once edition kind (Some value) a b (inr ((fault, faulty), none)) (inl (kept, (named, means, are))) =
-    absurd ((place_reading edition Experimental).never_both value experimental_key fault (kept, (named, means)) faulty)
+    absurd ((experimental_check edition).never_both value experimental_key fault (kept, (named, means)) faulty)
 features_once edition kind (Some value) a b (inr h) (inr k) = h.1 ∙ sym k.1
 
 -- ---- of all

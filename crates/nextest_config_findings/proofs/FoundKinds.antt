@@ -9,7 +9,7 @@ use Rattle.nextest_config_lines.specs.Step.{PathStep, printed_path}
 use Rattle.nextest_config_findings.specs.Faults.{Added, added_step, IsFaultFound, IsFoundKind, IsFoundOf, IsUnjudged, led_to, with_added}
 use Rattle.nextest_config_findings.specs.Found.{Found, found_at, found_of, FoundKind, refused, unjudged}
 use Rattle.nextest_config_findings.specs.Judged.{JudgedValue}
-use Rattle.nextest_config_findings.specs.Place.{PlaceFaults}
+use Rattle.nextest_config_findings.specs.Place.{place_check}
 use Rattle.nextest_config_findings.specs.declared.finding.Finding.{Finding}
 
 -- a kind of finding that is told so
@@ -52,10 +52,10 @@ IsToldFinding path value refusal finding = (fault : Fault) × (found : Found) ×
 
 -- a refusal that tells a fault, and what is found of it
 pub refused_found : (edition : Edition) (judged : JudgedValue) (refusal : ReadFault) (finding : Finding)
-    → Refuses (PlaceFaults edition judged.place judged.value (printed_path judged.path)) (Unit {0}) refusal
+    → Refuses ((place_check edition judged.place).faults judged.value (printed_path judged.path)) (Unit {0}) refusal
     → IsToldFinding judged.path judged.value refusal finding
     → (here : Option Found) × IsFaultFound edition judged here × (Some (found_of finding) ≡ option_map Some here)
 refused_found edition judged refusal finding refuses (fault, found, told, is_found, finding_is) =
-    let is_fault : PlaceFaults edition judged.place judged.value (printed_path judged.path) fault =
-    subst (λ (t : Option Fault). FaultOrMemory t (IsMemory refusal × Unit {0}) (PlaceFaults edition judged.place judged.value (printed_path judged.path))) told refuses in
+    let is_fault : (place_check edition judged.place).faults judged.value (printed_path judged.path) fault =
+    subst (λ (t : Option Fault). FaultOrMemory t (IsMemory refusal × Unit {0}) ((place_check edition judged.place).faults judged.value (printed_path judged.path))) told refuses in
     (Some found, (fault, is_fault, is_found), ap Some finding_is)

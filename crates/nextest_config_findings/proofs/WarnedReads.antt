@@ -5,7 +5,8 @@ use Rattle.std.specs.List.{AllByRecursion}
 use Rattle.toml.specs.Data.{Data, get_member, Members}
 use Rattle.toml.specs.Parse.{parse_document}
 use Rattle.nextest_config_values.proofs.Elements.{all_left, all_right, all_weaker}
-use Rattle.nextest_config_sources.specs.NextestVersion.{Ask, Asks, AsksFeatures, AsksVersions, experimental_key, FeatureSetting, MeansFeatures, MeansVersions, no_feature_setting, no_features, no_versions, ObeysForm, ObeysToolRule, TextAsks, version_key, Versions}
+use Rattle.nextest_config_values.specs.Read.{either, Reading}
+use Rattle.nextest_config_sources.specs.NextestVersion.{Ask, Asks, experimental_key, features_reading, FeatureSetting, no_feature_setting, no_features, no_versions, ObeysForm, ObeysToolRule, TextAsks, version_key, Versions, versions_reading}
 use Rattle.nextest_config_sources.specs.declared.nextest_version.edition.Edition.{Edition}
 use Rattle.nextest_config_sources.specs.declared.nextest_version.edition.Edition.TheVariants.{ArrayAllowed, TableOnly}
 use Rattle.nextest_config_sources.specs.declared.nextest_version.source.ConfigSourceKind.{ConfigSourceKind}
@@ -37,23 +38,27 @@ at_top P members h = of_each P (at_known_key [] members) (rows_of TOP.now)
     (all_weaker (λ judged. AllByRecursion P (judged_in deepest judged)) P (of_itself P deepest) (below_table Top [] members)
     (of_each P (judged_in deepest) (below_table Top [] members) h))
 
+-- what a reading means by a value, or else the default
+abbrev MeansOr : {X : Type 0} → Reading Data X → X → Option Data → X → Type 0
+MeansOr reading default found = either found (λ value. reading.means value) (λ x. x ≡ default)
+
 -- ---- `nextest-version`
 
 versions_well : (edition : Edition) (value : Data) → IsJudgedWell edition (judged_at [] (key version_key) NextestVersion value)
-    → (versions : Versions) × MeansVersions value versions
+    → (versions : Versions) × versions_reading.means value versions
 versions_well edition value (inl means) = means
 versions_well edition value (inr (fault, faulty, (of_duration, text))) =
     absurd (versions_no_duration value (printed_path (key version_key ∷ [])) fault faulty of_duration)
 
 versions_asked : (edition : Edition) (found : Option Data) → AllByRecursion (IsJudgedWell edition) (if_there [] (key version_key) NextestVersion found)
-    → (versions : Versions) × AsksVersions found versions
+    → (versions : Versions) × MeansOr versions_reading no_versions found versions
 versions_asked edition None h = (no_versions, refl)
 versions_asked edition (Some value) h = versions_well edition value h.0
 
 -- ---- `experimental`
 
 features_well : (edition : Edition) (value : Data) → IsJudgedWell edition (judged_at [] (key experimental_key) Experimental value)
-    → ObeysForm edition (Some value) × ((named : FeatureSetting) × MeansFeatures value named)
+    → ObeysForm edition (Some value) × ((named : FeatureSetting) × features_reading.means value named)
 features_well edition value (inl means) = means
 features_well edition value (inr (fault, faulty, (of_duration, text))) =
     absurd (experimental_no_duration edition value (printed_path (key experimental_key ∷ [])) fault faulty of_duration)
@@ -71,7 +76,7 @@ no_name DiscoveredRepository = tt
 record AskedFeatures (edition : Edition) (kind : ConfigSourceKind) (found : Option Data) : Type 0 where
   named : FeatureSetting
   of_form : ObeysForm edition found
-  of_features : AsksFeatures found named
+  of_features : MeansOr features_reading no_feature_setting found named
   of_tool : ObeysToolRule kind named.features
 
 features_asked : (edition : Edition) (kind : ConfigSourceKind) (found : Option Data)

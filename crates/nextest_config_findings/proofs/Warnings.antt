@@ -6,7 +6,7 @@ use Rattle.toml.specs.Data.{Data, get_member, Members}
 use Rattle.nextest_config_values.specs.Read.Fault.{Fault}
 use Rattle.nextest_config_values.specs.Read.{Reason}
 use Rattle.nextest_config_values.proofs.Elements.{all_always, all_joined, all_left, all_right}
-use Rattle.nextest_config_sources.specs.NextestVersion.{experimental_key, Features, features_meant, FeatureSetting, ObeysToolRule}
+use Rattle.nextest_config_sources.specs.NextestVersion.{experimental_key, Features, features_reading, FeatureSetting, ObeysToolRule}
 use Rattle.nextest_config_sources.specs.declared.nextest_version.edition.Edition.{Edition}
 use Rattle.nextest_config_sources.specs.declared.nextest_version.source.ConfigSourceKind.{ConfigSourceKind}
 use Rattle.nextest_config_sources.specs.declared.nextest_version.source.ConfigSourceKind.TheVariants.{DiscoveredRepository, ExplicitRepository, Tool}
@@ -17,10 +17,9 @@ use Rattle.nextest_config_findings.specs.Features.{AreFeaturesFound, AreNamedFou
 use Rattle.nextest_config_findings.specs.FindingsLaws.{faulty_value, IsJudgedWell, IsWarning, NamesNothingForTool}
 use Rattle.nextest_config_findings.specs.Found.{AreFoundIn, Found, FoundKind, gravity}
 use Rattle.nextest_config_findings.specs.Judged.{from_table, JudgedValue}
-use Rattle.nextest_config_findings.specs.PlaceLaws.{place_reading}
+use Rattle.nextest_config_findings.specs.Place.{experimental_check, place_check}
 use Rattle.nextest_config_findings.specs.Unknown.{IsKeyFound, IsKeyFoundFor, is_known, JudgedKey}
 use Rattle.nextest_config_findings.specs.declared.finding.Severity.TheVariants.{Warning}
-use Rattle.nextest_config_findings.specs.declared.place.Place.TheVariants.{Experimental}
 
 -- each of these findings is a warning
 abbrev pub AreWarnings : List Found → Type 0
@@ -64,9 +63,9 @@ fault_warned edition judged (Some found) (fault, faulty, is) = (λ h. inr (fault
     warned = kind_warned (faulty_value judged fault) fault.reason found.kind is.kind_is
 
     well : IsJudgedWell edition judged → AreWarnings (found ∷ [])
-    well (inl means) = absurd ((place_reading edition judged.place).never_both judged.value (printed_path judged.path) fault means faulty)
+    well (inl means) = absurd ((place_check edition judged.place).never_both judged.value (printed_path judged.path) fault means faulty)
     well (inr (other, also, unjudged)) =
-        let same : other ≡ fault = (place_reading edition judged.place).one_fault judged.value (printed_path judged.path) other fault also faulty in
+        let same : other ≡ fault = (place_check edition judged.place).one_fault judged.value (printed_path judged.path) other fault also faulty in
         (warned.1 (subst UnjudgedOf same unjudged), tt)
 
 -- ---- of keys
@@ -96,11 +95,11 @@ features_warned edition kind None founds none = (λ h. tt, λ h. rw none tt)
 features_warned edition kind (Some value) founds (inl (kept, (named, means, are))) =
     let warned = named_warned kind named.features founds are in (
       λ h also_kept other means_too.
-          subst (λ (n : FeatureSetting). ObeysToolRule kind n.features) (features_meant.one_meaning value named other means means_too) (warned.0 h),
+          subst (λ (n : FeatureSetting). ObeysToolRule kind n.features) (features_reading.law.one_meaning value named other means means_too) (warned.0 h),
       λ names. warned.1 (names kept named means),
     )
 features_warned edition kind (Some value) founds (inr ((fault, faulty), none)) = (
-  λ h kept named means. absurd ((place_reading edition Experimental).never_both value experimental_key fault (kept, (named, means)) faulty),
+  λ h kept named means. absurd ((experimental_check edition).never_both value experimental_key fault (kept, (named, means)) faulty),
   λ names. rw none tt,
 )
 

@@ -10,7 +10,7 @@ use Rattle.nextest_config_hints.specs.UnjudgedDuration.{MayBeDuration}
 use Rattle.nextest_config_lines.specs.Step.{index, key, PathStep, printed_path}
 use Rattle.nextest_config_findings.specs.Found.{Found, FoundKind, refused, unjudged}
 use Rattle.nextest_config_findings.specs.Judged.{JudgedValue}
-use Rattle.nextest_config_findings.specs.Place.{MeansSomething, PlaceFaults}
+use Rattle.nextest_config_findings.specs.Place.{place_check}
 
 -- ---- the step that a fault adds to the path of its value
 
@@ -86,7 +86,8 @@ pub record IsFoundOf (path : List PathStep) (value : Data) (fault : Fault) (foun
 
 -- nothing is found of a value that means something; else what is found of its fault at its path
 abbrev pub IsFaultFound : Edition → JudgedValue → Option Found → Type 0
-IsFaultFound edition judged None = MeansSomething edition judged.place judged.value
+IsFaultFound edition judged None = (place_check edition judged.place).passes judged.value
 IsFaultFound edition judged (Some found) =
-    (fault : Fault) × PlaceFaults edition judged.place judged.value (printed_path judged.path) fault
+    (fault : Fault)
+    × (place_check edition judged.place).faults judged.value (printed_path judged.path) fault
     × IsFoundOf judged.path judged.value fault found

@@ -2,14 +2,14 @@
 use Rattle.std.specs.Prelude.{◌≡◌, ◌≢◌, ◌⊎◌, ℕ, List, [], ◌∷◌, map, Option, Some, None, option_map}
 use Rattle.toml.specs.Data.{Data}
 use Rattle.nextest_config_values.specs.Read.Fault.{Fault}
-use Rattle.nextest_config_sources.specs.NextestVersion.{all_features, AreNames, experimental_key, Features, FeatureSetting, MeansFeatures, no_features, ObeysForm, word_of}
+use Rattle.nextest_config_sources.specs.NextestVersion.{all_features, AreNames, experimental_key, Features, FeatureSetting, features_reading, no_features, ObeysForm, word_of}
 use Rattle.nextest_config_sources.specs.declared.nextest_version.edition.Edition.{Edition}
 use Rattle.nextest_config_sources.specs.declared.nextest_version.source.ConfigSourceKind.{ConfigSourceKind}
 use Rattle.nextest_config_sources.specs.declared.nextest_version.source.ConfigSourceKind.TheVariants.{DiscoveredRepository, ExplicitRepository, Tool}
 use Rattle.nextest_config_hints.specs.NearestWord.{IsNearest}
 use Rattle.nextest_config_lines.specs.Step.{key, PathStep}
 use Rattle.nextest_config_findings.specs.Found.{AreFoundIn, Found, found_at, Meant, the_word, tool_names, unknown_name}
-use Rattle.nextest_config_findings.specs.Place.{ExperimentalFaults}
+use Rattle.nextest_config_findings.specs.Place.{experimental_check}
 
 -- where the features are named
 abbrev pub features_path : List PathStep
@@ -45,6 +45,6 @@ abbrev pub AreFeaturesFound : Edition → ConfigSourceKind → Option Data → L
 AreFeaturesFound edition kind None founds = founds ≡ []
 AreFeaturesFound edition kind (Some value) founds =
     (ObeysForm edition (Some value)
-    × ((named : FeatureSetting) × MeansFeatures value named
+    × ((named : FeatureSetting) × features_reading.means value named
     × AreNamedFound kind named.features founds))
-    ⊎ (((fault : Fault) × ExperimentalFaults edition value experimental_key fault) × (founds ≡ []))
+    ⊎ (((fault : Fault) × (experimental_check edition).faults value experimental_key fault) × (founds ≡ []))

@@ -2,14 +2,14 @@
 use Rattle.std.specs.Prelude.{◌≡◌, ◌⊎◌, Option, Some, None}
 use Rattle.toml.specs.Data.{Data}
 use Rattle.nextest_config_values.specs.Read.Fault.{Fault}
-use Rattle.nextest_config_sources.specs.NextestVersion.{FeatureSetting, MeansFeatures, ObeysForm, ObeysToolRule}
+use Rattle.nextest_config_sources.specs.NextestVersion.{FeatureSetting, features_reading, ObeysForm, ObeysToolRule}
 use Rattle.nextest_config_sources.specs.declared.nextest_version.edition.Edition.{Edition}
 use Rattle.nextest_config_sources.specs.declared.nextest_version.source.ConfigSourceKind.{ConfigSourceKind}
 use Rattle.nextest_config_lines.specs.Step.{printed_path}
 use Rattle.nextest_config_findings.specs.Faults.{added_step, IsUnjudged, led_to}
 use Rattle.nextest_config_findings.specs.Found.{Found, gravity}
 use Rattle.nextest_config_findings.specs.Judged.{JudgedValue}
-use Rattle.nextest_config_findings.specs.Place.{MeansSomething, PlaceFaults}
+use Rattle.nextest_config_findings.specs.Place.{place_check}
 use Rattle.nextest_config_findings.specs.declared.finding.Severity.TheVariants.{Warning}
 
 -- the finding is a warning
@@ -25,17 +25,17 @@ faulty_value judged fault =
 abbrev pub IsUnjudgedValue : Edition → JudgedValue → Type 0
 IsUnjudgedValue edition judged =
     (fault : Fault)
-    × PlaceFaults edition judged.place judged.value (printed_path judged.path) fault
+    × (place_check edition judged.place).faults judged.value (printed_path judged.path) fault
     × IsUnjudged (faulty_value judged fault) fault.reason
 
 -- the value means something at its place, or is a duration that isn't judged
 abbrev pub IsJudgedWell : Edition → JudgedValue → Type 0
 IsJudgedWell edition judged =
-    MeansSomething edition judged.place judged.value ⊎ IsUnjudgedValue edition judged
+    (place_check edition judged.place).passes judged.value ⊎ IsUnjudgedValue edition judged
 
 -- the value of `experimental`, if there is one, names no feature where the file is that of a tool
 abbrev pub NamesNothingForTool : Edition → ConfigSourceKind → Option Data → Type 0
 NamesNothingForTool edition kind None = Unit {0}
 NamesNothingForTool edition kind (Some value) =
     ObeysForm edition (Some value)
-    → (named : FeatureSetting) → MeansFeatures value named → ObeysToolRule kind named.features
+    → (named : FeatureSetting) → features_reading.means value named → ObeysToolRule kind named.features

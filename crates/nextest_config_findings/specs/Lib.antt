@@ -7,5 +7,4 @@ pub mod FindingsLaws
 pub mod Found
 pub mod Judged
 pub mod Place
-pub mod PlaceLaws
 pub mod Unknown

@@ -1,28 +1,21 @@
 -- The places of a configuration file: the keys that are known there, what a value means, and what
 -- is wrong with one.
-use Rattle.std.specs.Prelude.{◌≡◌, ◌⊎◌, ℕ, ℤ, Bool, true, false, List, codes, map, Option, Some, None, IsSome}
+use Rattle.std.specs.Prelude.{◌≡◌, ℕ, Bool, true, false, List, codes, map, Option, Some, None, IsSome}
+use Rattle.std.proofs.Common.{sym, ◌∙◌, subst}
 use Rattle.std.specs.Borrow.{Bor}
 use Rattle.toml.specs.Data.{Data, as_array, as_table}
-use Rattle.nextest_config_values.specs.Read.Fault.{Fault}
-use Rattle.nextest_config_values.specs.Read.{array_form, BooleanFaults, custom, fault_at, MeansBoolean, MeansWordText, wrong_type, WordTextFaults}
-use Rattle.nextest_config_sources.specs.NextestVersion.{FeatureSetting, FeaturesFaults, MeansFeatures, MeansVersions, ObeysForm, Versions, VersionsFaults}
+use Rattle.nextest_config_values.specs.Duration.{duration_reading}
+use Rattle.nextest_config_values.specs.Read.{array_form, bool_reading, both, Check, custom, fault_at, meaning, wrong_type}
+use Rattle.nextest_config_sources.specs.NextestVersion.{features_reading, ObeysForm, versions_reading}
 use Rattle.nextest_config_sources.specs.declared.nextest_version.edition.Edition.{Edition}
 use Rattle.nextest_config_sources.specs.declared.nextest_version.edition.Edition.TheVariants.{ArrayAllowed, TableOnly}
-use Rattle.nextest_config_elements.specs.GlobalTimeout.{GlobalTimeoutFaults, MeansGlobalTimeout}
-use Rattle.nextest_config_elements.specs.Junit.{flaky_fail_statuses, flaky_fail_word, JunitFaults, JunitTable, MeansJunit}
-use Rattle.nextest_config_elements.specs.LeakTimeout.{LeakTimeoutFaults, MeansLeakTimeoutSetting}
-use Rattle.nextest_config_elements.specs.MaxFail.{FailFastFaults, MeansFailFast}
-use Rattle.nextest_config_elements.specs.Priority.{MeansPriority, PriorityFaults}
-use Rattle.nextest_config_elements.specs.RetryPolicy.{flaky_result_word, flaky_results, MeansRetryPolicySetting, RetryPolicyFaults}
-use Rattle.nextest_config_elements.specs.SlowTimeout.{MeansSlowTimeoutSetting, SlowTimeoutFaults}
-use Rattle.nextest_config_elements.specs.ThreadsRequired.{MeansThreads, ThreadsFaults}
-use Rattle.nextest_config_elements.specs.declared.junit.JunitFlakyFailStatus.{JunitFlakyFailStatus}
-use Rattle.nextest_config_elements.specs.declared.leak_timeout.LeakTimeout.{LeakTimeout}
-use Rattle.nextest_config_elements.specs.declared.max_fail.MaxFail.{MaxFail}
-use Rattle.nextest_config_elements.specs.declared.retry_policy.FlakyResult.{FlakyResult}
-use Rattle.nextest_config_elements.specs.declared.retry_policy.RetryPolicy.{RetryPolicy}
-use Rattle.nextest_config_elements.specs.declared.slow_timeout.SlowTimeout.{SlowTimeout}
-use Rattle.nextest_config_elements.specs.declared.threads_required.ThreadsRequired.{ThreadsRequired}
+use Rattle.nextest_config_elements.specs.Junit.{flaky_fail_reading, junit_reading}
+use Rattle.nextest_config_elements.specs.LeakTimeout.{leak_timeout_reading}
+use Rattle.nextest_config_elements.specs.MaxFail.{fail_fast_reading}
+use Rattle.nextest_config_elements.specs.Priority.{priority_reading}
+use Rattle.nextest_config_elements.specs.RetryPolicy.{flaky_result_reading, retry_policy_reading}
+use Rattle.nextest_config_elements.specs.SlowTimeout.{slow_timeout_reading}
+use Rattle.nextest_config_elements.specs.ThreadsRequired.{threads_reading}
 use Rattle.nextest_config_findings.specs.declared.place.Place.{Place}
 use Rattle.nextest_config_findings.specs.declared.place.Place.TheVariants as places
 use Rattle.nextest_config_findings.specs.declared.place.TheConstants.{TOP, NEXTEST_VERSION, PROFILE, BENCH, OVERRIDE, OVERRIDE_JUNIT, JUNIT, SLOW_TIMEOUT, LEAK_TIMEOUT, FAIL_FAST}
@@ -57,85 +50,79 @@ abbrev pub is_top : Place → Bool
 is_top places.Top = true
 is_top _ = false
 
--- ---- what a value means
+-- ---- what a value means, and what is wrong with one at a path
 
--- the value means something at the place
-abbrev pub MeansSomething : Edition → Place → Data → Type 0
-MeansSomething edition places.Top value = Unit {0}
-MeansSomething edition places.Unread value = Unit {0}
-MeansSomething edition places.NextestVersion value = (versions : Versions)
-    × MeansVersions value versions
-MeansSomething edition places.Experimental value = ObeysForm edition (Some value)
-    × ((named : FeatureSetting) × MeansFeatures value named)
-MeansSomething edition places.Profiles value = IsSome (as_table value)
-MeansSomething edition places.Profile value = IsSome (as_table value)
-MeansSomething edition places.Bench value = IsSome (as_table value)
-MeansSomething edition places.Overrides value = IsSome (as_array value)
-MeansSomething edition places.Override value = IsSome (as_table value)
-MeansSomething edition places.OverrideJunit value = IsSome (as_table value)
-MeansSomething edition places.Retries value = (policy : Option RetryPolicy)
-    × MeansRetryPolicySetting value policy
-MeansSomething edition places.FlakyResult value = (result : FlakyResult)
-    × MeansWordText flaky_result_word value result
-MeansSomething edition places.ThreadsRequired value = (threads : ThreadsRequired)
-    × MeansThreads value threads
-MeansSomething edition places.FailFast value = (limit : Option MaxFail) × MeansFailFast value limit
-MeansSomething edition places.SlowTimeout value = (timeout : Option SlowTimeout)
-    × MeansSlowTimeoutSetting value timeout
-MeansSomething edition places.LeakTimeout value = (timeout : Option LeakTimeout)
-    × MeansLeakTimeoutSetting value timeout
-MeansSomething edition places.GlobalTimeout value = (nanoseconds : ℕ)
-    × MeansGlobalTimeout value nanoseconds
-MeansSomething edition places.Priority value = (priority : ℤ) × MeansPriority value priority
-MeansSomething edition places.Junit value = (said : JunitTable) × MeansJunit value said
-MeansSomething edition places.Boolean value = (truth : Bool) × MeansBoolean value truth
-MeansSomething edition places.FlakyFailStatus value = (status : JunitFlakyFailStatus)
-    × MeansWordText flaky_fail_word value status
+-- any value is all right
+abbrev pub unread_check : Check Data
+unread_check = record {
+  passes = λ value. Unit {0};
+  faults = λ value at fault. ⊥;
+  one_fault = λ value at f g a b. absurd a;
+  never_both = λ value at f a b. b;
+}
 
--- ---- what is wrong with a value at a path
+pub something_or_nothing : {K : Type 0} (found : Option K) → IsSome found → found ≡ None → ⊥
+something_or_nothing found some none = cc (subst IsSome none some)
 
--- it is no table, where one has to stand
-abbrev pub IsNoTable : Data → List ℕ → Fault → Type 0
-IsNoTable value at fault = (as_table value ≡ None) × (fault ≡ wrong_type value at (codes "a table"))
+-- the value is of the kind that this accessor tells
+abbrev pub kind_check : {K : Type 0} → (Data → Option K) → List ℕ → Check Data
+kind_check accessor expected = record {
+  passes = λ value. IsSome (accessor value);
+  faults = λ value at fault. (accessor value ≡ None) × (fault ≡ wrong_type value at expected);
+  one_fault = λ value at f g a b. a.1 ∙ sym b.1;
+  never_both = λ value at f a b. something_or_nothing (accessor value) a b.0;
+}
 
--- it is no array, where one has to stand
-abbrev pub IsNoArray : Data → List ℕ → Fault → Type 0
-IsNoArray value at fault = (as_array value ≡ None)
-    × (fault ≡ wrong_type value at (codes "an array"))
+abbrev pub is_table : Check Data
+is_table = kind_check as_table (codes "a table")
 
--- it is an array, where the edition takes tables only
+abbrev pub is_array : Check Data
+is_array = kind_check as_array (codes "an array")
+
+-- the value is an array, where the edition takes tables only
 abbrev pub IsBrokenForm : Edition → Data → Type 0
 IsBrokenForm ArrayAllowed value = ⊥
 IsBrokenForm TableOnly value = IsSome (as_array value)
 
--- of `experimental`: its form, and where that is all right, what it holds
-abbrev pub ExperimentalFaults : Edition → Data → List ℕ → Fault → Type 0
-ExperimentalFaults edition value at fault =
-    (IsBrokenForm edition value × (fault ≡ fault_at at (custom array_form)))
-    ⊎ (ObeysForm edition (Some value) × FeaturesFaults value at fault)
+pub obeyed_not_broken : (edition : Edition) (value : Data) → ObeysForm edition (Some value)
+    → IsBrokenForm edition value → ⊥
+obeyed_not_broken ArrayAllowed value kept broken = broken
+obeyed_not_broken TableOnly value kept broken = something_or_nothing (as_array value) broken kept
 
--- the value is refused at the place
-abbrev pub PlaceFaults : Edition → Place → Data → List ℕ → Fault → Type 0
-PlaceFaults edition places.Top value at fault = ⊥
-PlaceFaults edition places.Unread value at fault = ⊥
-PlaceFaults edition places.NextestVersion value at fault = VersionsFaults value at fault
-PlaceFaults edition places.Experimental value at fault = ExperimentalFaults edition value at fault
-PlaceFaults edition places.Profiles value at fault = IsNoTable value at fault
-PlaceFaults edition places.Profile value at fault = IsNoTable value at fault
-PlaceFaults edition places.Bench value at fault = IsNoTable value at fault
-PlaceFaults edition places.Overrides value at fault = IsNoArray value at fault
-PlaceFaults edition places.Override value at fault = IsNoTable value at fault
-PlaceFaults edition places.OverrideJunit value at fault = IsNoTable value at fault
-PlaceFaults edition places.Retries value at fault = RetryPolicyFaults value at fault
-PlaceFaults edition places.FlakyResult value at fault =
-    WordTextFaults flaky_result_word flaky_results value at fault
-PlaceFaults edition places.ThreadsRequired value at fault = ThreadsFaults value at fault
-PlaceFaults edition places.FailFast value at fault = FailFastFaults value at fault
-PlaceFaults edition places.SlowTimeout value at fault = SlowTimeoutFaults value at fault
-PlaceFaults edition places.LeakTimeout value at fault = LeakTimeoutFaults value at fault
-PlaceFaults edition places.GlobalTimeout value at fault = GlobalTimeoutFaults value at fault
-PlaceFaults edition places.Priority value at fault = PriorityFaults value at fault
-PlaceFaults edition places.Junit value at fault = JunitFaults value at fault
-PlaceFaults edition places.Boolean value at fault = BooleanFaults value at fault
-PlaceFaults edition places.FlakyFailStatus value at fault =
-    WordTextFaults flaky_fail_word flaky_fail_statuses value at fault
+-- the value is in a form that the edition takes
+abbrev pub form_check : Edition → Check Data
+form_check edition = record {
+  passes = λ value. ObeysForm edition (Some value);
+  faults = λ value at fault. IsBrokenForm edition value
+      × (fault ≡ fault_at at (custom array_form));
+  one_fault = λ value at f g a b. a.1 ∙ sym b.1;
+  never_both = λ value at f a b. obeyed_not_broken edition value a b.0;
+}
+
+-- of `experimental`: its form, and where that is all right, what it holds
+abbrev pub experimental_check : Edition → Check Data
+experimental_check edition = both (form_check edition) (meaning features_reading)
+
+-- how a value is checked at a place
+abbrev pub place_check : Edition → Place → Check Data
+place_check edition places.Top = unread_check
+place_check edition places.Unread = unread_check
+place_check edition places.NextestVersion = meaning versions_reading
+place_check edition places.Experimental = experimental_check edition
+place_check edition places.Profiles = is_table
+place_check edition places.Profile = is_table
+place_check edition places.Bench = is_table
+place_check edition places.Overrides = is_array
+place_check edition places.Override = is_table
+place_check edition places.OverrideJunit = is_table
+place_check edition places.Retries = meaning retry_policy_reading
+place_check edition places.FlakyResult = meaning flaky_result_reading
+place_check edition places.ThreadsRequired = meaning threads_reading
+place_check edition places.FailFast = meaning fail_fast_reading
+place_check edition places.SlowTimeout = meaning slow_timeout_reading
+place_check edition places.LeakTimeout = meaning leak_timeout_reading
+place_check edition places.GlobalTimeout = meaning duration_reading
+place_check edition places.Priority = meaning priority_reading
+place_check edition places.Junit = meaning junit_reading
+place_check edition places.Boolean = meaning bool_reading
+place_check edition places.FlakyFailStatus = meaning flaky_fail_reading

@@ -9,7 +9,7 @@ ghost use Rattle.nextest_config_lines.specs.Step.{index, printed_path, step_of};
 ghost use Rattle.nextest_config_findings.specs.Faults.{added_step, behind, first_other, index_behind, IsFaultFound, IsFoundKind, IsFoundOf, IsUnjudged, key_behind};
 ghost use Rattle.nextest_config_findings.specs.Found.{AddsOne, AreFoundIn, Found, FoundKind, found_of, kind_told, Tells};
 ghost use Rattle.nextest_config_findings.specs.Judged.{judged_value, mark_step};
-ghost use Rattle.nextest_config_findings.specs.Place.{MeansSomething};
+ghost use Rattle.nextest_config_findings.specs.Place.{place_check};
 
 use crate::finding::{Finding, FindingKind};
 use crate::judged::{Judged, Mark, at_key};
@@ -85,7 +85,7 @@ fn find_fault(
 // Whether the value means something at its place.
 fn means_something(alloc: Global, edition: Edition, judged: &Judged) -> bool
     ensures { OnTrue result
-        (MeansSomething edition (judged_value judged.now).place (judged_value judged.now).value) }
+        ((place_check edition (judged_value judged.now).place).passes (judged_value judged.now).value) }
 {
     match judged.place.check(alloc, edition, judged.value, "") {
         Ok(()) => true,

@@ -1,12 +1,11 @@
 //! The places of a configuration file: what stands at a key, and how it is read.
 
-ghost use Rattle.std.specs.Prelude.{◌≡◌, IfErr, IfOk, IsOk, IsSome, MatchResult, OnOk, option_map};
+ghost use Rattle.std.specs.Prelude.{◌≡◌, IfErr, IfOk, IsOk, MatchResult, OnOk, option_map};
 ghost use Rattle.std.specs.Bool.{OnFalse, OnTrue};
-ghost use Rattle.toml.specs.Data.{as_array, as_table};
 ghost use Rattle.toml.specs.View.{view};
 ghost use Rattle.nextest_config_values.specs.Read.{Refuses};
-ghost use Rattle.nextest_config_sources.specs.NextestVersion.{feature_setting_of, MeansFeatures, ObeysForm};
-ghost use Rattle.nextest_config_findings.specs.Place.{ExperimentalFaults, IsBrokenForm, IsNoArray, IsNoTable, is_top, keys_of, keys_told, MeansSomething, PlaceFaults};
+ghost use Rattle.nextest_config_sources.specs.NextestVersion.{feature_setting_of, features_reading, ObeysForm};
+ghost use Rattle.nextest_config_findings.specs.Place.{experimental_check, is_array, is_table, is_top, IsBrokenForm, keys_of, keys_told, place_check};
 
 use nextest_config_elements::global_timeout::GlobalTimeout;
 use nextest_config_elements::junit::{JunitFlakyFailStatus, JunitImpl};
@@ -196,9 +195,9 @@ impl Place {
         value: &Value,
         at: &str,
     ) -> Result<(), ReadFault>
-        ensures meant { OnOk result (MeansSomething edition self (view value.now)) }
+        ensures meant { OnOk result ((place_check edition self).passes (view value.now)) }
         ensures refused { IfErr result
-            (Refuses (PlaceFaults edition self (view value.now) at.now) (Unit {0})) }
+            (Refuses ((place_check edition self).faults (view value.now) at.now) (Unit {0})) }
     {
         match self {
             Place::Top | Place::Unread => Ok(()),
@@ -237,9 +236,9 @@ fn accepted<T: Drop>(read: Result<T, ReadFault>) -> Result<(), ReadFault>
 
 // Whether the value is a table.
 fn check_table(alloc: Global, value: &Value, at: &str) -> Result<(), ReadFault>
-    ensures meant { OnOk result (IsSome (as_table (view value.now))) }
+    ensures meant { OnOk result (is_table.passes (view value.now)) }
     ensures refused { IfErr result
-        (Refuses (IsNoTable (view value.now) at.now) (Unit {0})) }
+        (Refuses (is_table.faults (view value.now) at.now) (Unit {0})) }
 {
     match value.as_table() {
         Some(_) => Ok(()),
@@ -249,9 +248,9 @@ fn check_table(alloc: Global, value: &Value, at: &str) -> Result<(), ReadFault>
 
 // Whether the value is an array.
 fn check_array(alloc: Global, value: &Value, at: &str) -> Result<(), ReadFault>
-    ensures meant { OnOk result (IsSome (as_array (view value.now))) }
+    ensures meant { OnOk result (is_array.passes (view value.now)) }
     ensures refused { IfErr result
-        (Refuses (IsNoArray (view value.now) at.now) (Unit {0})) }
+        (Refuses (is_array.faults (view value.now) at.now) (Unit {0})) }
 {
     match value.as_array() {
         Some(_) => Ok(()),
@@ -267,9 +266,10 @@ pub(crate) fn read_experimental(
     at: &str,
 ) -> Result<ExperimentalDeserialize, ReadFault>
     ensures form { OnOk result (ObeysForm edition (Some (view value.now))) }
-    ensures meant { IfOk result (λ d. MeansFeatures (view value.now) (feature_setting_of d)) }
+    ensures meant { IfOk result (λ d.
+        features_reading.means (view value.now) (feature_setting_of d)) }
     ensures refused { IfErr result
-        (Refuses (ExperimentalFaults edition (view value.now) at.now) (Unit {0})) }
+        (Refuses ((experimental_check edition).faults (view value.now) at.now) (Unit {0})) }
 {
     if breaks_form(edition, value) {
         return Err(ReadFault::new(alloc, at, FaultKind::Custom(Rule::ArrayForm)));

@@ -1,9 +1,7 @@
 //! The fields of tables, and a reader of this crate's own: an integer from 0 to 100.
 
-ghost use Rattle.std.specs.Prelude.{◌≡◌, ◌≤◌, codes, false};
-ghost use Rattle.toml.specs.Data.{as_integer};
-ghost use Rattle.nextest_config_values.specs.Read.FromToml.{FaultsAs, MeansAs, reading_on};
-ghost use Rattle.nextest_config_values.specs.Read.Plain.{IsOutside, MeansNumber, number_reading};
+ghost use Rattle.std.specs.Prelude.{◌≤◌, ℕ, codes};
+ghost use Rattle.nextest_config_values.specs.Read.{number_reading};
 
 use crate::runner::check;
 use nextest_config_rows::rows::{Runner, Subject, cut, done, made, unknown};
@@ -19,17 +17,11 @@ struct Percent {
 }
 
 impl FromToml for Percent {
-    ghost means = { λ value it. MeansAs as_integer (MeansNumber (λ n. n ≤ 100)) value it.percent };
+    ghost Seen = { ℕ };
 
-    ghost faults = { FaultsAs as_integer (codes "a percentage")
-        (IsOutside (λ n. n ≤ 100) (codes "a percentage")) };
+    ghost seen = { λ it. it.percent };
 
-    ghost needs_memory = { false };
-
-    ghost alike = { λ a b. a.percent ≡ b.percent };
-
-    ghost laws = { reading_on (λ it. it.percent)
-        (number_reading (λ n. n ≤ 100) (codes "a percentage")) };
+    ghost reading = { number_reading (λ n. n ≤ 100) (codes "a percentage") };
 
     fn read(alloc: Global, value: &Value, at: &str) -> Result<Self, ReadFault> {
         let Some(number) = value.as_integer() else {

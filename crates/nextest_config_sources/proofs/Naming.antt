@@ -1,5 +1,5 @@
 -- The features that an array and a table name, and the names of both sets.
-use Rattle.std.proofs.Common.{◌≡◌, ◌↔◌, ◌⊎◌, ◌++◌, ℕ, ◌+◌, ◌<◌, ◌≤◌, ◌==◌, Bool, true, false, cond, List, [], ◌∷◌, length, map, get_or, Contains, Option, Some, None, IsSome, String, Global, Ordering, Less, Equal, Greater, Bor, string_bytes, nat_cmp, refl, sym, ap, subst, ◌∙◌, inl, inr, ⊎_elim, ◌≢◌, arith}
+use Rattle.std.proofs.Common.{◌≡◌, ◌↔◌, ◌⊎◌, ◌++◌, ℕ, ◌+◌, ◌<◌, ◌≤◌, ◌==◌, Bool, true, false, cond, List, [], ◌∷◌, length, map, get_or, Contains, Option, Some, None, IsSome, String, Global, Ordering, Less, Equal, Greater, Bor, string_bytes, nat_cmp, refl, sym, ap, subst, ◌∙◌, inl, inr, ⊎_elim, ◌≢◌, arith, rules}
 use mathlib.Core.List.{map-map}
 use mathlib.Core.Logic.{⊎_map}
 use mathlib.Core.Logic.Iff as iff
@@ -21,9 +21,9 @@ use Rattle.toml.specs.View.{items_view, members_view, view}
 use Rattle.toml.specs.declared.value.Value.{Value}
 use Rattle.nextest_config_values.proofs.Faults.{refused_mapped}
 use Rattle.nextest_config_values.specs.Read.Fault.{Fault}
-use Rattle.nextest_config_values.specs.Read.{Refuses}
+use Rattle.nextest_config_values.specs.Read.{made_of, Refuses, RefusesBy}
 use Rattle.nextest_config_values.specs.declared.read.fault.ReadFault.{ReadFault}
-use Rattle.nextest_config_sources.specs.NextestVersion.{AddsItem, AddsText, all_features, AreNamed, AreNames, feature_cmp, FeatureArrayFaults, Features, FeaturesInOrder, FeatureTableFaults, FirstSwitchFaults, HasOneMore, IsAmong, IsTextAt, IsUnknown, IsUnknownFeatureKey, IsWordAmong, ItemFaults, MeansFeatureArray, MeansSwitch, no_features, switch, SwitchFaults, text_in, TextsInOrder, word_of}
+use Rattle.nextest_config_sources.specs.NextestVersion.{AddsItem, AddsText, all_features, AreNamed, AreNames, feature_array, feature_cmp, feature_table, Features, FeaturesInOrder, HasOneMore, in_form, IsAmong, IsTextAt, IsUnknown, IsUnknownFeatureKey, IsWordAmong, ItemFaults, MeansFeatureArray, no_features, switch, switches, table_names, text_in, TextsInOrder, word_of}
 use Rattle.nextest_config_sources.specs.declared.nextest_version.experimental.ConfigExperimental.{ConfigExperimental}
 use Rattle.nextest_config_sources.specs.declared.nextest_version.experimental.ConfigExperimental.TheVariants as features
 use Rattle.nextest_config_values.proofs.Elements.{all_joined}
@@ -37,9 +37,7 @@ abbrev told : List ℕ → ConfigExperimental
 told text = cond (length text == 13) features.SetupScripts (cond (length text == 15) features.WrapperScripts features.Benchmarks)
 
 told_word : (feature : ConfigExperimental) → told (word_of feature) ≡ feature
-told_word features.SetupScripts = refl
-told_word features.WrapperScripts = refl
-told_word features.Benchmarks = refl
+told_word feature = search rules
 
 one_feature : (f g : ConfigExperimental) → word_of f ≡ word_of g → f ≡ g
 one_feature f g same = sym (told_word f) ∙ ap told same ∙ told_word g
@@ -150,61 +148,66 @@ module _ (vs : List Value) (count : ℕ) (past : length vs ≤ count) where
 
 -- an element that is no text, behind texts
 pub refuses_array : (items : Items) (index : ℕ) (value : Data) (named : Features) (at : List ℕ) (fault : ReadFault) → NamedSoFar items index named → get_item index items ≡ Some value
-    → Refuses (ItemFaults value index at) (Unit {0}) fault → Refuses (FeatureArrayFaults items at) (Unit {0}) fault
+    → Refuses (ItemFaults value index at) (Unit {0}) fault → RefusesBy (made_of (in_form true) feature_array) items at fault
 refuses_array items index value named at fault so_far is refused =
-    refused_mapped fault refused (λ memory. memory) (λ f wrong. (index, value, is, so_far.of_texts, wrong))
+    record { told = refused_mapped fault refused inl (λ f wrong. (index, value, is, so_far.of_texts, wrong)) }
 
 -- ---- a table
 
 -- the switches of these features are read
 abbrev AreSwitches : Members → List ConfigExperimental → Type 0
-AreSwitches members = AllByRecursion (λ feature. (on : Bool) × MeansSwitch feature members on)
+AreSwitches members = AllByRecursion (λ feature. (on : Bool) × (switch feature).means members on)
 
 -- the switches so far are read, and the features are those that are on, in order
 pub record SwitchedSoFar (members : Members) (so_far left known : List ConfigExperimental) : Type 0 where
   pub whole : all_features ≡ so_far ++ left
   pub read : AreSwitches members so_far
-  pub on : AreThoseOf (λ feature. MeansSwitch feature members true) so_far known
+  pub on : AreThoseOf (λ feature. (switch feature).means members true) so_far known
   pub in_order : FeaturesInOrder known
 
 -- one more switch, which is off
 pub switched_off : (members : Members) (so_far left known after : List ConfigExperimental) (feature : ConfigExperimental) → SwitchedSoFar members so_far left known → left ≡ feature ∷ after
-    → MeansSwitch feature members false → SwitchedSoFar members (so_far ++ feature ∷ []) after known
+    → (switch feature).means members false → SwitchedSoFar members (so_far ++ feature ∷ []) after known
 switched_off members so_far left known after feature h step off = record {
   whole = goes_on so_far left after feature h.whole step;
   read = all_joined _ so_far (feature ∷ []) h.read ((false, off), tt);
-  on = one_that_fails (λ f. MeansSwitch f members true) so_far known feature h.on (λ on. false≢true (switch.one_meaning (get_member (word_of feature) members) false true off on));
+  on = one_that_fails (λ f. (switch f).means members true) so_far known feature h.on (λ on. false≢true ((switch feature).law.one_meaning members false true off on));
   in_order = h.in_order;
 }
 
 -- one more switch, which is on
 pub switched_on : (members : Members) (so_far left known after more : List ConfigExperimental) (feature : ConfigExperimental) → SwitchedSoFar members so_far left known → left ≡ feature ∷ after
-    → MeansSwitch feature members true → HasOneMore known feature more → FeaturesInOrder more → SwitchedSoFar members (so_far ++ feature ∷ []) after more
+    → (switch feature).means members true → HasOneMore known feature more → FeaturesInOrder more → SwitchedSoFar members (so_far ++ feature ∷ []) after more
 switched_on members so_far left known after more feature h step on adds in_order = record {
   whole = goes_on so_far left after feature h.whole step;
   read = all_joined _ so_far (feature ∷ []) h.read ((true, on), tt);
-  on = one_that_holds (λ f. MeansSwitch f members true) so_far known more feature h.on adds on;
+  on = one_that_holds (λ f. (switch f).means members true) so_far known more feature h.on adds on;
   in_order = in_order;
 }
 
 -- a switch that is no boolean, behind others that are read, is the first
-first_of : (members : Members) (at : List ℕ) (fault : Fault) (so_far after : List ConfigExperimental) (feature : ConfigExperimental) → AreSwitches members so_far → SwitchFaults feature members at fault
-    → FirstSwitchFaults (so_far ++ feature ∷ after) members at fault
+first_of : (members : Members) (at : List ℕ) (fault : Fault) (so_far after : List ConfigExperimental) (feature : ConfigExperimental) → AreSwitches members so_far → (switch feature).faults members at fault
+    → (switches (so_far ++ feature ∷ after)).faults members at fault
 first_of table at fault [] after feature read wrong = inl wrong
 first_of table at fault (x ∷ so_far) after feature read wrong = inr (read.0.0, read.0.1, first_of table at fault so_far after feature read.1 wrong)
 
 pub refuses_switches : (members : Members) (at : List ℕ) (fault : ReadFault) (so_far left known after : List ConfigExperimental) (feature : ConfigExperimental) → SwitchedSoFar members so_far left known → left ≡ feature ∷ after
-    → Refuses (SwitchFaults feature members at) (Unit {0}) fault → Refuses (FeatureTableFaults members at) (Unit {0}) fault
+    → RefusesBy (switch feature) members at fault → RefusesBy feature_table members at fault
 refuses_switches members at fault so_far left known after feature h step refused =
     let whole : all_features ≡ so_far ++ feature ∷ after = h.whole ∙ ap (λ rest. so_far ++ rest) step in
-    refused_mapped fault refused (λ memory. memory) (λ f wrong. subst (λ of. FirstSwitchFaults of members at f) (sym whole) (first_of members at f so_far after feature h.read wrong))
+    record { told = refused_mapped fault refused.told (λ wanted. inl tt) (λ f wrong. subst (λ of. (switches of).faults members at f) (sym whole) (first_of members at f so_far after feature h.read wrong)) }
 
 -- behind the last switch
-pub all_switches : (members : Members) (so_far left known : List ConfigExperimental) → SwitchedSoFar members so_far left known → left ≡ [] → (feature : ConfigExperimental) → (on : Bool) × MeansSwitch feature members on
+pub all_switches : (members : Members) (so_far left known : List ConfigExperimental) → SwitchedSoFar members so_far left known → left ≡ [] → (feature : ConfigExperimental) → (on : Bool) × (switch feature).means members on
 all_switches members so_far left known h ended feature =
-    let Read : ConfigExperimental → Type 0 = λ f. (on : Bool) × MeansSwitch f members on in
+    let Read : ConfigExperimental → Type 0 = λ f. (on : Bool) × (switch f).means members on in
     let all : all_features ≡ so_far = h.whole ∙ ap (λ rest. so_far ++ rest) ended ∙ append-nil so_far in
     All-contains Read so_far feature (All-from_recursion Read so_far h.read) (subst (λ fs. Contains fs feature) all (among_all_features feature))
+
+-- each switch is read, and so are these in turn
+pub read_in_turn : (of : List ConfigExperimental) (members : Members) (named : Features) → ((feature : ConfigExperimental) → (on : Bool) × (switch feature).means members on) → table_names.means members named → (switches of).means members named
+read_in_turn [] members named read names = names
+read_in_turn (feature ∷ rest) members named read names = ((read feature).0, (read feature).1, read_in_turn rest members named read names)
 
 -- a key that the text isn't
 other_key : (text key : List ℕ) (rest : Option Data) (others : List (List ℕ)) → slice_cmp nat_cmp text key ≢ Equal → Contains others text ↔ IsSome rest → Contains (key ∷ others) text ↔ IsSome rest

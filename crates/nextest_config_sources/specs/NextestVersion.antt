@@ -13,14 +13,14 @@ pub mod ExperimentalLaws
 pub mod ExperimentalSteps
 pub mod VersionOnlyDeserialize
 pub mod VersionOnlyDeserializeLaws
-pub use VersionText.{BreaksVersion, HasVersion, hyphen, IsPlain, IsVersionFault, IsVersionText, MeansVersion, Numbers, plain, plus_sign, VersionFaults, VersionTextFaults}
-pub use VersionTextLaws.{mark_at, no_version, read_three, read_two, third, version_once, version_reading}
+pub use VersionText.{BreaksVersion, HasVersion, hyphen, IsPlain, IsVersionFault, IsVersionText, Numbers, plain, plus_sign}
+pub use VersionTextLaws.{mark_at, no_version, read_three, read_two, third, version_once, version_reading, version_text}
 pub use Precedence.{is_below, IsBelow, IsEnough, IsEnoughByNumbers, precedence}
 pub use Source.{Given, given_at, given_of, Place, place_of, place_text, repository_given, source_of, source_under, tool_given, under}
-pub use NextestVersionDeserialize.{MeansVersions, MeansVersionTable, MeansVersionText, no_versions, ObeysOrder, OrderFaults, recommended_key, required_key, Versions, versions, versions_meant, versions_of, versions_reading, VersionsAlike, VersionsFaults, VersionTableFaults}
+pub use NextestVersionDeserialize.{in_order, no_versions, recommended_key, required_key, requires, version_table, Versions, versions, versions_of, versions_reading}
 pub use ErrorKind.{error_kind_text, is_memory, IsSettingKind, RefusesSource, setting, tool_features, Wrong, wrong_of}
 pub use Experimental.{all_features, feature_cmp, features_left, FeaturesInOrder, HasOneMore, IsEnabled, IsUnknown, TextsInOrder, variable_of, word_of}
-pub use ExperimentalDeserialize.{AreNamed, AreNames, AreSetsInOrder, FeatureArrayFaults, Features, features_of, FeaturesAlike, FeatureSetting, feature_setting_of, FeaturesFaults, FeatureTableFaults, FirstSwitchFaults, InForm, IsAmong, IsTextAt, IsUnknownFeatureKey, IsWordAmong, item_path, ItemFaults, MeansFeatureArray, MeansFeatures, MeansFeatureTable, MeansSwitch, no_features, no_feature_setting, SwitchFaults, text_in}
-pub use ExperimentalLaws.{features_in_one_order, features_meant, features_reading, one_at_a_place, switch, texts_in_one_order}
+pub use ExperimentalDeserialize.{AreNamed, AreNames, AreSetsInOrder, FeatureArrayFaults, Features, features_of, FeatureSetting, feature_setting_of, in_form, IsAmong, IsTextAt, IsUnknownFeatureKey, IsWordAmong, item_path, ItemFaults, MeansFeatureArray, no_features, no_feature_setting, switch, text_in}
+pub use ExperimentalLaws.{feature_array, feature_table, features_in_one_order, features_reading, one_at_a_place, switches, table_names, texts_in_one_order}
 pub use ExperimentalSteps.{AddsItem, AddsText}
-pub use VersionOnlyDeserialize.{array_in, Ask, ask_of, Asks, AsksFeatures, AsksVersions, BreaksForm, BreaksToolRule, broken_form, experimental_key, IsWrong, IsWrongBehind, IsWrongDocument, IsWrongNamed, IsWrongSetting, IsWrongTable, nothing, ObeysForm, ObeysToolRule, TextAsks, version_key}
+pub use VersionOnlyDeserialize.{array_in, Ask, ask_of, Asks, AsksFeatures, AsksVersions, BreaksForm, BreaksToolRule, broken_form, experimental_key, features_asked, IsWrong, IsWrongBehind, IsWrongDocument, IsWrongNamed, IsWrongSetting, IsWrongTable, nothing, ObeysForm, ObeysToolRule, TextAsks, version_key, versions_asked}

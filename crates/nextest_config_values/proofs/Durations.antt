@@ -1,12 +1,11 @@
 -- What the steps of reading a duration have read, and that their faults are those of the text.
-use Rattle.std.proofs.Common.{◌≡◌, ◌≢◌, ℕ, ◌+◌, ◌-◌, ◌*◌, ◌/◌, ◌%◌, ◌<◌, ◌^◌, Bool, List, [], ◌∷◌, ◌++◌, length, Some, None, refl, sym, ap, ◌∙◌, subst, inl, inr, rules, arith}
+use Rattle.std.proofs.Common.{◌≡◌, ◌≢◌, ℕ, ◌+◌, ◌-◌, ◌*◌, ◌<◌, ◌^◌, Bool, List, [], ◌∷◌, ◌++◌, length, Some, None, refl, sym, ap, ◌∙◌, subst, inl, inr, rules, arith}
 use Rattle.std.specs.Prelude.{min, IsTrue, Err, Result, chars, encode_utf8_all}
 use Rattle.std.proofs.lemmas.Bool.{cases_Bool}
 use Rattle.std.proofs.lemmas.List.{append_assoc, append-nil, length-append}
 use Rattle.std.proofs.lemmas.Str.{chars-encodes, chars_from_encodes, encodes-append, encodes-chars}
 use Rattle.std.specs.Char.{is_ascii_digit, is_whitespace}
-use Rattle.std.specs.Duration.{FitsDuration, as_nanos}
-use Rattle.std.specs.declared.time.Duration.{Duration}
+use Rattle.std.specs.Duration.{FitsDuration}
 use Rattle.std.specs.Str.{IsUtf8, skip_leading_whitespace, trim_start}
 use Rattle.std.proofs.lemmas.Str.Parse.{IsDigitsTest, IsNumeralModel, numerals_by_value, parse_digits}
 use Rattle.std.specs.Str.Parse.{ParsesUnsigned, digits_value}
@@ -16,10 +15,6 @@ use Rattle.nextest_config_values.proofs.Texts.{ascii_encoded}
 use Rattle.nextest_config_values.specs.Duration.{AreAll, AreFittingDigits, BeginsWith, covers, EndsWith, HasNumberThatFits, is_in_word, IsCutBehind, IsDuration, IsDurationFault, IsFaultAt, IsFaultBehind, IsFront, IsItemText, IsLongestFront, IsNext, IsNextFault, IsReadItem, IsRun, IsUncut, Item, nothing_stops, offset, one_next, Spells, Stops, total, unit_length}
 use Rattle.nextest_config_values.specs.declared.duration.DurationFault.{DurationFault}
 use Rattle.nextest_config_values.specs.declared.duration.DurationFault.TheVariants as faults
-
--- each number of nanoseconds is the length of some duration
-pub lasting : (nanoseconds : ℕ) → (d : Duration) × (as_nanos d ≡ nanoseconds)
-lasting nanoseconds = (record { secs = nanoseconds / 1_000_000_000; nanos = nanoseconds % 1_000_000_000 }, omega arith)
 
 -- ---- offsets
 

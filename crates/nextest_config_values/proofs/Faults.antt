@@ -1,9 +1,10 @@
--- Refusals: what follows from a refusal, and when memory was wanted.
-use Rattle.std.proofs.Common.{◌≡◌, ℕ, Bool, true, List, Option, Some, None, refl, sym, subst, inr, rules}
-use Rattle.toml.specs.Data.{Data, as_str}
-use Rattle.nextest_config_values.specs.Identifier.{IsNormalFault, NameFault, NameFaults}
+-- Refusals: what follows from a refusal, and refusals of readings that are put together.
+use Rattle.std.proofs.Common.{◌≡◌, ◌⊎◌, ℕ, List, Option, Some, None, Result, Ok, Err, IsOk, inl, inr, refl, sym, subst, rules}
+use Rattle.std.proofs.lemmas.Result.{err_from_is_err_and}
+use Rattle.std.specs.Result.{IfErr, IsErrAnd}
+use Rattle.nextest_config_values.specs.Identifier.{IsNormalFault, NameFault}
 use Rattle.nextest_config_values.specs.Read.Fault.{Fault}
-use Rattle.nextest_config_values.specs.Read.{fault_at, fault_of, FaultOrMemory, FaultsAs, IsMemory, IsNameKind, IsReading, Reason, Refuses, RefusesAs, RefusesKind, RefusesOne, text_expected, WantsMemory}
+use Rattle.nextest_config_values.specs.Read.{fault_at, fault_of, FaultOrMemory, IsMemory, IsNameKind, IsRefusal, Reading, Reason, Refuses, RefusesAs, RefusesBy, RefusesKind, RefusesOne}
 use Rattle.nextest_config_values.specs.declared.read.fault.FaultKind.{FaultKind}
 use Rattle.nextest_config_values.specs.declared.read.fault.ReadFault.{ReadFault}
 
@@ -13,19 +14,9 @@ fault_mapped told h f g = search rules
 pub refused_mapped : {P Q : Fault → Type 0} {V W : Type 0} (fault : ReadFault) → Refuses P V fault → (V → W) → ((f : Fault) → P f → Q f) → Refuses Q W fault
 refused_mapped fault refused f g = fault_mapped (fault_of fault) refused (λ memory. (memory.0, f memory.1)) g
 
--- a refused reading wanted memory, or its value means nothing
-pub memory_wanted : {X : Type 0} (means : X → Type 0) (needs_memory : Bool) (IsFault : Fault → Type 0) (fault : ReadFault) → ((x : X) (f : Fault) → means x → IsFault f → ⊥)
-    → Refuses IsFault (WantsMemory means needs_memory) fault → WantsMemory means needs_memory
-memory_wanted means needs_memory IsFault fault never_both refused = search rules
-
 -- a refusal as this fault, which is one of these
 pub refused_as : {W : Type 0} (IsFault : Fault → Type 0) (expected : Fault) (fault : ReadFault) → W → IsFault expected → RefusesAs expected fault → Refuses IsFault W fault
 refused_as IsFault expected fault wanted has refused = refused_mapped fault refused (λ memory. wanted) (λ f same. subst IsFault (sym same) has)
-
--- a refusal as this fault is one of a reading that has it, which means nothing
-pub refused_by : {D X : Type 0} {means : D → X → Type 0} {faults : D → List ℕ → Fault → Type 0} {alike : X → X → Type 0} (needs_memory : Bool) → IsReading means faults alike → (value : D) (at : List ℕ) (expected : Fault) (fault : ReadFault)
-    → faults value at expected → RefusesAs expected fault → Refuses (faults value at) (WantsMemory (means value) needs_memory) fault
-refused_by {faults = faults} needs_memory reading value at expected fault has = refused_as (faults value at) expected fault (λ x meant. absurd (reading.never_both value at x expected meant has)) has
 
 pub refused_as_one : (IsFault : Fault → Type 0) (expected : Fault) (fault : ReadFault) → IsFault expected → RefusesAs expected fault → RefusesOne IsFault fault
 refused_as_one IsFault expected fault has = refused_as IsFault expected fault (expected, has) has
@@ -33,10 +24,75 @@ refused_as_one IsFault expected fault has = refused_as IsFault expected fault (e
 pub refused_memory : (IsFault : Fault → Type 0) {wanted : Type 0} (fault : ReadFault) → IsMemory fault → wanted → Refuses IsFault wanted fault
 refused_memory IsFault fault memory wanted = rw memory.1 ((memory.0, refl), wanted)
 
-pub refused_name : {Flaw X : Type 0} (IsFlaw : List ℕ → Flaw → Type 0) (reason : NameFault Flaw → Reason) (means : X → Type 0) (value : Data) (text at : List ℕ) (told : Option (NameFault Flaw)) (of_memory : Type 0) (kind : FaultKind) (fault : ReadFault)
-    → as_str value ≡ Some text → FaultOrMemory told of_memory (IsNormalFault IsFlaw text) → IsNameKind reason told kind → RefusesKind at kind fault
-    → Refuses (FaultsAs as_str text_expected (NameFaults reason IsFlaw) value at) (WantsMemory means true) fault
-refused_name IsFlaw reason means value text at (Some name) of_memory kind fault is_text flawed_so kind_is refused =
-    refused_as _ (fault_at at (reason name)) fault (λ x m. refl) (inr (text, is_text, (name, flawed_so, refl))) (rw kind_is at refused)
-refused_name IsFlaw reason means value text at None of_memory kind fault is_text flawed_so kind_is refused =
-    refused_memory _ fault (rw kind_is at refused) (λ x m. refl)
+-- a refusal that `?` passes on
+pub passed_on : {T : Type 0} (IsPassed : ReadFault → Type 0) (result : Result T ReadFault) (fault : ReadFault) → IsErrAnd result (λ passed. passed ≡ fault) → IsPassed fault → IfErr result IsPassed
+passed_on IsPassed result fault err refused =
+    let passed = err_from_is_err_and result err in
+    rw (passed.1, passed.2) refused
+
+-- ---- of a reading
+
+module _ {D X : Type 0} (reading : Reading D X) (value : D) (at : List ℕ) where
+  -- as this fault, which the value has
+  pub refused_by : (expected : Fault) (fault : ReadFault) → reading.faults value at expected → RefusesAs expected fault → RefusesBy reading value at fault
+  refused_by expected fault has refused = record { told = refused_as (reading.faults value at) expected fault (inr (λ x meant. reading.law.never_both value at x expected meant has)) has refused }
+
+  -- as one fault of these
+  pub refused_by_one : {IsFault : Fault → Type 0} (fault : ReadFault) → RefusesOne IsFault fault → ((f : Fault) → IsFault f → reading.faults value at f) → RefusesBy reading value at fault
+  refused_by_one fault refused step = record { told = refused_mapped fault refused (λ one. inr (λ x meant. reading.law.never_both value at x one.0 meant (step one.0 one.1))) step }
+
+  -- the result takes memory, or there is none
+  pub wanted_of : (fault : ReadFault) → RefusesBy reading value at fault → reading.takes_memory value ⊎ ((x : X) → ¬ reading.means value x)
+  wanted_of fault refused = by_told (fault_of fault) refused.told where
+    by_told : (told : Option Fault) → FaultOrMemory told (IsMemory fault × (reading.takes_memory value ⊎ ((x : X) → ¬ reading.means value x))) (reading.faults value at) → reading.takes_memory value ⊎ ((x : X) → ¬ reading.means value x)
+    by_told (Some f) faulty = inr (λ x meant. reading.law.never_both value at x f meant faulty)
+    by_told None memory = memory.1
+
+  -- memory was refused where a reading was
+  pub refused_again : (to : List ℕ) (fault again : ReadFault) → RefusesBy reading value at fault → IsMemory again → RefusesBy reading value to again
+  refused_again to fault again refused memory = record { told = refused_memory (reading.faults value to) again memory (wanted_of fault refused) }
+
+  -- a value that means something, and whose result takes no memory, is read
+  pub read_whole : {T : Type 0} (result : Result T ReadFault) → IfErr result (RefusesBy reading value at) → (x : X) → reading.means value x → ¬ reading.takes_memory value → IsOk result
+  read_whole (Ok t) refused x meant free = refl
+  read_whole (Err fault) refused x meant free = absurd (none (wanted_of fault refused)) where
+    none : reading.takes_memory value ⊎ ((x : X) → ¬ reading.means value x) → ⊥
+    none (inl takes) = free takes
+    none (inr nothing) = nothing x meant
+
+-- ---- of readings that are put together
+
+module _ {X Y : Type 0} {means : X → Type 0} {IsFault : Fault → Type 0} {T : Type 0} {fault : ReadFault} where
+  -- of one that says more of the value
+  pub in_whole : {said : Y → Type 0} {IsSaid : Fault → Type 0} {U : Type 0} → IsRefusal means IsFault T fault → (T → U) → (((x : X) → ¬ means x) → (y : Y) → ¬ said y) → ((f : Fault) → IsFault f → IsSaid f)
+      → IsRefusal said IsSaid U fault
+  in_whole {said = said} {U = U} refused takes none step = record { told = refused_mapped fault refused.told wanted step } where
+    wanted : T ⊎ ((x : X) → ¬ means x) → U ⊎ ((y : Y) → ¬ said y)
+    wanted (inl t) = inl (takes t)
+    wanted (inr n) = inr (none n)
+
+  -- of what another result is made of
+  pub in_made : {make : X → Y} → IsRefusal means IsFault T fault → IsRefusal (λ y. (x : X) × means x × (y ≡ make x)) IsFault T fault
+  in_made refused = in_whole refused (λ takes. takes) (λ none y meant. none meant.0 meant.1) (λ f faulty. faulty)
+
+  -- of a first part
+  pub in_first : {later_means : X → Y → Type 0} {later : Fault → Type 0} {U : Type 0} → IsRefusal means IsFault T fault → IsRefusal (λ y. (x : X) × means x × later_means x y) (λ f. IsFault f ⊎ later f) (T ⊎ U) fault
+  in_first refused = in_whole refused inl (λ none y meant. none meant.0 meant.1) (λ f faulty. inl faulty)
+
+-- behind a first part
+pub in_later : {D X Y : Type 0} (first : Reading D X) (value : D) {x : X} {later_means : X → Y → Type 0} {IsFault : Fault → Type 0} {later : X → Fault → Type 0} {T : Type 0} {U : X → Type 0} {fault : ReadFault} → first.means value x
+    → IsRefusal (later_means x) (later x) (U x) fault
+    → IsRefusal (λ y. (v : X) × first.means value v × later_means v y) (λ f. IsFault f ⊎ ((v : X) × first.means value v × later v f)) (T ⊎ ((v : X) × first.means value v × U v)) fault
+in_later first value {x} {later_means} meant refused = in_whole refused (λ takes. inr (x, meant, takes))
+    (λ none y other. none y (subst (λ v. later_means v y) (first.law.one_meaning value other.0 x other.1 meant) other.2))
+    (λ f faulty. inr (x, meant, faulty))
+
+-- ---- of a name
+
+pub refused_name : {Flaw : Type 0} (IsFlaw : List ℕ → Flaw → Type 0) (reason : NameFault Flaw → Reason) {X : Type 0} {means : X → Type 0} (text at : List ℕ) (told : Option (NameFault Flaw)) (of_memory : Type 0) (kind : FaultKind) (fault : ReadFault)
+    → FaultOrMemory told of_memory (IsNormalFault IsFlaw text) → IsNameKind reason told kind → RefusesKind at kind fault
+    → IsRefusal means (λ f. (name : NameFault Flaw) × IsNormalFault IsFlaw text name × (f ≡ fault_at at (reason name))) (Unit {0}) fault
+refused_name IsFlaw reason text at (Some name) of_memory kind fault flawed_so kind_is refused =
+    record { told = refused_as _ (fault_at at (reason name)) fault (inl tt) (name, flawed_so, refl) (rw kind_is at refused) }
+refused_name IsFlaw reason text at None of_memory kind fault flawed_so kind_is refused =
+    record { told = refused_memory _ fault (rw kind_is at refused) (inl tt) }

@@ -4,7 +4,6 @@ pub mod Durations
 pub mod Elements
 pub mod Faults
 pub mod Joined
-pub mod Keys
 pub mod Paths
 pub mod Runs
 pub mod Styled

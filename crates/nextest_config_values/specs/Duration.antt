@@ -2,6 +2,6 @@
 pub mod Grammar
 pub mod Laws
 pub mod Steps
-pub use Grammar.{AreAll, AreFittingDigits, BeginsWith, duration_expected, DurationFaults, DurationTextFaults, EndsWith, HasNumberThatFits, IsDuration, IsDurationFault, IsEndFault, IsFaultBehind, IsFront, IsItemText, IsLongestFront, IsNext, IsNextFault, IsRun, IsUncut, is_in_word, Item, length_in, MeansDuration, offset, DurationsAlike, Spells, total, unit_length, units}
-pub use Laws.{covers, duration_meant, duration_reading, never_duration_and_fault, nothing_stops, one_duration, one_duration_fault, one_next, one_spelling, Stops}
+pub use Grammar.{AreAll, AreFittingDigits, BeginsWith, EndsWith, HasNumberThatFits, IsDuration, IsDurationFault, IsEndFault, IsFaultBehind, IsFront, IsItemText, IsLongestFront, IsNext, IsNextFault, IsRun, IsUncut, is_in_word, Item, length_in, offset, Spells, total, unit_length, units}
+pub use Laws.{covers, duration_expected, duration_in, duration_reading, never_duration_and_fault, nothing_stops, one_duration, one_duration_fault, one_next, one_spelling, Stops}
 pub use Steps.{IsCutBehind, IsFaultAt, IsReadItem, rows}

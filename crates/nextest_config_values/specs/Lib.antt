@@ -5,4 +5,3 @@ pub mod Helpers
 pub mod Identifier
 pub mod Read
 pub mod ToolConfig
-pub mod TrackDefault

@@ -3,7 +3,7 @@
 ghost use Rattle.std.specs.Prelude.{◌≡◌, ◌+◌, ◌++◌, ◌<◌, ◌^◌, ℕ, Bool, false, not, chars, length, IfErr, IfOk};
 ghost use Rattle.std.specs.Duration.{as_nanos};
 ghost use Rattle.std.specs.Fn.{AlwaysReturns};
-ghost use Rattle.nextest_config_values.specs.Duration.{duration_reading, DurationFaults, DurationsAlike, IsCutBehind, IsDuration, IsDurationFault, IsFaultAt, IsReadItem, length_in, MeansDuration, rows, unit_length};
+ghost use Rattle.nextest_config_values.specs.Duration.{duration_reading, IsCutBehind, IsDuration, IsDurationFault, IsFaultAt, IsReadItem, length_in, rows, unit_length};
 
 use crate::read::{FromToml, ReadFault};
 use std::alloc::Global;
@@ -160,15 +160,11 @@ fn find_unit(units: &[(&str, u64)], word: &str) -> Option<u64>
 }
 
 impl FromToml for Duration {
-    ghost means = { λ value d. MeansDuration value (as_nanos d) };
+    ghost Seen = { ℕ };
 
-    ghost faults = { DurationFaults };
+    ghost seen = { as_nanos };
 
-    ghost needs_memory = { false };
-
-    ghost alike = { DurationsAlike };
-
-    ghost laws = { duration_reading };
+    ghost reading = { duration_reading };
 
     fn read(alloc: Global, value: &Value, at: &str) -> Result<Self, ReadFault> {
         let Some(text) = value.as_str() else {

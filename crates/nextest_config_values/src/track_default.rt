@@ -1,6 +1,6 @@
 //! Values that know whether they are a default.
 
-ghost use Rattle.std.specs.Prelude.{◌≡◌, true, false};
+ghost use Rattle.std.specs.Prelude.{◌≡◌, Bool, true, false};
 
 use crate::read::{FromToml, ReadFault};
 use std::alloc::{AllocError, Global};
@@ -59,17 +59,13 @@ impl<T: Clone> Clone for TrackDefault<T> {
 }
 
 impl<T: FromToml> FromToml for TrackDefault<T> {
-    ghost use Rattle.nextest_config_values.specs.TrackDefault.{AreTrackedAlike, MeansTracked, tracked_reading};
+    ghost use Rattle.nextest_config_values.specs.Read.{made_of};
 
-    ghost means = { MeansTracked T.means };
+    ghost Seen = { T.Seen × Bool };
 
-    ghost faults = { T.faults };
+    ghost seen = { λ tracked. (T.seen tracked.value, tracked.is_deserialized) };
 
-    ghost needs_memory = { T.needs_memory };
-
-    ghost alike = { AreTrackedAlike T.alike };
-
-    ghost laws = { tracked_reading T.means T.faults T.alike T.laws };
+    ghost reading = { made_of (λ x. (x, true)) T.reading };
 
     fn read(alloc: Global, value: &Value, at: &str) -> Result<Self, ReadFault> {
         let value = T::read(alloc, value, at)?;

@@ -1,11 +1,12 @@
 -- The setting `fail-fast`: a boolean, or a table with a limit and a mode.
-use Rattle.std.specs.Prelude.{◌≡◌, ◌≢◌, ℕ, ℤ, pos, ◌≤ℤ◌, ◌<ℤ◌, Bool, List, [], ◌∷◌, codes, FitsSigned, ◌⊎◌, Option, Some}
+use Rattle.std.specs.Prelude.{◌≡◌, ◌≢◌, ℕ, ℤ, pos, ◌≤ℤ◌, ◌<ℤ◌, List, [], ◌∷◌, codes, FitsSigned, ◌⊎◌, Option, Some}
+use Rattle.std.proofs.Common.{sym, ap, ◌∙◌, subst, rules}
 use Rattle.std.specs.Int.{w64}
-use Rattle.toml.specs.Data.{Data, Members, as_bool, as_integer, as_str, as_table, string}
-use Rattle.nextest_config_values.specs.Read.Fault.{Fault}
-use Rattle.nextest_config_values.specs.Read.{FaultsKind, FaultsThen, IsCount, IsNoCount, KeyOr, MeansKind, MeansMade, MeansNothing, MeansNumber, MeansWordText, OptionalKeyFaults, RequiredKey, RequiredKeyFaults, WordTextFaults, wrong_value, WrongKind}
+use Rattle.toml.specs.Data.{Data, Members, as_bool, as_integer, as_str, as_table}
+use Rattle.nextest_config_values.specs.Read.{held, in_range, IsCount, kind, made_of, only, or_default, Reading, required, then, value_of, word_reading, wrong_kind, wrong_value}
 use Rattle.nextest_config_elements.specs.MaxFail.Limit.{fail_fast_limit, mode_word}
 use Rattle.nextest_config_elements.specs.MaxFail.NumberText.{IsNumberText}
+use Rattle.nextest_config_elements.specs.MaxFail.NumberTextLaws.{one_number}
 use Rattle.nextest_config_elements.specs.declared.max_fail.MaxFail.{MaxFail}
 use Rattle.nextest_config_elements.specs.declared.max_fail.MaxFail.TheVariants as limits
 use Rattle.nextest_config_elements.specs.declared.max_fail.fail_fast.MaxFailCount.{MaxFailCount}
@@ -29,10 +30,6 @@ max_fail_expected = codes "a positive integer or the string \"all\""
 
 -- ---- `max-fail`
 
--- the text is `all`, in these letters
-abbrev pub MeansMaxFailText : List ℕ → MaxFailCount → Type 0
-MeansMaxFailText held count = (held ≡ codes "all") × (count ≡ All)
-
 -- the text writes this integer of 64 bits
 abbrev pub HasInteger : List ℕ → ℤ → Type 0
 HasInteger held number = IsNumberText held number × FitsSigned w64 number
@@ -47,33 +44,45 @@ IsExpected held expected =
     ⊎ (((number : ℤ) → ¬ (HasInteger held number))
     × (expected ≡ codes "the string \"all\" or a positive integer")))
 
--- the text isn't `all`
-abbrev pub MaxFailTextFaults : List ℕ → List ℕ → Fault → Type 0
-MaxFailTextFaults held at fault = (held ≢ codes "all") × (expected : List ℕ)
-    × IsExpected held expected × (fault ≡ wrong_value (string held) at expected)
+not_both : (number : ℤ) → pos 0 <ℤ number → number ≤ℤ pos 0 → ⊥
+not_both number a b = search rules
 
--- what the key holds
-abbrev pub MeansMaxFail : Data → MaxFailCount → Type 0
-MeansMaxFail value =
-    MeansKind (MeansMade Count (MeansNumber IsCount))
-    (λ other. MeansKind MeansMaxFailText MeansNothing (as_str other) other) (as_integer value) value
+one_sign : (held : List ℕ) (m n : ℤ) → HasInteger held m → HasInteger held n → pos 0 <ℤ m
+    → n ≤ℤ pos 0 → ⊥
+one_sign held m n h k a b = not_both n (subst (λ x. pos 0 <ℤ x) (one_number held m n h.0 k.0) a) b
 
--- what is wrong with it
-abbrev pub MaxFailFaults : Data → List ℕ → Fault → Type 0
-MaxFailFaults value =
-    FaultsKind (IsNoCount max_fail_expected)
-    (λ other. FaultsKind MaxFailTextFaults (WrongKind max_fail_expected) (as_str other) other)
-    (as_integer value) value
+pub one_expected : (held e f : List ℕ) → IsExpected held e → IsExpected held f → e ≡ f
+one_expected held e f a b = search (rules, one_sign)
+
+-- a text: `all`, in these letters
+abbrev pub max_fail_in : List ℕ → Reading Data MaxFailCount
+max_fail_in held = record {
+  means = λ value count. (held ≡ codes "all") × (count ≡ All);
+  faults = λ value at fault. (held ≢ codes "all") × (expected : List ℕ)
+      × IsExpected held expected × (fault ≡ wrong_value value at expected);
+  takes_memory = λ value. ⊥;
+  law = record {
+    one_meaning = λ value x y a b. a.1 ∙ sym b.1;
+    one_fault = λ value at f g a b. a.3
+        ∙ ap (wrong_value value at) (one_expected held a.1 b.1 a.2 b.2) ∙ sym b.3;
+    never_both = λ value at x f a b. b.0 a.0;
+  };
+}
+
+-- an integer that is a count, or a text
+abbrev pub max_fail_reading : Reading Data MaxFailCount
+max_fail_reading =
+    kind as_integer (λ number. made_of Count (in_range IsCount max_fail_expected number))
+    (kind as_str max_fail_in (wrong_kind max_fail_expected))
 
 -- ---- `terminate`
 
--- the mode of a word
-abbrev pub MeansTerminate : Data → TerminateMode → Type 0
-MeansTerminate = MeansWordText mode_word
+pub mode_reads_back : (mode : TerminateMode)
+    → value_of mode_word (Wait ∷ Immediate ∷ []) (mode_word mode) ≡ Some mode
+mode_reads_back mode = search rules
 
--- what is wrong with it
-abbrev pub TerminateFaults : Data → List ℕ → Fault → Type 0
-TerminateFaults = WordTextFaults mode_word (Wait ∷ Immediate ∷ [])
+abbrev pub terminate_reading : Reading Data TerminateMode
+terminate_reading = word_reading (Wait ∷ Immediate ∷ []) mode_word mode_reads_back
 
 -- ---- the setting
 
@@ -82,42 +91,14 @@ abbrev pub limit_of : MaxFailCount → TerminateMode → MaxFail
 limit_of (Count number) mode = limits.Count number mode
 limit_of All mode = limits.All
 
--- the table has this limit; other keys don't count
-pub record MeansFailFastTable (members : Members) (limit : MaxFail) : Type 0 where
-  pub count : MaxFailCount
-  pub mode : TerminateMode
-  pub of_max_fail : RequiredKey max_fail_key MeansMaxFail members count
-  pub of_terminate : KeyOr terminate_key Wait MeansTerminate members mode
-  pub limit_is : limit ≡ limit_of count mode
+-- the table has a count, and may have a mode; other keys don't count
+abbrev pub fail_fast_table : Reading Members MaxFail
+fail_fast_table =
+    then (required max_fail_key max_fail_reading) (λ count.
+    made_of (limit_of count) (or_default terminate_key Wait terminate_reading))
 
--- what is wrong with the table: at `max-fail`, and behind it at `terminate`
-abbrev pub FailFastTableFaults : Members → List ℕ → Fault → Type 0
-FailFastTableFaults =
-    FaultsThen (RequiredKey max_fail_key MeansMaxFail)
-    (RequiredKeyFaults max_fail_key MaxFailFaults) (λ count.
-    OptionalKeyFaults terminate_key TerminateFaults)
-
--- the boolean sets this limit
-abbrev pub MeansFailFastTruth : Bool → MaxFail → Type 0
-MeansFailFastTruth held limit = limit ≡ fail_fast_limit held
-
--- and is all right
-abbrev pub TruthFaults : Bool → List ℕ → Fault → Type 0
-TruthFaults held at fault = ⊥
-
--- the value sets this limit: as a boolean, or as a table
-abbrev pub MeansLimit : Data → MaxFail → Type 0
-MeansLimit value = MeansKind MeansFailFastTruth
-    (λ other. MeansKind MeansFailFastTable MeansNothing (as_table other) other) (as_bool value)
-    value
-
--- a value that is all right always sets a limit
-abbrev pub MeansFailFast : Data → Option MaxFail → Type 0
-MeansFailFast = MeansMade Some MeansLimit
-
--- what is wrong with the value at a path
-abbrev pub FailFastFaults : Data → List ℕ → Fault → Type 0
-FailFastFaults value =
-    FaultsKind TruthFaults
-    (λ other. FaultsKind FailFastTableFaults (WrongKind fail_fast_expected) (as_table other) other)
-    (as_bool value) value
+-- a boolean, or a table; a value that is all right always sets a limit
+abbrev pub fail_fast_reading : Reading Data (Option MaxFail)
+fail_fast_reading =
+    kind as_bool (λ truth. only (Some (fail_fast_limit truth)))
+    (kind as_table (held (made_of Some fail_fast_table)) (wrong_kind fail_fast_expected))

@@ -1,9 +1,9 @@
 //! The setting `fail-fast`.
 
-ghost use Rattle.std.specs.Prelude.{◌≡◌, false, IfErr, IfOk};
+ghost use Rattle.std.specs.Prelude.{◌≡◌, IfErr, IfOk};
 ghost use Rattle.toml.specs.View.{table_view, view};
-ghost use Rattle.nextest_config_values.specs.Read.{Refuses, WantsMemory};
-ghost use Rattle.nextest_config_elements.specs.MaxFail.{FailFastFaults, FailFastTableFaults, IsExpected, limit_of, max_fail_reading, MaxFailFaults, MeansFailFast, MeansFailFastTable, MeansMaxFail};
+ghost use Rattle.nextest_config_values.specs.Read.{RefusesBy};
+ghost use Rattle.nextest_config_elements.specs.MaxFail.{fail_fast_reading, fail_fast_table, IsExpected, limit_of, max_fail_reading};
 
 use super::{MaxFail, TerminateMode};
 use nextest_config_values::read::{FromToml, ReadFault, field_or, required_field};
@@ -21,9 +21,8 @@ pub fn deserialize_fail_fast(
     value: &Value,
     at: &str,
 ) -> Result<Option<MaxFail>, ReadFault>
-    ensures meant { IfOk result (MeansFailFast (view value.now)) }
-    ensures refused { IfErr result (Refuses (FailFastFaults (view value.now) at.now)
-        (WantsMemory (MeansFailFast (view value.now)) false)) }
+    ensures meant { IfOk result (fail_fast_reading.means (view value.now)) }
+    ensures refused { IfErr result (RefusesBy fail_fast_reading (view value.now) at.now) }
 {
     if let Some(fail_fast) = value.as_bool() {
         return Ok(Some(MaxFail::from_fail_fast(fail_fast)));
@@ -39,9 +38,8 @@ pub fn deserialize_fail_fast(
 
 // The limit of a table.
 fn read_table(alloc: Global, table: &Table, at: &str) -> Result<MaxFail, ReadFault>
-    ensures meant { IfOk result (MeansFailFastTable (table_view table.now)) }
-    ensures refused { IfErr result (Refuses (FailFastTableFaults (table_view table.now) at.now)
-        (WantsMemory (MeansFailFastTable (table_view table.now)) false)) }
+    ensures meant { IfOk result (fail_fast_table.means (table_view table.now)) }
+    ensures refused { IfErr result (RefusesBy fail_fast_table (table_view table.now) at.now) }
 {
     let count: MaxFailCount = required_field(alloc, table, "max-fail", at)?;
     let terminate = field_or(alloc, table, "terminate", at, TerminateMode::Wait)?;
@@ -71,15 +69,11 @@ impl MaxFailCount {
 }
 
 impl FromToml for MaxFailCount {
-    ghost means = { MeansMaxFail };
+    ghost Seen = { Self };
 
-    ghost faults = { MaxFailFaults };
+    ghost seen = { λ count. count };
 
-    ghost needs_memory = { false };
-
-    ghost alike = { ◌≡◌ };
-
-    ghost laws = { max_fail_reading };
+    ghost reading = { max_fail_reading };
 
     fn read(alloc: Global, value: &Value, at: &str) -> Result<Self, ReadFault> {
         if let Some(number) = value.as_integer() {

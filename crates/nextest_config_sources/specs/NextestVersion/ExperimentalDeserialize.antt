@@ -1,9 +1,9 @@
 -- What one source says of the experimental features.
-use Rattle.std.specs.Prelude.{◌≡◌, ◌↔◌, ◌⊎◌, ◌++◌, ◌<◌, ℕ, Bool, true, false, List, [], ◌∷◌, map, Contains, codes, decimal, string_bytes, Option, Some, None, IsSome}
-use Rattle.toml.specs.Data.{Data, Items, Members, as_array, as_bool, as_str, as_table, get_item, get_member}
+use Rattle.std.specs.Prelude.{◌≡◌, ◌↔◌, ◌⊎◌, ◌++◌, ◌<◌, ℕ, Bool, false, List, [], map, Contains, codes, decimal, string_bytes, Option, Some, None, IsSome}
+use Rattle.toml.specs.Data.{Data, Items, Members, as_str, get_item, get_member}
 use Rattle.nextest_config_values.specs.Read.Fault.{Fault}
-use Rattle.nextest_config_values.specs.Read.{FaultsAs, FaultsKind, FaultsThen, HasNoFault, MeansAs, MeansKind, MeansNothing, MeansOr, MeansTruth, OptionalFaults, path_of, text_expected, wrong_type, WrongKind}
-use Rattle.nextest_config_sources.specs.NextestVersion.Experimental.{FeaturesInOrder, IsUnknown, TextsInOrder, all_features, word_of}
+use Rattle.nextest_config_values.specs.Read.{bool_reading, or_default, Reading, text_expected, wrong_type}
+use Rattle.nextest_config_sources.specs.NextestVersion.Experimental.{FeaturesInOrder, IsUnknown, TextsInOrder, word_of}
 use Rattle.nextest_config_sources.specs.declared.nextest_version.experimental.ConfigExperimental.{ConfigExperimental}
 use Rattle.nextest_config_sources.specs.declared.nextest_version.experimental_deserialize.ExperimentalDeserialize.{ExperimentalDeserialize}
 
@@ -25,17 +25,17 @@ pub record FeatureSetting : Type 0 where
   pub features : Features
   pub array : Bool
 
+-- these features, as an array or not
+abbrev pub in_form : Bool → Features → FeatureSetting
+in_form array features = record { features = features; array = array }
+
 -- what was read of a setting
 abbrev pub feature_setting_of : ExperimentalDeserialize → FeatureSetting
-feature_setting_of d = record { features = features_of d; array = d.array }
+feature_setting_of d = in_form d.array (features_of d)
 
 -- what a missing setting says
 abbrev pub no_feature_setting : FeatureSetting
-no_feature_setting = record { features = no_features; array = false }
-
--- two of them name the same
-abbrev pub FeaturesAlike : ExperimentalDeserialize → ExperimentalDeserialize → Type 0
-FeaturesAlike a b = feature_setting_of a ≡ feature_setting_of b
+no_feature_setting = in_form false no_features
 
 -- both sets are written in order: the features in theirs, the names in byte order
 pub record AreSetsInOrder (named : Features) : Type 0 where
@@ -89,60 +89,12 @@ FeatureArrayFaults items at fault = (index : ℕ) × (value : Data)
 -- ---- the table form
 
 -- whether the key of a feature is true; a missing key is false
-abbrev pub MeansSwitch : ConfigExperimental → Members → Bool → Type 0
-MeansSwitch feature members =
-    MeansOr false (MeansAs as_bool MeansTruth) (get_member (word_of feature) members)
-
--- the value at the key of a feature is no boolean
-abbrev pub SwitchFaults : ConfigExperimental → Members → List ℕ → Fault → Type 0
-SwitchFaults feature members at =
-    OptionalFaults (FaultsAs as_bool (codes "a boolean") HasNoFault)
-    (get_member (word_of feature) members) (path_of at (word_of feature))
+abbrev pub switch : ConfigExperimental → Reading Members Bool
+switch feature = or_default (word_of feature) false bool_reading
 
 -- the text is a key of the table and no feature's word
 abbrev pub IsUnknownFeatureKey : Members → List ℕ → Type 0
 IsUnknownFeatureKey members text = IsSome (get_member text members) × IsUnknown text
-
--- the value at the key of each feature is a boolean, if there is one; a feature is enabled where it
--- is true; other keys are names whatever their values are
-pub record MeansFeatureTable (members : Members) (named : Features) : Type 0 where
-  pub of_switches : (feature : ConfigExperimental) → (on : Bool) × MeansSwitch feature members on
-  pub of_names : AreNamed (λ feature. MeansSwitch feature members true)
-      (λ text. IsSome (get_member text members)) named
-
--- the first of these features whose key has a value that is no boolean
-abbrev pub FirstSwitchFaults : List ConfigExperimental → Members → List ℕ → Fault → Type 0
-FirstSwitchFaults [] = λ members at fault. ⊥
-FirstSwitchFaults (feature ∷ rest) =
-    FaultsThen (MeansSwitch feature) (SwitchFaults feature) (λ on. FirstSwitchFaults rest)
-
--- the first of the features in their order
-abbrev pub FeatureTableFaults : Members → List ℕ → Fault → Type 0
-FeatureTableFaults = FirstSwitchFaults all_features
-
--- ---- the setting
-
--- what the setting takes
-abbrev pub features_expected : List ℕ
-features_expected = codes "a table ({ setup-scripts = true, benchmarks = true }) or an array ([\"setup-scripts\", \"benchmarks\"])"
-
--- the features are named in this form
-abbrev pub InForm : {K : Type 0} → Bool → (K → Features → Type 0) → K → FeatureSetting → Type 0
-InForm array means held setting = means held setting.features × (setting.array ≡ array)
-
--- the value names these: as an array, or as a table
-abbrev pub MeansFeatures : Data → FeatureSetting → Type 0
-MeansFeatures value =
-    MeansKind (InForm true MeansFeatureArray)
-    (λ other. MeansKind (InForm false MeansFeatureTable) MeansNothing (as_table other) other)
-    (as_array value) value
-
--- what is wrong with the value at a path
-abbrev pub FeaturesFaults : Data → List ℕ → Fault → Type 0
-FeaturesFaults value =
-    FaultsKind FeatureArrayFaults
-    (λ other. FaultsKind FeatureTableFaults (WrongKind features_expected) (as_table other) other)
-    (as_array value) value
 
 -- ---- the names of both sets
 

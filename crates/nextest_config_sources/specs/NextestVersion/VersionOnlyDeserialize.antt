@@ -1,12 +1,13 @@
 -- What one source asks, or what is wrong with it.
-use Rattle.std.specs.Prelude.{◌≡◌, ◌≢◌, ◌⊎◌, ℕ, Bool, false, List, codes, Option, Some, None, IsSome}
+use Rattle.std.specs.Prelude.{◌≡◌, ◌≢◌, ◌⊎◌, ℕ, Bool, false, List, [], codes, Option, Some, None, IsSome}
 use Rattle.toml.specs.Data.{as_array, Data, Items, Members, get_member}
 use Rattle.toml.specs.Parse.{parse_document}
 use Rattle.nextest_config_values.specs.Read.Fault.{Fault}
-use Rattle.nextest_config_values.specs.Read.{array_form, custom, fault_at, MeansOr, OptionalFaults, Then}
-use Rattle.nextest_config_sources.specs.NextestVersion.NextestVersionDeserialize.{Versions, MeansVersions, VersionsFaults, no_versions, versions_of}
+use Rattle.nextest_config_values.specs.Read.{array_form, custom, fault_at, or_default, Reading, Then}
+use Rattle.nextest_config_sources.specs.NextestVersion.NextestVersionDeserialize.{Versions, no_versions, versions_of, versions_reading}
 use Rattle.nextest_config_sources.specs.NextestVersion.ErrorKind.{Wrong, not_toml, setting, tool_features}
-use Rattle.nextest_config_sources.specs.NextestVersion.ExperimentalDeserialize.{AreNames, Features, FeaturesFaults, FeatureSetting, MeansFeatures, features_of, no_features, no_feature_setting}
+use Rattle.nextest_config_sources.specs.NextestVersion.ExperimentalDeserialize.{AreNames, Features, FeatureSetting, features_of, in_form, no_features, no_feature_setting}
+use Rattle.nextest_config_sources.specs.NextestVersion.ExperimentalLaws.{features_reading}
 use Rattle.nextest_config_sources.specs.declared.nextest_version.edition.Edition.{Edition}
 use Rattle.nextest_config_sources.specs.declared.nextest_version.edition.Edition.TheVariants.{ArrayAllowed, TableOnly}
 use Rattle.nextest_config_sources.specs.declared.nextest_version.source.ConfigSourceKind.{ConfigSourceKind}
@@ -42,13 +43,21 @@ experimental_key = codes "experimental"
 
 -- ---- a source in its grammar
 
--- a value of `nextest-version`, or none, asks for these versions
-abbrev pub AsksVersions : Option Data → Versions → Type 0
-AsksVersions = MeansOr no_versions MeansVersions
+-- what a table asks for at `nextest-version`: no version where it lacks the key
+abbrev pub versions_asked : Reading Members Versions
+versions_asked = or_default version_key no_versions versions_reading
 
--- a value of `experimental`, or none, says this
-abbrev pub AsksFeatures : Option Data → FeatureSetting → Type 0
-AsksFeatures = MeansOr no_feature_setting MeansFeatures
+-- the table asks for these versions
+abbrev pub AsksVersions : Members → Versions → Type 0
+AsksVersions = versions_asked.means
+
+-- what a table says at `experimental`: nothing where it lacks the key
+abbrev pub features_asked : Reading Members FeatureSetting
+features_asked = or_default experimental_key no_feature_setting features_reading
+
+-- the table says this of features
+abbrev pub AsksFeatures : Members → FeatureSetting → Type 0
+AsksFeatures = features_asked.means
 
 -- what the array holds that a value is, if there is a value and it is an array
 abbrev pub array_in : Option Data → Option Items
@@ -69,10 +78,9 @@ ObeysToolRule DiscoveredRepository features = Unit {0}
 -- the table of a document asks this under the edition
 pub record Asks (edition : Edition) (kind : ConfigSourceKind) (members : Members) (ask : Ask)
     : Type 0 where
-  pub of_versions : AsksVersions (get_member version_key members) ask.versions
+  pub of_versions : AsksVersions members ask.versions
   pub of_form : ObeysForm edition (get_member experimental_key members)
-  pub of_features : AsksFeatures (get_member experimental_key members)
-      (record { features = ask.features; array = ask.array })
+  pub of_features : AsksFeatures members (in_form ask.array ask.features)
   pub of_tool : ObeysToolRule kind ask.features
 
 -- a source is in its grammar with this ask: it has no contents and asks nothing, or its contents
@@ -100,17 +108,16 @@ BreaksToolRule (Tool name) features wrong = (features ≢ no_features)
 BreaksToolRule ExplicitRepository features wrong = ⊥
 BreaksToolRule DiscoveredRepository features wrong = ⊥
 
--- the value at the key is refused
-abbrev pub IsWrongSetting : (Data → List ℕ → Fault → Type 0) → List ℕ → Members → Wrong → Type 0
-IsWrongSetting faults key members wrong = (fault : Fault)
-    × OptionalFaults faults (get_member key members) key fault × (wrong ≡ setting fault)
+-- a setting of the table is refused
+abbrev pub IsWrongSetting : {X : Type 0} → Reading Members X → Members → Wrong → Type 0
+IsWrongSetting reading members wrong = (fault : Fault) × reading.faults members [] fault
+    × (wrong ≡ setting fault)
 
 -- what is wrong with the contents of `experimental`; where they are all right, that a tool names a
 -- feature
 abbrev pub IsWrongNamed : ConfigSourceKind → Members → Wrong → Type 0
 IsWrongNamed kind members =
-    Then (IsWrongSetting FeaturesFaults experimental_key members)
-    (AsksFeatures (get_member experimental_key members))
+    Then (IsWrongSetting features_asked members) (AsksFeatures members)
     (λ named. BreaksToolRule kind named.features)
 
 -- what is wrong with the form of `experimental`; where that is all right, what is wrong with its
@@ -125,8 +132,7 @@ IsWrongBehind edition kind members wrong =
 -- it
 abbrev pub IsWrongTable : Edition → ConfigSourceKind → Members → Wrong → Type 0
 IsWrongTable edition kind members =
-    Then (IsWrongSetting VersionsFaults version_key members)
-    (AsksVersions (get_member version_key members))
+    Then (IsWrongSetting versions_asked members) (AsksVersions members)
     (λ versions. IsWrongBehind edition kind members)
 
 -- what is wrong with the document, if it is one

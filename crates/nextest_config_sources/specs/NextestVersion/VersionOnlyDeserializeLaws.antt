@@ -1,32 +1,24 @@
 -- A source asks one thing, or one thing is wrong with it, and never both.
-use Rattle.std.proofs.Common.{◌≡◌, ℕ, List, Option, Some, None, IsSome, sym, ap, ap₂, subst, ◌∙◌, inl, inr}
+use Rattle.std.proofs.Common.{◌≡◌, ℕ, List, [], Option, Some, None, IsSome, sym, ap, ap₂, subst, ◌∙◌, inl, inr, rules}
 use mathlib.Core.Logic.Iff as iff
-use Rattle.toml.specs.Data.{Data, Members, get_member}
+use Rattle.toml.specs.Data.{Data, get_member, Members}
 use Rattle.toml.specs.Parse.{parse_document}
-use Rattle.nextest_config_values.specs.Read.Fault.{Fault}
-use Rattle.nextest_config_values.specs.Read.{IsReading, one_then, OptionalFaults, or_reading, Then}
+use Rattle.nextest_config_values.specs.Read.{one_then, Reading, Then}
 use Rattle.nextest_config_sources.specs.NextestVersion.ErrorKind.{setting, tool_features, Wrong}
-use Rattle.nextest_config_sources.specs.NextestVersion.ExperimentalDeserialize.{Features, FeaturesFaults, FeatureSetting, no_feature_setting}
-use Rattle.nextest_config_sources.specs.NextestVersion.ExperimentalLaws.{features_meant, texts_in_one_order}
-use Rattle.nextest_config_sources.specs.NextestVersion.NextestVersionDeserialize.{no_versions, Versions, versions_meant, VersionsFaults}
-use Rattle.nextest_config_sources.specs.NextestVersion.VersionOnlyDeserialize.{Ask, Asks, AsksFeatures, AsksVersions, BreaksForm, BreaksToolRule, experimental_key, IsWrong, IsWrongBehind, IsWrongDocument, IsWrongSetting, IsWrongTable, ObeysForm, ObeysToolRule, TextAsks, version_key}
+use Rattle.nextest_config_sources.specs.NextestVersion.ExperimentalDeserialize.{Features, FeatureSetting, in_form}
+use Rattle.nextest_config_sources.specs.NextestVersion.ExperimentalLaws.{texts_in_one_order}
+use Rattle.nextest_config_sources.specs.NextestVersion.NextestVersionDeserialize.{Versions}
+use Rattle.nextest_config_sources.specs.NextestVersion.VersionOnlyDeserialize.{Ask, Asks, BreaksForm, BreaksToolRule, experimental_key, features_asked, IsWrong, IsWrongBehind, IsWrongDocument, IsWrongSetting, IsWrongTable, ObeysForm, ObeysToolRule, TextAsks, versions_asked}
 use Rattle.nextest_config_sources.specs.declared.nextest_version.edition.Edition.{Edition}
 use Rattle.nextest_config_sources.specs.declared.nextest_version.edition.Edition.TheVariants.{ArrayAllowed, TableOnly}
 use Rattle.nextest_config_sources.specs.declared.nextest_version.source.ConfigSourceKind.{ConfigSourceKind}
-use Rattle.nextest_config_sources.specs.declared.nextest_version.source.ConfigSourceKind.TheVariants.{Tool, ExplicitRepository, DiscoveredRepository}
-
--- what stands at the key of each setting, or that it is missing
-pub versions_asked : IsReading AsksVersions (OptionalFaults VersionsFaults) (λ a b. a ≡ b)
-versions_asked = or_reading versions_meant no_versions
-
-pub features_asked : IsReading AsksFeatures (OptionalFaults FeaturesFaults) (λ a b. a ≡ b)
-features_asked = or_reading features_meant no_feature_setting
+use Rattle.nextest_config_sources.specs.declared.nextest_version.source.ConfigSourceKind.TheVariants.{Tool}
 
 -- ---- one ask
 
 -- the features of an ask, and whether they are asked as an array
 abbrev setting_in : Ask → FeatureSetting
-setting_in ask = record { features = ask.features; array = ask.array }
+setting_in ask = in_form ask.array ask.features
 
 asks_once : (edition : Edition) (kind : ConfigSourceKind) (table : Members) (a b : Ask)
     → Asks edition kind table a → Asks edition kind table b → a ≡ b
@@ -36,10 +28,8 @@ asks_once edition kind table a b h k =
       features = named.features;
       array = named.array;
     })
-    (versions_asked.one_meaning (get_member version_key table) a.versions b.versions h.of_versions
-    k.of_versions)
-    (features_asked.one_meaning (get_member experimental_key table) (setting_in a) (setting_in b)
-    h.of_features k.of_features)
+    (versions_asked.law.one_meaning table a.versions b.versions h.of_versions k.of_versions)
+    (features_asked.law.one_meaning table (setting_in a) (setting_in b) h.of_features k.of_features)
 
 pub text_asks_once : (edition : Edition) (kind : ConfigSourceKind) (contents : Option (List ℕ))
     (a b : Ask) → TextAsks edition kind contents a → TextAsks edition kind contents b → a ≡ b
@@ -51,26 +41,20 @@ text_asks_once edition kind (Some text) a b h k =
 
 -- ---- one thing that is wrong
 
-module _ {X : Type 0} {means : Option Data → X → Type 0} {faults : Data → List ℕ → Fault → Type 0}
-    (reading : IsReading means (OptionalFaults faults) (λ a b. a ≡ b)) (key : List ℕ)
-    (members : Members) where
-  one_setting : (a b : Wrong) → IsWrongSetting faults key members a
-      → IsWrongSetting faults key members b → a ≡ b
+-- what is wrong at a setting, or behind it
+module _ {X : Type 0} (reading : Reading Members X) (members : Members) where
+  one_setting : (a b : Wrong) → IsWrongSetting reading members a → IsWrongSetting reading members b
+      → a ≡ b
   one_setting a b (f, faulty, is) (g, also, other) =
-      is ∙ ap setting (reading.one_fault (get_member key members) key f g faulty also) ∙ sym other
+      is ∙ ap setting (reading.law.one_fault members [] f g faulty also) ∙ sym other
 
-  never_both_setting : (x : X) (a : Wrong) → means (get_member key members) x
-      → IsWrongSetting faults key members a → ⊥
-  never_both_setting x a meant (f, faulty, is) =
-      reading.never_both (get_member key members) key x f meant faulty
-
-  -- what is wrong at the key, or behind it
   one_in_turn : {behind : X → Wrong → Type 0}
       → ((x : X) (a b : Wrong) → behind x a → behind x b → a ≡ b) → (a b : Wrong)
-      → Then (IsWrongSetting faults key members) (means (get_member key members)) behind a
-      → Then (IsWrongSetting faults key members) (means (get_member key members)) behind b → a ≡ b
-  one_in_turn = one_then one_setting never_both_setting
-      (reading.one_meaning (get_member key members))
+      → Then (IsWrongSetting reading members) (reading.means members) behind a
+      → Then (IsWrongSetting reading members) (reading.means members) behind b → a ≡ b
+  one_in_turn = one_then one_setting
+      (λ x a meant wrong. reading.law.never_both members [] x wrong.0 meant wrong.1)
+      (reading.law.one_meaning members)
 
 one_tool_error : (kind : ConfigSourceKind) (features : Features) (a b : Wrong)
     → BreaksToolRule kind features a → BreaksToolRule kind features b → a ≡ b
@@ -79,8 +63,7 @@ one_tool_error (Tool name) features a b (some, (names, are, is)) (also, (others,
     texts_in_one_order names others are.in_order are_too.in_order
     (λ text. iff.trans (are.of_both text) (iff.symm (are_too.of_both text))) in
     is ∙ ap tool_features same ∙ sym other
-one_tool_error ExplicitRepository features a b h k = absurd h
-one_tool_error DiscoveredRepository features a b h k = absurd h
+one_tool_error _ features a b h k = absurd h
 
 one_form_error : (edition : Edition) (found : Option Data) (a b : Wrong)
     → BreaksForm edition found a → BreaksForm edition found b → a ≡ b
@@ -101,14 +84,12 @@ one_error_behind edition kind members a b (inl h) (inr k) =
 one_error_behind edition kind members a b (inr h) (inl k) =
     absurd (form_obeyed_not_broken edition (get_member experimental_key members) b h.0 k)
 one_error_behind edition kind members a b (inr h) (inr k) =
-    one_in_turn features_asked experimental_key members
-    (λ named. one_tool_error kind named.features) a b h.1 k.1
+    one_in_turn features_asked members (λ named. one_tool_error kind named.features) a b h.1 k.1
 
 one_table_error : (edition : Edition) (kind : ConfigSourceKind) (members : Members) (a b : Wrong)
     → IsWrongTable edition kind members a → IsWrongTable edition kind members b → a ≡ b
 one_table_error edition kind members =
-    one_in_turn versions_asked version_key members
-    (λ versions. one_error_behind edition kind members)
+    one_in_turn versions_asked members (λ versions. one_error_behind edition kind members)
 
 pub one_wrong : (edition : Edition) (kind : ConfigSourceKind) (contents : Option (List ℕ))
     (a b : Wrong) → IsWrong edition kind contents a → IsWrong edition kind contents b → a ≡ b
@@ -125,26 +106,19 @@ one_wrong edition kind (Some text) a b h k = by_document (parse_document text) h
 obeyed_not_broken : (kind : ConfigSourceKind) (features : Features) (wrong : Wrong)
     → ObeysToolRule kind features → BreaksToolRule kind features wrong → ⊥
 obeyed_not_broken (Tool name) features wrong kept broken = broken.0 kept
-obeyed_not_broken ExplicitRepository features wrong kept broken = broken
-obeyed_not_broken DiscoveredRepository features wrong kept broken = broken
+obeyed_not_broken _ features wrong kept broken = broken
 
 asks_not_wrong : (edition : Edition) (kind : ConfigSourceKind) (table : Members) (ask : Ask)
     (wrong : Wrong) → Asks edition kind table ask → IsWrongTable edition kind table wrong → ⊥
-asks_not_wrong edition kind table ask wrong asks (inl refused) =
-    versions_asked.never_both (get_member version_key table) version_key ask.versions refused.0
-    asks.of_versions refused.1
-asks_not_wrong edition kind table ask wrong asks (inr (versions, asked, inl broken)) =
-    form_obeyed_not_broken edition (get_member experimental_key table) wrong asks.of_form broken
-asks_not_wrong edition kind table ask wrong asks (inr (versions, asked, inr (kept, inl refused))) =
-    features_asked.never_both (get_member experimental_key table) experimental_key (setting_in ask)
-    refused.0 asks.of_features refused.1
-asks_not_wrong edition kind table ask wrong asks
-    (inr (versions, asked, inr (kept, inr (named, meant, broken)))) =
-    let same : setting_in ask ≡ named =
-    features_asked.one_meaning (get_member experimental_key table) (setting_in ask) named
-    asks.of_features meant in
-    obeyed_not_broken kind named.features wrong
-    (subst (λ (s : FeatureSetting). ObeysToolRule kind s.features) same asks.of_tool) broken
+asks_not_wrong edition kind table ask wrong asks refused =
+    search (
+      rules,
+      versions_asked.law.never_both,
+      form_obeyed_not_broken,
+      features_asked.law.never_both,
+      features_asked.law.one_meaning,
+      obeyed_not_broken,
+    )
 
 pub text_not_wrong : (edition : Edition) (kind : ConfigSourceKind) (contents : Option (List ℕ))
     (ask : Ask) (wrong : Wrong) → TextAsks edition kind contents ask

@@ -4,10 +4,8 @@ use Rattle.std.specs.Prelude.{◌≡◌, ◌≢◌, ℕ, ◌<◌, ◌^◌, List,
 use Rattle.std.specs.List.{AllByRecursion}
 use Rattle.std.specs.Str.Parse.{AllDigits, digits_value}
 use Rattle.semver.specs.Parse.{Parts}
-use Rattle.toml.specs.Data.{Data, as_str}
 pub use Rattle.nextest_config_values.specs.Characters.{digit_zero, dot, hyphen, plus_sign}
-use Rattle.nextest_config_values.specs.Read.Fault.{Fault}
-use Rattle.nextest_config_values.specs.Read.{broken_rule, BrokenRule, build_metadata, custom, fault_at, FaultsAs, MeansAs, not_version, pre_release, text_expected}
+use Rattle.nextest_config_values.specs.Read.{broken_rule, BrokenRule, build_metadata, not_version, pre_release}
 use Rattle.nextest_config_values.specs.declared.read.fault.FaultKind.{FaultKind}
 use Rattle.nextest_config_values.specs.declared.read.fault.FaultKind.TheVariants as kinds
 
@@ -78,18 +76,3 @@ abbrev pub BreaksVersion : List ℕ → FaultKind → Type 0
 BreaksVersion text (kinds.Custom rule) = IsVersionFault text (broken_rule rule)
 BreaksVersion text kinds.Memory = Unit {0}
 BreaksVersion text _ = ⊥
-
--- ---- as values
-
--- the text has no version, since it breaks a rule
-abbrev pub VersionTextFaults : List ℕ → List ℕ → Fault → Type 0
-VersionTextFaults text at fault = (rule : BrokenRule) × IsVersionFault text rule
-    × (fault ≡ fault_at at (custom rule))
-
--- the value is a text with this version
-abbrev pub MeansVersion : Data → Parts → Type 0
-MeansVersion = MeansAs as_str HasVersion
-
--- the value is no text, or a text that breaks a rule
-abbrev pub VersionFaults : Data → List ℕ → Fault → Type 0
-VersionFaults = FaultsAs as_str text_expected (λ text value. VersionTextFaults text)

@@ -1,5 +1,5 @@
 -- The laws of version texts, and version texts beside what `semver` reads.
-use Rattle.std.proofs.Common.{◌≡◌, ◌≢◌, ℕ, zero, suc, ◌+◌, ◌<◌, ◌^◌, List, [], ◌∷◌, ◌++◌, length, get_or, take, drop, Ok, IsErr, refl, sym, ap, ap₂, ◌∙◌, subst, inl, inr, arith, append_assoc}
+use Rattle.std.proofs.Common.{◌≡◌, ◌≢◌, ℕ, zero, suc, ◌+◌, ◌<◌, ◌^◌, List, [], ◌∷◌, ◌++◌, length, get_or, take, drop, Ok, IsErr, refl, sym, ap, ap₂, ◌∙◌, subst, inl, inr, arith, rules, append_assoc}
 use Rattle.std.proofs.lemmas.Bool.{false≢true}
 use Rattle.std.proofs.lemmas.Fmt.{decimal-digits_value, decimal_is_IsNumeral, decimal_digit, decimal_nonempty, first_decimal}
 use Rattle.std.proofs.lemmas.List.{append-nil, drop_more, take-append-drop}
@@ -10,9 +10,9 @@ use Rattle.std.specs.Str.Parse.{AllDigits, digits_value}
 use Rattle.semver.proofs.Grammar.{version_parts-sound, version_parts-complete}
 use Rattle.semver.specs.Identifiers.{marked, parts_text}
 use Rattle.semver.specs.Parse.{Parts, version_parts}
-use Rattle.toml.specs.Data.{as_str}
-use Rattle.nextest_config_values.specs.Read.{BrokenRule, build_metadata, custom, equality, fault_at, held, IsReading, not_version, pre_release, reading_as, text_expected}
-use Rattle.nextest_config_sources.specs.NextestVersion.VersionText.{Numbers, plain, dot, hyphen, plus_sign, IsNumeral, IsThree, IsTwo, IsVersionText, IsPlain, HasFirstMark, HasVersion, IsVersionFault, MeansVersion, VersionFaults, VersionTextFaults}
+use Rattle.toml.specs.Data.{Data, as_str}
+use Rattle.nextest_config_values.specs.Read.{BrokenRule, build_metadata, custom, fault_at, held, kind, not_version, pre_release, Reading, text_expected, wrong_kind}
+use Rattle.nextest_config_sources.specs.NextestVersion.VersionText.{Numbers, plain, dot, hyphen, plus_sign, IsNumeral, IsThree, IsTwo, IsVersionText, IsPlain, HasFirstMark, HasVersion, IsVersionFault}
 use Rattle.nextest_config_values.proofs.Elements.{all_right, all_joined, all_middle}
 
 own : IsNumeralModel (AllDigits 10) (digits_value 10)
@@ -274,38 +274,38 @@ not_both_marks text h k =
 
 pub one_rule : (text : List ℕ) (r s : BrokenRule) → IsVersionFault text r → IsVersionFault text s
     → r ≡ s
-one_rule text pre_release pre_release h k = refl
 one_rule text pre_release build_metadata h k = absurd (not_both_marks text h k)
+one_rule text build_metadata pre_release h k = absurd (not_both_marks text k h)
 one_rule text pre_release (not_version w) h k =
     absurd (not_unmarked hyphen text hyphen_is_mark h k.1)
-one_rule text build_metadata pre_release h k = absurd (not_both_marks text k h)
-one_rule text build_metadata build_metadata h k = refl
 one_rule text build_metadata (not_version w) h k =
     absurd (not_unmarked plus_sign text plus_is_mark h k.1)
 one_rule text (not_version w) pre_release h k =
     absurd (not_unmarked hyphen text hyphen_is_mark k h.1)
 one_rule text (not_version w) build_metadata h k =
     absurd (not_unmarked plus_sign text plus_is_mark k h.1)
-one_rule text (not_version w) (not_version v) h k = ap not_version (h.0 ∙ sym k.0)
-one_rule text pre_release _ h k = absurd k
-one_rule text build_metadata _ h k = absurd k
-one_rule text (not_version w) _ h k = absurd k
-one_rule text _ s h k = absurd h
+one_rule text r s h k = search rules
 
--- ---- versions as values
+-- ---- what version texts mean
 
-pub text_reading : IsReading HasVersion VersionTextFaults (λ a b. a ≡ b)
-text_reading = record {
-  equivalence = equality;
-  one_meaning = λ text x y a b. a.2 ∙ ap plain (version_once text a.0 b.0 a.1 b.1) ∙ sym b.2;
-  one_fault = λ text at f g a b. a.2
-      ∙ ap (λ rule. fault_at at (custom rule)) (one_rule text a.0 b.0 a.1 b.1) ∙ sym b.2;
-  never_both = λ text at x f a b. version_not_fault text a.0 b.0 a.1 b.1;
+-- the version of a text, or the rule that the text breaks
+abbrev pub version_text : Reading (List ℕ) Parts
+version_text = record {
+  means = HasVersion;
+  faults = λ text at fault. (rule : BrokenRule) × IsVersionFault text rule
+      × (fault ≡ fault_at at (custom rule));
+  takes_memory = λ text. Unit {0};
+  law = record {
+    one_meaning = λ text x y a b. a.2 ∙ ap plain (version_once text a.0 b.0 a.1 b.1) ∙ sym b.2;
+    one_fault = λ text at f g a b. a.2
+        ∙ ap (λ rule. fault_at at (custom rule)) (one_rule text a.0 b.0 a.1 b.1) ∙ sym b.2;
+    never_both = λ text at x f a b. version_not_fault text a.0 b.0 a.1 b.1;
+  };
 }
 
-pub version_reading : IsReading MeansVersion VersionFaults (λ a b. a ≡ b)
-version_reading = reading_as as_str text_expected HasVersion (λ text value. VersionTextFaults text)
-    (λ a b. a ≡ b) (held text_reading)
+-- a text that is a version
+abbrev pub version_reading : Reading Data Parts
+version_reading = kind as_str (held version_text) (wrong_kind text_expected)
 
 -- ---- the scan for a mark
 

@@ -2,8 +2,8 @@
 
 ghost use Rattle.std.specs.Prelude.{◌≡◌, ◌↔◌, ℕ, Bool, List, Contains, true, false, IfOk, IfErr, IsTrue, OnOk, map, string_bytes};
 ghost use Rattle.toml.specs.View.{array_view, table_view, view};
-ghost use Rattle.nextest_config_values.specs.Read.{Refuses, RefusesAs, text_expected, wrong_type};
-ghost use Rattle.nextest_config_sources.specs.NextestVersion.{AddsItem, AddsText, AreNames, FeatureArrayFaults, features_of, features_reading, FeaturesAlike, FeaturesFaults, FeaturesInOrder, feature_setting_of, FeatureTableFaults, HasOneMore, InForm, IsUnknownFeatureKey, IsWordAmong, item_path, ItemFaults, MeansFeatureArray, MeansFeatures, MeansFeatureTable, MeansSwitch, no_feature_setting, no_features, SwitchFaults, TextsInOrder};
+ghost use Rattle.nextest_config_values.specs.Read.{made_of, Refuses, RefusesAs, RefusesBy, text_expected, wrong_type};
+ghost use Rattle.nextest_config_sources.specs.NextestVersion.{AddsItem, AddsText, AreNames, feature_array, feature_setting_of, feature_table, features_of, features_reading, FeatureSetting, FeaturesInOrder, HasOneMore, in_form, IsUnknownFeatureKey, IsWordAmong, item_path, ItemFaults, no_feature_setting, no_features, switch, TextsInOrder};
 
 use super::experimental::{ConfigExperimental, add_feature};
 use nextest_config_values::read::{FromToml, ReadFault, field_or};
@@ -72,10 +72,10 @@ impl ExperimentalDeserialize {
 
     // The features that an array names.
     fn read_array(alloc: Global, array: &Array, at: &str) -> Result<Self, ReadFault>
-        ensures meant { IfOk result (λ d.
-            InForm true MeansFeatureArray (array_view array.now) (feature_setting_of d)) }
-        ensures refused { IfErr result (Refuses
-            (FeatureArrayFaults (array_view array.now) at.now) (Unit {0})) }
+        ensures meant { IfOk result (λ d. (made_of (in_form true) feature_array).means
+            (array_view array.now) (feature_setting_of d)) }
+        ensures refused { IfErr result
+            (RefusesBy (made_of (in_form true) feature_array) (array_view array.now) at.now) }
     {
         let mut features = ExperimentalDeserialize::new(alloc);
         for (index, value) in array.iter().enumerate() {
@@ -110,10 +110,10 @@ impl ExperimentalDeserialize {
 
     // The features that a table names.
     fn read_table(alloc: Global, table: &Table, at: &str) -> Result<Self, ReadFault>
-        ensures meant { IfOk result (λ d.
-            InForm false MeansFeatureTable (table_view table.now) (feature_setting_of d)) }
-        ensures refused { IfErr result (Refuses
-            (FeatureTableFaults (table_view table.now) at.now) (Unit {0})) }
+        ensures meant { IfOk result (λ d. (made_of (in_form false) feature_table).means
+            (table_view table.now) (feature_setting_of d)) }
+        ensures refused { IfErr result
+            (RefusesBy (made_of (in_form false) feature_table) (table_view table.now) at.now) }
     {
         let known = read_switches(alloc, table, at)?;
         match unknown_keys(alloc, table) {
@@ -146,15 +146,11 @@ impl ExperimentalDeserialize {
 }
 
 impl FromToml for ExperimentalDeserialize {
-    ghost means = { λ value d. MeansFeatures value (feature_setting_of d) };
+    ghost Seen = { FeatureSetting };
 
-    ghost faults = { FeaturesFaults };
+    ghost seen = { feature_setting_of };
 
-    ghost needs_memory = { true };
-
-    ghost alike = { FeaturesAlike };
-
-    ghost laws = { features_reading };
+    ghost reading = { features_reading };
 
     fn read(alloc: Global, value: &Value, at: &str) -> Result<Self, ReadFault> {
         if let Some(array) = value.as_array() {
@@ -190,12 +186,11 @@ fn read_switches(
     at: &str,
 ) -> Result<BTreeSet<ConfigExperimental>, ReadFault>
     ensures switches { OnOk result ((feature : ConfigExperimental)
-        → (on : Bool) × MeansSwitch feature (table_view table.now) on) }
+        → (on : Bool) × (switch feature).means (table_view table.now) on) }
     ensures on { IfOk result (λ known. (feature : ConfigExperimental)
-        → Contains known.keys feature ↔ MeansSwitch feature (table_view table.now) true) }
+        → Contains known.keys feature ↔ (switch feature).means (table_view table.now) true) }
     ensures in_order { IfOk result (λ known. FeaturesInOrder known.keys) }
-    ensures refused { IfErr result (Refuses
-        (FeatureTableFaults (table_view table.now) at.now) (Unit {0})) }
+    ensures refused { IfErr result (RefusesBy feature_table (table_view table.now) at.now) }
 {
     let mut known = BTreeSet::new(alloc);
     for feature in ConfigExperimental::known_features() {
@@ -216,9 +211,8 @@ fn read_switch(
     feature: ConfigExperimental,
     at: &str,
 ) -> Result<bool, ReadFault>
-    ensures meant { IfOk result (MeansSwitch feature (table_view table.now)) }
-    ensures refused { IfErr result (Refuses
-        (SwitchFaults feature (table_view table.now) at.now) (Unit {0})) }
+    ensures meant { IfOk result ((switch feature).means (table_view table.now)) }
+    ensures refused { IfErr result (RefusesBy (switch feature) (table_view table.now) at.now) }
 {
     field_or(alloc, table, feature.as_word(), at, false)
 }

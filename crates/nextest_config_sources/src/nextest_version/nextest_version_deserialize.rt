@@ -1,10 +1,10 @@
 //! The versions that one source asks for.
 
-ghost use Rattle.std.specs.Prelude.{◌≡◌, true, IfOk, IfErr, OnOk, option_map};
+ghost use Rattle.std.specs.Prelude.{◌≡◌, IfOk, IfErr, option_map};
 ghost use Rattle.semver.specs.Identifiers.{parts_of};
 ghost use Rattle.toml.specs.View.{table_view};
-ghost use Rattle.nextest_config_values.specs.Read.{OptionalKey, OptionalKeyFaults, Refuses};
-ghost use Rattle.nextest_config_sources.specs.NextestVersion.{ObeysOrder, MeansVersion, MeansVersions, MeansVersionTable, no_versions, OrderFaults, versions, versions_of, versions_reading, VersionFaults, VersionsAlike, VersionsFaults, VersionTableFaults};
+ghost use Rattle.nextest_config_values.specs.Read.{optional, RefusesBy};
+ghost use Rattle.nextest_config_sources.specs.NextestVersion.{in_order, no_versions, version_reading, version_table, Versions, versions_of, versions_reading};
 
 use super::version_text::{VersionText, read_version};
 use nextest_config_values::read::{FaultKind, FromToml, ReadFault, Rule, optional_field};
@@ -55,9 +55,9 @@ impl NextestVersionDeserialize {
     // What a table asks.
     fn read_table(alloc: Global, table: &Table, at: &str) -> Result<Self, ReadFault>
         ensures meant { IfOk result
-            (λ d. MeansVersionTable (table_view table.now) (versions_of d)) }
-        ensures refused { IfErr result (Refuses
-            (VersionTableFaults (table_view table.now) at.now) (Unit {0})) }
+            (λ d. version_table.means (table_view table.now) (versions_of d)) }
+        ensures refused { IfErr result
+            (RefusesBy version_table (table_view table.now) at.now) }
     {
         let required = read_role(alloc, table, REQUIRED_KEY, at)?;
         let recommended = read_role(alloc, table, RECOMMENDED_KEY, at)?;
@@ -71,13 +71,12 @@ impl NextestVersionDeserialize {
         recommended: Option<Version>,
         at: &str,
     ) -> Result<Self, ReadFault>
-        ensures both { IfOk result (λ d. versions_of d
-            ≡ versions (option_map parts_of required) (option_map parts_of recommended)) }
-        ensures in_order { OnOk result
-            (ObeysOrder (option_map parts_of required) (option_map parts_of recommended)) }
-        ensures refused { IfErr result (Refuses
-            (OrderFaults (option_map parts_of required) (option_map parts_of recommended) at.now)
-            (Unit {0})) }
+        ensures meant { IfOk result (λ d.
+            (in_order (option_map parts_of required) (option_map parts_of recommended)).means
+            (tt {0}) (versions_of d)) }
+        ensures refused { IfErr result (RefusesBy
+            (in_order (option_map parts_of required) (option_map parts_of recommended))
+            (tt {0}) at.now) }
     {
         match (required, recommended) {
             (Some(required), Some(recommended)) => {
@@ -102,15 +101,11 @@ impl NextestVersionDeserialize {
 }
 
 impl FromToml for NextestVersionDeserialize {
-    ghost means = { λ value d. MeansVersions value (versions_of d) };
+    ghost Seen = { Versions };
 
-    ghost faults = { VersionsFaults };
+    ghost seen = { versions_of };
 
-    ghost needs_memory = { true };
-
-    ghost alike = { VersionsAlike };
-
-    ghost laws = { versions_reading };
+    ghost reading = { versions_reading };
 
     fn read(alloc: Global, value: &Value, at: &str) -> Result<Self, ReadFault> {
         if let Some(text) = value.as_str() {
@@ -134,10 +129,10 @@ fn read_role(
     key: &str,
     at: &str,
 ) -> Result<Option<Version>, ReadFault>
-    ensures meant { IfOk result (λ found.
-        OptionalKey key.now MeansVersion (table_view table.now) (option_map parts_of found)) }
-    ensures refused { IfErr result (Refuses
-        (OptionalKeyFaults key.now VersionFaults (table_view table.now) at.now) (Unit {0})) }
+    ensures meant { IfOk result (λ found. (optional key.now version_reading).means
+        (table_view table.now) (option_map parts_of found)) }
+    ensures refused { IfErr result
+        (RefusesBy (optional key.now version_reading) (table_view table.now) at.now) }
 {
     let found: Option<VersionText> = optional_field(alloc, table, key, at)?;
     match found {

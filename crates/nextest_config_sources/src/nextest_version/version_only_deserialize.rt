@@ -94,8 +94,8 @@ fn read_experimental(
 ) -> Result<ExperimentalDeserialize, ConfigParseErrorKind>
     ensures form { OnOk result
         (ObeysForm edition (get_member experimental_key (table_view table.now))) }
-    ensures asked { IfOk result (λ d. AsksFeatures
-        (get_member experimental_key (table_view table.now)) (feature_setting_of d)) }
+    ensures asked { IfOk result
+        (λ d. AsksFeatures (table_view table.now) (feature_setting_of d)) }
     ensures kept { IfOk result (λ d. ObeysToolRule kind.now (features_of d)) }
     ensures refused { IfErr result (RefusesSource
         (IsWrongBehind edition kind.now (table_view table.now))) }
@@ -145,8 +145,8 @@ fn read_named(
     kind: &ConfigSourceKind,
     table: &Table,
 ) -> Result<ExperimentalDeserialize, ConfigParseErrorKind>
-    ensures asked { IfOk result (λ d. AsksFeatures
-        (get_member experimental_key (table_view table.now)) (feature_setting_of d)) }
+    ensures asked { IfOk result
+        (λ d. AsksFeatures (table_view table.now) (feature_setting_of d)) }
     ensures kept { IfOk result (λ d. ObeysToolRule kind.now (features_of d)) }
     ensures refused { IfErr result (RefusesSource
         (IsWrongNamed kind.now (table_view table.now))) }

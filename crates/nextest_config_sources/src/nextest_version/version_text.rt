@@ -1,11 +1,11 @@
 //! Version texts.
 
-ghost use Rattle.std.specs.Prelude.{◌≡◌, true, IfOk, IfErr, IsErr, Ok, MatchOption};
+ghost use Rattle.std.specs.Prelude.{◌≡◌, IfOk, IfErr, IsErr, Ok, MatchOption};
 ghost use Rattle.std.specs.List.{AllByRecursion};
 ghost use Rattle.semver.specs.Identifiers.{parts_of};
-ghost use Rattle.semver.specs.Parse.{version_parts};
-ghost use Rattle.nextest_config_values.specs.Read.{broken_rule, reading_on, Refuses};
-ghost use Rattle.nextest_config_sources.specs.NextestVersion.{BreaksVersion, HasVersion, IsPlain, IsVersionFault, MeansVersion, version_reading, VersionFaults, VersionTextFaults};
+ghost use Rattle.semver.specs.Parse.{Parts, version_parts};
+ghost use Rattle.nextest_config_values.specs.Read.{broken_rule, RefusesBy};
+ghost use Rattle.nextest_config_sources.specs.NextestVersion.{BreaksVersion, HasVersion, IsPlain, IsVersionFault, version_reading, version_text};
 
 use nextest_config_values::read::{FaultKind, FromToml, ReadFault, Rule};
 use semver::Version;
@@ -19,15 +19,11 @@ pub(crate) struct VersionText {
 }
 
 impl FromToml for VersionText {
-    ghost means = { λ value text. MeansVersion value (parts_of text.version) };
+    ghost Seen = { Parts };
 
-    ghost faults = { VersionFaults };
+    ghost seen = { λ text. parts_of text.version };
 
-    ghost needs_memory = { true };
-
-    ghost alike = { λ a b. parts_of a.version ≡ parts_of b.version };
-
-    ghost laws = { reading_on (λ text. parts_of text.version) version_reading };
+    ghost reading = { version_reading };
 
     fn read(alloc: Global, value: &Value, at: &str) -> Result<Self, ReadFault> {
         match value.as_str() {
@@ -43,7 +39,7 @@ impl FromToml for VersionText {
 /// The version of a text at a path.
 pub(crate) fn read_version(alloc: Global, text: &str, at: &str) -> Result<Version, ReadFault>
     ensures meant { IfOk result (λ v. HasVersion text.now (parts_of v)) }
-    ensures refused { IfErr result (Refuses (VersionTextFaults text.now at.now) (Unit {0})) }
+    ensures refused { IfErr result (RefusesBy version_text text.now at.now) }
 {
     match parse_version(alloc, text) {
         Ok(version) => Ok(version),

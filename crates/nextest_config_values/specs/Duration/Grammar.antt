@@ -2,14 +2,10 @@
 -- by their characters.
 use Rattle.std.specs.Prelude.{◌≡◌, ◌≢◌, ℕ, ◌+◌, ◌*◌, ◌<◌, ◌≤◌, ◌^◌, ◌&&◌, Bool, not, IsTrue, List, [], ◌∷◌, ◌++◌, length, codes, chars, encode_utf8_all, Option, Some, None, option_map}
 use Rattle.std.specs.Char.{is_ascii_digit, is_whitespace}
-use Rattle.std.specs.Duration.{FitsDuration, as_nanos}
+use Rattle.std.specs.Duration.{FitsDuration}
 use Rattle.std.specs.List.{AllByRecursion}
 use Rattle.std.specs.Str.Parse.{digits_value}
-use Rattle.std.specs.declared.time.Duration.{Duration}
-use Rattle.toml.specs.Data.{Data, as_str}
 use Rattle.nextest_config_values.specs.Characters.{micro_sign}
-use Rattle.nextest_config_values.specs.Read.Fault.{Fault, wrong_value}
-use Rattle.nextest_config_values.specs.Read.FromToml.{FaultsAs, MeansAs}
 use Rattle.nextest_config_values.specs.Read.Word.{value_of}
 use Rattle.nextest_config_values.specs.declared.duration.DurationFault.{DurationFault}
 use Rattle.nextest_config_values.specs.declared.duration.DurationFault.TheVariants as faults
@@ -184,26 +180,3 @@ IsFaultBehind front (c ∷ cs) items fault = (digits gap word behind : List ℕ)
 abbrev pub IsDurationFault : List ℕ → DurationFault → Type 0
 IsDurationFault text fault = (front behind : List ℕ) × (items : List Item)
     × IsLongestFront (chars text) front behind items × IsFaultBehind front behind items fault
-
--- ---- TOML values
-
--- what a refusal expects
-abbrev pub duration_expected : List ℕ
-duration_expected = codes "a duration"
-
--- the text is no duration
-abbrev pub DurationTextFaults : List ℕ → Data → List ℕ → Fault → Type 0
-DurationTextFaults held value at fault = ((nanoseconds : ℕ) → ¬ IsDuration held nanoseconds)
-    × (fault ≡ wrong_value value at duration_expected)
-
--- the value is a text of that many nanoseconds
-abbrev pub MeansDuration : Data → ℕ → Type 0
-MeansDuration = MeansAs as_str IsDuration
-
--- the value is no text, or no duration
-abbrev pub DurationFaults : Data → List ℕ → Fault → Type 0
-DurationFaults = FaultsAs as_str duration_expected DurationTextFaults
-
--- the two are equally long
-abbrev pub DurationsAlike : Duration → Duration → Type 0
-DurationsAlike a b = as_nanos a ≡ as_nanos b

@@ -1,16 +1,18 @@
 -- The laws of durations: a text is spelled in one way, and has one duration or one fault.
 use Rattle.std.proofs.Common.{◌≡◌, ◌≢◌, ℕ, ◌+◌, ◌≤◌, Bool, true, false, List, [], ◌∷◌, ◌++◌, length, Some, refl, sym, ap, ◌∙◌, subst, inl, inr, rules, arith}
-use Rattle.std.specs.Prelude.{IsTrue, chars, nat_eq, ◌&&◌}
+use Rattle.std.specs.Prelude.{IsTrue, chars, codes, nat_eq, ◌&&◌}
 use Rattle.std.proofs.lemmas.List.{append_assoc, append-nil, length-append}
 use Rattle.std.proofs.lemmas.Bool.{cases_Bool}
 use Rattle.std.specs.Char.{is_ascii_digit, is_whitespace}
 use Rattle.std.specs.Cmp.Lexicographic.{pointwise, same_text}
-use Rattle.std.specs.Duration.{FitsDuration, as_nanos}
+use Rattle.std.specs.Duration.{FitsDuration}
 use Rattle.std.specs.List.{AllByRecursion}
 use Rattle.std.specs.Str.Parse.{digits_value}
-use Rattle.toml.specs.Data.{as_str}
-use Rattle.nextest_config_values.specs.Duration.Grammar.{AreAll, BeginsWith, DurationFaults, DurationTextFaults, EndsWith, IsDuration, IsDurationFault, IsEndFault, IsFaultBehind, IsFront, IsItemText, IsLongestFront, IsNext, IsNextFault, IsRun, IsUncut, Item, MeansDuration, DurationsAlike, Spells, duration_expected, is_in_word, length_in, offset, total, unit_length, units}
-use Rattle.nextest_config_values.specs.Read.FromToml.{IsHeldReading, IsReading, equality, reading_as, reading_on}
+use Rattle.toml.specs.Data.{Data, as_str}
+use Rattle.nextest_config_values.specs.Duration.Grammar.{AreAll, BeginsWith, EndsWith, IsDuration, IsDurationFault, IsEndFault, IsFaultBehind, IsFront, IsItemText, IsLongestFront, IsNext, IsNextFault, IsRun, IsUncut, Item, Spells, is_in_word, length_in, offset, total, unit_length, units}
+use Rattle.nextest_config_values.specs.Read.Fault.{wrong_value}
+use Rattle.nextest_config_values.specs.Read.FromToml.{Reading}
+use Rattle.nextest_config_values.specs.Read.Readings.{kind, wrong_kind}
 use Rattle.nextest_config_values.specs.declared.duration.DurationFault.{DurationFault}
 
 -- ---- characters
@@ -432,18 +434,24 @@ never_duration_and_fault text nanoseconds fault d (front, behind, items, longest
 
 -- ---- the reading
 
-held_duration : IsHeldReading IsDuration DurationTextFaults (λ x y. x ≡ y)
-held_duration = record {
-  equivalence = equality;
-  one_meaning = λ value x y. one_duration value.0 x y;
-  one_fault = λ value at f g a b. a.1 ∙ sym b.1;
-  never_both = λ value at x f a b. b.0 x a;
+-- what a refusal expects
+abbrev pub duration_expected : List ℕ
+duration_expected = codes "a duration"
+
+-- a text that is a duration
+abbrev pub duration_in : List ℕ → Reading Data ℕ
+duration_in held = record {
+  means = λ value. IsDuration held;
+  faults = λ value at fault. ((nanoseconds : ℕ) → ¬ IsDuration held nanoseconds)
+      × (fault ≡ wrong_value value at duration_expected);
+  takes_memory = λ value. ⊥;
+  law = record {
+    one_meaning = λ value. one_duration held;
+    one_fault = λ value at f g a b. a.1 ∙ sym b.1;
+    never_both = λ value at x f a b. b.0 x a;
+  };
 }
 
-pub duration_meant : IsReading MeansDuration DurationFaults (λ x y. x ≡ y)
-duration_meant = reading_as as_str duration_expected IsDuration DurationTextFaults (λ x y. x ≡ y)
-    held_duration
-
-pub duration_reading : IsReading (λ value d. MeansDuration value (as_nanos d)) DurationFaults
-    DurationsAlike
-duration_reading = reading_on as_nanos duration_meant
+-- that many nanoseconds
+abbrev pub duration_reading : Reading Data ℕ
+duration_reading = kind as_str duration_in (wrong_kind duration_expected)

@@ -1,12 +1,12 @@
 -- Relative paths, and the join of two paths.
-use Rattle.std.specs.Prelude.{◌≡◌, ℕ, ◌==◌, Bool, false, List, [], ◌∷◌, ◌++◌, reverse, codes, if◌then◌else◌, ◌⊎◌, String, string_bytes}
-use Rattle.std.proofs.Common.{refl, sym, ◌∙◌}
-use Rattle.std.specs.declared.alloc.Global.{Global}
+use Rattle.std.specs.Prelude.{◌≡◌, ℕ, ◌==◌, Bool, false, List, [], ◌∷◌, ◌++◌, reverse, codes, if◌then◌else◌, ◌⊎◌}
+use Rattle.std.proofs.Common.{sym, ◌∙◌}
 use Rattle.toml.specs.Data.{Data, as_str}
 use Rattle.nextest_config_values.specs.Characters.{slash}
-use Rattle.nextest_config_values.specs.Read.Fault.{Fault, wrong_value}
-use Rattle.nextest_config_values.specs.Read.FromToml.{FaultsAs, IsHeldReading, IsReading, MeansAs, reading_as, text_expected}
-use Rattle.nextest_config_values.specs.Read.Plain.{TextsAlike}
+use Rattle.nextest_config_values.specs.Read.Fault.{wrong_value}
+use Rattle.nextest_config_values.specs.Read.FromToml.{Reading}
+use Rattle.nextest_config_values.specs.Read.Plain.{text_expected}
+use Rattle.nextest_config_values.specs.Read.Readings.{kind, wrong_kind}
 
 -- the text begins with a slash
 abbrev pub BeginsWithSlash : List ℕ → Type 0
@@ -28,34 +28,22 @@ pub record HasParentSegment (text : List ℕ) : Type 0 where
 abbrev pub IsRelativePath : List ℕ → Type 0
 IsRelativePath text = ¬ (BeginsWithSlash text) × ¬ (HasParentSegment text)
 
--- the path is the text as it is written
-abbrev pub MeansPathText : List ℕ → String Global → Type 0
-MeansPathText held path = (string_bytes path ≡ held) × IsRelativePath held
-
--- the text is no relative path
-abbrev pub PathTextFaults : List ℕ → Data → List ℕ → Fault → Type 0
-PathTextFaults held value at fault = ¬ (IsRelativePath held)
-    × (fault ≡ wrong_value value at (codes "a relative path with no parent components"))
-
--- the value is a text that is a relative path
-abbrev pub MeansPath : Data → String Global → Type 0
-MeansPath = MeansAs as_str MeansPathText
-
--- the value is no text, or no relative path
-abbrev pub PathFaults : Data → List ℕ → Fault → Type 0
-PathFaults = FaultsAs as_str text_expected PathTextFaults
-
-held_path : IsHeldReading MeansPathText PathTextFaults TextsAlike
-held_path = record {
-  equivalence = record { itself = λ x. refl; back = λ x y e. sym e; through = λ x y z e f. e ∙ f };
-  one_meaning = λ value x y a b. a.0 ∙ sym b.0;
-  one_fault = λ value at f g a b. a.1 ∙ sym b.1;
-  never_both = λ value at x f a b. b.0 a.1;
+-- a text that is a relative path, as it is written
+abbrev pub relative_path_in : List ℕ → Reading Data (List ℕ)
+relative_path_in held = record {
+  means = λ value path. (path ≡ held) × IsRelativePath held;
+  faults = λ value at fault. ¬ (IsRelativePath held)
+      × (fault ≡ wrong_value value at (codes "a relative path with no parent components"));
+  takes_memory = λ value. Unit {0};
+  law = record {
+    one_meaning = λ value x y a b. a.0 ∙ sym b.0;
+    one_fault = λ value at f g a b. a.1 ∙ sym b.1;
+    never_both = λ value at x f a b. b.0 a.1;
+  };
 }
 
--- a value means one relative path or has one fault, and not both
-pub path_reading : IsReading MeansPath PathFaults TextsAlike
-path_reading = reading_as as_str text_expected MeansPathText PathTextFaults TextsAlike held_path
+abbrev pub relative_path_reading : Reading Data (List ℕ)
+relative_path_reading = kind as_str relative_path_in (wrong_kind text_expected)
 
 -- ---- the join of two paths, by the rules of Unix
 

@@ -1,13 +1,11 @@
 -- The grammar of identifiers, by the characters of a normal form.
 use Rattle.std.specs.Prelude.{◌≡◌, ◌≢◌, ℕ, List, ◌∷◌, ◌++◌, codes, chars, ◌⊎◌}
 use Rattle.std.specs.List.{AllByRecursion}
-use Rattle.toml.specs.Data.{Data}
 use Rattle.nextest_config_values.specs.Characters.{colon}
-use Rattle.nextest_config_values.specs.Read.Fault.{Fault, identifier}
 use Rattle.nextest_config_values.specs.Helpers.Identifiers.{IsPlainFlaw, IsPlainIdentifier}
 use Rattle.nextest_config_values.specs.declared.helpers.identifiers.InvalidIdentifierKind.{InvalidIdentifierKind}
 use Rattle.nextest_config_values.specs.Identifier.Error.{Component, IdentifierFlaw, NameFault, OneComponent, Whole}
-use Rattle.nextest_config_values.specs.Identifier.Normal.{IsNormalFault, IsNormalText, NameFaults}
+use Rattle.nextest_config_values.specs.Identifier.Normal.{IsNormalFault, IsNormalText}
 
 -- what a tool identifier begins with
 abbrev pub tool_mark : List ℕ
@@ -67,7 +65,3 @@ pub record AreComponents (text tool name : List ℕ) : Type 0 where
 -- a kept tool identifier
 abbrev pub IsMarked : List ℕ → Type 0
 IsMarked text = (tool name : List ℕ) × AreComponents text tool name
-
--- what is wrong with a TOML text that is no identifier
-abbrev pub IdentifierFaults : List ℕ → Data → List ℕ → Fault → Type 0
-IdentifierFaults = NameFaults identifier IsIdentifierFlaw

@@ -2,16 +2,18 @@
 use Rattle.std.proofs.Common.{◌≡◌, ◌≢◌, ℕ, true, false, List, [], ◌∷◌, ◌++◌, drop, refl, sym, ap, ◌∙◌, subst, inl, inr, lit<, rules}
 use Rattle.std.specs.Prelude.{Bool}
 use Rattle.std.specs.List.{AllByRecursion}
-use Rattle.toml.specs.Data.{as_str}
+use Rattle.toml.specs.Data.{Data, as_str}
 use Rattle.unicode_ident.proofs.IdentLemmas.{is_xid_continue-ascii, is_xid_start-ascii}
 use Rattle.unicode_ident.specs.Ident.{is_xid_start}
 use Rattle.nextest_config_values.specs.Helpers.Identifiers.{GoesOn, IsPlainFlaw, IsPlainIdentifier}
-use Rattle.nextest_config_values.specs.Identifier.ConfigIdentifier.{AreFlawed, HasNoColon, IdentifierFaults, IsCutAtColon, IsIdentifier, IsIdentifierFlaw, IsIdentifierForm, IsMarkedPair, tool_mark}
+use Rattle.nextest_config_values.specs.Identifier.ConfigIdentifier.{AreFlawed, HasNoColon, IsCutAtColon, IsIdentifierFlaw, IsIdentifierForm, IsMarkedPair, tool_mark}
 use Rattle.nextest_config_values.specs.Identifier.Error.{Component, IdentifierFlaw, NameFault, OneComponent, ToolNameFlaw, Whole, flawed}
-use Rattle.nextest_config_values.specs.Identifier.Normal.{IsNormalFault, IsNormalText, NameFaults, normal_chars}
-use Rattle.nextest_config_values.specs.Identifier.ToolName.{IsToolName, IsToolNameFlaw, ToolNameFaults}
+use Rattle.nextest_config_values.specs.Identifier.Normal.{IsNormalFault, IsNormalText, normal_chars}
+use Rattle.nextest_config_values.specs.Identifier.ToolName.{IsToolNameFlaw}
 use Rattle.nextest_config_values.specs.Read.Fault.{Reason, fault_at, identifier, tool_name}
-use Rattle.nextest_config_values.specs.Read.FromToml.{FaultsAs, IsReading, MeansAs, equality, reading_as, text_expected}
+use Rattle.nextest_config_values.specs.Read.FromToml.{Reading}
+use Rattle.nextest_config_values.specs.Read.Plain.{text_expected}
+use Rattle.nextest_config_values.specs.Read.Readings.{kind, wrong_kind}
 use Rattle.nextest_config_values.specs.declared.helpers.identifiers.InvalidIdentifierKind.{InvalidIdentifierKind}
 use Rattle.nextest_config_values.specs.declared.identifier.error.ToolNameFlaw.TheVariants as of_names
 
@@ -143,26 +145,31 @@ module _ {Flaw : Type 0} (IsInGrammar : List ℕ → Type 0) (IsFlaw : List ℕ 
       → IsNormalText IsInGrammar text kept → IsNormalFault IsFlaw text r → ⊥
   no_normal_fault text kept (flawed f x) h a = not_flawed (normal_chars text) f h.0 a.0
 
-  pub name_reading : (reason : NameFault Flaw → Reason)
-      → IsReading (MeansAs as_str (IsNormalText IsInGrammar))
-      (FaultsAs as_str text_expected (NameFaults reason IsFlaw)) (λ x y. x ≡ y)
-  name_reading reason =
-      reading_as as_str text_expected (IsNormalText IsInGrammar) (NameFaults reason IsFlaw)
-      (λ x y. x ≡ y) (record {
-        equivalence = equality;
-        one_meaning = λ value x y a b. a.1 ∙ sym b.1;
-        one_fault = λ value at f g a b. a.2
-            ∙ ap (λ r. fault_at at (reason r)) (one_normal_fault value.0 a.0 b.0 a.1 b.1) ∙ sym b.2;
-        never_both = λ value at x f a b. no_normal_fault value.0 x b.0 a b.1;
-      })
+  -- a text whose normal form is of the grammar
+  abbrev pub name_in : (NameFault Flaw → Reason) → List ℕ → Reading Data (List ℕ)
+  name_in reason text = record {
+    means = λ value. IsNormalText IsInGrammar text;
+    faults = λ value at fault. (told : NameFault Flaw) × IsNormalFault IsFlaw text told
+        × (fault ≡ fault_at at (reason told));
+    takes_memory = λ value. Unit {0};
+    law = record {
+      one_meaning = λ value x y a b. a.1 ∙ sym b.1;
+      one_fault = λ value at f g a b. a.2
+          ∙ ap (λ r. fault_at at (reason r)) (one_normal_fault text a.0 b.0 a.1 b.1) ∙ sym b.2;
+      never_both = λ value at x f a b. no_normal_fault text x b.0 a b.1;
+    };
+  }
 
-pub identifier_reading : IsReading (MeansAs as_str IsIdentifier)
-    (FaultsAs as_str text_expected IdentifierFaults) (λ x y. x ≡ y)
+  abbrev pub name_reading : (NameFault Flaw → Reason) → Reading Data (List ℕ)
+  name_reading reason = kind as_str (name_in reason) (wrong_kind text_expected)
+
+-- an identifier
+abbrev pub identifier_reading : Reading Data (List ℕ)
 identifier_reading =
     name_reading IsIdentifierForm IsIdentifierFlaw one_identifier_flaw identifier_not_flawed
     identifier
 
-pub tool_name_reading : IsReading (MeansAs as_str IsToolName)
-    (FaultsAs as_str text_expected ToolNameFaults) (λ x y. x ≡ y)
+-- a tool name
+abbrev pub tool_name_reading : Reading Data (List ℕ)
 tool_name_reading = name_reading IsPlainIdentifier IsToolNameFlaw one_tool_name_flaw
     tool_name_not_flawed tool_name

@@ -2,8 +2,6 @@
 use Rattle.std.specs.Prelude.{◌≡◌, ◌↔◌, ℕ, List, chars, encode_utf8_all}
 use Rattle.unicode_normalization.specs.Forms.{nfc, Nfc}
 use Rattle.unicode_normalization.specs.QuickCheck.{quick_check_text, Yes}
-use Rattle.toml.specs.Data.{Data}
-use Rattle.nextest_config_values.specs.Read.Fault.{Fault, Reason, fault_at}
 use Rattle.nextest_config_values.specs.Identifier.Error.{NameFault, flawed}
 
 -- the characters of the text's Normalization Form C
@@ -32,12 +30,6 @@ abbrev pub IsNormalFault : {Flaw : Type 0} → (List ℕ → Flaw → Type 0) �
     → Type 0
 IsNormalFault IsFlaw text (flawed flaw named) = IsFlaw (normal_chars text) flaw
     × (named ≡ normal_form text)
-
--- the fault of a TOML text, as the reason of a refusal
-abbrev pub NameFaults : {Flaw : Type 0} → (NameFault Flaw → Reason) → (List ℕ → Flaw → Type 0)
-    → List ℕ → Data → List ℕ → Fault → Type 0
-NameFaults {Flaw} reason IsFlaw text value at fault = (told : NameFault Flaw)
-    × IsNormalFault IsFlaw text told × (fault ≡ fault_at at (reason told))
 
 -- the same answers
 abbrev pub SameAnswers : {X : Type 0} → (X → Type 0) → (X → Type 0) → Type 0

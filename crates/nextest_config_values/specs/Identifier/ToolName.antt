@@ -1,11 +1,9 @@
 -- The grammar of tool names, by the characters of a normal form.
 use Rattle.std.specs.Prelude.{◌≡◌, ◌≢◌, ℕ, List, [], ◌++◌, codes}
-use Rattle.toml.specs.Data.{Data}
-use Rattle.nextest_config_values.specs.Read.Fault.{Fault, tool_name}
 use Rattle.nextest_config_values.specs.Helpers.Identifiers.{IsPlainIdentifier}
 use Rattle.nextest_config_values.specs.Identifier.Error.{NameFault, ToolNameFlaw}
 use Rattle.nextest_config_values.specs.declared.identifier.error.ToolNameFlaw.TheVariants.{Empty, StartsWithToolPrefix, InvalidXid}
-use Rattle.nextest_config_values.specs.Identifier.Normal.{IsNormalFault, IsNormalText, NameFaults}
+use Rattle.nextest_config_values.specs.Identifier.Normal.{IsNormalFault, IsNormalText}
 
 -- what no tool name begins with
 abbrev pub BeginsWithTool : List ℕ → Type 0
@@ -24,7 +22,3 @@ IsToolName = IsNormalText IsPlainIdentifier
 -- the fault of a text that is none
 abbrev pub IsToolNameFault : List ℕ → NameFault ToolNameFlaw → Type 0
 IsToolNameFault = IsNormalFault IsToolNameFlaw
-
--- what is wrong with a TOML text that is no tool name
-abbrev pub ToolNameFaults : List ℕ → Data → List ℕ → Fault → Type 0
-ToolNameFaults = NameFaults tool_name IsToolNameFlaw

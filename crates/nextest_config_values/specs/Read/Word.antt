@@ -3,8 +3,10 @@ use Rattle.std.specs.Prelude.{◌≡◌, ◌≢◌, ℕ, List, [], ◌∷◌, �
 use Rattle.std.proofs.Common.{sym, ap, ◌∙◌}
 use Rattle.std.specs.Cmp.Lexicographic.{pointwise}
 use Rattle.toml.specs.Data.{Data, as_str}
-use Rattle.nextest_config_values.specs.Read.Fault.{Fault, unknown_word}
-use Rattle.nextest_config_values.specs.Read.FromToml.{FaultsAs, IsHeldReading, IsReading, MeansAs, equality, reading_as, text_expected}
+use Rattle.nextest_config_values.specs.Read.Fault.{unknown_word}
+use Rattle.nextest_config_values.specs.Read.FromToml.{Reading}
+use Rattle.nextest_config_values.specs.Read.Plain.{text_expected}
+use Rattle.nextest_config_values.specs.Read.Readings.{kind, wrong_kind}
 use Rattle.nextest_config_values.specs.Read.Text.{comma_list}
 
 -- a word between backquotes
@@ -29,44 +31,29 @@ value_of word [] text = None
 value_of word (x ∷ xs) text = if pointwise nat_eq (word x) text then Some x
     else value_of word xs text
 
--- the text is the word of this value
-abbrev pub MeansWord : {X : Type 0} → (X → List ℕ) → List ℕ → X → Type 0
-MeansWord word held x = word x ≡ held
-
--- the text is no value's word
-abbrev pub IsNoWord : {X : Type 0} → (X → List ℕ) → List ℕ → List ℕ → Data → List ℕ → Fault → Type 0
-IsNoWord {X} word expected held value at fault = ((x : X) → word x ≢ held)
-    × (fault ≡ unknown_word held at expected)
-
--- the value is a text that is the word of this one
-abbrev pub MeansWordText : {X : Type 0} → (X → List ℕ) → Data → X → Type 0
-MeansWordText word = MeansAs as_str (MeansWord word)
-
--- the value is no text, or a text that is none of these words
-abbrev pub WordTextFaults : {X : Type 0} → (X → List ℕ) → List X → Data → List ℕ → Fault → Type 0
-WordTextFaults word all = FaultsAs as_str text_expected (IsNoWord word (words_text (map word all)))
-
 module _ {X : Type 0} (all : List X) (word : X → List ℕ)
     (reads_back : (x : X) → value_of word all (word x) ≡ Some x) where
   -- a word is that of one value
-  one_value : (x y : X) → word x ≡ word y → x ≡ y
+  pub one_value : (x y : X) → word x ≡ word y → x ≡ y
   one_value x y same =
       let found : Some x ≡ Some y = sym (reads_back x) ∙ ap (value_of word all) same ∙ reads_back y
       in
       cc found
 
-  held_word : (expected : List ℕ)
-      → IsHeldReading (MeansWord word) (IsNoWord word expected) (λ x y. x ≡ y)
-  held_word expected = record {
-    equivalence = equality;
-    one_meaning = λ value x y a b. one_value x y (a ∙ sym b);
-    one_fault = λ value at f g a b. a.1 ∙ sym b.1;
-    never_both = λ value at x f a b. b.0 x a;
+  -- the value whose word is the text
+  abbrev pub with_word : List ℕ → Reading Data X
+  with_word held = record {
+    means = λ value x. word x ≡ held;
+    faults = λ value at fault. ((x : X) → word x ≢ held)
+        × (fault ≡ unknown_word held at (words_text (map word all)));
+    takes_memory = λ value. ⊥;
+    law = record {
+      one_meaning = λ value x y a b. one_value x y (a ∙ sym b);
+      one_fault = λ value at f g a b. a.1 ∙ sym b.1;
+      never_both = λ value at x f a b. b.0 x a;
+    };
   }
 
-  pub word_reading : {expected : List ℕ}
-      → IsReading (MeansAs as_str (MeansWord word))
-      (FaultsAs as_str text_expected (IsNoWord word expected)) (λ x y. x ≡ y)
-  word_reading {expected} =
-      reading_as as_str text_expected (MeansWord word) (IsNoWord word expected) (λ x y. x ≡ y)
-      (held_word expected)
+  -- a text that is one of these words
+  abbrev pub word_reading : Reading Data X
+  word_reading = kind as_str with_word (wrong_kind text_expected)

@@ -1,9 +1,9 @@
 //! Relative paths, and the join of two paths.
 
-ghost use Rattle.std.specs.Prelude.{◌≡◌, ◌↔◌, true, IfErr, IfOk, IsTrue, string_bytes};
+ghost use Rattle.std.specs.Prelude.{◌≡◌, ◌↔◌, IfErr, IfOk, IsTrue, string_bytes};
 ghost use Rattle.toml.specs.View.{view};
-ghost use Rattle.nextest_config_values.specs.Helpers.Paths.{IsRelativePath, joined_path, MeansPath, PathFaults};
-ghost use Rattle.nextest_config_values.specs.Read.{Refuses, WantsMemory};
+ghost use Rattle.nextest_config_values.specs.Helpers.Paths.{IsRelativePath, joined_path, relative_path_reading};
+ghost use Rattle.nextest_config_values.specs.Read.{RefusesBy};
 
 use crate::read::{FromToml, ReadFault};
 use std::alloc::{AllocError, Global};
@@ -18,9 +18,9 @@ pub fn deserialize_relative_path(
     value: &Value,
     at: &str,
 ) -> Result<String, ReadFault>
-    ensures meant { IfOk result (MeansPath (view value.now)) }
-    ensures refused { IfErr result (Refuses (PathFaults (view value.now) at.now)
-        (WantsMemory (MeansPath (view value.now)) true)) }
+    ensures meant { IfOk result (λ path.
+        relative_path_reading.means (view value.now) (string_bytes path)) }
+    ensures refused { IfErr result (RefusesBy relative_path_reading (view value.now) at.now) }
 {
     let path = String::read(alloc, value, at)?;
     if is_relative_path(path.as_str()) {

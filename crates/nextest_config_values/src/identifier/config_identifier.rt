@@ -4,7 +4,7 @@ ghost use Rattle.std.specs.Prelude.{◌≡◌, ◌↔◌, ◌++◌, ℕ, List, I
 ghost use Rattle.toml.specs.Data.{as_str};
 ghost use Rattle.nextest_config_values.specs.Helpers.Identifiers.{IsPlainIdentifier};
 ghost use Rattle.nextest_config_values.specs.Identifier.{AreComponents, AreFlawed, FitsInline, identifier_fault, identifier_reading, IsIdentifier, IsIdentifierFault, IsIdentifierFlaw, IsIdentifierForm, IsKeptText, IsMarked, IsQuicklyNormal, tool_mark};
-ghost use Rattle.nextest_config_values.specs.Read.{FaultOrMemory, FaultsAs, MeansAs, text_expected};
+ghost use Rattle.nextest_config_values.specs.Read.{FaultOrMemory};
 ghost use Rattle.nextest_config_values.specs.declared.identifier.error.InvalidIdentifier.TheVariants.{Memory};
 
 use super::error::{IdentifierFlaw, InvalidIdentifier};
@@ -133,17 +133,11 @@ fn judge_pair(tool: &str, name: &str) -> Result<(), InvalidIdentifierKind>
 }
 
 impl FromToml for ConfigIdentifier {
-    ghost use Rattle.nextest_config_values.specs.Identifier.ConfigIdentifier.{IdentifierFaults};
+    ghost Seen = { Self };
 
-    ghost means = { MeansAs as_str IsIdentifier };
+    ghost seen = { λ identifier. identifier };
 
-    ghost faults = { FaultsAs as_str text_expected IdentifierFaults };
-
-    ghost needs_memory = { true };
-
-    ghost alike = { ◌≡◌ };
-
-    ghost laws = { identifier_reading };
+    ghost reading = { identifier_reading };
 
     fn read(alloc: Global, value: &Value, at: &str) -> Result<Self, ReadFault> {
         match value.as_str() {

@@ -3,8 +3,8 @@
 ghost use Rattle.std.specs.Prelude.{◌≡◌, ℕ, List, IfErr, IfOk, IsOk, OnOk, Some, chars, true};
 ghost use Rattle.toml.specs.Data.{as_str};
 ghost use Rattle.nextest_config_values.specs.Helpers.Identifiers.{IsPlainIdentifier};
-ghost use Rattle.nextest_config_values.specs.Identifier.{FitsInline, IsKeptText, IsQuicklyNormal, IsToolName, IsToolNameFault, IsToolNameFlaw, tool_name_fault, tool_name_reading, ToolNameFaults};
-ghost use Rattle.nextest_config_values.specs.Read.{FaultOrMemory, FaultsAs, MeansAs, text_expected};
+ghost use Rattle.nextest_config_values.specs.Identifier.{FitsInline, IsKeptText, IsQuicklyNormal, IsToolName, IsToolNameFault, IsToolNameFlaw, tool_name_fault, tool_name_reading};
+ghost use Rattle.nextest_config_values.specs.Read.{FaultOrMemory};
 ghost use Rattle.nextest_config_values.specs.declared.identifier.error.InvalidToolName.TheVariants.{Memory};
 
 use super::error::{InvalidToolName, ToolNameFlaw};
@@ -94,15 +94,11 @@ fn judge(text: &str) -> Result<(), ToolNameFlaw>
 }
 
 impl FromToml for ToolName {
-    ghost means = { MeansAs as_str IsToolName };
+    ghost Seen = { Self };
 
-    ghost faults = { FaultsAs as_str text_expected ToolNameFaults };
+    ghost seen = { λ name. name };
 
-    ghost needs_memory = { true };
-
-    ghost alike = { ◌≡◌ };
-
-    ghost laws = { tool_name_reading };
+    ghost reading = { tool_name_reading };
 
     fn read(alloc: Global, value: &Value, at: &str) -> Result<Self, ReadFault> {
         match value.as_str() {

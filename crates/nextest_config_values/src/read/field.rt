@@ -3,7 +3,7 @@
 ghost use Rattle.std.specs.Prelude.{◌≡◌, IfOk, IfErr, option_map};
 ghost use Rattle.toml.specs.Data.{get_member};
 ghost use Rattle.toml.specs.View.{table_view, view};
-ghost use Rattle.nextest_config_values.specs.Read.{MeansOptional, MeansOr, MeansRequired, OptionalFaults, path_of, Refuses, RequiredFaults, WantsIfPresent, WantsIfRequired, WantsMemory};
+ghost use Rattle.nextest_config_values.specs.Read.{optional, or_default, path_of, RefusesBy, required};
 
 use super::fault::{ReadFault, field_path};
 use super::from_toml::FromToml;
@@ -17,12 +17,10 @@ pub fn optional_field<T: FromToml>(
     key: &str,
     at: &str,
 ) -> Result<Option<T>, ReadFault>
-    ensures meant { IfOk result
-        (MeansOptional T.means (get_member key.now (table_view table.now))) }
-    ensures refused { IfErr result (Refuses
-        (OptionalFaults T.faults (get_member key.now (table_view table.now))
-        (path_of at.now key.now))
-        (WantsIfPresent T.means T.needs_memory (get_member key.now (table_view table.now)))) }
+    ensures meant { IfOk result (λ x.
+        (optional key.now T.reading).means (table_view table.now) (option_map T.seen x)) }
+    ensures refused { IfErr result
+        (RefusesBy (optional key.now T.reading) (table_view table.now) at.now) }
 {
     match value_at(table, key) {
         Some(value) => {
@@ -40,11 +38,10 @@ pub fn required_field<T: FromToml>(
     key: &str,
     at: &str,
 ) -> Result<T, ReadFault>
-    ensures meant { IfOk result
-        (MeansRequired T.means (get_member key.now (table_view table.now))) }
-    ensures refused { IfErr result (Refuses
-        (RequiredFaults T.faults key.now (get_member key.now (table_view table.now)) at.now)
-        (WantsIfRequired T.means T.needs_memory (get_member key.now (table_view table.now)))) }
+    ensures meant { IfOk result (λ x.
+        (required key.now T.reading).means (table_view table.now) (T.seen x)) }
+    ensures refused { IfErr result
+        (RefusesBy (required key.now T.reading) (table_view table.now) at.now) }
 {
     match value_at(table, key) {
         Some(value) => read_field(alloc, value, key, at),
@@ -60,12 +57,10 @@ pub fn field_or<T: FromToml + Drop>(
     at: &str,
     default: T,
 ) -> Result<T, ReadFault>
-    ensures meant { IfOk result
-        (MeansOr default T.means (get_member key.now (table_view table.now))) }
-    ensures refused { IfErr result (Refuses
-        (OptionalFaults T.faults (get_member key.now (table_view table.now))
-        (path_of at.now key.now))
-        (WantsIfPresent T.means T.needs_memory (get_member key.now (table_view table.now)))) }
+    ensures meant { IfOk result (λ x.
+        (or_default key.now (T.seen default) T.reading).means (table_view table.now) (T.seen x)) }
+    ensures refused { IfErr result
+        (RefusesBy (or_default key.now (T.seen default) T.reading) (table_view table.now) at.now) }
 {
     match value_at(table, key) {
         Some(value) => read_field(alloc, value, key, at),
@@ -90,9 +85,9 @@ fn read_field<T: FromToml>(
     key: &str,
     at: &str,
 ) -> Result<T, ReadFault>
-    ensures meant { IfOk result (T.means (view value.now)) }
-    ensures refused { IfErr result (Refuses (T.faults (view value.now) (path_of at.now key.now))
-        (WantsMemory (T.means (view value.now)) T.needs_memory)) }
+    ensures meant { IfOk result (λ x. T.reading.means (view value.now) (T.seen x)) }
+    ensures refused { IfErr result
+        (RefusesBy T.reading (view value.now) (path_of at.now key.now)) }
 {
     match T::read(alloc, value, key) {
         Ok(x) => Ok(x),

@@ -1,7 +1,7 @@
 //! The plain readers.
 
-ghost use Rattle.std.specs.Prelude.{◌≡◌, ◌≢◌, ◌<◌, ◌↔◌, ℕ, pos, true, false, codes, IsSome, IfSome, MatchOption, string_bytes};
-ghost use Rattle.nextest_config_values.specs.Read.{bool_reading, BooleanFaults, count_reading, CountFaults, IsCount, MeansBoolean, MeansCount, MeansNumber, MeansString, MeansU32, string_reading, StringFaults, TextsAlike, u32_reading, U32Faults};
+ghost use Rattle.std.specs.Prelude.{◌≡◌, ◌≢◌, ◌<◌, ◌↔◌, ℕ, pos, List, IsSome, IfSome, MatchOption, string_bytes};
+ghost use Rattle.nextest_config_values.specs.Read.{bool_reading, count_reading, IsCount, MeansNumber, text_reading, u32_reading};
 
 use super::fault::ReadFault;
 use super::from_toml::FromToml;
@@ -10,15 +10,11 @@ use std::marker::Model;
 use toml::Value;
 
 impl FromToml for bool {
-    ghost means = { MeansBoolean };
+    ghost Seen = { Self };
 
-    ghost faults = { BooleanFaults };
+    ghost seen = { λ truth. truth };
 
-    ghost needs_memory = { false };
-
-    ghost alike = { ◌≡◌ };
-
-    ghost laws = { bool_reading };
+    ghost reading = { bool_reading };
 
     fn read(alloc: Global, value: &Value, at: &str) -> Result<Self, ReadFault> {
         match value.as_bool() {
@@ -29,15 +25,11 @@ impl FromToml for bool {
 }
 
 impl FromToml for u32 {
-    ghost means = { MeansU32 };
+    ghost Seen = { Self };
 
-    ghost faults = { U32Faults };
+    ghost seen = { λ number. number };
 
-    ghost needs_memory = { false };
-
-    ghost alike = { ◌≡◌ };
-
-    ghost laws = { u32_reading };
+    ghost reading = { u32_reading };
 
     fn read(alloc: Global, value: &Value, at: &str) -> Result<Self, ReadFault> {
         match value.as_integer() {
@@ -51,15 +43,11 @@ impl FromToml for u32 {
 }
 
 impl FromToml for String {
-    ghost means = { λ value text. MeansString value (string_bytes text) };
+    ghost Seen = { List ℕ };
 
-    ghost faults = { StringFaults };
+    ghost seen = { string_bytes };
 
-    ghost needs_memory = { true };
-
-    ghost alike = { TextsAlike };
-
-    ghost laws = { string_reading };
+    ghost reading = { text_reading };
 
     fn read(alloc: Global, value: &Value, at: &str) -> Result<Self, ReadFault> {
         match value.as_str() {
@@ -111,15 +99,11 @@ impl NonZeroCount {
 }
 
 impl FromToml for NonZeroCount {
-    ghost means = { MeansCount };
+    ghost Seen = { Self };
 
-    ghost faults = { CountFaults };
+    ghost seen = { λ count. count };
 
-    ghost needs_memory = { false };
-
-    ghost alike = { ◌≡◌ };
-
-    ghost laws = { count_reading };
+    ghost reading = { count_reading };
 
     fn read(alloc: Global, value: &Value, at: &str) -> Result<Self, ReadFault> {
         match value.as_integer() {

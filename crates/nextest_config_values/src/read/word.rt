@@ -1,7 +1,7 @@
 //! Enums whose values are words.
 
-ghost use Rattle.std.specs.Prelude.{◌≡◌, ◌≢◌, ℕ, List, Some, false, map, MatchOption};
-ghost use Rattle.nextest_config_values.specs.Read.{MeansWordText, value_of, word_reading, words_text, WordTextFaults};
+ghost use Rattle.std.specs.Prelude.{◌≡◌, ◌≢◌, ℕ, List, Some, map, MatchOption};
+ghost use Rattle.nextest_config_values.specs.Read.{value_of, word_reading, words_text};
 
 use super::fault::ReadFault;
 use super::from_toml::FromToml;
@@ -15,6 +15,9 @@ pub trait Word: Copy + 'static {
 
     ghost word: { Self → List ℕ };
 
+    // A word is read back as its value.
+    ghost reads_back: { (x : Self) → value_of word all (word x) ≡ Some x };
+
     /// The values, in the order of their words.
     fn all() -> &'static [Self]
         ensures { result.now ≡ all };
@@ -26,20 +29,14 @@ pub trait Word: Copy + 'static {
     /// The words, as a refusal lists them.
     fn expected() -> &'static str
         ensures { result.now ≡ words_text (map word all) };
-
-    ghost reads_back: { (x : Self) → value_of word all (word x) ≡ Some x };
 }
 
 impl<T: Word> FromToml for T {
-    ghost means = { MeansWordText T.word };
+    ghost Seen = { Self };
 
-    ghost faults = { WordTextFaults T.word T.all };
+    ghost seen = { λ x. x };
 
-    ghost needs_memory = { false };
-
-    ghost alike = { ◌≡◌ };
-
-    ghost laws = { word_reading T.all T.word T.reads_back };
+    ghost reading = { word_reading T.all T.word T.reads_back };
 
     fn read(alloc: Global, value: &Value, at: &str) -> Result<Self, ReadFault> {
         match value.as_str() {

@@ -1,4 +1,4 @@
-use Rattle.nextest_config_values.specs.Helpers.Paths.{path_reading}
+use Rattle.nextest_config_values.specs.Helpers.Paths.{relative_path_reading}
 use Rattle.nextest_config_elements.specs.LeakTimeout.{leak_timeout_reading}
 use Rattle.nextest_config_elements.specs.MaxFail.{fail_fast_reading}
 use Rattle.nextest_config_elements.specs.RetryPolicy.{retry_policy_reading}
@@ -6,4 +6,4 @@ use Rattle.nextest_config_elements.specs.SlowTimeout.{slow_timeout_reading}
 use Rattle.nextest_config_elements.proofs.laws.law_setting_once.Goals as goal
 
 pub returns : goal.returns
-returns c = record { slow_timeout = slow_timeout_reading; leak_timeout = leak_timeout_reading; retries = retry_policy_reading; fail_fast = fail_fast_reading; relative_path = path_reading }
+returns c = record { slow_timeout = slow_timeout_reading.law; leak_timeout = leak_timeout_reading.law; retries = retry_policy_reading.law; fail_fast = fail_fast_reading.law; relative_path = relative_path_reading.law }

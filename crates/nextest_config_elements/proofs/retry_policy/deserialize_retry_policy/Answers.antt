@@ -1,9 +1,7 @@
-use Rattle.std.proofs.lemmas.Result.{err_from_is_err_and}
-use Rattle.toml.specs.View.{table_view, view}
-use Rattle.nextest_config_elements.proofs.RetryPolicies.{refuses_table}
+use Rattle.std.proofs.Common.{sym}
+use Rattle.nextest_config_values.proofs.Faults.{in_made, passed_on}
 use Rattle.nextest_config_elements.proofs.retry_policy.deserialize_retry_policy.Goals as goal
 
 pub returns-in_err-policy-in-Some-as_table-clause-refused : goal.returns-in_err-policy-in-Some-as_table-clause-refused
 returns-in_err-policy-in-Some-as_table-clause-refused c =
-    let passed = err_from_is_err_and c.from_residual-in_err-policy-in-Some-as_table.result c.from_residual-in_err-policy-in-Some-as_table.ensures.1 in
-    rw (passed.1, passed.2) (refuses_table (view c.args.value.now) (table_view c.in-Some-as_table.table.now) c.args.at.now c.in_err-policy-in-Some-as_table.field-0.0 c.in-Some-as_table.ensures c.in_err-policy-in-Some-as_table.ensures.refused)
+    passed_on _ c.from_residual-in_err-policy-in-Some-as_table.result _ c.from_residual-in_err-policy-in-Some-as_table.ensures.1 (rw (sym c.in_default.ensures, sym c.in-Some-as_table.ensures) (in_made c.in_err-policy-in-Some-as_table.ensures.refused))

@@ -1,10 +1,10 @@
-use Rattle.std.proofs.lemmas.Result.{err_from_is_err_and}
 use Rattle.toml.specs.View.{table_view}
-use Rattle.nextest_config_elements.proofs.FailFast.{terminate_refused}
+use Rattle.nextest_config_values.proofs.Faults.{in_later, in_made, passed_on}
+use Rattle.nextest_config_values.specs.Read.{required}
+use Rattle.nextest_config_elements.specs.MaxFail.{max_fail_key, max_fail_reading}
 use Rattle.nextest_config_elements.proofs.max_fail.fail_fast.read_table.Goals as goal
 
 pub returns-in_err-terminate-clause-refused : goal.returns-in_err-terminate-clause-refused
 returns-in_err-terminate-clause-refused c =
-    let passed = err_from_is_err_and c.from_residual-in_err-terminate.result c.from_residual-in_err-terminate.ensures.1 in
-    rw (passed.1, passed.2) (terminate_refused (table_view c.args.table.now) c.args.at.now c.in_ok-count.count c.in_err-terminate.field-0.0
-    c.in_ok-count.ensures.meant c.in_err-terminate.ensures.refused)
+    passed_on _ c.from_residual-in_err-terminate.result _ c.from_residual-in_err-terminate.ensures.1
+    (in_later (required max_fail_key max_fail_reading) (table_view c.args.table.now) c.in_ok-count.ensures.meant (in_made c.in_err-terminate.ensures.refused))

@@ -1,4 +1,4 @@
-use Rattle.std.proofs.lemmas.Result.{err_from_is_err_and}
+use Rattle.nextest_config_values.proofs.Faults.{passed_on}
 use Rattle.toml.specs.View.{table_view}
 use Rattle.nextest_config_sources.specs.NextestVersion.{features_left}
 use Rattle.nextest_config_sources.proofs.Naming.{all_switches, refuses_switches, switched_off, switched_on}
@@ -6,8 +6,8 @@ use Rattle.nextest_config_sources.proofs.nextest_version.experimental_deserializ
 
 pub returns-in_err-read_switch-clause-refused : goal.returns-in_err-read_switch-clause-refused
 returns-in_err-read_switch-clause-refused c =
-    let passed = err_from_is_err_and c.from_residual.result c.from_residual.ensures.1 in
-    rw (passed.1, passed.2) (refuses_switches (table_view c.args.table.now) c.args.at.now c.in_err-read_switch.field-0.0 c.loop-feature.yielded _ c.loop-feature.known.keys (features_left c.next.new.self) c.in-Some.feature
+    passed_on _ c.from_residual.result _ c.from_residual.ensures.1
+    (refuses_switches (table_view c.args.table.now) c.args.at.now c.in_err-read_switch.field-0.0 c.loop-feature.yielded _ c.loop-feature.known.keys (features_left c.next.new.self) c.in-Some.feature
     c.loop-feature.invariant c.in-Some.ensures.steps c.in_err-read_switch.ensures.refused)
 
 pub loop-feature-preserved-then-not-branch : goal.loop-feature-preserved-then-not-branch

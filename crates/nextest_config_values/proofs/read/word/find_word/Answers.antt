@@ -13,5 +13,5 @@ loop-value-preserved g c =
 
 pub returns : goal.returns
 returns g c =
-    no_word g.T.Word.all g.T.Word.word c.args.text.now g.met.T.Word.reads_back
+    no_word g.T.Word.all g.T.Word.word c.args.text.now g.T.Word.reads_back
     (rw (take_all c.loop-value.value-index c.all-value-items.result.now c.loop-value-test.false, c.all-value-items.ensures) at c.loop-value.invariant)

@@ -1,5 +1,5 @@
 use Rattle.std.proofs.Common.{◌≡◌, ◌≤◌, ap, length, refl, subst}
-use Rattle.std.proofs.lemmas.Result.{err_from_is_err_and}
+use Rattle.nextest_config_values.proofs.Faults.{passed_on}
 use Rattle.toml.specs.View.{array_view, view}
 use Rattle.nextest_config_sources.specs.NextestVersion.{features_of, FeatureSetting, no_features}
 use Rattle.nextest_config_sources.proofs.Naming.{all_named, item_added, item_here, none_so_far, refuses_array}
@@ -8,8 +8,8 @@ use Rattle.nextest_config_sources.proofs.nextest_version.experimental_deserializ
 pub returns-in_err-read_item-clause-refused : goal.returns-in_err-read_item-clause-refused
 returns-in_err-read_item-clause-refused c =
     let here = item_here c.deref-value-items.result.now c.args.array.now.items c.loop-index.index c.value-item.result c.deref-value-items.ensures.value c.loop-index-test.true c.value-item.is in
-    let p = err_from_is_err_and c.from_residual.result c.from_residual.ensures.1 in
-    rw (p.1, p.2) (refuses_array (array_view c.args.array.now) c.loop-index.index (view c.value-item.result) (features_of c.loop-index.features) c.args.at.now c.in_err-read_item.field-0.0 c.loop-index.invariant here c.in_err-read_item.ensures.refused)
+    passed_on _ c.from_residual.result _ c.from_residual.ensures.1
+    (refuses_array (array_view c.args.array.now) c.loop-index.index (view c.value-item.result) (features_of c.loop-index.features) c.args.at.now c.in_err-read_item.field-0.0 c.loop-index.invariant here c.in_err-read_item.ensures.refused)
 
 pub loop-index-init : goal.loop-index-init
 loop-index-init c =
@@ -24,4 +24,4 @@ loop-index-preserved c =
 pub returns-clause-meant : goal.returns-clause-meant
 returns-clause-meant c =
     let past = subst (λ xs. length xs ≤ c.loop-index.index) c.deref-value-items.ensures.value c.loop-index-test.false in
-    (all_named c.args.array.now.items c.loop-index.index past (features_of c.loop-index.features) c.loop-index.invariant, refl)
+    (_, all_named c.args.array.now.items c.loop-index.index past (features_of c.loop-index.features) c.loop-index.invariant, refl)
