@@ -48,8 +48,7 @@ pub fn law_configuration_once()
 {}
 
 /// What stands for a list selects for it: on each current version, overridden or not, its verdict
-/// is the
-/// one selected from those of the sources alone.
+/// is the one selected from those of the sources alone.
 pub fn law_selected()
     ensures { (sources : List Source) (configuration : Configuration)
         → StandsFor sources configuration → SelectsFor sources configuration.roles }
@@ -62,8 +61,7 @@ pub fn law_known_in_order()
 {}
 
 /// The join is associative, and what asks nothing changes nothing on either side: of the versions
-/// that
-/// are kept in a role, of both roles, of features and of configurations, built by hand or not.
+/// that are kept in a role, of both roles, of features and of configurations, built by hand or not.
 pub fn law_join()
     ensures role { IsMonoid join_kept None }
     ensures roles { IsMonoid join_roles no_roles }
@@ -72,10 +70,9 @@ pub fn law_join()
 {}
 
 /// Reading is the same however a list is cut. It reads exactly where each part does; its first
-/// refused
-/// position is that of the first refused part, counted from the list's beginning; and a
-/// configuration
-/// stands for it exactly where it is the join, in order, of those that stand for the parts.
+/// refused position is that of the first refused part, counted from the list's beginning; and a
+/// configuration stands for it exactly where it is the join, in order, of those that stand for the
+/// parts.
 pub fn law_cut()
     ensures reads { (sources : List Source) (parts : List (List Source)) → IsCut sources parts
         → Reads sources ↔ AllByRecursion Reads parts }
@@ -89,11 +86,9 @@ pub fn law_cut()
 {}
 
 /// Of a list that reads, each reordering reads. What stands for the two keeps the same versions,
-/// knows
-/// the same features and has the same entries of unknown names, in some order; and on each current
-/// version, overridden or not, both verdicts are of one kind and name one version. Where several
-/// sources
-/// ask that version, the verdicts may name different ones of them.
+/// knows the same features and has the same entries of unknown names, in some order; and on each
+/// current version, overridden or not, both verdicts are of one kind and name one version. Where
+/// several sources ask that version, the verdicts may name different ones of them.
 pub fn law_reorder()
     ensures reads { (sources reordered : List Source) → IsReordering sources reordered
         → Reads sources → Reads reordered }
@@ -110,8 +105,7 @@ pub fn law_verdict_once()
 {}
 
 /// A verdict comes from a source: where the selected one isn't satisfied, some source whose place
-/// it
-/// names gives it, read alone. It is satisfied exactly where that of each source alone is.
+/// it names gives it, read alone. It is satisfied exactly where that of each source alone is.
 pub fn law_verdict_from_source()
     ensures source { (asked : List SourceAsk) (current : Parts) (overridden : Bool) (v : Verdict)
         → IsSelected (map (alone current overridden) asked) v → v ≢ satisfied
@@ -151,10 +145,8 @@ pub fn law_added_source()
 {}
 
 /// A board of n slots, however it was changed, has n slots; each holds the versions of the source
-/// that
-/// was put into it last, or none where it was left empty since or never changed; and the choices
-/// that
-/// are counted are those of the last change.
+/// that was put into it last, or none where it was left empty since or never changed; and the
+/// choices that are counted are those of the last change.
 pub fn law_board_follows()
     ensures slots { (n : ℕ) (commands : List Command) (board : BoardState)
         → ChangesInTurn commands (empty_board n) board → length board.slots ≡ n }
@@ -167,8 +159,7 @@ pub fn law_board_follows()
 {}
 
 /// The verdict of a board is that of the sources that its slots hold, read as one list in the order
-/// of
-/// the slots.
+/// of the slots.
 pub fn law_board_verdict()
     ensures { (n : ℕ) (commands : List Command) (board : BoardState) (current : Parts)
         (overridden : Bool) (v : Verdict) → ChangesInTurn commands (empty_board n) board

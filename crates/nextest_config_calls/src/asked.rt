@@ -5,8 +5,7 @@ use crate::announced::Runner;
 /// The calls of a program.
 pub trait Calls {
     /// Makes the input, and then the call of this group and name: nothing where there is no such
-    /// call, or the
-    /// input can't be made.
+    /// call, or the input can't be made.
     fn ask(rt: &impl Runner, group: &str, name: &str, input: &str) -> Option<()>;
 }
 

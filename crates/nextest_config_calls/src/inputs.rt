@@ -6,8 +6,7 @@ use nextest_config_values::read::FromToml;
 use toml::Value;
 
 /// A type whose values inputs write. `By` is who says how: `()` here, a type of their own in
-/// programs, which
-/// may then say it of other crates' types.
+/// programs, which may then say it of other crates' types.
 pub trait FromInput<By>: Sized {
     /// The value that the text writes, if it writes one.
     fn from_input(rt: &impl Runner, text: &str) -> Option<Self>;

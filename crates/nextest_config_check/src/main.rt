@@ -1,8 +1,6 @@
 //! `nextest_config_check CURRENT [--override] [--table-only]` reads a list of configuration sources
-//! on
-//! standard input and reports which nextest version they ask for, which source asks it, whether
-//! CURRENT is
-//! enough, and which experimental features they name.
+//! on standard input and reports which nextest version they ask for, which source asks it, whether
+//! CURRENT is enough, and which experimental features they name.
 #![tactic(auto)]
 
 mod command_line;

@@ -52,8 +52,7 @@ pub struct Check {
 
 impl Asked {
     /// The sources in the order in which they are read, lowest priority first: the tools' in
-    /// reverse,
-    /// and then the repository's.
+    /// reverse, and then the repository's.
     pub(crate) fn sources(&self, alloc: Global) -> Result<Vec<ConfigSource>, AllocError>
         ensures { IfOk result (λ sources. map place_of sources.items
             ≡ places_of self.now.tools.items self.now.repository) }

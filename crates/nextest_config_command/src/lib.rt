@@ -1,6 +1,5 @@
 //! The engine of the command `nextest-config`: what is checked, linted or shown of the files that
-//! it is
-//! asked for, over any place that files are read from.
+//! it is asked for, over any place that files are read from.
 #![tactic(auto)]
 
 mod answer;

@@ -22,8 +22,7 @@ pub(crate) struct Served {
 }
 
 /// Does what is asked, and answers the status that the command ends with. Where no file was read,
-/// the
-/// third stream says so, and the command goes on as for no source.
+/// the third stream says so, and the command goes on as for no source.
 pub fn serve<F: Files, W: Write, E: Write>(
     alloc: Global,
     asked: &Asked,

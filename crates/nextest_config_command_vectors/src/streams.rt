@@ -19,8 +19,7 @@ const ODD: [Odd; 4] = [
 ];
 
 // How a writer is: how many bytes it takes a call, and which of its calls is odd, if one is. Calls
-// are
-// counted from 0, with the flushes among them. Behind a failure it takes more.
+// are counted from 0, with the flushes among them. Behind a failure it takes more.
 #[derive(Clone, Copy)]
 struct Manner {
     step: usize,
@@ -111,8 +110,8 @@ fn written_calls(run: &Run<'_>) -> usize {
 }
 
 // Does the run over streams of which one may have an odd call. Where the writer fails, the status
-// is 3,
-// and the run complains of that at last; where a complaint fails, the status and the output stay.
+// is 3, and the run complains of that at last; where a complaint fails, the status and the output
+// stay.
 fn compare_run(
     rt: &impl Runner,
     files: &MemoryFiles,
@@ -145,8 +144,7 @@ fn compare_run(
 }
 
 // Whether a writer of this manner takes the text, and what is then told of it. An interrupted write
-// is
-// tried again; a flush isn't.
+// is tried again; a flush isn't.
 fn taken(rt: &impl Runner, manner: Manner, text: &str) -> (bool, String) {
     let Some((call, odd)) = manner.odd else {
         return (true, copied(rt, text));

@@ -9,8 +9,7 @@ use nextest_config_values::tool_config::ToolConfigFile;
 use semver::Version;
 
 /// What is asked for by words, which are those of the command, each with its value behind a `=`.
-/// One
-/// that begins with no `-` is the path at which the repository's file is looked for.
+/// One that begins with no `-` is the path at which the repository's file is looked for.
 pub(crate) fn asked(rt: &impl Runner, words: &str) -> Asked {
     let words = characters(rt, words);
     let (subcommand, words) = word(words.as_str());

@@ -52,8 +52,7 @@ impl LeakTimeout {
 }
 
 /// Reads the value of `leak-timeout`: a duration text, or a table. A fault names its path, which
-/// begins
-/// with `at`: the first in the order of the fields. Other keys don't count.
+/// begins with `at`: the first in the order of the fields. Other keys don't count.
 pub fn deserialize_leak_timeout(
     alloc: Global,
     value: &Value,

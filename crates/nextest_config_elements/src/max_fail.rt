@@ -141,8 +141,7 @@ impl MaxFail {
     }
 
     /// The limit of a text as `--max-fail` takes it: `all` in any ASCII letter case; or a count,
-    /// and
-    /// behind it, if it isn't `wait`, a colon and a mode. The mode is judged before the count.
+    /// and behind it, if it isn't `wait`, a colon and a mode. The mode is judged before the count.
     pub fn from_str(alloc: Global, s: &str) -> Result<Self, MaxFailParseError>
         ensures accepted { IfOk result (IsLimitText s.now) }
         ensures refused { IfErr result (RefusesLimit (IsLimitFault s.now)) }

@@ -13,8 +13,7 @@ pub enum ReportSkipPolicy {
     /// Those whose ignore status isn't the one asked for.
     Ignored,
     /// All but those that are no benchmarks where benchmarks are run. Where a run has several
-    /// partitions,
-    /// each reports the tests of the others as skipped.
+    /// partitions, each reports the tests of the others as skipped.
     All,
 }
 

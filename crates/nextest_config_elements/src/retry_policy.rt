@@ -82,8 +82,8 @@ impl RetryPolicy {
 }
 
 /// Reads the value of `retries`: a number of retries, or a table. A fault names its path, which
-/// begins
-/// with `at`: the first in the order of the fields, then the first unknown key, then a broken rule.
+/// begins with `at`: the first in the order of the fields, then the first unknown key, then a
+/// broken rule.
 pub fn deserialize_retry_policy(
     alloc: Global,
     value: &Value,
@@ -294,8 +294,7 @@ impl FlakyResult {
     ghost use Rattle.nextest_config_elements.specs.declared.retry_policy.FlakyResult.TheVariants.{Pass};
 
     /// What a report says of a flaky test that fails although it passed on this attempt; none where
-    /// flaky
-    /// tests pass.
+    /// flaky tests pass.
     pub fn fail_message(
         self,
         alloc: Global,

@@ -89,9 +89,8 @@ impl SlowTimeout {
 }
 
 /// Reads the value of `slow-timeout`: a duration text, the empty text for no timeout, or a table. A
-/// fault
-/// names its path, which begins with `at`: the first in the order of the fields. Other keys don't
-/// count.
+/// fault names its path, which begins with `at`: the first in the order of the fields. Other keys
+/// don't count.
 pub fn deserialize_slow_timeout(
     alloc: Global,
     value: &Value,

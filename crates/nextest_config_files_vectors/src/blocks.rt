@@ -1,14 +1,10 @@
 //! Tables of whole files, each a block: a line `=== NAME | SOURCE`, the lines of the file, and what
-//! is found in
-//! it, a line each that begins with `> `. Where there is none, nothing is found.
+//! is found in it, a line each that begins with `> `. Where there is none, nothing is found.
 //!
 //! SOURCE is `repository`, `explicit` or `tool`. A word behind it says more: `tables`, that an
-//! array of
-//! experimental features is refused; `latin-1`, that each character of the file is one byte. A file
-//! writes some
-//! characters as `\n` or `\u{..}`. A backslash at its end takes away the last line feed. Blank
-//! lines in front of
-//! the next block aren't the file's.
+//! array of experimental features is refused; `latin-1`, that each character of the file is one
+//! byte. A file writes some characters as `\n` or `\u{..}`. A backslash at its end takes away the
+//! last line feed. Blank lines in front of the next block aren't the file's.
 
 use nextest_config_findings::{Finding, LocatedFinding, Severity, findings, located};
 use nextest_config_rows::rows::{

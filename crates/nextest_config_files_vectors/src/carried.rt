@@ -1,7 +1,6 @@
 //! The documents of nextest-runner's own tests, each by the function that it stands in. Those that
-//! it loads have
-//! no error here. Those that it refuses for a setting have one, whose text holds what the test asks
-//! for.
+//! it loads have no error here. Those that it refuses for a setting have one, whose text holds what
+//! the test asks for.
 //!
 //! An unknown `flaky-result` and a `nextest-version` of a wrong kind are refused in words of this
 //! project.

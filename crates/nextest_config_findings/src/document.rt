@@ -15,10 +15,8 @@ use std::alloc::{AllocError, Global};
 use toml::Table;
 
 /// All that is wrong in the document of a source of this kind: what its readers refuse, value by
-/// value; what
-/// they don't judge; the features that a tool's file names, or the unknown feature names; and the
-/// keys that
-/// aren't known where they stand.
+/// value; what they don't judge; the features that a tool's file names, or the unknown feature
+/// names; and the keys that aren't known where they stand.
 pub fn findings(
     alloc: Global,
     source: &ConfigSourceKind,

@@ -18,8 +18,7 @@ use toml::Table;
 use toml::de::Error;
 
 /// What is found in a file, at its line, from 1. The error of a text that is no document has a
-/// column, too: in
-/// characters, from 1.
+/// column, too: in characters, from 1.
 #[derive(Debug, PartialEq, Eq, Drop)]
 pub struct LocatedFinding {
     pub line: usize,
@@ -28,10 +27,8 @@ pub struct LocatedFinding {
 }
 
 /// All that is wrong in the file of a source of this kind, by its lines; what is found on one line
-/// stands in
-/// the order of `findings`. A file that isn't UTF-8 or no TOML document has one error, and nothing
-/// else is
-/// judged.
+/// stands in the order of `findings`. A file that isn't UTF-8 or no TOML document has one error,
+/// and nothing else is judged.
 pub fn located(
     alloc: Global,
     source: &ConfigSourceKind,

@@ -33,8 +33,7 @@ const DEEPEST: usize = 5;
 
 impl<'a> Judged<'a> {
     /// The values of a document that have a place, depth-first: those at the keys of a table in the
-    /// order in
-    /// which its place knows them, profiles by their names, overrides by index.
+    /// order in which its place knows them, profiles by their names, overrides by index.
     pub(crate) fn all(alloc: Global, document: &'a Table) -> Result<Vec<Judged<'a>>, AllocError>
         ensures { IfOk result
             (λ all. map judged_value all.items ≡ from_table (table_view document.now)) }

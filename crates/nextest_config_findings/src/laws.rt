@@ -19,8 +19,8 @@ pub fn law_findings_once()
 {}
 
 /// Each finding of a document is a warning exactly where each value that has a place means
-/// something
-/// there, or is a duration that isn't judged, and the document names no feature if it is a tool's.
+/// something there, or is a duration that isn't judged, and the document names no feature if it is
+/// a tool's.
 pub fn law_no_error()
     ensures { (edition : Edition) (kind : ConfigSourceKind) (members : Members)
         (founds : List Found) → AreFindings edition kind members founds

@@ -55,9 +55,8 @@ pub(crate) enum Place {
 }
 
 // The keys that are known in each table, with what stands there: first those whose values are read
-// here or
-// lead on to such, in the order in which they are judged. A key that a later nextest knows is one
-// more line.
+// here or lead on to such, in the order in which they are judged. A key that a later nextest knows
+// is one more line.
 
 pub(crate) const TOP: &[(&str, Place)] = &[
     ("nextest-version", Place::NextestVersion),

@@ -1,6 +1,5 @@
 //! `nextest_config_findings_refusals CALL INPUT` makes a call of the library of findings twice and
-//! prints what
-//! it answered, for `tests/refusals`.
+//! prints what it answered, for `tests/refusals`.
 #![tactic(auto)]
 
 mod files;

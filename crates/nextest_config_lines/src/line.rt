@@ -16,12 +16,9 @@ use std::alloc::{AllocError, Global};
 use toml::{Table, Value};
 
 /// The line, from 1, on which the value begins that a path leads to. Of the fronts of the contents
-/// that end
-/// behind a line feed, and of all of them, those count that are documents: the value begins behind
-/// the last
-/// one in which the path leads to no value. None where it leads to a value in no such front; the
-/// empty path
-/// has the first line.
+/// that end behind a line feed, and of all of them, those count that are documents: the value
+/// begins behind the last one in which the path leads to no value. None where it leads to a value
+/// in no such front; the empty path has the first line.
 pub fn line_of(alloc: Global, contents: &str, path: &[Step]) -> Result<Option<usize>, AllocError>
     ensures { IfOk result (λ line. MatchOption line (HasNoLine contents.now (map step_of path.now))
         (IsLine contents.now (map step_of path.now))) }
@@ -40,12 +37,9 @@ pub fn line_of(alloc: Global, contents: &str, path: &[Step]) -> Result<Option<us
 }
 
 // The line of a path that leads to a value in the front that ends at the place. Where it leads to
-// one, it
-// does so in each longer front that is a document, so the first of these is sought by halves: the
-// path
-// leads to no value up to `low`, no front that ends behind `low` and up to `floor` is a document,
-// and in
-// the one up to `high` the path leads to a value. No front is read twice.
+// one, it does so in each longer front that is a document, so the first of these is sought by
+// halves: the path leads to no value up to `low`, no front that ends behind `low` and up to `floor`
+// is a document, and in the one up to `high` the path leads to a value. No front is read twice.
 fn line_by_halves(
     alloc: Global,
     contents: &str,
@@ -75,8 +69,7 @@ fn line_by_halves(
 }
 
 // Of the fronts that end behind one place, and no later than another, the place of the last one
-// that
-// is a document, and whether the path leads to a value there.
+// that is a document, and whether the path leads to a value there.
 fn last_that_reads(
     alloc: Global,
     contents: &str,

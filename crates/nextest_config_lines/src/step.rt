@@ -16,8 +16,7 @@ pub enum Step {
 }
 
 /// A path as it prints: keys parted by dots, those that aren't bare (TOML 1.1, "Keys") between
-/// quotes, and
-/// indexes between brackets.
+/// quotes, and indexes between brackets.
 #[derive(Clone, Copy, Debug)]
 pub struct PathText<'a>(pub &'a [Step]);
 

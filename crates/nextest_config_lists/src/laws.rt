@@ -4,10 +4,8 @@ ghost use Rattle.std.specs.Prelude.{◌≡◌, ◌+◌, ◌-◌, ◌/◌, ◌^�
 ghost use Rattle.nextest_config_lists.specs.Choice.{halvings};
 
 /// A place among up to one isn't halved away. Of more places the first half has half of them,
-/// rounded
-/// down, and the place is halved once, and then within the half that holds it. So it is halved at
-/// most
-/// as often as their number has binary digits.
+/// rounded down, and the place is halved once, and then within the half that holds it. So it is
+/// halved at most as often as their number has binary digits.
 pub fn law_halvings()
     ensures alone { (n i : ℕ) → n ≤ 1 → halvings n i ≡ 0 }
     ensures first { (n i : ℕ) → 2 ≤ n → i < n / 2 → halvings n i ≡ 1 + halvings (n / 2) i }

@@ -38,8 +38,7 @@ pub trait Merge {
 /// # Errors
 ///
 /// A request for memory was refused. The join of the value and the pieces is what it was, so
-/// calling
-/// again goes on where this call stopped.
+/// calling again goes on where this call stopped.
 pub fn merge_all<T: Merge>(into: &mut T, pieces: &mut [T]) -> Result<(), AllocError>
     ensures joined { OnOk result (T.seen into.new
         ≡ T.join (T.seen into.old) (total T.join T.neutral (map T.seen pieces.old))) }

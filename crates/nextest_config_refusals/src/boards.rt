@@ -1,6 +1,5 @@
 //! Boards. A board is told before and after a put, which leaves it as it was where memory is
-//! refused, and the
-//! put is made once more with it.
+//! refused, and the put is made once more with it.
 
 use crate::inputs::ThisCrate;
 use crate::told::{Told, answered, tell};

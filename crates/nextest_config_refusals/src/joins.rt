@@ -1,6 +1,5 @@
 //! Calls that change what they are lent. It is told before and after a call that leaves it as it
-//! was where
-//! memory is refused, and the call is made once more with it.
+//! was where memory is refused, and the call is made once more with it.
 
 use crate::inputs::ThisCrate;
 use crate::told::{Told, tell};

@@ -1,6 +1,5 @@
 //! `nextest_config_refusals CALL INPUT` makes a call of the libraries of sources and of lists of
-//! them twice and
-//! prints what it answered, for `tests/refusals`.
+//! them twice and prints what it answered, for `tests/refusals`.
 #![tactic(auto)]
 
 mod boards;

@@ -52,8 +52,7 @@ impl Told for NextestVersionConfig {
 }
 
 // The known features, each source with its unknown ones, and each source that names its features in
-// an
-// array.
+// an array.
 impl Told for ExperimentalConfig {
     fn tell(&self, rt: &impl Runner) -> Option<()> {
         print!(rt; "known").ok()?;

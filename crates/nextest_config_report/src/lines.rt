@@ -105,8 +105,7 @@ fn shortfall_line(
 
 /// Pushes the lines of the features: the words of the known ones, or that there is none, then a
 /// line for each source that has unknown feature names, and then one for each that names its
-/// features
-/// in an array. Where memory is refused, some of it may have been pushed.
+/// features in an array. Where memory is refused, some of it may have been pushed.
 pub fn push_features(text: &mut String, experimental: &ExperimentalConfig) -> Result<(), AllocError>
     ensures { OnOk result (string_bytes text.new
         ≡ string_bytes text.old ++ features_text (experimental_of experimental.now)) }

@@ -1,10 +1,8 @@
 //! Tables of rows, each a line `CALL | INPUT | ANSWER`.
 //!
 //! A blank line is no row, nor is one that begins with `#`. An answer that is empty or ends in a
-//! space
-//! is followed by ` |`. A `- ` in front of a row says that the call takes no memory, which
-//! `tests/refusals`
-//! checks. What a row can't ask for ends its test.
+//! space is followed by ` |`. A `- ` in front of a row says that the call takes no memory, which
+//! `tests/refusals` checks. What a row can't ask for ends its test.
 
 use std::alloc::Global;
 use std::error::Error;
@@ -44,9 +42,8 @@ impl<S: Subject> Subject for Escaped<S> {
 }
 
 /// Asks for the answer of each row, and compares it. A row with `«PIECE»` is asked for at each
-/// size, that is
-/// with each piece that many times. A `@` in a piece is its number, in five digits. `«#»` is the
-/// size.
+/// size, that is with each piece that many times. A `@` in a piece is its number, in five digits.
+/// `«#»` is the size.
 pub fn check<S: Subject>(rt: &impl Runner, rows: &str) {
     let sizes = sizes(rt);
     check_at::<S>(rt, rows, &sizes);

@@ -13,8 +13,7 @@ use std::collections::BTreeSet;
 use toml::Value;
 
 /// A type whose values rows write. `By` is who says how: `()` here, a type of their own in tests,
-/// which may
-/// then say it of other crates' types.
+/// which may then say it of other crates' types.
 pub trait FromRow<By>: Sized {
     /// The value that the text writes.
     fn from_row(rt: &impl Runner, text: &str) -> Self;

@@ -29,8 +29,7 @@ datetime | 1979-05-27T07:32:00.5-07:00 | datetime
 /// Tries values of each kind at readers.
 ///
 /// Each line is `CALL | INPUT | KINDS | PATH | EXPECTED`: where the value stands in place of the
-/// `@`, the
-/// call takes these kinds at this path.
+/// `@`, the call takes these kinds at this path.
 pub fn check_kinds<S: Subject>(rt: &impl Runner, readers: &str) {
     for row in readers.lines() {
         if is_row(row) {

@@ -1,6 +1,5 @@
 //! `nextest_config_settings_refusals CALL INPUT` makes a call of the libraries of values and of
-//! settings twice
-//! and prints what it answered, for `tests/refusals`.
+//! settings twice and prints what it answered, for `tests/refusals`.
 #![tactic(auto)]
 
 mod copies;

@@ -74,8 +74,7 @@ pub fn law_same_normal_form()
 {}
 
 /// No text is spelled by two lists of items, wherever white space stands; none has two durations,
-/// two
-/// faults as one, or both.
+/// two faults as one, or both.
 pub fn law_duration_once()
     ensures one_spelling { (text : List ℕ) (items others : List Item)
         → Spells items text → Spells others text → items ≡ others }
@@ -88,8 +87,7 @@ pub fn law_duration_once()
 {}
 
 /// Values are equal exactly where they say the same. Of refusals that may hold one of a name this
-/// is
-/// said where they tell a fault.
+/// is said where they tell a fault.
 pub fn law_equality()
     ensures duration_fault { IsEquality ⟦<DurationFault as PartialEq>⟧.eq }
     ensures identifier_kind { IsEquality ⟦<InvalidIdentifierKind as PartialEq>⟧.eq }

@@ -7,8 +7,7 @@ use crate::runner::check;
 use crate::tree::Tree;
 
 // The number of leaves and the changes; then the ends of a new tree, and after each change the
-// ends, with
-// the number of choices that it took.
+// ends, with the number of choices that it took.
 const ROWS: &str = "
 tree | 0: | -
 tree | 1: 0=4 0=- | - 4..4(0) -(0)

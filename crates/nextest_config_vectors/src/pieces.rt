@@ -1,6 +1,5 @@
 //! The promise of this project as one contract, from public contracts alone: what sources ask of a
-//! current
-//! version, however their list is cut.
+//! current version, however their list is cut.
 
 ghost use Rattle.std.specs.Prelude.{◌≡◌, ◌≤◌, IfErr, IfOk, length, map, OnOk, take};
 ghost use Rattle.semver.specs.Identifiers.{parts_of};
@@ -17,14 +16,12 @@ use semver::Version;
 use std::alloc::{AllocError, Global};
 
 /// The verdict on the current version of sources that are read in pieces, with so many sources in
-/// each and
-/// the others in a last one, and merged in order.
+/// each and the others in a last one, and merged in order.
 ///
 /// # Errors
 ///
 /// The first source of the whole list that is refused, with its position in it; or a request for
-/// memory was
-/// refused.
+/// memory was refused.
 pub fn eval_in_pieces(
     alloc: Global,
     edition: Edition,

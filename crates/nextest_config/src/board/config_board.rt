@@ -58,8 +58,7 @@ impl ConfigBoard {
     }
 
     /// The verdict on the current version, of the sources as they are. Where all are satisfied it
-    /// takes
-    /// no memory.
+    /// takes no memory.
     pub fn eval(
         &self,
         alloc: Global,

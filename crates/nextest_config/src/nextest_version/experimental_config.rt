@@ -138,8 +138,7 @@ impl Merge for ExperimentalConfig {
     ghost neutral = { no_features_seen };
 
     /// Joins with the features that later sources name: those that either side enables, and the
-    /// unknown
-    /// names and the arrays of the later ones behind those of the earlier ones.
+    /// unknown names and the arrays of the later ones behind those of the earlier ones.
     fn merge(&mut self, later: &mut Self) -> Result<(), AllocError> {
         let known = (&self.known | &later.known)?;
         self.array_sources.reserve(later.array_sources.len())?;

@@ -152,8 +152,7 @@ impl Merge for NextestVersionReq {
     ghost neutral = { None };
 
     /// Joins with what a later part keeps: the greater version stays, and of equal ones the later.
-    /// It
-    /// takes no memory.
+    /// It takes no memory.
     fn merge(&mut self, later: &mut Self) -> Result<(), AllocError>
         ensures joined { OnOk result
             (kept_of self.new ≡ join_kept (kept_of self.old) (kept_of later.old)) }
@@ -208,8 +207,7 @@ impl NextestVersionConfig {
     ghost use Rattle.nextest_config.specs.NextestVersion.Verdict.{satisfied, verdict, verdict_of};
 
     /// Takes in what a later source asks: in each role the greater version is kept, and of equal
-    /// ones
-    /// the later.
+    /// ones the later.
     pub fn accumulate(
         &mut self,
         alloc: Global,

@@ -51,8 +51,7 @@ impl NextestVersionEval {
     ghost use Rattle.nextest_config.specs.NextestVersion.Verdict.{error, judged, satisfied, severity_of, shortfall, verdict_of, warn};
 
     /// The verdict on the current version, of the versions that it isn't enough for in the two
-    /// roles,
-    /// each with the source that asks it.
+    /// roles, each with the source that asks it.
     pub(crate) fn judged(
         alloc: Global,
         required: Option<(&Version, &ConfigSource)>,

@@ -83,9 +83,8 @@ impl VersionOnlyConfig {
     }
 
     /// Reads the tools' files, the last one first, and then the repository's, up to the first one
-    /// that
-    /// is refused: a tool that is named earlier has the higher priority, and the repository has the
-    /// highest.
+    /// that is refused: a tool that is named earlier has the higher priority, and the repository
+    /// has the highest.
     pub fn from_sources(
         alloc: Global,
         repository: &RepositoryText,
@@ -104,8 +103,7 @@ impl VersionOnlyConfig {
     }
 
     /// Reads the tools' files, the last one first, and then the repository's, under the edition, up
-    /// to
-    /// the first one that is refused.
+    /// to the first one that is refused.
     pub fn from_sources_with(
         alloc: Global,
         edition: Edition,

@@ -9,8 +9,7 @@ use std::process::Abort;
 use std::test::Fail;
 
 // Runs of the program: its words, its input, its status, its output and its complaint. A line feed
-// is
-// `¶`, a carriage return `←`, a byte order mark `§`.
+// is `¶`, a carriage return `←`, a byte order mark `§`.
 const RUNS: &str = r#"
 0.9.49 | === repository .config/nextest.toml¶nextest-version = "0.9.50"¶ | 1 | error: 0.9.50 required by repository .config/nextest.toml, current 0.9.49¶known: none¶ | (nothing)
 0.9.49 --override | === repository .config/nextest.toml¶nextest-version = "0.9.50"¶ | 0 | error (overridden): 0.9.50 required by repository .config/nextest.toml, current 0.9.49¶known: none¶ | (nothing)
@@ -106,8 +105,7 @@ impl Read for Pieces<'_> {
 }
 
 // A writer that keeps what it takes, `step` bytes a call, but for one call that may be odd. Calls
-// are
-// counted from 0, with the flushes among them. Behind a failure it takes more.
+// are counted from 0, with the flushes among them. Behind a failure it takes more.
 #[derive(Drop)]
 struct Watched {
     kept: Vec<u8>,
@@ -296,8 +294,7 @@ fn fails_with_the_reader_at_each_call(rt: HostRuntime) -> Result<(), Fail> {
 }
 
 // Whether a text is written though one call is odd, and what is then told of its writer, which
-// takes
-// `step` bytes at each other call. An interrupted write is tried again; a flush isn't.
+// takes `step` bytes at each other call. An interrupted write is tried again; a flush isn't.
 fn written_oddly(
     alloc: Global,
     text: &str,

@@ -37,8 +37,7 @@ impl<K: Choose> ChoiceTree<K> {
     }
 
     /// Replaces the leaf at the slot, and counts the choices that this takes: one for each time
-    /// that the
-    /// leaves are halved until that slot is left.
+    /// that the leaves are halved until that slot is left.
     pub fn set(&mut self, slot: usize, leaf: K, count: &mut K::Count)
         requires slot_within { slot < length self.old }
         requires countable { K.number count.old + halvings (length self.old) slot ≤ usize.MAX }
@@ -69,9 +68,8 @@ fn nothing_chosen<K: Choose>(alloc: Global, n: usize) -> Result<Vec<K>, AllocErr
 }
 
 // Puts the leaf at the slot, chooses anew in each range that has the slot, and gives the choice
-// over
-// all leaves. The nodes of a range are those of its first half, its own, and those of its second
-// half.
+// over all leaves. The nodes of a range are those of its first half, its own, and those of its
+// second half.
 fn set_within<K: Choose>(
     leaves: &mut [K],
     nodes: &mut [K],

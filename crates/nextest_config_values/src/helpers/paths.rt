@@ -11,8 +11,7 @@ use std::path::Path;
 use toml::Value;
 
 /// Reads a relative path, which is kept as it is written: it doesn't begin with `/`, and none of
-/// its
-/// segments between slashes is `..`.
+/// its segments between slashes is `..`.
 pub fn deserialize_relative_path(
     alloc: Global,
     value: &Value,
@@ -38,8 +37,7 @@ fn is_relative_path(path: &str) -> bool
 }
 
 /// The path that `path` names beside the folder `base`, by the rules of Unix: a path that begins
-/// with `/`
-/// stays as it is.
+/// with `/` stays as it is.
 pub fn join_path(alloc: Global, base: &str, path: &str) -> Result<String, AllocError>
     ensures { IfOk result (λ joined. string_bytes joined ≡ joined_path base.now path.now) }
 {

@@ -18,8 +18,7 @@ use std::marker::Model;
 use unicode_normalization::{IsNormalized, is_nfc_quick, to_nfc};
 
 /// A text that is kept within the value up to 23 bytes, and in a String above. It is compared,
-/// hashed and
-/// printed as the text that it is, wherever it is kept.
+/// hashed and printed as the text that it is, wherever it is kept.
 #[derive(Drop)]
 pub(super) struct KeptText {
     place: Place,

@@ -20,8 +20,7 @@ use toml::Value;
 const TOOL_PREFIX: &str = "@tool";
 
 /// The name of a tool: a character of XID_Start, then characters of XID_Continue and `-` (UAX 31).
-/// It
-/// is kept in Normalization Form C.
+/// It is kept in Normalization Form C.
 #[derive(Debug, PartialEq, Eq, PartialOrd, Ord, Hash, Drop)]
 pub struct ToolName {
     text: KeptText,
@@ -77,8 +76,7 @@ impl ToolName {
 }
 
 // Judges a text in Normalization Form C. The prefix comes first, since it says more than that `@`
-// is
-// no character of XID_Start.
+// is no character of XID_Start.
 fn judge(text: &str) -> Result<(), ToolNameFlaw>
     ensures accepted { OnOk result (IsPlainIdentifier (chars text.now)) }
     ensures refused { IfErr result (IsToolNameFlaw (chars text.now)) }

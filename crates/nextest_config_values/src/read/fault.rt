@@ -94,8 +94,7 @@ pub enum Rule {
 
 impl ReadFault {
     /// The fault of this kind at this path, or `Memory` where the kind says that memory was refused
-    /// or
-    /// the path finds no room.
+    /// or the path finds no room.
     pub fn new(alloc: Global, at: &str, kind: FaultKind) -> ReadFault
         ensures { RefusesKind at.now kind result }
     {

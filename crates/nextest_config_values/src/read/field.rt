@@ -77,8 +77,7 @@ fn value_at<'v>(table: &'v Table, key: &str) -> Option<&'v Value>
 }
 
 // Reads the value of a key. The path is put together only after a fault, and only where it isn't
-// the
-// key itself.
+// the key itself.
 fn read_field<T: FromToml>(
     alloc: Global,
     value: &Value,

@@ -17,8 +17,7 @@ const SLOTS: usize = 5;
 const HALVINGS: [usize; SLOTS] = [2, 2, 2, 3, 3];
 
 // What a slot is to hold, `@` being the number that the rule gives. An empty text is a withdrawal,
-// and the
-// last text is refused.
+// and the last text is refused.
 const SOURCES: [&str; 9] = [
     "",
     "",
@@ -112,8 +111,7 @@ fn hold(rt: &impl Runner, followed: &mut Followed, slot: usize, source: String)
 }
 
 // Ends the test where the board tells another verdict than the list of its sources, or other
-// choices than
-// its last change took.
+// choices than its last change took.
 fn compare_all(rt: &impl Runner, followed: &mut Followed) {
     let list = listed(rt, &followed.sources);
     let answer = run(rt, &mut followed.board, "selections");
