@@ -1,64 +1,42 @@
 -- A tree of choices of which one half is chosen anew.
-use Rattle.std.proofs.Common.{◌≡◌, ℕ, zero, suc, ◌+◌, ◌-◌, ◌/◌, ◌<◌, ◌≤◌, List, [], ◌∷◌, ◌++◌, length, get_or, set, take, drop, replicate, inl, inr, refl, sym, ap, ap₂, subst, ◌∙◌, arith}
-use Rattle.std.proofs.lemmas.List.{append-nil, drop-drop, drop-set-lt, drop_all, drop_at, drop-replicate, get_or-replicate, get_or-set_same, get_or_past, length-append, length-drop, length-replicate, length-set, length-take-le, set-append_left, set-append_right, take-append-drop, take-set, take_all, take_at, take-append-le, take-replicate, take-take}
+use Rattle.std.proofs.Common.{◌≡◌, ℕ, zero, suc, append_assoc, ◌+◌, ◌-◌, ◌/◌, ◌<◌, ◌≤◌, List, [], ◌∷◌, ◌++◌, length, get_or, set, take, drop, replicate, inl, inr, refl, sym, ap, ap₂, subst, ◌∙◌, arith}
+use Rattle.std.proofs.lemmas.List.{drop-drop, drop_at, drop-replicate, get_or-replicate, get_or_at, get_or_past, length-append, length-replicate, set-append_left, set-append_right, take_at, take-replicate}
 use Rattle.std.proofs.lemmas.Bool.{cases_lt}
 use Rattle.nextest_config_lists.specs.Choice.Choices.{HoldsChoices, undivided, halved}
 use Rattle.nextest_config_lists.specs.Merge.{IsMonoid, total}
 use Rattle.nextest_config_lists.proofs.Halves.{total_joined}
 
--- ---- lengths
-
-pub half_long : {X : Type 0} (xs : List X) → length (take (length xs / 2) xs) ≡ length xs / 2
-half_long xs = length-take-le (length xs / 2) xs (omega arith)
-
-pub rest_long : {X : Type 0} (xs : List X) → length (take (length xs - length xs / 2) (drop (length xs / 2) xs)) ≡ length xs - length xs / 2
-rest_long xs = length-take-le (length xs - length xs / 2) (drop (length xs / 2) xs) (omega (arith, length-drop (length xs / 2) xs))
-
--- all that is behind a place
-pub rest_whole : {X : Type 0} (xs : List X) (n : ℕ) → take (length xs - n) (drop n xs) ≡ drop n xs
-rest_whole xs n = take_all (length xs - n) (drop n xs) (omega (arith, length-drop n xs))
-
 module _ {X : Type 0} (choice : X → X → X) (none : X) where
-  pub first_held : (leaves nodes : List X) → 2 ≤ length leaves → HoldsChoices choice none leaves nodes → HoldsChoices choice none (take (length leaves / 2) leaves) (take (length leaves / 2 - 1) nodes)
-  first_held leaves nodes many (undivided few) = absurd (omega arith)
-  first_held leaves nodes many (halved _ node first second) = first
+  pub first_held : {leaves nodes first us : List X} → 2 ≤ length leaves → HoldsChoices choice none leaves nodes
+      → first ≡ take (length leaves / 2) leaves → us ≡ take (length leaves / 2 - 1) nodes → HoldsChoices choice none first us
+  first_held many (undivided few) front nodes_front = absurd (omega arith)
+  first_held many (halved _ node first second) front nodes_front = rw (front, nodes_front) first
 
-  pub second_held : (leaves nodes : List X) → 2 ≤ length leaves → HoldsChoices choice none leaves nodes → HoldsChoices choice none (drop (length leaves / 2) leaves) (drop (length leaves / 2) nodes)
-  second_held leaves nodes many (undivided few) = absurd (omega arith)
-  second_held leaves nodes many (halved _ node first second) = second
+  pub second_held : {leaves nodes second rest vs : List X} → 2 ≤ length leaves → HoldsChoices choice none leaves nodes
+      → second ≡ drop (length leaves / 2) leaves → rest ≡ drop (length leaves / 2 - 1) nodes → vs ≡ drop 1 rest → HoldsChoices choice none second vs
+  second_held many (undivided few) back rest_is nodes_back = absurd (omega arith)
+  second_held {leaves} {nodes} many (halved _ node first second) back rest_is nodes_back =
+      let parted : (length leaves / 2 - 1) + 1 ≡ length leaves / 2 = omega arith in
+      rw (back, nodes_back ∙ ap (drop 1) rest_is ∙ drop-drop 1 (length leaves / 2 - 1) nodes ∙ ap (λ n. drop n nodes) parted) second
 
-  -- a node is kept of both halves
-  pub rebuilt : (leaves nodes first second us vs : List X) (half : ℕ) (node : X) → 2 ≤ length leaves → half ≡ length leaves / 2 → half - 1 < length nodes → leaves ≡ first ++ second → length first ≡ half
-      → take (half - 1) nodes ≡ us → drop half nodes ≡ vs → node ≡ total choice none leaves → HoldsChoices choice none first us → HoldsChoices choice none second vs
-      → HoldsChoices choice none leaves (set nodes (half - 1) node)
-  rebuilt leaves nodes first second us vs half node many is within joined long front back whole held more =
-      let Holds : List X → List X → Type 0 = λ xs ys. HoldsChoices choice none xs ys in
-      let held_front = subst (λ xs. Holds xs us) (sym (ap (take half) joined ∙ take_at first second half long)) held in
-      let held_first = subst (λ ys. Holds (take half leaves) ys) (sym (take-set nodes (half - 1) node ∙ front)) held_front in
-      let held_back = subst (λ xs. Holds xs vs) (sym (ap (drop half) joined ∙ drop_at first second half long)) more in
-      let held_second = subst (λ ys. Holds (drop half leaves) ys) (sym (drop-set-lt half nodes (half - 1) node (omega arith) ∙ back)) held_back in
-      let kept = get_or-set_same nodes (half - 1) node none within ∙ whole in
-      let Both : ℕ → Type 0 = λ n. (get_or (set nodes (half - 1) node) (n - 1) none ≡ total choice none leaves) × Holds (take n leaves) (take (n - 1) (set nodes (half - 1) node)) × Holds (drop n leaves) (drop n (set nodes (half - 1) node)) in
-      let both = subst Both is (kept, held_first, held_second) in
-      halved many both.0 both.1 both.2
+  -- halves that hold their choices, with the choice over both between their nodes
+  pub both_held : (first second us own vs : List X) (node : X) (n : ℕ) → 2 ≤ n → length first ≡ n / 2 → length first + length second ≡ n → length us ≡ n / 2 - 1 → length own ≡ 1
+      → node ≡ total choice none (first ++ second) → HoldsChoices choice none first us → HoldsChoices choice none second vs → HoldsChoices choice none (first ++ second) (us ++ (set own 0 node ++ vs))
+  both_held first second us [] vs node n many half both long one whole held more = absurd (omega (arith, one))
+  both_held first second us (x ∷ y ∷ own) vs node n many half both long one whole held more = absurd (omega (arith, one))
+  both_held first second us (x ∷ []) vs node n many half both long one whole held more =
+      let all : length (first ++ second) / 2 ≡ n / 2 = ap (λ k. k / 2) (length-append first second ∙ both) in
+      let there = get_or_at us node vs none (n / 2 - 1) long in
+      let behind = ap (drop (n / 2)) (sym (append_assoc us (node ∷ []) vs)) ∙ drop_at (us ++ (node ∷ [])) vs (n / 2) (omega (arith, length-append us (node ∷ []), long, many)) in
+      halved (omega (arith, length-append first second, both, many)) (rw all (there ∙ whole)) (rw (all, take_at first second (n / 2) half, take_at us (node ∷ vs) (n / 2 - 1) long) held) (rw (all, drop_at first second (n / 2) half, behind) more)
 
--- what stays of a list behind a part that is replaced
-pub rest_kept : {X : Type 0} (part xs : List X) (n : ℕ) → length part ≡ n → take (length (part ++ drop n xs) - n) (drop n (part ++ drop n xs)) ≡ drop n xs
-rest_kept part xs n long =
-    let rest = drop_at part (drop n xs) n long in
-    let few : length (drop n (part ++ drop n xs)) ≤ length (part ++ drop n xs) - n = omega (arith, length-drop n (part ++ drop n xs)) in
-    take_all (length (part ++ drop n xs) - n) (drop n (part ++ drop n xs)) few ∙ rest
+-- a leaf of one half is replaced
+module _ {X : Type 0} {whole part : List X} (first second : List X) (slot : ℕ) (leaf : X) (joined : whole ≡ first ++ second) where
+  pub set_first : slot < length first → part ≡ set first slot leaf → part ++ second ≡ set whole slot leaf
+  set_first within replaced = rw (replaced, joined) (sym (set-append_left first second slot leaf within))
 
--- the same behind one more element
-pub rest_behind : {X : Type 0} (part xs : List X) (n : ℕ) → 1 ≤ n → length part ≡ n - 1 → drop n (part ++ drop (n - 1) xs) ≡ drop n xs
-rest_behind part xs n some long =
-    let parted : (n - 1) + 1 ≡ n = omega arith in
-    ap (λ m. drop m (part ++ drop (n - 1) xs)) (sym parted) ∙ sym (drop-drop 1 (n - 1) (part ++ drop (n - 1) xs)) ∙ ap (drop 1) (drop_at part (drop (n - 1) xs) (n - 1) long) ∙ drop-drop 1 (n - 1) xs ∙ ap (λ m. drop m xs) parted
-
-module _ {X : Type 0} (choice : X → X → X) (none : X) (leaves nodes : List X) (many : 2 ≤ length leaves) (held : HoldsChoices choice none leaves nodes) where
-  -- the second half, as the code takes it
-  pub second_held_so : HoldsChoices choice none (take (length leaves - length leaves / 2) (drop (length leaves / 2) leaves)) (take (length nodes - length leaves / 2) (drop (length leaves / 2) nodes))
-  second_held_so = rw (rest_whole leaves (length leaves / 2), rest_whole nodes (length leaves / 2)) (second_held choice none leaves nodes many held)
+  pub set_second : (n : ℕ) → length first ≡ n → n ≤ slot → part ≡ set second (slot - n) leaf → first ++ part ≡ set whole slot leaf
+  set_second n long behind replaced = rw (replaced, joined) (sym (set-append_right first second n slot leaf long behind))
 
 module _ {X : Type 0} (choice : X → X → X) (none : X) (laws : IsMonoid choice none) where
   -- the one leaf is replaced
@@ -68,75 +46,8 @@ module _ {X : Type 0} (choice : X → X → X) (none : X) (laws : IsMonoid choic
   alone_set (x ∷ []) (suc slot) leaf within few = absurd (omega arith)
   alone_set (x ∷ y ∷ xs) slot leaf within few = absurd (omega arith)
 
-  -- a choice is that of both halves
-  pub chosen_of_both : (first second : List X) (a b : X) → a ≡ total choice none first → b ≡ total choice none second → choice a b ≡ total choice none (first ++ second)
-  chosen_of_both first second a b is more = ap₂ choice is more ∙ sym (total_joined choice none laws first second)
-
-  module _ (leaves nodes : List X) (many : 2 ≤ length leaves) (enough : length leaves ≤ length nodes + 1) (held : HoldsChoices choice none leaves nodes) (slot : ℕ) (leaf : X) where
-    -- a leaf of the first half is replaced
-    module _ (first : slot < length leaves / 2) (part parts : List X) (replaced : part ≡ set (take (length leaves / 2) leaves) slot leaf) (few : length parts ≡ length leaves / 2 - 1) where
-      first_long : length part ≡ length leaves / 2
-      first_long = ap length replaced ∙ length-set (take (length leaves / 2) leaves) slot leaf ∙ half_long leaves
-
-      same_long : length (part ++ drop (length leaves / 2) leaves) ≡ length leaves
-      same_long = omega (arith, first_long, length-append part (drop (length leaves / 2) leaves), length-drop (length leaves / 2) leaves)
-
-      pub first_replaced : part ++ drop (length leaves / 2) leaves ≡ set leaves slot leaf
-      first_replaced =
-          let within : slot < length (take (length leaves / 2) leaves) = omega (arith, half_long leaves) in
-          ap (λ xs. xs ++ drop (length leaves / 2) leaves) replaced ∙ sym (set-append_left (take (length leaves / 2) leaves) (drop (length leaves / 2) leaves) slot leaf within)
-          ∙ ap (λ xs. set xs slot leaf) (take-append-drop (length leaves / 2) leaves)
-
-      pub first_rest : take (length (part ++ drop (length leaves / 2) leaves) - length leaves / 2) (drop (length leaves / 2) (part ++ drop (length leaves / 2) leaves)) ≡ drop (length leaves / 2) leaves
-      first_rest = rest_kept part leaves (length leaves / 2) first_long
-
-      first_parts : drop (length leaves / 2) (parts ++ drop (length leaves / 2 - 1) nodes) ≡ drop (length leaves / 2) nodes
-      first_parts = rest_behind parts nodes (length leaves / 2) (omega arith) few
-
-      -- the second half is as it was
-      pub first_other : HoldsChoices choice none (take (length (part ++ drop (length leaves / 2) leaves) - length leaves / 2) (drop (length leaves / 2) (part ++ drop (length leaves / 2) leaves)))
-          (take (length (parts ++ drop (length leaves / 2 - 1) nodes) - length leaves / 2) (drop (length leaves / 2) (parts ++ drop (length leaves / 2 - 1) nodes)))
-      first_other = rw (first_rest, rest_whole (parts ++ drop (length leaves / 2 - 1) nodes) (length leaves / 2), first_parts) (second_held choice none leaves nodes many held)
-
-      pub first_holds : HoldsChoices choice none part parts → (node : X) → node ≡ total choice none (part ++ drop (length leaves / 2) leaves)
-          → HoldsChoices choice none (part ++ drop (length leaves / 2) leaves) (set (parts ++ drop (length leaves / 2 - 1) nodes) (length leaves / 2 - 1) node)
-      first_holds holds node whole =
-          rebuilt choice none (part ++ drop (length leaves / 2) leaves) (parts ++ drop (length leaves / 2 - 1) nodes) part (drop (length leaves / 2) leaves) parts (drop (length leaves / 2) nodes) (length leaves / 2) node
-          (omega (arith, same_long)) (ap (λ n. n / 2) (sym same_long)) (omega (arith, few, length-append parts (drop (length leaves / 2 - 1) nodes), length-drop (length leaves / 2 - 1) nodes)) refl first_long
-          (take_at parts (drop (length leaves / 2 - 1) nodes) (length leaves / 2 - 1) few) first_parts whole holds (second_held choice none leaves nodes many held)
-
-    -- a leaf of the second half is replaced
-    module _ (second : length leaves / 2 ≤ slot) (within : slot < length leaves) (part parts : List X) (replaced : part ≡ set (take (length leaves - length leaves / 2) (drop (length leaves / 2) leaves)) (slot - length leaves / 2) leaf) where
-      second_joined : take (length leaves / 2) leaves ++ (part ++ drop (length leaves - length leaves / 2) (drop (length leaves / 2) leaves)) ≡ take (length leaves / 2) leaves ++ part
-      second_joined = ap (λ xs. take (length leaves / 2) leaves ++ xs) (ap (λ xs. part ++ xs) (drop_all (length leaves - length leaves / 2) (drop (length leaves / 2) leaves) (omega (arith, length-drop (length leaves / 2) leaves))) ∙ append-nil part)
-
-      pub second_replaced : take (length leaves / 2) leaves ++ (part ++ drop (length leaves - length leaves / 2) (drop (length leaves / 2) leaves)) ≡ set leaves slot leaf
-      second_replaced =
-          let whole = ap (λ xs. set xs (slot - length leaves / 2) leaf) (rest_whole leaves (length leaves / 2)) in
-          second_joined ∙ ap (λ xs. take (length leaves / 2) leaves ++ xs) (replaced ∙ whole)
-          ∙ sym (set-append_right (take (length leaves / 2) leaves) (drop (length leaves / 2) leaves) (length leaves / 2) slot leaf (half_long leaves) second)
-          ∙ ap (λ xs. set xs slot leaf) (take-append-drop (length leaves / 2) leaves)
-
-      pub second_whole : (a b : X) → a ≡ total choice none (take (length leaves / 2) leaves) → b ≡ total choice none part
-          → choice a b ≡ total choice none (take (length leaves / 2) leaves ++ (part ++ drop (length leaves - length leaves / 2) (drop (length leaves / 2) leaves)))
-      second_whole a b is more = chosen_of_both (take (length leaves / 2) leaves) part a b is more ∙ ap (total choice none) (sym second_joined)
-
-      second_long : length (take (length leaves / 2) leaves ++ (part ++ drop (length leaves - length leaves / 2) (drop (length leaves / 2) leaves))) ≡ length leaves
-      second_long = ap length second_replaced ∙ length-set leaves slot leaf
-
-      pub second_holds : HoldsChoices choice none part parts → (node : X)
-          → node ≡ total choice none (take (length leaves / 2) leaves ++ (part ++ drop (length leaves - length leaves / 2) (drop (length leaves / 2) leaves)))
-          → HoldsChoices choice none (take (length leaves / 2) leaves ++ (part ++ drop (length leaves - length leaves / 2) (drop (length leaves / 2) leaves)))
-          (set (take (length leaves / 2) nodes ++ (parts ++ drop (length nodes - length leaves / 2) (drop (length leaves / 2) nodes))) (length leaves / 2 - 1) node)
-      second_holds holds node whole =
-          let behind = ap (λ xs. parts ++ xs) (drop_all (length nodes - length leaves / 2) (drop (length leaves / 2) nodes) (omega (arith, length-drop (length leaves / 2) nodes))) ∙ append-nil parts in
-          let half_nodes : length (take (length leaves / 2) nodes) ≡ length leaves / 2 = length-take-le (length leaves / 2) nodes (omega arith) in
-          let rest = parts ++ drop (length nodes - length leaves / 2) (drop (length leaves / 2) nodes) in
-          let front = take-append-le (length leaves / 2 - 1) (take (length leaves / 2) nodes) rest (omega (arith, half_nodes)) ∙ take-take (length leaves / 2 - 1) (length leaves / 2) nodes (omega arith) in
-          rebuilt choice none (take (length leaves / 2) leaves ++ (part ++ drop (length leaves - length leaves / 2) (drop (length leaves / 2) leaves))) (take (length leaves / 2) nodes ++ rest)
-          (take (length leaves / 2) leaves) part (take (length leaves / 2 - 1) nodes) parts (length leaves / 2) node
-          (omega (arith, second_long)) (ap (λ n. n / 2) (sym second_long)) (omega (arith, half_nodes, length-append (take (length leaves / 2) nodes) rest)) second_joined (half_long leaves)
-          front (drop_at (take (length leaves / 2) nodes) rest (length leaves / 2) half_nodes ∙ behind) whole (first_held choice none leaves nodes many held) holds
+  pub chosen_of_both : {whole : List X} (first second : List X) {a b : X} → whole ≡ first ++ second → a ≡ total choice none first → b ≡ total choice none second → choice a b ≡ total choice none whole
+  chosen_of_both first second joined is more = ap₂ choice is more ∙ sym (total_joined choice none laws first second) ∙ ap (total choice none) (sym joined)
 
   -- ---- a tree of which nothing is chosen
 

@@ -7,7 +7,9 @@ ghost use Rattle.nextest_config_lists.specs.Merge.{behind, FitsBehind, HavePiece
 ghost use Rattle.nextest_config_lists.specs.declared.merge.PieceRefusal.TheVariants.{Memory};
 
 use std::alloc::{AllocError, Global};
+use std::fmt::Display;
 use std::slice;
+use thiserror::Error;
 
 /// Values of which two in a row can be joined into one.
 pub trait Merge {
@@ -54,11 +56,14 @@ pub fn merge_all<T: Merge>(into: &mut T, pieces: &mut [T]) -> Result<(), AllocEr
 }
 
 /// Why the pieces of sources weren't read.
-#[derive(Debug, PartialEq, Eq, Drop)]
+#[derive(Debug, PartialEq, Eq, Drop, Error)]
+#[error_bound(E: Display)]
 pub enum PieceRefusal<E> {
     /// The source at this position, counted from 0, is the first one that is refused.
+    #[error("source {position}: {error}")]
     Refused { position: usize, error: E },
     /// A request for memory was refused.
+    #[error("out of memory")]
     Memory,
 }
 

@@ -91,28 +91,22 @@ fn set_within<K: Choose>(
         leaves[slot] = leaf;
         return leaf;
     }
-    let chosen = if slot < half {
-        let first = set_within(
-            &mut leaves[..half],
-            &mut nodes[..half - 1],
-            slot,
-            leaf,
-            count,
-        );
-        let second = whole_of(&leaves[half..], &nodes[half..]);
-        K::choose(first, second, count)
+    let (first, second) = leaves.split_at_mut(half);
+    let (first_nodes, rest) = nodes.split_at_mut(half - 1);
+    let (node, second_nodes) = rest.split_at_mut(1);
+    let (first_whole, second_whole) = if slot < half {
+        (
+            set_within(first, first_nodes, slot, leaf, count),
+            whole_of(second, second_nodes),
+        )
     } else {
-        let first = whole_of(&leaves[..half], &nodes[..half - 1]);
-        let second = set_within(
-            &mut leaves[half..],
-            &mut nodes[half..],
-            slot - half,
-            leaf,
-            count,
-        );
-        K::choose(first, second, count)
+        (
+            whole_of(first, first_nodes),
+            set_within(second, second_nodes, slot - half, leaf, count),
+        )
     };
-    nodes[half - 1] = chosen;
+    let chosen = K::choose(first_whole, second_whole, count);
+    node[0] = chosen;
     chosen
 }
 

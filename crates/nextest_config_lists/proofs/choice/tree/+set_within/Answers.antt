@@ -1,8 +1,8 @@
-use Rattle.std.proofs.Common.{◌≡◌, ◌≤◌, length, ◌-◌, ◌/◌, take, drop, sym, ap, ◌∙◌, arith}
-use Rattle.std.proofs.lemmas.List.{length-drop, length-set, length-take-le}
+use Rattle.std.proofs.Common.{◌≡◌, ◌-◌, ◌/◌, length, ap, ◌∙◌, arith}
+use Rattle.std.proofs.lemmas.List.{length-set}
 use Rattle.nextest_config_lists.specs.Choice.Choices.{undivided}
 use Rattle.nextest_config_lists.specs.Merge.{total}
-use Rattle.nextest_config_lists.proofs.Choices.{alone_set, chosen_of_both, first_held, first_holds, first_other, first_replaced, first_rest, half_long, rest_long, second_held_so, second_holds, second_replaced, second_whole}
+use Rattle.nextest_config_lists.proofs.Choices.{alone_set, both_held, chosen_of_both, first_held, second_held, set_first, set_second}
 use Rattle.nextest_config_lists.proofs.Halvings.{halvings_alone, halvings_first, halvings_second}
 use Rattle.nextest_config_lists.proofs.choice.tree.+set_within.Goals as goal
 use Rattle.nextest_config_lists.proofs.choice.tree.+set_within.Goals.{then-slot-half, else-slot-half}
@@ -16,95 +16,76 @@ returns-then-half-eq0-clause-whole g t c = alone_set g.K.Choose.choice g.K.Choos
 pub returns-then-half-eq0-clause-counted : goal.returns-then-half-eq0-clause-counted
 returns-then-half-eq0-clause-counted g t c = let alone = halvings_alone (length c.args.leaves.now) c.args.slot (omega arith) in omega arith
 
-pub set_within-first-requires : goal.set_within-first-requires
-set_within-first-requires g t c κs within =
-    let many : 2 ≤ length c.args.leaves.now = omega arith in
-    let held = first_held g.K.Choose.choice g.K.Choose.nothing c.args.leaves.now c.args.nodes.now many c.requires.held in
-    let step = halvings_first (length c.args.leaves.now) c.args.slot many c.if-slot-half.true in
-    let long = half_long c.args.leaves.now in
-    let less : length (take (length c.args.leaves.now / 2 - 1) c.args.nodes.now) ≡ length c.args.leaves.now / 2 - 1 = length-take-le _ _ (omega arith) in
+pub set_within-requires : goal.set_within-requires
+set_within-requires g t c κs within =
+    let long = c.split_at_mut-first.ensures.front_len in
+    let less = c.split_at_mut-first_nodes.ensures.front_len in
+    let step = halvings_first (length c.args.leaves.now) c.args.slot (omega arith) c.if-slot-half.true in
+    let held = first_held g.K.Choose.choice g.K.Choose.nothing (omega arith) c.requires.held c.split_at_mut-first.ensures.front c.split_at_mut-first_nodes.ensures.front in
     (omega (arith, c.decreases, long), (within.0, (within.1, (omega (arith, long), (omega (arith, long, less), (held, rw long (omega (arith, step, c.requires.countable))))))))
 
-pub set_within-second-requires : goal.set_within-second-requires
-set_within-second-requires g t c κs within =
-    let many : 2 ≤ length c.args.leaves.now = omega arith in
-    let held = second_held_so g.K.Choose.choice g.K.Choose.nothing c.args.leaves.now c.args.nodes.now many c.requires.held in
-    let step = halvings_second (length c.args.leaves.now) c.args.slot many c.if-slot-half.false in
-    let long = rest_long c.args.leaves.now in
-    let less : length (take (length c.args.nodes.now - length c.args.leaves.now / 2) (drop (length c.args.leaves.now / 2) c.args.nodes.now)) ≡ length c.args.nodes.now - length c.args.leaves.now / 2 = length-take-le _ _ (omega (arith, length-drop (length c.args.leaves.now / 2) c.args.nodes.now)) in
-    (omega (arith, c.decreases, long), (within.0, (within.1, (omega (arith, long), (omega (arith, long, less), (held, rw long (omega (arith, step, c.requires.countable))))))))
+pub whole_of-requires-clause-held : goal.whole_of-requires-clause-held
+whole_of-requires-clause-held g t c =
+    second_held g.K.Choose.choice g.K.Choose.nothing (omega arith) c.requires.held c.split_at_mut-first.ensures.back c.split_at_mut-first_nodes.ensures.back c.split_at_mut-node.ensures.back
 
-pub whole_of-second-requires-clause-held : goal.whole_of-second-requires-clause-held
-whole_of-second-requires-clause-held g t c =
-    let few : length c.set_within-first.new.nodes ≡ length c.args.leaves.now / 2 - 1 = c.set_within-first.auto.nodes ∙ length-take-le _ _ (omega arith) in
-    first_other g.K.Choose.choice g.K.Choose.nothing g.met.K.Choose.laws c.args.leaves.now c.args.nodes.now (omega arith) c.requires.enough_nodes c.requires.held c.args.slot c.args.leaf
-    c.if-slot-half.true c.set_within-first.new.leaves c.set_within-first.new.nodes c.set_within-first.ensures.replaced few
+pub whole_of-requires-else-slot-half-clause-held : goal.whole_of-requires-else-slot-half-clause-held
+whole_of-requires-else-slot-half-clause-held g t c =
+    first_held g.K.Choose.choice g.K.Choose.nothing (omega arith) c.requires.held c.split_at_mut-first.ensures.front c.split_at_mut-first_nodes.ensures.front
 
-pub whole_of-first-requires-clause-held : goal.whole_of-first-requires-clause-held
-whole_of-first-requires-clause-held g t c = first_held g.K.Choose.choice g.K.Choose.nothing c.args.leaves.now c.args.nodes.now (omega arith) c.requires.held
-
-pub returns-clause-replaced : goal.returns-clause-replaced
-returns-clause-replaced g t c = elim c.if-slot-half.branch [
-  | then-slot-half w ↦ (
-      let few : length w.set_within-first.new.nodes ≡ length c.args.leaves.now / 2 - 1 = w.set_within-first.auto.nodes ∙ length-take-le _ _ (omega arith) in
-      w.leaves-is ∙ first_replaced g.K.Choose.choice g.K.Choose.nothing g.met.K.Choose.laws c.args.leaves.now c.args.nodes.now (omega arith) c.requires.enough_nodes c.requires.held c.args.slot c.args.leaf
-      w.if-slot-half.true w.set_within-first.new.leaves w.set_within-first.new.nodes w.set_within-first.ensures.replaced few)
-  | else-slot-half w ↦
-      w.leaves-is ∙ second_replaced g.K.Choose.choice g.K.Choose.nothing g.met.K.Choose.laws c.args.leaves.now c.args.nodes.now (omega arith) c.requires.enough_nodes c.requires.held c.args.slot c.args.leaf
-      w.if-slot-half.false c.requires.slot_within w.set_within-second.new.leaves w.set_within-second.new.nodes w.set_within-second.ensures.replaced
-]
+pub set_within-requires-else-slot-half : goal.set_within-requires-else-slot-half
+set_within-requires-else-slot-half g t c κs within =
+    let long : length c.split_at_mut-first.result.1.now ≡ length c.args.leaves.now - length c.args.leaves.now / 2 = omega (arith, c.split_at_mut-first.ensures.back_len) in
+    let less = c.split_at_mut-first_nodes.ensures.back_len in
+    let step = halvings_second (length c.args.leaves.now) c.args.slot (omega arith) c.if-slot-half.false in
+    let held = second_held g.K.Choose.choice g.K.Choose.nothing (omega arith) c.requires.held c.split_at_mut-first.ensures.back c.split_at_mut-first_nodes.ensures.back c.split_at_mut-node.ensures.back in
+    (omega (arith, c.decreases, long), (within.0, (within.1, (omega (arith, long), (omega (arith, long, less, c.split_at_mut-node.ensures.back_len), (held, rw long (omega (arith, step, c.requires.countable))))))))
 
 pub choose-chosen-requires : goal.choose-chosen-requires
-choose-chosen-requires g t c =
-    let step = halvings_first (length c.args.leaves.now) c.args.slot (omega arith) c.if-slot-half.true in
-    let counted = rw (half_long c.args.leaves.now) at c.set_within-first.ensures.counted in
-    omega (arith, step, counted, c.requires.countable)
-
-pub choose-chosen-requires-else-slot-half : goal.choose-chosen-requires-else-slot-half
-choose-chosen-requires-else-slot-half g t c =
-    let step = halvings_second (length c.args.leaves.now) c.args.slot (omega arith) c.if-slot-half.false in
-    let counted = rw (rest_long c.args.leaves.now) at c.set_within-second.ensures.counted in
-    omega (arith, step, counted, c.requires.countable)
+choose-chosen-requires g t c = elim c.if-slot-half.branch [
+  | then-slot-half w ↦ (
+      let step = halvings_first (length c.args.leaves.now) c.args.slot (omega arith) w.if-slot-half.true in
+      rw w.count-is (omega (arith, step, rw c.split_at_mut-first.ensures.front_len at w.set_within.ensures.counted, c.requires.countable)))
+  | else-slot-half w ↦ (
+      let step = halvings_second (length c.args.leaves.now) c.args.slot (omega arith) w.if-slot-half.false in
+      let long : length c.split_at_mut-first.result.1.now ≡ length c.args.leaves.now - length c.args.leaves.now / 2 = omega (arith, c.split_at_mut-first.ensures.back_len) in
+      rw w.count-is (omega (arith, step, rw long at w.set_within-else-slot-half.ensures.counted, c.requires.countable)))
+]
 
 pub returns-clause-counted : goal.returns-clause-counted
 returns-clause-counted g t c = elim c.if-slot-half.branch [
   | then-slot-half w ↦ (
       let step = halvings_first (length c.args.leaves.now) c.args.slot (omega arith) w.if-slot-half.true in
-      let counted = rw (half_long c.args.leaves.now) at w.set_within-first.ensures.counted in
-      rw w.count-is (omega (arith, step, counted, w.choose-chosen.ensures.counted)))
+      omega (arith, step, rw c.split_at_mut-first.ensures.front_len at w.set_within.ensures.counted, ap g.K.Choose.number w.count-is, c.choose-chosen.ensures.counted))
   | else-slot-half w ↦ (
       let step = halvings_second (length c.args.leaves.now) c.args.slot (omega arith) w.if-slot-half.false in
-      let counted = rw (rest_long c.args.leaves.now) at w.set_within-second.ensures.counted in
-      rw w.count-is (omega (arith, step, counted, w.choose-chosen-else-slot-half.ensures.counted)))
+      let long : length c.split_at_mut-first.result.1.now ≡ length c.args.leaves.now - length c.args.leaves.now / 2 = omega (arith, c.split_at_mut-first.ensures.back_len) in
+      omega (arith, step, rw long at w.set_within-else-slot-half.ensures.counted, ap g.K.Choose.number w.count-is, c.choose-chosen.ensures.counted))
+]
+
+pub returns-clause-replaced : goal.returns-clause-replaced
+returns-clause-replaced g t c = elim c.if-slot-half.branch [
+  | then-slot-half w ↦ w.leaves-is ∙ set_first c.split_at_mut-first.result.0.now c.split_at_mut-first.result.1.now c.args.slot c.args.leaf c.split_at_mut-first.ensures.value (omega (arith, c.split_at_mut-first.ensures.front_len, w.if-slot-half.true)) w.set_within.ensures.replaced
+  | else-slot-half w ↦ w.leaves-is ∙ set_second c.split_at_mut-first.result.0.now c.split_at_mut-first.result.1.now c.args.slot c.args.leaf c.split_at_mut-first.ensures.value (length c.args.leaves.now / 2) c.split_at_mut-first.ensures.front_len w.if-slot-half.false w.set_within-else-slot-half.ensures.replaced
 ]
 
 pub returns-clause-whole : goal.returns-clause-whole
-returns-clause-whole g t c = elim c.if-slot-half.branch [
-  | then-slot-half w ↦ (
-      let few : length w.set_within-first.new.nodes ≡ length c.args.leaves.now / 2 - 1 = w.set_within-first.auto.nodes ∙ length-take-le _ _ (omega arith) in
-      let rest = first_rest g.K.Choose.choice g.K.Choose.nothing g.met.K.Choose.laws c.args.leaves.now c.args.nodes.now (omega arith) c.requires.enough_nodes c.requires.held c.args.slot c.args.leaf
-      w.if-slot-half.true w.set_within-first.new.leaves w.set_within-first.new.nodes w.set_within-first.ensures.replaced few in
-      let more = w.whole_of-second.ensures ∙ ap (total g.K.Choose.choice g.K.Choose.nothing) rest in
-      w.chosen-is ∙ w.choose-chosen.ensures.chosen
-      ∙ chosen_of_both g.K.Choose.choice g.K.Choose.nothing g.met.K.Choose.laws w.set_within-first.new.leaves (drop (length c.args.leaves.now / 2) c.args.leaves.now) w.set_within-first.result w.whole_of-second.result w.set_within-first.ensures.whole more
-      ∙ ap (total g.K.Choose.choice g.K.Choose.nothing) (sym w.leaves-is))
-  | else-slot-half w ↦
-      w.chosen-is ∙ w.choose-chosen-else-slot-half.ensures.chosen
-      ∙ second_whole g.K.Choose.choice g.K.Choose.nothing g.met.K.Choose.laws c.args.leaves.now c.args.nodes.now (omega arith) c.requires.enough_nodes c.requires.held c.args.slot c.args.leaf
-      w.if-slot-half.false c.requires.slot_within w.set_within-second.new.leaves w.set_within-second.new.nodes w.set_within-second.ensures.replaced w.whole_of-first.result w.set_within-second.result
-      w.whole_of-first.ensures w.set_within-second.ensures.whole
-      ∙ ap (total g.K.Choose.choice g.K.Choose.nothing) (sym w.leaves-is)
+returns-clause-whole g t c = c.choose-chosen.ensures.chosen ∙ elim c.if-slot-half.branch [
+  | then-slot-half w ↦ rw w.first_whole-is (chosen_of_both g.K.Choose.choice g.K.Choose.nothing g.met.K.Choose.laws w.set_within.new.leaves c.split_at_mut-first.result.1.now w.leaves-is w.set_within.ensures.whole w.whole_of.ensures)
+  | else-slot-half w ↦ rw w.first_whole-is (chosen_of_both g.K.Choose.choice g.K.Choose.nothing g.met.K.Choose.laws c.split_at_mut-first.result.0.now w.set_within-else-slot-half.new.leaves w.leaves-is w.whole_of-else-slot-half.ensures w.set_within-else-slot-half.ensures.whole)
 ]
 
 pub returns-clause-holds : goal.returns-clause-holds
-returns-clause-holds g t c = elim c.if-slot-half.branch [
-  | then-slot-half w ↦ (
-      let few : length w.set_within-first.new.nodes ≡ length c.args.leaves.now / 2 - 1 = w.set_within-first.auto.nodes ∙ length-take-le _ _ (omega arith) in
-      rw (w.leaves-is, w.nodes-is) (first_holds g.K.Choose.choice g.K.Choose.nothing g.met.K.Choose.laws c.args.leaves.now c.args.nodes.now (omega arith) c.requires.enough_nodes c.requires.held c.args.slot c.args.leaf
-      w.if-slot-half.true w.set_within-first.new.leaves w.set_within-first.new.nodes w.set_within-first.ensures.replaced few w.set_within-first.ensures.holds c.if-slot-half.chosen
-      (returns-clause-whole g t c ∙ ap (total g.K.Choose.choice g.K.Choose.nothing) w.leaves-is)))
-  | else-slot-half w ↦
-      rw (w.leaves-is, w.nodes-is) (second_holds g.K.Choose.choice g.K.Choose.nothing g.met.K.Choose.laws c.args.leaves.now c.args.nodes.now (omega arith) c.requires.enough_nodes c.requires.held c.args.slot c.args.leaf
-      w.if-slot-half.false c.requires.slot_within w.set_within-second.new.leaves w.set_within-second.new.nodes w.set_within-second.ensures.replaced w.set_within-second.ensures.holds c.if-slot-half.chosen
-      (returns-clause-whole g t c ∙ ap (total g.K.Choose.choice g.K.Choose.nothing) w.leaves-is))
-]
+returns-clause-holds g t c =
+    let first = c.split_at_mut-first.ensures in
+    let first_nodes = c.split_at_mut-first_nodes.ensures in
+    let node = c.split_at_mut-node.ensures in
+    elim c.if-slot-half.branch [
+      | then-slot-half w ↦
+          rw (w.leaves-is, w.first_nodes-is, w.second_nodes-is) (both_held g.K.Choose.choice g.K.Choose.nothing w.set_within.new.leaves c.split_at_mut-first.result.1.now w.set_within.new.nodes c.split_at_mut-node.result.0.now c.split_at_mut-node.result.1.now c.choose-chosen.result
+          (length c.args.leaves.now) (omega arith) (w.set_within.auto.leaves ∙ first.front_len) (omega (arith, w.set_within.auto.leaves, first.front_len, first.back_len)) (w.set_within.auto.nodes ∙ first_nodes.front_len) node.front_len
+          (returns-clause-whole g t c ∙ ap (total g.K.Choose.choice g.K.Choose.nothing) w.leaves-is) w.set_within.ensures.holds (second_held g.K.Choose.choice g.K.Choose.nothing (omega arith) c.requires.held first.back first_nodes.back node.back))
+      | else-slot-half w ↦
+          rw (w.leaves-is, w.first_nodes-is, w.second_nodes-is) (both_held g.K.Choose.choice g.K.Choose.nothing c.split_at_mut-first.result.0.now w.set_within-else-slot-half.new.leaves c.split_at_mut-first_nodes.result.0.now c.split_at_mut-node.result.0.now w.set_within-else-slot-half.new.nodes c.choose-chosen.result
+          (length c.args.leaves.now) (omega arith) first.front_len (omega (arith, w.set_within-else-slot-half.auto.leaves, first.front_len, first.back_len)) first_nodes.front_len node.front_len
+          (returns-clause-whole g t c ∙ ap (total g.K.Choose.choice g.K.Choose.nothing) w.leaves-is) (first_held g.K.Choose.choice g.K.Choose.nothing (omega arith) c.requires.held first.front first_nodes.front) w.set_within-else-slot-half.ensures.holds)
+    ]
