@@ -5,6 +5,7 @@ use Rattle.std.specs.Int.{w64}
 use Rattle.std.specs.declared.result.Result.{Result}
 use Rattle.std.proofs.lemmas.Result.{IfErr-weaker, IfOk-weaker}
 use Rattle.nextest_config_values.specs.Identifier.{HasNoColon, IsCutAtColon, same_cut, uncut}
+use Rattle.nextest_config_values.specs.Once.{IsJudgedOnce}
 use Rattle.nextest_config_values.proofs.Faults.{fault_mapped}
 use Rattle.nextest_config_elements.specs.MaxFail.{bad_count, bad_mode, HasCount, IsAllText, IsBadCount, IsBadMode, IsCountFault, IsCountLimit, IsCountText, IsLimitFault, IsLimitText, IsNoMode, IsNotPositive, IsParted, limit_fault, LimitFault, MeansMode, IsNumberText, mode_word, not_positive, number_parts, one_number, RefusesLimit}
 use Rattle.nextest_config_elements.specs.declared.max_fail.CountFault.{CountFault}
@@ -72,7 +73,7 @@ not_bad_count count max_fail not_positive h b = count_positive count max_fail h 
 same_number : (count : List ℕ) (m n : ℕ) → IsCountText count m → IsCountText count n → m ≡ n
 same_number count m n h k = let same = one_number count _ _ h.number k.number in cc same
 
-pub one_limit : (text : List ℕ) (a b : MaxFail) → IsLimitText text a → IsLimitText text b → a ≡ b
+one_limit : (text : List ℕ) (a b : MaxFail) → IsLimitText text a → IsLimitText text b → a ≡ b
 one_limit text All All h k = refl
 one_limit text All (Count n mode) h k = absurd (k.1.not_all h)
 one_limit text (Count m mode) All h k = absurd (h.1.not_all k)
@@ -90,7 +91,7 @@ no_limit_without_count text count mode All has none h = has.not_all h
 no_limit_without_count text count mode (Count n other) has none h =
     none n (subst (λ c. IsCountText c n) (same_count text h.0 count other mode h.1 has).0 h.2)
 
-pub limit_not_faulty : (text : List ℕ) (limit : MaxFail) (fault : LimitFault) → IsLimitText text limit → IsLimitFault text fault → ⊥
+limit_not_faulty : (text : List ℕ) (limit : MaxFail) (fault : LimitFault) → IsLimitText text limit → IsLimitFault text fault → ⊥
 limit_not_faulty text limit fault h (inl b) = no_limit_at_bad_mode text fault limit b h
 limit_not_faulty text limit fault h (inr b) = no_limit_without_count text b.0 b.1 limit b.2 (λ max_fail count. not_bad_count b.0 max_fail fault count b.3) h
 
@@ -129,13 +130,16 @@ one_bad_count count e f a b = search (rules, reason_not_in)
 one_bad_mode : (text : List ℕ) (e f : LimitFault) → IsBadMode text e → IsBadMode text f → e ≡ f
 one_bad_mode text e f a b = a.5 ∙ ap bad_mode (same_cut text a.1 a.2 b.1 b.2 a.3 b.3).1 ∙ sym b.5
 
-pub one_limit_fault : (text : List ℕ) (e f : LimitFault) → IsLimitFault text e → IsLimitFault text f → e ≡ f
+one_limit_fault : (text : List ℕ) (e f : LimitFault) → IsLimitFault text e → IsLimitFault text f → e ≡ f
 one_limit_fault text e f (inl a) (inl b) = one_bad_mode text e f a b
 one_limit_fault text e f (inl a) (inr b) = absurd (no_bad_mode text b.0 b.1 e b.2 a)
 one_limit_fault text e f (inr a) (inl b) = absurd (no_bad_mode text a.0 a.1 f a.2 b)
 one_limit_fault text e f (inr a) (inr b) =
     let same = same_count text a.0 b.0 a.1 b.1 a.2 b.2 in
     one_bad_count b.0 e f (subst (λ count. IsBadCount count e) same.0 a.3) b.3
+
+pub limits_judged_once : IsJudgedOnce IsLimitText IsLimitFault
+limits_judged_once = record { one_meaning = one_limit; one_fault = one_limit_fault; never_both = limit_not_faulty }
 
 -- ---- the count of a text
 

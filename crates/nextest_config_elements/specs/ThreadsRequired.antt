@@ -1,8 +1,8 @@
 -- The setting `threads-required`: a positive integer, or one of two words.
-use Rattle.std.specs.Prelude.{◌≡◌, ◌≢◌, ℕ, List, codes, Option, Some, None}
-use Rattle.std.proofs.Common.{sym, ◌∙◌, rules}
+use Rattle.std.specs.Prelude.{◌≡◌, ℕ, List, codes, Option, Some, None}
+use Rattle.std.proofs.Common.{rules}
 use Rattle.toml.specs.Data.{Data, as_integer, as_str}
-use Rattle.nextest_config_values.specs.Read.{in_range, IsCount, kind, made_of, Reading, wrong_kind, wrong_value}
+use Rattle.nextest_config_values.specs.Read.{in_range, IsCount, kind, made_of, one_that, Reading, wrong_kind, wrong_value}
 use Rattle.nextest_config_elements.specs.declared.threads_required.ThreadsRequired.{ThreadsRequired}
 use Rattle.nextest_config_elements.specs.declared.threads_required.ThreadsRequired.TheVariants.{Count, NumCpus, NumTestThreads}
 
@@ -28,17 +28,8 @@ one_threads held x y a b = search rules
 
 -- a text that is the word of a setting
 abbrev pub threads_in : List ℕ → Reading Data ThreadsRequired
-threads_in held = record {
-  means = λ value threads. threads_text threads ≡ Some held;
-  faults = λ value at fault. ((threads : ThreadsRequired) → threads_text threads ≢ Some held)
-      × (fault ≡ wrong_value value at threads_expected);
-  takes_memory = λ value. ⊥;
-  law = record {
-    one_meaning = λ value. one_threads held;
-    one_fault = λ value at f g a b. a.1 ∙ sym b.1;
-    never_both = λ value at x f a b. b.0 x a;
-  };
-}
+threads_in held = one_that (λ threads. threads_text threads ≡ Some held) (one_threads held)
+    (λ value at. wrong_value value at threads_expected)
 
 -- an integer that is a count, or a text
 abbrev pub threads_reading : Reading Data ThreadsRequired

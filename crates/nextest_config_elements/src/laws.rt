@@ -4,6 +4,7 @@ ghost use Rattle.std.specs.Prelude.{◌≡◌, ◌↔◌, ℕ, ◌<◌, ◌≤�
 ghost use Rattle.std.specs.Ordering.{MatchOrdering};
 ghost use Rattle.nextest_config_values.specs.Equality.{IsCopy, IsEquality, IsEqualityBy};
 ghost use Rattle.nextest_config_values.specs.Helpers.Paths.{relative_path_reading};
+ghost use Rattle.nextest_config_values.specs.Once.{IsJudgedOnce};
 ghost use Rattle.nextest_config_values.specs.Read.{IsReading};
 ghost use Rattle.nextest_config_elements.specs.LeakTimeout.{leak_timeout_reading};
 ghost use Rattle.nextest_config_elements.specs.MaxFail.{fail_fast_reading, IsLimitFault, IsLimitText, IsReached, limit_fault, limit_text, LimitFault};
@@ -24,17 +25,14 @@ use crate::slow_timeout::{SlowTimeout, SlowTimeoutResult};
 use crate::threads_required::ThreadsRequired;
 
 /// No text has two fail limits, two faults as one, or both.
+#[tactic(auto, using(crate::proofs::Limits::limits_judged_once))]
 pub fn law_limit_once()
-    ensures one_limit { (text : List ℕ) (limit other : MaxFail)
-        → IsLimitText text limit → IsLimitText text other → limit ≡ other }
-    ensures one_fault { (text : List ℕ) (fault other : LimitFault)
-        → IsLimitFault text fault → IsLimitFault text other → fault ≡ other }
-    ensures never_both { (text : List ℕ) (limit : MaxFail) (fault : LimitFault)
-        → IsLimitText text limit → IsLimitFault text fault → ⊥ }
+    ensures { IsJudgedOnce IsLimitText IsLimitFault }
 {}
 
 /// The printed text of a limit has that limit, where there is none and for a count from 1 to
 /// `isize::MAX`.
+#[tactic(auto, using(crate::proofs::Printed::limit_printed))]
 pub fn law_printed_limit_reads_back()
     ensures all { IsLimitText (limit_text All) All }
     ensures count { (max_fail : ℕ) (mode : TerminateMode) → 0 < max_fail → max_fail < 2 ^ 63

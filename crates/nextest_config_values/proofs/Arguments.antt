@@ -3,6 +3,7 @@ use Rattle.std.proofs.Common.{◌≡◌, ◌∙◌, ℕ, List, Option, Some, Non
 use Rattle.nextest_config_values.specs.Helpers.Identifiers.{IsPlainIdentifier}
 use Rattle.nextest_config_values.specs.Helpers.Paths.{BeginsWithSlash}
 use Rattle.nextest_config_values.specs.Identifier.{IsCutAtColon, IsToolName, IsToolNameFault, IsToolNameFlaw, NameFault, no_normal_fault, one_normal_fault, one_tool_name_flaw, same_cut, tool_name_not_flawed, ToolNameFlaw, uncut}
+use Rattle.nextest_config_values.specs.Once.{IsJudgedOnce}
 use Rattle.nextest_config_values.specs.Read.{FaultOrMemory, one_then}
 use Rattle.nextest_config_values.specs.declared.tool_config.ToolConfigFileParseError.{ToolConfigFileParseError}
 use Rattle.nextest_config_values.proofs.Faults.{fault_mapped}
@@ -27,7 +28,7 @@ one_parts_fault text name path = one_then
     (λ tool other a b. a.1 ∙ sym b.1)
     (λ tool. one_path_fault text path)
 
-pub one_argument_fault : (text : List ℕ) (e f : ArgumentFault) → IsArgumentFault text e → IsArgumentFault text f → e ≡ f
+one_argument_fault : (text : List ℕ) (e f : ArgumentFault) → IsArgumentFault text e → IsArgumentFault text f → e ≡ f
 one_argument_fault text e f (inl a) b = search (rules, uncut)
 one_argument_fault text e f (inr a) (inl b) = absurd (uncut text a.0 a.1 b.0 a.2)
 one_argument_fault text e f (inr a) (inr b) =
@@ -43,6 +44,9 @@ argument_not_refused text a f h (inl b) = uncut text h.name a.path b.0 h.cut
 argument_not_refused text a f h (inr b) =
     let same = same_cut text h.name a.path b.0 b.1 h.cut b.2 in
     no_parts_fault text h.name a.tool a.path f h.tool h.absolute (rw (same.0, same.1) b.3)
+
+pub arguments_judged_once : IsJudgedOnce IsToolArgument IsArgumentFault
+arguments_judged_once = record { one_meaning = one_argument; one_fault = one_argument_fault; never_both = argument_not_refused }
 
 -- ---- refusals
 

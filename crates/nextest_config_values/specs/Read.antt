@@ -13,4 +13,4 @@ pub use FromToml.{IsReading, IsRefusal, Reading, RefusesBy}
 pub use Plain.{bool_reading, count_reading, in_range, IsCount, IsU32, MeansNumber, number_reading, text_expected, text_reading, u32_reading}
 pub use Word.{value_of, with_word, word_reading, words_text}
 pub use Field.{at_key, optional, or_default, required}
-pub use Readings.{behind, both, Check, either, held, held_at, in_memory, kind, made_of, meaning, no_value, one_then, only, outside, rule, rule_check, Then, then, wrong_kind}
+pub use Readings.{behind, both, Check, either, held, held_at, in_memory, kind, made_of, meaning, no_value, one_that, one_then, only, outside, rule, rule_check, Then, then, wrong_kind}

@@ -8,6 +8,7 @@ ghost use Rattle.nextest_config_values.specs.Duration.{IsDuration, IsDurationFau
 ghost use Rattle.nextest_config_values.specs.declared.duration.DurationFault.{DurationFault};
 ghost use Rattle.nextest_config_values.specs.Equality.{IsCopy, IsEquality, IsEqualityBy, IsEqualityOfTold};
 ghost use Rattle.nextest_config_values.specs.Identifier.{identifier_fault, IdentifierFlaw, IsIdentifier, IsIdentifierFault, IsToolName, IsToolNameFault, NameFault, normal_chars, SameAnswers, tool_name_fault, ToolNameFlaw};
+ghost use Rattle.nextest_config_values.specs.Once.{IsJudgedOnce};
 ghost use Rattle.nextest_config_values.specs.Read.{broken_rule, fault_of, reason_of};
 ghost use Rattle.nextest_config_values.specs.ToolConfig.{Argument, argument_fault, argument_of, ArgumentFault, IsArgumentFault, IsToolArgument};
 ghost use Rattle.nextest_config_values.specs.declared.track_default.TrackDefault.{TrackDefault};
@@ -21,32 +22,21 @@ use crate::track_default::TrackDefault;
 use std::hash::Hash;
 
 /// No text has two identifiers, two faults as one, or both.
+#[tactic(auto, using(crate::specs::Identifier::Laws::identifiers_judged_once))]
 pub fn law_identifier_once()
-    ensures one_identifier { (text m n : List ℕ) → IsIdentifier text m → IsIdentifier text n
-        → m ≡ n }
-    ensures one_fault { (text : List ℕ) (e f : NameFault IdentifierFlaw)
-        → IsIdentifierFault text e → IsIdentifierFault text f → e ≡ f }
-    ensures never_both { (text n : List ℕ) (f : NameFault IdentifierFlaw)
-        → IsIdentifier text n → IsIdentifierFault text f → ⊥ }
+    ensures { IsJudgedOnce IsIdentifier IsIdentifierFault }
 {}
 
 /// No text has two tool names, two faults as one, or both.
+#[tactic(auto, using(crate::specs::Identifier::Laws::tool_names_judged_once))]
 pub fn law_tool_name_once()
-    ensures one_name { (text m n : List ℕ) → IsToolName text m → IsToolName text n → m ≡ n }
-    ensures one_fault { (text : List ℕ) (e f : NameFault ToolNameFlaw)
-        → IsToolNameFault text e → IsToolNameFault text f → e ≡ f }
-    ensures never_both { (text n : List ℕ) (f : NameFault ToolNameFlaw)
-        → IsToolName text n → IsToolNameFault text f → ⊥ }
+    ensures { IsJudgedOnce IsToolName IsToolNameFault }
 {}
 
 /// No text has two tool arguments, two faults as one, or both.
+#[tactic(auto, using(crate::proofs::Arguments::arguments_judged_once))]
 pub fn law_argument_once()
-    ensures one_argument { (text : List ℕ) (a b : Argument)
-        → IsToolArgument text a → IsToolArgument text b → a ≡ b }
-    ensures one_fault { (text : List ℕ) (e f : ArgumentFault)
-        → IsArgumentFault text e → IsArgumentFault text f → e ≡ f }
-    ensures never_both { (text : List ℕ) (a : Argument) (f : ArgumentFault)
-        → IsToolArgument text a → IsArgumentFault text f → ⊥ }
+    ensures { IsJudgedOnce IsToolArgument IsArgumentFault }
 {}
 
 /// Identifiers and tool names are ordered, compared and hashed as their texts are.
@@ -75,15 +65,11 @@ pub fn law_same_normal_form()
 
 /// No text is spelled by two lists of items, wherever white space stands; none has two durations,
 /// two faults as one, or both.
+#[tactic(auto, using(crate::specs::Duration::Laws::one_spelling, crate::specs::Duration::Laws::durations_judged_once))]
 pub fn law_duration_once()
     ensures one_spelling { (text : List ℕ) (items others : List Item)
         → Spells items text → Spells others text → items ≡ others }
-    ensures one_duration { (text : List ℕ) (m n : ℕ) → IsDuration text m → IsDuration text n
-        → m ≡ n }
-    ensures one_fault { (text : List ℕ) (e f : DurationFault)
-        → IsDurationFault text e → IsDurationFault text f → e ≡ f }
-    ensures never_both { (text : List ℕ) (nanoseconds : ℕ) (f : DurationFault)
-        → IsDuration text nanoseconds → IsDurationFault text f → ⊥ }
+    ensures once { IsJudgedOnce IsDuration IsDurationFault }
 {}
 
 /// Values are equal exactly where they say the same. Of refusals that may hold one of a name this

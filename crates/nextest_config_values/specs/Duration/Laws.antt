@@ -10,9 +10,10 @@ use Rattle.std.specs.List.{AllByRecursion}
 use Rattle.std.specs.Str.Parse.{digits_value}
 use Rattle.toml.specs.Data.{Data, as_str}
 use Rattle.nextest_config_values.specs.Duration.Grammar.{AreAll, BeginsWith, EndsWith, IsDuration, IsDurationFault, IsEndFault, IsFaultBehind, IsFront, IsItemText, IsLongestFront, IsNext, IsNextFault, IsRun, IsUncut, Item, Spells, is_in_word, length_in, offset, total, unit_length, units}
+use Rattle.nextest_config_values.specs.Once.{IsJudgedOnce}
 use Rattle.nextest_config_values.specs.Read.Fault.{wrong_value}
 use Rattle.nextest_config_values.specs.Read.FromToml.{Reading}
-use Rattle.nextest_config_values.specs.Read.Readings.{kind, wrong_kind}
+use Rattle.nextest_config_values.specs.Read.Readings.{kind, one_that, wrong_kind}
 use Rattle.nextest_config_values.specs.declared.duration.DurationFault.{DurationFault}
 
 -- ---- characters
@@ -339,9 +340,9 @@ fronts_of_each_other items others (item ∷ more) rest e f =
     ))
 
 -- no text is spelled by two lists of items
-pub one_spelling : (items others : List Item) (text : List ℕ) → Spells items text
+pub one_spelling : (text : List ℕ) (items others : List Item) → Spells items text
     → Spells others text → items ≡ others
-one_spelling items others text a b =
+one_spelling text items others a b =
     let there = covers (λ item. Unit {0}) items others text [] text [] a b refl
     (λ ends begins. begins) (λ ends begins. begins) nothing_stops (everywhere others) in
     let back = covers (λ item. Unit {0}) others items text [] text [] b a refl
@@ -350,7 +351,7 @@ one_spelling items others text a b =
 
 pub one_duration : (text : List ℕ) (m n : ℕ) → IsDuration text m → IsDuration text n → m ≡ n
 one_duration text m n a b =
-    sym a.sum ∙ ap total (one_spelling a.items b.items (chars text) a.spelled b.spelled) ∙ b.sum
+    sym a.sum ∙ ap total (one_spelling (chars text) a.items b.items a.spelled b.spelled) ∙ b.sum
 
 -- ---- one fault
 
@@ -372,7 +373,7 @@ one_longest text front behind other rest items others a b =
     in (
       same.0,
       same.1,
-      one_spelling items others other (rw same.0 at a.is_front.spelled)
+      one_spelling other items others (rw same.0 at a.is_front.spelled)
           b.is_front.spelled,
     )
 
@@ -427,10 +428,17 @@ never_duration_and_fault text nanoseconds fault d (front, behind, items, longest
     let same = same_front front behind (chars text) []
     (sym longest.is_front.whole ∙ sym (append-nil (chars text))) (omega (arith, long, all)) in
     let items_are : items ≡ d.items =
-    one_spelling items d.items (chars text) (rw same.0 at longest.is_front.spelled) d.spelled in
+    one_spelling (chars text) items d.items (rw same.0 at longest.is_front.spelled) d.spelled in
     no_fault_behind front behind items fault (omega (arith, long, all))
     (λ e. d.some (sym items_are ∙ e))
     (subst FitsDuration (sym (ap total items_are ∙ d.sum)) d.sum_fits) told
+
+pub durations_judged_once : IsJudgedOnce IsDuration IsDurationFault
+durations_judged_once = record {
+  one_meaning = one_duration;
+  one_fault = one_duration_fault;
+  never_both = never_duration_and_fault;
+}
 
 -- ---- the reading
 
@@ -440,17 +448,8 @@ duration_expected = codes "a duration"
 
 -- a text that is a duration
 abbrev pub duration_in : List ℕ → Reading Data ℕ
-duration_in held = record {
-  means = λ value. IsDuration held;
-  faults = λ value at fault. ((nanoseconds : ℕ) → ¬ IsDuration held nanoseconds)
-      × (fault ≡ wrong_value value at duration_expected);
-  takes_memory = λ value. ⊥;
-  law = record {
-    one_meaning = λ value. one_duration held;
-    one_fault = λ value at f g a b. a.1 ∙ sym b.1;
-    never_both = λ value at x f a b. b.0 x a;
-  };
-}
+duration_in held = one_that (IsDuration held) (one_duration held)
+    (λ value at. wrong_value value at duration_expected)
 
 -- that many nanoseconds
 abbrev pub duration_reading : Reading Data ℕ

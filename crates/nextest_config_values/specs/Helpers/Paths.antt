@@ -6,7 +6,7 @@ use Rattle.nextest_config_values.specs.Characters.{slash}
 use Rattle.nextest_config_values.specs.Read.Fault.{wrong_value}
 use Rattle.nextest_config_values.specs.Read.FromToml.{Reading}
 use Rattle.nextest_config_values.specs.Read.Plain.{text_expected}
-use Rattle.nextest_config_values.specs.Read.Readings.{kind, wrong_kind}
+use Rattle.nextest_config_values.specs.Read.Readings.{in_memory, kind, one_that, wrong_kind}
 
 -- the text begins with a slash
 abbrev pub BeginsWithSlash : List ℕ → Type 0
@@ -30,17 +30,9 @@ IsRelativePath text = ¬ (BeginsWithSlash text) × ¬ (HasParentSegment text)
 
 -- a text that is a relative path, as it is written
 abbrev pub relative_path_in : List ℕ → Reading Data (List ℕ)
-relative_path_in held = record {
-  means = λ value path. (path ≡ held) × IsRelativePath held;
-  faults = λ value at fault. ¬ (IsRelativePath held)
-      × (fault ≡ wrong_value value at (codes "a relative path with no parent components"));
-  takes_memory = λ value. Unit {0};
-  law = record {
-    one_meaning = λ value x y a b. a.0 ∙ sym b.0;
-    one_fault = λ value at f g a b. a.1 ∙ sym b.1;
-    never_both = λ value at x f a b. b.0 a.1;
-  };
-}
+relative_path_in held =
+    in_memory (one_that (λ path. (path ≡ held) × IsRelativePath held) (λ x y a b. a.0 ∙ sym b.0)
+    (λ value at. wrong_value value at (codes "a relative path with no parent components")))
 
 abbrev pub relative_path_reading : Reading Data (List ℕ)
 relative_path_reading = kind as_str relative_path_in (wrong_kind text_expected)

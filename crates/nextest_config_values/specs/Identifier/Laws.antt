@@ -10,6 +10,7 @@ use Rattle.nextest_config_values.specs.Identifier.ConfigIdentifier.{AreFlawed, H
 use Rattle.nextest_config_values.specs.Identifier.Error.{Component, IdentifierFlaw, NameFault, OneComponent, ToolNameFlaw, Whole, flawed}
 use Rattle.nextest_config_values.specs.Identifier.Normal.{IsNormalFault, IsNormalText, normal_chars}
 use Rattle.nextest_config_values.specs.Identifier.ToolName.{IsToolNameFlaw}
+use Rattle.nextest_config_values.specs.Once.{IsJudgedOnce}
 use Rattle.nextest_config_values.specs.Read.Fault.{Reason, fault_at, identifier, tool_name}
 use Rattle.nextest_config_values.specs.Read.FromToml.{Reading}
 use Rattle.nextest_config_values.specs.Read.Plain.{text_expected}
@@ -145,6 +146,13 @@ module _ {Flaw : Type 0} (IsInGrammar : List ℕ → Type 0) (IsFlaw : List ℕ 
       → IsNormalText IsInGrammar text kept → IsNormalFault IsFlaw text r → ⊥
   no_normal_fault text kept (flawed f x) h a = not_flawed (normal_chars text) f h.0 a.0
 
+  pub names_judged_once : IsJudgedOnce (IsNormalText IsInGrammar) (IsNormalFault IsFlaw)
+  names_judged_once = record {
+    one_meaning = λ text m n a b. a.1 ∙ sym b.1;
+    one_fault = one_normal_fault;
+    never_both = no_normal_fault;
+  }
+
   -- a text whose normal form is of the grammar
   abbrev pub name_in : (NameFault Flaw → Reason) → List ℕ → Reading Data (List ℕ)
   name_in reason text = record {
@@ -162,6 +170,16 @@ module _ {Flaw : Type 0} (IsInGrammar : List ℕ → Type 0) (IsFlaw : List ℕ 
 
   abbrev pub name_reading : (NameFault Flaw → Reason) → Reading Data (List ℕ)
   name_reading reason = kind as_str (name_in reason) (wrong_kind text_expected)
+
+pub identifiers_judged_once : IsJudgedOnce (IsNormalText IsIdentifierForm)
+    (IsNormalFault IsIdentifierFlaw)
+identifiers_judged_once =
+    names_judged_once IsIdentifierForm IsIdentifierFlaw one_identifier_flaw identifier_not_flawed
+
+pub tool_names_judged_once : IsJudgedOnce (IsNormalText IsPlainIdentifier)
+    (IsNormalFault IsToolNameFlaw)
+tool_names_judged_once =
+    names_judged_once IsPlainIdentifier IsToolNameFlaw one_tool_name_flaw tool_name_not_flawed
 
 -- an identifier
 abbrev pub identifier_reading : Reading Data (List ℕ)

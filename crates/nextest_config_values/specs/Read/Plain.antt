@@ -1,10 +1,9 @@
 -- The readings of plain values.
-use Rattle.std.specs.Prelude.{◌≡◌, ◌≢◌, ℕ, ◌<◌, ◌^◌, ℤ, pos, Bool, List, codes}
-use Rattle.std.proofs.Common.{sym, ◌∙◌}
+use Rattle.std.specs.Prelude.{◌≡◌, ℕ, ◌<◌, ◌^◌, ℤ, pos, Bool, List, codes}
 use Rattle.toml.specs.Data.{Data, as_bool, as_integer, as_str}
 use Rattle.nextest_config_values.specs.Read.Fault.{wrong_value}
 use Rattle.nextest_config_values.specs.Read.FromToml.{Reading}
-use Rattle.nextest_config_values.specs.Read.Readings.{in_memory, kind, only, wrong_kind}
+use Rattle.nextest_config_values.specs.Read.Readings.{in_memory, kind, one_that, only, wrong_kind}
 
 -- what a reader of texts expects
 abbrev pub text_expected : List ℕ
@@ -24,22 +23,14 @@ text_reading = in_memory (kind as_str only (wrong_kind text_expected))
 abbrev pub MeansNumber : (ℕ → Type 0) → ℤ → ℕ → Type 0
 MeansNumber IsIn held number = (held ≡ pos number) × IsIn number
 
-pub one_number : (held : ℤ) (x y : ℕ) → held ≡ pos x → held ≡ pos y → x ≡ y
-one_number held x y a b = cc (a, b)
+pub one_number : (IsIn : ℕ → Type 0) (held : ℤ) (x y : ℕ) → MeansNumber IsIn held x
+    → MeansNumber IsIn held y → x ≡ y
+one_number IsIn held x y a b = cc (a.0, b.0)
 
 -- an integer of the range
 abbrev pub in_range : (ℕ → Type 0) → List ℕ → ℤ → Reading Data ℕ
-in_range IsIn expected held = record {
-  means = λ value. MeansNumber IsIn held;
-  faults = λ value at fault. ((number : ℕ) → IsIn number → held ≢ pos number)
-      × (fault ≡ wrong_value value at expected);
-  takes_memory = λ value. ⊥;
-  law = record {
-    one_meaning = λ value x y a b. one_number held x y a.0 b.0;
-    one_fault = λ value at f g a b. a.1 ∙ sym b.1;
-    never_both = λ value at x f a b. b.0 x a.1 a.0;
-  };
-}
+in_range IsIn expected held = one_that (MeansNumber IsIn held) (one_number IsIn held)
+    (λ value at. wrong_value value at expected)
 
 abbrev pub number_reading : (ℕ → Type 0) → List ℕ → Reading Data ℕ
 number_reading IsIn expected = kind as_integer (in_range IsIn expected) (wrong_kind expected)

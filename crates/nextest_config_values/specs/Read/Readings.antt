@@ -31,6 +31,20 @@ no_value fault_of = record {
   };
 }
 
+-- the one result of which this holds; where it holds of none, the value has this fault
+abbrev pub one_that : {D X : Type 0} → (Holds : X → Type 0)
+    → ((x y : X) → Holds x → Holds y → x ≡ y) → (D → List ℕ → Fault) → Reading D X
+one_that {D} {X} Holds one fault_of = record {
+  means = λ value. Holds;
+  faults = λ value at fault. ((x : X) → ¬ Holds x) × (fault ≡ fault_of value at);
+  takes_memory = λ value. ⊥;
+  law = record {
+    one_meaning = λ value. one;
+    one_fault = λ value at f g a b. a.1 ∙ sym b.1;
+    never_both = λ value at x f a b. b.0 x a;
+  };
+}
+
 -- a value of another kind than the expected one
 abbrev pub wrong_kind : {X : Type 0} → List ℕ → Reading Data X
 wrong_kind expected = no_value (λ value at. wrong_type value at expected)
@@ -184,42 +198,30 @@ pub record Check (D : Type 0) : Type 1 where
       → f ≡ g
   pub never_both : (value : D) (at : List ℕ) (f : Fault) → passes value → faults value at f → ⊥
 
-module _ {D X : Type 0} (check : Check D) (reading : Reading D X) (value : D) where
-  abbrev FaultsBehind : List ℕ → Fault → Type 0
-  FaultsBehind at fault = check.faults value at fault
-      ⊎ (check.passes value × reading.faults value at fault)
+-- the check finds this fault, or the value passes, and this is wrong with it
+abbrev pub FaultsBehind : {D : Type 0} → Check D → D → List ℕ → (Fault → Type 0) → Fault → Type 0
+FaultsBehind check value at later fault = check.faults value at fault
+    ⊎ (check.passes value × later fault)
 
-  pub one_fault_behind : (at : List ℕ) (f g : Fault) → FaultsBehind at f → FaultsBehind at g → f ≡ g
-  one_fault_behind at f g a b =
-      search (rules, check.one_fault, check.never_both, reading.law.one_fault)
+module _ {D : Type 0} (check : Check D) (value : D) (at : List ℕ) {later : Fault → Type 0} where
+  pub one_fault_behind : ((f g : Fault) → later f → later g → f ≡ g) → (f g : Fault)
+      → FaultsBehind check value at later f → FaultsBehind check value at later g → f ≡ g
+  one_fault_behind one f g a b = search (rules, check.one_fault, check.never_both, one)
 
-  pub never_both_behind : (at : List ℕ) (x : X) (f : Fault) → check.passes value × reading.means value x
-      → FaultsBehind at f → ⊥
-  never_both_behind at x f a b = search (rules, check.never_both, reading.law.never_both)
-
-module _ {D : Type 0} (check other : Check D) (value : D) (at : List ℕ) where
-  abbrev FaultsOfBoth : Fault → Type 0
-  FaultsOfBoth fault = check.faults value at fault
-      ⊎ (check.passes value × other.faults value at fault)
-
-  pub one_fault_of_both : (f g : Fault) → FaultsOfBoth f → FaultsOfBoth g → f ≡ g
-  one_fault_of_both f g a b = search (rules, check.one_fault, check.never_both, other.one_fault)
-
-  pub never_both_of_both : (f : Fault) → check.passes value × other.passes value → FaultsOfBoth f
-      → ⊥
-  never_both_of_both f a b = search (rules, check.never_both, other.never_both)
+  pub never_both_behind : {A : Type 0} → ((f : Fault) → A → later f → ⊥) → (f : Fault)
+      → check.passes value × A → FaultsBehind check value at later f → ⊥
+  never_both_behind never f a b = search (rules, check.never_both, never)
 
 -- a check, and what comes behind it
 abbrev pub behind : {D X : Type 0} → Check D → Reading D X → Reading D X
 behind check reading = record {
   means = λ value x. check.passes value × reading.means value x;
-  faults = λ value at fault. check.faults value at fault
-      ⊎ (check.passes value × reading.faults value at fault);
+  faults = λ value at. FaultsBehind check value at (reading.faults value at);
   takes_memory = reading.takes_memory;
   law = record {
     one_meaning = λ value x y a b. reading.law.one_meaning value x y a.1 b.1;
-    one_fault = one_fault_behind check reading;
-    never_both = never_both_behind check reading;
+    one_fault = λ value at. one_fault_behind check value at (reading.law.one_fault value at);
+    never_both = λ value at x. never_both_behind check value at (reading.law.never_both value at x);
   };
 }
 
@@ -240,10 +242,9 @@ rule IsBroken broken = behind (rule_check IsBroken broken)
 abbrev pub both : {D : Type 0} → Check D → Check D → Check D
 both check other = record {
   passes = λ value. check.passes value × other.passes value;
-  faults = λ value at fault. check.faults value at fault
-      ⊎ (check.passes value × other.faults value at fault);
-  one_fault = one_fault_of_both check other;
-  never_both = never_both_of_both check other;
+  faults = λ value at. FaultsBehind check value at (other.faults value at);
+  one_fault = λ value at. one_fault_behind check value at (other.one_fault value at);
+  never_both = λ value at. never_both_behind check value at (other.never_both value at);
 }
 
 -- whether a value means something

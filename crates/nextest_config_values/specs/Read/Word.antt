@@ -1,12 +1,12 @@
 -- Enums whose values are words.
-use Rattle.std.specs.Prelude.{◌≡◌, ◌≢◌, ℕ, List, [], ◌∷◌, ◌++◌, map, codes, Option, Some, None, nat_eq, if◌then◌else◌}
+use Rattle.std.specs.Prelude.{◌≡◌, ℕ, List, [], ◌∷◌, ◌++◌, map, codes, Option, Some, None, nat_eq, if◌then◌else◌}
 use Rattle.std.proofs.Common.{sym, ap, ◌∙◌}
 use Rattle.std.specs.Cmp.Lexicographic.{pointwise}
 use Rattle.toml.specs.Data.{Data, as_str}
 use Rattle.nextest_config_values.specs.Read.Fault.{unknown_word}
 use Rattle.nextest_config_values.specs.Read.FromToml.{Reading}
 use Rattle.nextest_config_values.specs.Read.Plain.{text_expected}
-use Rattle.nextest_config_values.specs.Read.Readings.{kind, wrong_kind}
+use Rattle.nextest_config_values.specs.Read.Readings.{kind, one_that, wrong_kind}
 use Rattle.nextest_config_values.specs.Read.Text.{comma_list}
 
 -- a word between backquotes
@@ -42,17 +42,8 @@ module _ {X : Type 0} (all : List X) (word : X → List ℕ)
 
   -- the value whose word is the text
   abbrev pub with_word : List ℕ → Reading Data X
-  with_word held = record {
-    means = λ value x. word x ≡ held;
-    faults = λ value at fault. ((x : X) → word x ≢ held)
-        × (fault ≡ unknown_word held at (words_text (map word all)));
-    takes_memory = λ value. ⊥;
-    law = record {
-      one_meaning = λ value x y a b. one_value x y (a ∙ sym b);
-      one_fault = λ value at f g a b. a.1 ∙ sym b.1;
-      never_both = λ value at x f a b. b.0 x a;
-    };
-  }
+  with_word held = one_that (λ x. word x ≡ held) (λ x y a b. one_value x y (a ∙ sym b))
+      (λ value at. unknown_word held at (words_text (map word all)))
 
   -- a text that is one of these words
   abbrev pub word_reading : Reading Data X

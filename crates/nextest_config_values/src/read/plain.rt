@@ -118,7 +118,7 @@ impl FromToml for NonZeroCount {
 
 // The count that a TOML integer is, if any.
 fn count_of(number: i64) -> Option<NonZeroCount>
-    ensures { MatchOption result ((count : ℕ) → IsCount count → number ≢ pos count)
+    ensures { MatchOption result ((count : ℕ) → ¬ MeansNumber IsCount number count)
         (MeansNumber IsCount number) }
 {
     match usize::try_from(number) {

@@ -16,4 +16,4 @@ returns-else-is_relative_path-clause-refused c =
     let text = string_bytes c.in_ok-path.path in
     let not_relative : ¬ (IsRelativePath text) = λ h. cc (c.is_relative_path.ensures.1 (rw c.as_str.ensures.value h), c.if-is_relative_path.false) in
     rw (held_text value text c.in_ok-path.ensures.meant)
-    (refused_by (relative_path_in text) value c.args.at.now (wrong_value value c.args.at.now (codes "a relative path with no parent components")) c.invalid_value.result (not_relative, refl) c.invalid_value.ensures)
+    (refused_by (relative_path_in text) value c.args.at.now (wrong_value value c.args.at.now (codes "a relative path with no parent components")) c.invalid_value.result ((λ path h. not_relative h.1), refl) c.invalid_value.ensures)

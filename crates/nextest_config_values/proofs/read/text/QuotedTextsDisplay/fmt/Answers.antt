@@ -1,9 +1,9 @@
 use Rattle.std.proofs.Common.{◌≡◌, ℕ, List, [], ◌∷◌, ◌++◌, Bor, String, Global, map, string_bytes, refl, rules, append_assoc}
-use Rattle.std.proofs.Output.{has_written_append, has_written_of_eq}
+use Rattle.std.proofs.Output.{has_written_append, has_written_of_eq, has_written_styled_of_eq}
 use Rattle.std.proofs.lemmas.Map.Iter.{iter_end}
 use Rattle.std.proofs.lemmas.Simd.{map-map}
 use Rattle.std.specs.Map.Iter.{deref}
-use Rattle.nextest_config_values.proofs.Styled.{styled_append, styled_of_eq}
+use Rattle.nextest_config_values.proofs.Styled.{styled_append}
 use Rattle.nextest_config_values.proofs.Joined.{joined_more, separator_behind, separator_more}
 use Rattle.nextest_config_values.specs.Read.{comma_list, quoted_text, quoted_texts}
 use Rattle.nextest_config_values.proofs.read.text.QuotedTextsDisplay.fmt.Goals as goal
@@ -28,7 +28,7 @@ loop-text-preserved g c = (
   λ flush.
       let before = c.loop-text.invariant.3 flush in
       let behind = c.in_ok-write_str.ensures.styled before.flush refl in
-      styled_of_eq _ _ _ _ _ (one_more c.loop-text.yielded c.in-Some.text _ c.loop-text.invariant.1)
+      has_written_styled_of_eq _ _ _ _ _ (one_more c.loop-text.yielded c.in-Some.text _ c.loop-text.invariant.1)
       (styled_append _ _ c.write_str.new.self _ _ _ (styled_append _ _ _ _ _ _ before behind) (rw c.as_str.ensures.value at c.in_ok-write_quoted.ensures.styled behind.flush refl)),
 )
 
@@ -40,4 +40,4 @@ returns-clause-writes g c p ok =
 pub returns-clause-styled : goal.returns-clause-styled
 returns-clause-styled g c flush ok =
     let all : map deref c.loop-text.yielded ≡ c.args.self.now.0.now.keys = search (rules, iter_end) in
-    styled_of_eq _ _ _ _ _ (whole c.loop-text.yielded _ all) (c.loop-text.invariant.3 flush)
+    has_written_styled_of_eq _ _ _ _ _ (whole c.loop-text.yielded _ all) (c.loop-text.invariant.3 flush)
