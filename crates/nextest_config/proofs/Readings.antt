@@ -4,7 +4,7 @@ use Rattle.std.proofs.lemmas.List.{length-map, map-append}
 use Rattle.nextest_config_sources.specs.NextestVersion.Source.{Source}
 use Rattle.nextest_config_lists.specs.Merge.{IsFirstWrong, IsRefusalOfOne, IsRefusalOfPieces}
 use Rattle.nextest_config_sources.specs.NextestVersion.{IsWrong, RefusesSource, Wrong, wrong_of}
-use Rattle.nextest_config.specs.NextestVersion.{AreRead, Configuration, IsErrorOf, IsErrorOfList, IsFirstRefused, IsKindOf, IsReadAs, IsRefusalOf, IsRefusedSo, kind_of, list_refusal, Reads, Refusal, refusal_at, refusal_of, StandsForOne}
+use Rattle.nextest_config.specs.NextestVersion.{AreRead, Configuration, IsErrorOf, IsErrorOfList, IsFirstRefused, IsKindOf, IsReadAs, IsRefusalOf, IsRefusedSo, kind_of, Reads, Refusal, refusal_at, refusal_of, StandsForOne}
 use Rattle.nextest_config.specs.NextestVersion.VersionOnlyLaws.{read_not_refused}
 use Rattle.nextest_config_lists.specs.declared.merge.PieceRefusal.{PieceRefusal}
 use Rattle.nextest_config_lists.specs.declared.merge.PieceRefusal.TheVariants as pieces
@@ -13,8 +13,6 @@ use Rattle.nextest_config_sources.specs.declared.nextest_version.error_kind.Conf
 use Rattle.nextest_config_sources.specs.declared.nextest_version.error_kind.ConfigParseErrorKind.TheVariants as kinds
 use Rattle.nextest_config_sources.proofs.Refusals.{told_twice}
 use Rattle.nextest_config.proofs.Standing.{reads_all}
-use Rattle.nextest_config.specs.declared.nextest_version.error.ListRefusal.{ListRefusal}
-use Rattle.nextest_config.specs.declared.nextest_version.error.ListRefusal.TheVariants as refusals
 use Rattle.nextest_config_lists.proofs.Lists.{zip_middle}
 
 pub reads_not_refused : (sources : List Source) (position : ℕ) (refusal : Refusal) → Reads sources → IsFirstRefused sources position refusal → ⊥
@@ -51,15 +49,15 @@ module _ {X Y : Type 0} (source_of : X → Source) (configuration_of : Y → Con
   )
 
   pub refusal_of_list : (xs : List X) (r : PieceRefusal ConfigParseError) → IsRefusalOfPieces refusal_of (λ x y. StandsForOne (source_of x) (configuration_of y)) (λ x error. IsErrorOf (source_of x) error) xs r
-      → IsRefusalOf (map source_of xs) (list_refusal r)
+      → IsRefusalOf (map source_of xs) r
   refusal_of_list xs (pieces.Refused position error) first = first_refused xs position (refusal_of error) first
   refusal_of_list xs pieces.Memory first = tt
 
 -- a list that reads is refused only where memory runs out
-pub only_memory : {X : Type 0} (sources : List Source) (result : Result X ListRefusal) → Reads sources → IfErr result (IsRefusalOf sources) → IfErr result (λ refusal. refusal ≡ refusals.Memory)
+pub only_memory : {X : Type 0} (sources : List Source) (result : Result X (PieceRefusal ConfigParseError)) → Reads sources → IfErr result (IsRefusalOf sources) → IfErr result (λ refusal. refusal ≡ pieces.Memory)
 only_memory sources (Ok x) reads first = tt
-only_memory sources (Err (refusals.Refused position error)) reads first = absurd (reads_not_refused sources position first.0 reads first.2)
-only_memory sources (Err refusals.Memory) reads first = refl
+only_memory sources (Err (pieces.Refused position error)) reads first = absurd (reads_not_refused sources position first.0 reads first.2)
+only_memory sources (Err pieces.Memory) reads first = refl
 
 -- a list that reads has no error but that memory ran out
 pub no_error_but_memory : (sources : List Source) (error : ConfigParseError) → Reads sources → IsErrorOfList sources error → kind_of error ≡ kinds.Memory

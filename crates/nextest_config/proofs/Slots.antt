@@ -1,20 +1,16 @@
 -- The slots of a board, and the verdict of the sources that they hold.
-use Rattle.std.proofs.Common.{◌≡◌, ℕ, zero, suc, ◌+◌, ◌<◌, List, [], ◌∷◌, ◌++◌, length, get_or, set, replicate, map, Bool, true, false, Option, Some, None, option_map, Result, Ok, Err, IfOk, refl, sym, ap, ap₂, subst, ◌∙◌, arith}
+use Rattle.std.proofs.Common.{◌≡◌, ℕ, zero, suc, ◌+◌, List, [], ◌∷◌, ◌++◌, length, get_or, set, replicate, map, Bool, true, false, Option, Some, None, option_map, Result, Ok, Err, IfOk, refl, sym, ap, ap₂, subst, ◌∙◌, arith}
 use Rattle.std.proofs.Math.Numerals.{add-one}
 use Rattle.std.proofs.lemmas.List.{append_assoc, get_or_at, length_push}
 use Rattle.semver.specs.Identifiers.{parts_of}
 use Rattle.semver.specs.Parse.{Parts}
 use Rattle.semver.specs.declared.Version.{Version}
-use Rattle.nextest_config.specs.Board.Refusals.{IsRefusedPut, IsRefusedSource}
 use Rattle.nextest_config.specs.Board.RolePair.{asked_in, later_asked, later_pair, no_pair, pair_in, version_at}
-use Rattle.nextest_config.specs.Board.Slots.{AreHeld, asked_at, board_list, IsFrom, IsHeld, kept_in, roles_in, slot_of, slots_of}
+use Rattle.nextest_config.specs.Board.Slots.{AreHeld, asked_at, board_list, BoardState, IsFrom, IsHeld, kept_in, roles_in, slot_of, slots_of}
 use Rattle.nextest_config_lists.specs.Merge.{total}
 use Rattle.nextest_config.specs.NextestVersion.Verdict.{Verdict}
 use Rattle.nextest_config_sources.specs.NextestVersion.{is_below, Numbers, place_of, plain, Versions, versions, versions_of}
 use Rattle.nextest_config.specs.NextestVersion.{alone, asked_from, IsSelected, join_kept, join_roles, Kept, no_roles, Roles, roles_from, SourceAsk, StandsIn, unmet, verdict, verdict_of}
-use Rattle.nextest_config_sources.specs.NextestVersion.Source.{Source}
-use Rattle.nextest_config.specs.declared.board.refusal.BoardRefusal.{BoardRefusal}
-use Rattle.nextest_config.specs.declared.board.refusal.BoardRefusal.TheVariants as refusals
 use Rattle.nextest_config.specs.declared.board.role_pair.AskedAt.{AskedAt}
 use Rattle.nextest_config.specs.declared.board.role_pair.RolePair.{RolePair}
 use Rattle.nextest_config_sources.specs.declared.nextest_version.nextest_version_deserialize.NextestVersionDeserialize.{NextestVersionDeserialize}
@@ -26,33 +22,32 @@ use Rattle.nextest_config.proofs.Standing.{stands_alone, stands_in_both}
 
 -- ---- a slot that is changed
 
-pub held_long : (from : ℕ) (sources : List (Option ConfigSource)) (pairs : List RolePair) → AreHeld from sources pairs → length pairs ≡ length sources
-held_long from [] [] held = refl
+-- what the slots hold is as long as the sources and as the pairs
+held_long : (from : ℕ) (sources : List (Option ConfigSource)) (pairs : List RolePair) → AreHeld from sources pairs → (length sources ≡ length (slots_of sources pairs)) × (length pairs ≡ length (slots_of sources pairs))
+held_long from [] [] held = (refl, refl)
 held_long from [] (pair ∷ pairs) held = absurd held
 held_long from (source ∷ sources) [] held = absurd held
-held_long from (source ∷ sources) (pair ∷ pairs) held = ap suc (held_long (suc from) sources pairs held.1)
+held_long from (source ∷ sources) (pair ∷ pairs) held =
+    let rest = held_long (suc from) sources pairs held.1 in
+    (ap suc rest.0, ap suc rest.1)
 
-pub slots_long : (from : ℕ) (sources : List (Option ConfigSource)) (pairs : List RolePair) → AreHeld from sources pairs → length (slots_of sources pairs) ≡ length sources
-slots_long from [] [] held = refl
-slots_long from [] (pair ∷ pairs) held = absurd held
-slots_long from (source ∷ sources) [] held = absurd held
-slots_long from (source ∷ sources) (pair ∷ pairs) held = ap suc (slots_long (suc from) sources pairs held.1)
+-- the same of a board
+pub board_long : (sources : List (Option ConfigSource)) (pairs : List RolePair) (board : BoardState) (selections : ℕ) → AreHeld 0 sources pairs → record { slots = slots_of sources pairs; selections = selections } ≡ board
+    → (length sources ≡ length board.slots) × (length pairs ≡ length board.slots)
+board_long sources pairs board selections held is =
+    let seen = ap (λ (state : BoardState). length state.slots) is in
+    let long = held_long 0 sources pairs held in
+    (long.0 ∙ seen, long.1 ∙ seen)
 
 pub held_set : (from k : ℕ) (sources : List (Option ConfigSource)) (pairs : List RolePair) (source : Option ConfigSource) (pair : RolePair) → AreHeld from sources pairs → IsHeld (from + k) source pair
-    → AreHeld from (set sources k source) (set pairs k pair)
-held_set from k [] [] source pair held one = held
+    → AreHeld from (set sources k source) (set pairs k pair) × (slots_of (set sources k source) (set pairs k pair) ≡ set (slots_of sources pairs) k (slot_of source pair))
+held_set from k [] [] source pair held one = (held, refl)
 held_set from k [] (p ∷ pairs) source pair held one = absurd held
 held_set from k (s ∷ sources) [] source pair held one = absurd held
-held_set from zero (s ∷ sources) (p ∷ pairs) source pair held one = (subst (λ n. IsHeld n source pair) (omega arith) one, held.1)
-held_set from (suc k) (s ∷ sources) (p ∷ pairs) source pair held one = (held.0, held_set (suc from) k sources pairs source pair held.1 (subst (λ n. IsHeld n source pair) (omega arith) one))
-
-pub slots_set : (from k : ℕ) (sources : List (Option ConfigSource)) (pairs : List RolePair) (source : Option ConfigSource) (pair : RolePair) → AreHeld from sources pairs
-    → slots_of (set sources k source) (set pairs k pair) ≡ set (slots_of sources pairs) k (slot_of source pair)
-slots_set from k [] [] source pair held = refl
-slots_set from k [] (p ∷ pairs) source pair held = absurd held
-slots_set from k (s ∷ sources) [] source pair held = absurd held
-slots_set from zero (s ∷ sources) (p ∷ pairs) source pair held = refl
-slots_set from (suc k) (s ∷ sources) (p ∷ pairs) source pair held = ap (λ slots. slot_of s p ∷ slots) (slots_set (suc from) k sources pairs source pair held.1)
+held_set from zero (s ∷ sources) (p ∷ pairs) source pair held one = ((subst (λ n. IsHeld n source pair) (omega arith) one, held.1), refl)
+held_set from (suc k) (s ∷ sources) (p ∷ pairs) source pair held one =
+    let rest = held_set (suc from) k sources pairs source pair held.1 (subst (λ n. IsHeld n source pair) (omega arith) one) in
+    ((held.0, rest.0), ap (λ slots. slot_of s p ∷ slots) rest.1)
 
 pub none_held : (from n : ℕ) → AreHeld from (replicate n None) (replicate n no_pair)
 none_held from zero = tt
@@ -78,12 +73,6 @@ same_version slot (Some version) (numbers, is) = ap Some (by_numbers (parts_of v
 -- the slot keeps the versions that are asked
 pub same_versions : (slot : ℕ) (asked : NextestVersionDeserialize) → AsksPlain (versions_of asked) → versions (option_map version_at (pair_in slot asked).required) (option_map version_at (pair_in slot asked).recommended) ≡ versions_of asked
 same_versions slot asked are = ap₂ versions (same_version slot asked.required are.of_required) (same_version slot asked.recommended are.of_recommended)
-
--- the refusal of a source is that of its put, where the board has the slot
-pub put_refused : (slots slot : ℕ) (source : Source) (refusal : BoardRefusal) → slot < slots → IsRefusedSource source refusal → IsRefusedPut slots slot source refusal
-put_refused slots slot source (refusals.NoSuchSlot told) within refused = absurd refused
-put_refused slots slot source (refusals.Refused it) within refused = (within, refused)
-put_refused slots slot source refusals.Memory within refused = within
 
 -- ---- what is chosen of all slots
 

@@ -16,5 +16,5 @@ pub use nextest_config_sources::nextest_version::{
     ExperimentalDeserialize, KnownFeatures, NextestVersionDeserialize, RepositoryText, SourceText,
     ToolText,
 };
-pub use verdict::{NextestVersionEval, Severity};
+pub use verdict::{NextestVersionEval, Severity, UnmetVersion, VersionRole};
 pub use version_only::VersionOnlyConfig;

@@ -8,7 +8,8 @@ ghost use Rattle.nextest_config_check.specs.Report.{IsReportFor, IsReportForSour
 
 use crate::layout::{self, LayoutFault};
 use nextest_config::nextest_version::{
-    Edition, ExperimentalConfig, ListRefusal, NextestVersionEval, SourceText, VersionOnlyConfig,
+    Edition, ExperimentalConfig, ListRefusal, NextestVersionEval, SourceText, UnmetVersion,
+    VersionOnlyConfig, VersionRole,
 };
 use nextest_config_report::lines::report_text;
 use semver::Version;
@@ -137,11 +138,14 @@ fn report_on_eval(
 fn verdict_outcome(eval: &NextestVersionEval) -> Outcome
     ensures { result ≡ outcome_of (verdict_of eval.now) }
 {
-    match eval {
-        NextestVersionEval::Error { .. } => Outcome::Failed,
-        NextestVersionEval::Satisfied
-        | NextestVersionEval::Warn { .. }
-        | NextestVersionEval::ErrorOverride { .. }
-        | NextestVersionEval::WarnOverride { .. } => Outcome::Passed,
+    match eval.unmet() {
+        Some(
+            UnmetVersion {
+                role: VersionRole::Required,
+                overridden: false,
+                ..
+            },
+        ) => Outcome::Failed,
+        _ => Outcome::Passed,
     }
 }

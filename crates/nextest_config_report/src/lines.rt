@@ -7,8 +7,8 @@ ghost use Rattle.nextest_config.specs.NextestVersion.{arrays_left, errors_left, 
 ghost use Rattle.nextest_config_report.specs.Lines.{array_line, features_text, known_text, read_text, shortfall_text, unknown_line, verdict_text};
 
 use nextest_config::nextest_version::{
-    ArraySources, ConfigExperimental, ConfigSource, ExperimentalConfig, NextestVersionEval,
-    SourceErrors,
+    ArraySources, ConfigExperimental, ExperimentalConfig, NextestVersionEval, SourceErrors,
+    UnmetVersion, VersionRole,
 };
 use nextest_config_values::read::QuotedTexts;
 use semver::Version;
@@ -42,65 +42,39 @@ fn verdict_line(
     ensures { IfOk result (λ text. string_bytes text
         ≡ verdict_text (parts_of current.now) (verdict_of eval.now)) }
 {
-    match eval {
-        NextestVersionEval::Satisfied => format!(in alloc; "satisfied: {current}"),
-        NextestVersionEval::Error {
-            required,
-            current,
-            source,
-        } => shortfall_line(alloc, "error", required, "required", source, current),
-        NextestVersionEval::Warn {
-            recommended,
-            current,
-            source,
-        } => shortfall_line(
-            alloc,
-            "warning",
-            recommended,
-            "recommended",
-            source,
-            current,
-        ),
-        NextestVersionEval::ErrorOverride {
-            required,
-            current,
-            source,
-        } => shortfall_line(
-            alloc,
-            "error (overridden)",
-            required,
-            "required",
-            source,
-            current,
-        ),
-        NextestVersionEval::WarnOverride {
-            recommended,
-            current,
-            source,
-        } => shortfall_line(
-            alloc,
-            "warning (overridden)",
-            recommended,
-            "recommended",
-            source,
-            current,
-        ),
+    let Some(unmet) = eval.unmet() else {
+        return format!(in alloc; "satisfied: {current}");
+    };
+    match (unmet.role, unmet.overridden) {
+        (VersionRole::Required, false) => unmet_line(alloc, &unmet, "error", "required"),
+        (VersionRole::Required, true) => {
+            unmet_line(alloc, &unmet, "error (overridden)", "required")
+        }
+        (VersionRole::Recommended, false) => unmet_line(alloc, &unmet, "warning", "recommended"),
+        (VersionRole::Recommended, true) => {
+            unmet_line(alloc, &unmet, "warning (overridden)", "recommended")
+        }
     }
 }
 
-// The line of a verdict that the current version isn't enough for the one that is asked in a role.
-fn shortfall_line(
+// The line of a verdict that isn't satisfied, with the words of the verdict and of the role.
+fn unmet_line(
     alloc: Global,
+    unmet: &UnmetVersion<'_>,
     says: &str,
-    asked: &Version,
     asks: &str,
-    source: &ConfigSource,
-    current: &Version,
 ) -> Result<String, AllocError>
-    ensures { IfOk result (λ text. string_bytes text ≡ shortfall_text says.now
-        (parts_of asked.now) asks.now (place_of source.now) (parts_of current.now)) }
+    ensures { IfOk result (λ text. string_bytes text
+        ≡ shortfall_text says.now (parts_of unmet.now.version.now) asks.now
+        (place_of unmet.now.source.now) (parts_of unmet.now.current.now)) }
 {
-    format!(in alloc; "{says}: {asked} {asks} by {source}, current {current}")
+    let UnmetVersion {
+        version,
+        source,
+        current,
+        ..
+    } = unmet;
+    format!(in alloc; "{says}: {version} {asks} by {source}, current {current}")
 }
 
 /// Pushes the lines of the features: the words of the known ones, or that there is none, then a

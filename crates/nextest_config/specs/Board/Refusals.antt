@@ -1,5 +1,5 @@
 -- Why a change of a board is refused.
-use Rattle.std.specs.Prelude.{◌≡◌, ℕ, ◌<◌, ◌≤◌}
+use Rattle.std.specs.Prelude.{◌≡◌, ℕ, ◌<◌, ◌≤◌, ◌⊎◌}
 use Rattle.nextest_config.specs.NextestVersion.Error.{refusal_of}
 use Rattle.nextest_config_sources.specs.NextestVersion.Source.{Source}
 use Rattle.nextest_config.specs.NextestVersion.VersionOnly.{IsErrorOf}
@@ -20,7 +20,5 @@ IsRefusedSource source refusals.Memory = Unit {0}
 
 -- the board has no such slot; or it has, and the source is refused, or memory was
 abbrev pub IsRefusedPut : ℕ → ℕ → Source → BoardRefusal → Type 0
-IsRefusedPut slots slot source (refusals.NoSuchSlot told) = (told ≡ slots) × (slots ≤ slot)
-IsRefusedPut slots slot source (refusals.Refused error) = (slot < slots)
-    × IsErrorOf source (refusal_of error)
-IsRefusedPut slots slot source refusals.Memory = slot < slots
+IsRefusedPut slots slot source refusal =
+    IsNoSlot slots slot refusal ⊎ (slot < slots × IsRefusedSource source refusal)

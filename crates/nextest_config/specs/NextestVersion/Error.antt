@@ -6,8 +6,6 @@ use Rattle.nextest_config_sources.specs.NextestVersion.Source.{Place, place_of, 
 use Rattle.nextest_config_lists.specs.declared.merge.PieceRefusal.{PieceRefusal}
 use Rattle.nextest_config_lists.specs.declared.merge.PieceRefusal.TheVariants as pieces
 use Rattle.nextest_config.specs.declared.nextest_version.error.ConfigParseError.{ConfigParseError}
-use Rattle.nextest_config.specs.declared.nextest_version.error.ListRefusal.{ListRefusal}
-use Rattle.nextest_config.specs.declared.nextest_version.error.ListRefusal.TheVariants as refusals
 use Rattle.nextest_config_sources.specs.declared.nextest_version.error_kind.ConfigParseErrorKind.{ConfigParseErrorKind}
 use Rattle.nextest_config_sources.specs.declared.nextest_version.error_kind.ConfigParseErrorKind.TheVariants as kinds
 
@@ -51,11 +49,6 @@ abbrev pub IsKindOf : Place → ConfigParseErrorKind → PieceRefusal ConfigPars
 IsKindOf place kind refusal =
     FaultOrMemory (wrong_of kind) (kind ≡ kinds.Memory → refusal ≡ pieces.Memory)
     (λ wrong. IsRefusedSo (refusal_at place wrong) refusal)
-
--- the same refusal, of a list
-abbrev pub list_refusal : PieceRefusal ConfigParseError → ListRefusal
-list_refusal (pieces.Refused position error) = refusals.Refused position error
-list_refusal pieces.Memory = refusals.Memory
 
 -- ---- how they print
 

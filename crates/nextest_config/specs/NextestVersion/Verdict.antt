@@ -12,6 +12,9 @@ use Rattle.nextest_config.specs.declared.nextest_version.verdict.NextestVersionE
 use Rattle.nextest_config.specs.declared.nextest_version.verdict.NextestVersionEval.TheVariants as evals
 use Rattle.nextest_config.specs.declared.nextest_version.verdict.Severity.{Severity}
 use Rattle.nextest_config.specs.declared.nextest_version.verdict.Severity.TheVariants as severities
+use Rattle.nextest_config.specs.declared.nextest_version.verdict.UnmetVersion.{UnmetVersion}
+use Rattle.nextest_config.specs.declared.nextest_version.verdict.VersionRole.{VersionRole}
+use Rattle.nextest_config.specs.declared.nextest_version.verdict.VersionRole.TheVariants as version_roles
 
 -- what a version falls short of: the version asked for, the current one, the place that asked, and
 -- whether the check is overridden
@@ -46,6 +49,17 @@ verdict_of (evals.ErrorOverride required current source) =
     error (shortfall required current source true)
 verdict_of (evals.WarnOverride recommended current source) =
     warn (shortfall recommended current source true)
+
+-- an unmet required version is an error, and an unmet recommended one a warning
+abbrev pub verdict_in : VersionRole → Shortfall → Verdict
+verdict_in version_roles.Required shortfall = error shortfall
+verdict_in version_roles.Recommended shortfall = warn shortfall
+
+-- the verdict that tells of the unmet version, if there is one
+abbrev pub verdict_of_unmet : Option UnmetVersion → Verdict
+verdict_of_unmet None = satisfied
+verdict_of_unmet (Some unmet) = verdict_in unmet.role
+    (shortfall unmet.version.now unmet.current.now unmet.source.now unmet.overridden)
 
 -- the kept version that the current one isn't enough for
 abbrev pub unmet : Option Kept → Parts → Option Kept

@@ -12,8 +12,8 @@ use Rattle.nextest_config_sources.specs.NextestVersion.Source.{Place, Source}
 use Rattle.nextest_config.specs.NextestVersion.Verdict.{Verdict, verdict, named_place, IsSelected, SaysTheSame}
 use Rattle.nextest_config_sources.specs.NextestVersion.VersionOnlyDeserialize.{Ask, IsWrong, TextAsks}
 use Rattle.nextest_config.specs.declared.nextest_version.error.ConfigParseError.{ConfigParseError}
-use Rattle.nextest_config.specs.declared.nextest_version.error.ListRefusal.{ListRefusal}
-use Rattle.nextest_config.specs.declared.nextest_version.error.ListRefusal.TheVariants as refusals
+use Rattle.nextest_config_lists.specs.declared.merge.PieceRefusal.{PieceRefusal}
+use Rattle.nextest_config_lists.specs.declared.merge.PieceRefusal.TheVariants as refusals
 use Rattle.nextest_config_sources.specs.declared.nextest_version.experimental.ConfigExperimental.{ConfigExperimental}
 use Rattle.nextest_config.specs.declared.nextest_version.version_only.VersionOnlyConfig.{VersionOnlyConfig}
 
@@ -189,7 +189,7 @@ pub record IsFromSource (current : Parts) (overridden : Bool) (asked : List Sour
   pub named : named_place v ≡ Some source.place
 
 -- the list is refused at the first refused position with its one error, or there was no memory
-abbrev pub IsRefusalOf : List Source → ListRefusal → Type 0
+abbrev pub IsRefusalOf : List Source → PieceRefusal ConfigParseError → Type 0
 IsRefusalOf sources (refusals.Refused position error) = (refusal : Refusal)
     × (refusal_of error ≡ Some refusal) × IsFirstRefused sources position refusal
 IsRefusalOf sources refusals.Memory = Unit {0}

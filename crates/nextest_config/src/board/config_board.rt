@@ -97,10 +97,9 @@ impl ConfigBoard {
             (IsRefusedPut (length self.old.slots) slot (source_of text.now)) }
         ensures unchanged { OnErr result (self.new ≡ self.old) }
     {
-        if slot >= self.sources.len() {
-            return Err(BoardRefusal::NoSuchSlot {
-                slots: self.sources.len(),
-            });
+        let slots = self.slots();
+        if slot >= slots {
+            return Err(BoardRefusal::NoSuchSlot { slots });
         }
         match read_slot(self.alloc, slot, text) {
             Ok((source, pair)) => {
@@ -117,10 +116,9 @@ impl ConfigBoard {
         ensures refused { IfErr result (IsNoSlot (length self.old.slots) slot) }
         ensures unchanged { OnErr result (self.new ≡ self.old) }
     {
-        if slot >= self.sources.len() {
-            return Err(BoardRefusal::NoSuchSlot {
-                slots: self.sources.len(),
-            });
+        let slots = self.slots();
+        if slot >= slots {
+            return Err(BoardRefusal::NoSuchSlot { slots });
         }
         self.change(slot, None, RolePair::none());
         Ok(())
@@ -131,6 +129,13 @@ impl ConfigBoard {
         ensures { result ≡ self.now.selections }
     {
         self.tally.choices
+    }
+
+    // How many slots there are.
+    fn slots(&self) -> usize
+        ensures { result ≡ length self.now.slots }
+    {
+        self.sources.len()
     }
 
     // Replaces what the slot holds.

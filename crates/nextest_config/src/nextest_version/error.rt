@@ -8,7 +8,6 @@ use nextest_config_lists::merge::PieceRefusal;
 use nextest_config_sources::nextest_version::{ConfigParseErrorKind, ConfigSource};
 use std::alloc::{AllocError, Global};
 use std::fmt;
-use thiserror::Error;
 
 /// Why a configuration source was refused, and which.
 #[derive(Debug, PartialEq, Eq, Drop)]
@@ -19,8 +18,10 @@ pub struct ConfigParseError {
 }
 
 impl ConfigParseError {
+    ghost use Rattle.std.specs.Prelude.{List};
     ghost use Rattle.nextest_config.specs.NextestVersion.Error.{IsKindOf, kind_of, refusal_at, refusal_of, source_place};
-    ghost use Rattle.nextest_config_sources.specs.NextestVersion.Source.{place_of};
+    ghost use Rattle.nextest_config.specs.NextestVersion.VersionOnly.{IsErrorOfList, IsRefusalOf};
+    ghost use Rattle.nextest_config_sources.specs.NextestVersion.Source.{place_of, Source};
 
     // The error that says nothing of any source.
     fn memory() -> Self
@@ -60,6 +61,17 @@ impl ConfigParseError {
                 error: ConfigParseError::new(source, kind),
             },
             Err(AllocError) => PieceRefusal::Memory,
+        }
+    }
+
+    // The error of the source that is refused, without its position.
+    pub(crate) fn of_list(refusal: ListRefusal) -> Self
+        ensures { (sources : List Source) → IsRefusalOf sources refusal
+            → IsErrorOfList sources result }
+    {
+        match refusal {
+            PieceRefusal::Refused { position: _, error } => error,
+            PieceRefusal::Memory => ConfigParseError::memory(),
         }
     }
 
@@ -103,45 +115,4 @@ impl fmt::Display for ConfigParseError {
 }
 
 /// Why a list of sources was refused.
-#[derive(Debug, PartialEq, Eq, Drop, Error)]
-pub enum ListRefusal {
-    /// The source at this position, counted from 0, is the first one that is refused.
-    #[error("source {position}: {error}")]
-    Refused {
-        position: usize,
-        error: ConfigParseError,
-    },
-    /// A request for memory was refused.
-    #[error("out of memory")]
-    Memory,
-}
-
-impl From<PieceRefusal<ConfigParseError>> for ListRefusal {
-    ghost use Rattle.nextest_config.specs.NextestVersion.Error.{list_refusal};
-
-    ghost from_gives = { λ refusal list. list ≡ list_refusal refusal };
-
-    fn from(refusal: PieceRefusal<ConfigParseError>) -> ListRefusal {
-        match refusal {
-            PieceRefusal::Refused { position, error } => ListRefusal::Refused { position, error },
-            PieceRefusal::Memory => ListRefusal::Memory,
-        }
-    }
-}
-
-impl ListRefusal {
-    ghost use Rattle.std.specs.Prelude.{List};
-    ghost use Rattle.nextest_config_sources.specs.NextestVersion.Source.{Source};
-    ghost use Rattle.nextest_config.specs.NextestVersion.VersionOnly.{IsErrorOfList, IsRefusalOf};
-
-    // The error of the source that is refused, without its position.
-    pub(crate) fn into_error(self) -> ConfigParseError
-        ensures { (sources : List Source) → IsRefusalOf sources self
-            → IsErrorOfList sources result }
-    {
-        match self {
-            ListRefusal::Refused { position: _, error } => error,
-            ListRefusal::Memory => ConfigParseError::memory(),
-        }
-    }
-}
+pub type ListRefusal = PieceRefusal<ConfigParseError>;

@@ -1,6 +1,6 @@
 //! The verdict on the current version.
 
-ghost use Rattle.std.specs.Prelude.{◌≡◌, true, IfOk, IsOk, option_map};
+ghost use Rattle.std.specs.Prelude.{◌≡◌, IfOk, IsOk, option_map, Some};
 ghost use Rattle.semver.specs.Identifiers.{parts_of};
 ghost use Rattle.nextest_config.specs.NextestVersion.KeptVersions.{kept_from};
 
@@ -47,8 +47,30 @@ pub enum Severity {
     Error,
 }
 
+/// In which role a version is asked for.
+#[derive(Clone, Copy, Debug, PartialEq, Eq)]
+pub enum VersionRole {
+    /// Below it there is an error.
+    Required,
+    /// Below it there is a warning.
+    Recommended,
+}
+
+/// What a verdict tells that isn't satisfied.
+#[derive(Clone, Copy, Debug)]
+pub struct UnmetVersion<'a> {
+    pub role: VersionRole,
+    /// The version that is asked for.
+    pub version: &'a Version,
+    /// The version that isn't enough for it.
+    pub current: &'a Version,
+    /// The source that asks for the version.
+    pub source: &'a ConfigSource,
+    pub overridden: bool,
+}
+
 impl NextestVersionEval {
-    ghost use Rattle.nextest_config.specs.NextestVersion.Verdict.{error, judged, satisfied, severity_of, shortfall, verdict_of, warn};
+    ghost use Rattle.nextest_config.specs.NextestVersion.Verdict.{judged, satisfied, severity_of, verdict_of, verdict_of_unmet};
 
     /// The verdict on the current version, of the versions that it isn't enough for in the two
     /// roles, each with the source that asks it.
@@ -68,99 +90,96 @@ impl NextestVersionEval {
             (option_map (λ unmet. kept_from unmet.0.now unmet.1.now) recommended.entry)
             (parts_of current.now) overridden ≡ satisfied → IsOk result }
     {
-        match (required, recommended) {
-            (Some((version, source)), _) => {
-                NextestVersionEval::error(alloc, version, current, source, overridden)
-            }
-            (None, Some((version, source))) => {
-                NextestVersionEval::warning(alloc, version, current, source, overridden)
-            }
-            (None, None) => Ok(NextestVersionEval::Satisfied),
+        let (role, version, source) = match (required, recommended) {
+            (Some((version, source)), _) => (VersionRole::Required, version, source),
+            (None, Some((version, source))) => (VersionRole::Recommended, version, source),
+            (None, None) => return Ok(NextestVersionEval::Satisfied),
+        };
+        NextestVersionEval::told(
+            alloc,
+            UnmetVersion {
+                role,
+                version,
+                current,
+                source,
+                overridden,
+            },
+        )
+    }
+
+    // The verdict that tells this.
+    fn told(alloc: Global, unmet: UnmetVersion<'_>) -> Result<Self, AllocError>
+        ensures { IfOk result (λ eval. verdict_of eval ≡ verdict_of_unmet (Some unmet.entry)) }
+    {
+        let (version, current) = (unmet.version.clone()?, unmet.current.clone()?);
+        let source = unmet.source.clone(alloc)?;
+        match (unmet.role, unmet.overridden) {
+            (VersionRole::Required, false) => Ok(NextestVersionEval::Error {
+                required: version,
+                current,
+                source,
+            }),
+            (VersionRole::Required, true) => Ok(NextestVersionEval::ErrorOverride {
+                required: version,
+                current,
+                source,
+            }),
+            (VersionRole::Recommended, false) => Ok(NextestVersionEval::Warn {
+                recommended: version,
+                current,
+                source,
+            }),
+            (VersionRole::Recommended, true) => Ok(NextestVersionEval::WarnOverride {
+                recommended: version,
+                current,
+                source,
+            }),
         }
     }
 
-    // The error of an unmet required version.
-    fn error(
-        alloc: Global,
-        required: &Version,
-        current: &Version,
-        source: &ConfigSource,
-        overridden: bool,
-    ) -> Result<Self, AllocError>
-        ensures { IfOk result (λ eval. verdict_of eval
-            ≡ error (shortfall required.now current.now source.now overridden)) }
+    /// The version that the current one isn't enough for, unless the verdict is satisfied.
+    pub fn unmet(&self) -> Option<UnmetVersion<'_>>
+        ensures { verdict_of_unmet result ≡ verdict_of self.now }
     {
-        let (required, current) = (required.clone()?, current.clone()?);
-        let source = source.clone(alloc)?;
-        if overridden {
-            Ok(NextestVersionEval::ErrorOverride {
-                required,
+        let (role, version, current, source, overridden) = match self {
+            NextestVersionEval::Satisfied => return None,
+            NextestVersionEval::Error {
+                required: version,
                 current,
                 source,
-            })
-        } else {
-            Ok(NextestVersionEval::Error {
-                required,
+            } => (VersionRole::Required, version, current, source, false),
+            NextestVersionEval::Warn {
+                recommended: version,
                 current,
                 source,
-            })
-        }
-    }
-
-    // The warning of an unmet recommended version.
-    fn warning(
-        alloc: Global,
-        recommended: &Version,
-        current: &Version,
-        source: &ConfigSource,
-        overridden: bool,
-    ) -> Result<Self, AllocError>
-        ensures { IfOk result (λ eval. verdict_of eval
-            ≡ warn (shortfall recommended.now current.now source.now overridden)) }
-    {
-        let (recommended, current) = (recommended.clone()?, current.clone()?);
-        let source = source.clone(alloc)?;
-        if overridden {
-            Ok(NextestVersionEval::WarnOverride {
-                recommended,
+            } => (VersionRole::Recommended, version, current, source, false),
+            NextestVersionEval::ErrorOverride {
+                required: version,
                 current,
                 source,
-            })
-        } else {
-            Ok(NextestVersionEval::Warn {
-                recommended,
+            } => (VersionRole::Required, version, current, source, true),
+            NextestVersionEval::WarnOverride {
+                recommended: version,
                 current,
                 source,
-            })
-        }
+            } => (VersionRole::Recommended, version, current, source, true),
+        };
+        Some(UnmetVersion {
+            role,
+            version,
+            current,
+            source,
+            overridden,
+        })
     }
 
     /// A copy of the verdict.
     pub fn clone(&self, alloc: Global) -> Result<Self, AllocError>
         ensures { IfOk result (λ eval. verdict_of eval ≡ verdict_of self.now) }
     {
-        match self {
-            NextestVersionEval::Satisfied => Ok(NextestVersionEval::Satisfied),
-            NextestVersionEval::Error {
-                required,
-                current,
-                source,
-            } => NextestVersionEval::error(alloc, required, current, source, false),
-            NextestVersionEval::Warn {
-                recommended,
-                current,
-                source,
-            } => NextestVersionEval::warning(alloc, recommended, current, source, false),
-            NextestVersionEval::ErrorOverride {
-                required,
-                current,
-                source,
-            } => NextestVersionEval::error(alloc, required, current, source, true),
-            NextestVersionEval::WarnOverride {
-                recommended,
-                current,
-                source,
-            } => NextestVersionEval::warning(alloc, recommended, current, source, true),
+        match self.unmet() {
+            Some(unmet) => NextestVersionEval::told(alloc, unmet),
+            None => Ok(NextestVersionEval::Satisfied),
         }
     }
 
@@ -168,14 +187,12 @@ impl NextestVersionEval {
     pub fn severity(&self) -> Severity
         ensures { result ≡ severity_of (verdict_of self.now) }
     {
-        match self {
-            NextestVersionEval::Satisfied => Severity::Satisfied,
-            NextestVersionEval::Warn { .. } | NextestVersionEval::WarnOverride { .. } => {
-                Severity::Warn
-            }
-            NextestVersionEval::Error { .. } | NextestVersionEval::ErrorOverride { .. } => {
-                Severity::Error
-            }
+        let Some(unmet) = self.unmet() else {
+            return Severity::Satisfied;
+        };
+        match unmet.role {
+            VersionRole::Required => Severity::Error,
+            VersionRole::Recommended => Severity::Warn,
         }
     }
 }

@@ -4,7 +4,7 @@ ghost use Rattle.std.specs.Prelude.{◌≡◌, IfOk, IfErr, OnOk, map, option_ma
 ghost use Rattle.nextest_config_lists.specs.Merge.{IsRefusalOfOne};
 ghost use Rattle.nextest_config_sources.specs.NextestVersion.{given_at, IsWrong, RefusesSource, source_of, source_under, under};
 ghost use Rattle.nextest_config.specs.NextestVersion.{Adds, configuration_of, experimental_of, IsErrorOf, IsErrorOfList, IsRefusalOf, kind_of, neutral, Reads, refusal_of, roles_of, SelectsFor, sources_of, sources_under, StandsFor, StandsForOne};
-ghost use Rattle.nextest_config.specs.declared.nextest_version.error.ListRefusal.TheVariants.{Memory};
+ghost use Rattle.nextest_config_lists.specs.declared.merge.PieceRefusal.TheVariants.{Memory};
 ghost use Rattle.nextest_config_sources.specs.declared.nextest_version.error_kind.ConfigParseErrorKind.TheVariants as kinds;
 
 use super::error::{ConfigParseError, ListRefusal};
@@ -79,7 +79,7 @@ impl VersionOnlyConfig {
             → IfErr result (λ refusal. refusal ≡ Memory) }
         ensures refused { IfErr result (IsRefusalOf (map (source_under edition) sources.now)) }
     {
-        Ok(read_halves::<VersionOnlyConfig>(alloc, &edition, sources)?)
+        read_halves::<VersionOnlyConfig>(alloc, &edition, sources)
     }
 
     /// Reads the tools' files, the last one first, and then the repository's, up to the first one
@@ -123,7 +123,7 @@ impl VersionOnlyConfig {
         let files = File::in_order(alloc, repository, tools)?;
         match read_halves::<FileConfig>(alloc, &edition, files.as_slice()) {
             Ok(files) => Ok(files.into_config()),
-            Err(refusal) => Err(ListRefusal::from(refusal).into_error()),
+            Err(refusal) => Err(ConfigParseError::of_list(refusal)),
         }
     }
 

@@ -5,7 +5,7 @@ use Rattle.semver.specs.Identifiers.{parts_of}
 use Rattle.nextest_config_sources.specs.NextestVersion.{given_of, source_under, under}
 use Rattle.nextest_config.specs.NextestVersion.{configuration_of, IsRefusalOf, SelectsFor, StandsFor, verdict}
 use Rattle.nextest_config_sources.specs.declared.nextest_version.edition.Edition.{Edition}
-use Rattle.nextest_config.specs.declared.nextest_version.error.ListRefusal.TheVariants as refusals
+use Rattle.nextest_config_lists.specs.declared.merge.PieceRefusal.TheVariants as refusals
 use Rattle.nextest_config_sources.specs.declared.nextest_version.source.SourceText.{SourceText}
 use Rattle.nextest_config_check.specs.Report.{IsReport, read_list, refused_list}
 use Rattle.nextest_config.proofs.Refusals.{text_of_told}

@@ -3,7 +3,7 @@ use mathlib.Core.List.{map-map}
 use Rattle.nextest_config_sources.specs.NextestVersion.{given_of, source_under, under}
 use Rattle.nextest_config.specs.NextestVersion.{configuration_of, IsRefusalOf}
 use Rattle.nextest_config_sources.specs.declared.nextest_version.edition.Edition.{Edition}
-use Rattle.nextest_config.specs.declared.nextest_version.error.ListRefusal.TheVariants as refusals
+use Rattle.nextest_config_lists.specs.declared.merge.PieceRefusal.TheVariants as refusals
 use Rattle.nextest_config_sources.specs.declared.nextest_version.source.SourceText.{SourceText}
 use Rattle.nextest_config_command.specs.Listed.{StandsAndSelects}
 use Rattle.nextest_config_command.proofs.listed.read_texts.Goals as goal

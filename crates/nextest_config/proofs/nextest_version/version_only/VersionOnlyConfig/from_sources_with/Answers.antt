@@ -1,7 +1,7 @@
 use Rattle.std.proofs.Common.{◌≡◌, List, map, ap, ◌∙◌, sym, subst}
 use mathlib.Core.List.{map-map}
 use Rattle.nextest_config_sources.specs.NextestVersion.{Given, under}
-use Rattle.nextest_config.specs.NextestVersion.{configuration_of, file_given, givens_of, IsRefusalOf, list_refusal, sources_under, StandsFor}
+use Rattle.nextest_config.specs.NextestVersion.{configuration_of, file_given, givens_of, IsRefusalOf, sources_under, StandsFor}
 use Rattle.nextest_config.proofs.Readings.{no_error_but_memory, refusal_of_list}
 use Rattle.nextest_config.proofs.Selection.{selects_for}
 use Rattle.nextest_config.proofs.Standing.{stands_for_all}
@@ -34,7 +34,7 @@ returns-clause-refused c =
     let sources = sources_under c.args.edition c.args.repository.now c.args.tools.now in
     let in_order = listed c.args.edition c.as_slice.result.now c.in_ok-files.files.items (givens_of c.args.repository.now c.args.tools.now) c.as_slice.ensures.value c.in_ok-files.ensures in
     let refused = refusal_of_list (λ file. under c.args.edition (file_given file)) (λ (files : FileConfig). configuration_of files.config) c.as_slice.result.now c.in-Err.refusal c.in-Err.ensures.refused in
-    c.into_error.ensures sources (rw c.from.ensures (subst (λ sources. IsRefusalOf sources (list_refusal c.in-Err.refusal)) in_order refused))
+    c.of_list.ensures sources (subst (λ sources. IsRefusalOf sources c.in-Err.refusal) in_order refused)
 
 pub returns-clause-only : goal.returns-clause-only
-returns-clause-only c reads = no_error_but_memory (sources_under c.args.edition c.args.repository.now c.args.tools.now) c.into_error.result reads (returns-clause-refused c)
+returns-clause-only c reads = no_error_but_memory (sources_under c.args.edition c.args.repository.now c.args.tools.now) c.of_list.result reads (returns-clause-refused c)
