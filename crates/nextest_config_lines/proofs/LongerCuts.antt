@@ -44,9 +44,7 @@ leads_longer s more a b path reads reads_on leads =
     let (t, marked) = mark_ended s in
     let first = is_read (ended s []) a reads in
     let second = is_read (ended s more) b reads_on in
-    let whole : skip_bom (ended s more) ≡ ended t [] ++ more = marked more ∙ sym (append_assoc t (10 ∷ []) more) in
-    let kept = lines_more_keep (suc (length (ended s []))) (suc (length (ended s more))) (no_nodes, []) first.document second.document (ended t []) more (inl (t, refl))
-    (rw (marked []) at first.reads) (rw whole at second.reads) in
+    let kept = lines_more_keep (suc (length (ended s []))) (suc (length (ended s more))) (no_nodes, []) first.document second.document t more (rw (marked []) at first.reads) (rw (marked more) at second.reads) in
     subst (λ m. IsSome (found_in m path)) second.closed (kept_paths first.document.0 second.document.0 kept path (subst (λ m. IsSome (found_in m path)) (sym first.closed) leads))
 
 -- the same of two cuts of a text

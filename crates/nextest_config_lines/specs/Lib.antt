@@ -1,4 +1,3 @@
 pub mod Line
 pub mod Search
-pub mod Statements
 pub mod Step

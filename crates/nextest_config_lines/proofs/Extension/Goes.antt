@@ -1,31 +1,74 @@
 -- A reader of a text that ends in a line feed goes on as it was, whatever follows.
-use Rattle.std.proofs.Common.{◌≡◌, ℕ, List, [], Some, None, option_and_then, ap, ◌∙◌}
-use Rattle.toml_parser.specs.Lexical.{Read}
-use Rattle.toml.specs.Parse.{read_map}
-use Rattle.nextest_config_lines.proofs.Extension.Lexical.{ended}
+use Rattle.std.proofs.Common.{◌≡◌, ℕ, Bool, true, false, cond, ◌==◌, List, [], ◌∷◌, drop, Option, Some, None, option_map, option_and_then, refl, ap, inl, inr}
+use Rattle.std.proofs.lemmas.Bool.{cases_Bool}
+use Rattle.toml_parser.specs.Lexical.{first, line_feed, Read}
+use Rattle.toml.specs.Parse.{after_byte, after_element, read_map}
+use Rattle.nextest_config_lines.proofs.Extension.Lexical.{ended, left, none, skip_ended}
 
--- what is read of a text that ends in a line feed, beside what is read with that line feed followed by any text: nothing of the first, or the same value of both, and both leave that line feed
-pub data Goes {A : Type 0} (alone : Read A) (followed : List ℕ → Read A) : Type 0 where
-  stops : alone ≡ None → Goes alone followed
-  goes : (value : A) (rest : List ℕ) → alone ≡ Some (value, ended rest []) → ((b : List ℕ) → followed b ≡ Some (value, ended rest b)) → Goes alone followed
+-- what is read of a text that ends in a line feed, beside what is read with b behind it: nothing of the first, or the same value of both, and both leave that line feed
+pub data Goes {A : Type 0} (b : List ℕ) (alone followed : Read A) : Type 0 where
+  stops : alone ≡ None → Goes b alone followed
+  goes : (value : A) (rest : List ℕ) → alone ≡ Some (value, ended rest []) → followed ≡ Some (value, ended rest b) → Goes b alone followed
 
--- one reader after another
-pub goes_then : {A B : Type 0} {alone : Read A} {followed : List ℕ → Read A} (next : A × List ℕ → Read B) (later : A × List ℕ → List ℕ → Read B)
-    → Goes alone followed → ((value : A) (rest : List ℕ) → Goes (next (value, ended rest [])) (λ b. later (value, ended rest b) b))
-    → Goes (option_and_then next alone) (λ b. option_and_then (λ p. later p b) (followed b))
-goes_then next later (stops none) then_goes = stops (ap (option_and_then next) none)
-goes_then next later (goes value rest is on) then_goes =
-    elim (then_goes value rest) [
-      | stops none ↦ stops (ap (option_and_then next) is ∙ none)
-      | goes value' rest' is' on' ↦ goes value' rest' (ap (option_and_then next) is ∙ is') (λ b. ap (option_and_then (λ p. later p b)) (on b) ∙ on' b)
-    ]
+module _ {A : Type 0} {b : List ℕ} where
+  -- one of two readers, by one test
+  pub goes_if : {x x' y y' : Read A} (p : Bool) → (p ≡ true → Goes b x x') → (p ≡ false → Goes b y y') → Goes b (cond p x y) (cond p x' y')
+  goes_if p held failed = elim (cases_Bool p) [ inl is ↦ rw is (held is) | inr other ↦ rw other (failed other) ]
 
--- what was read, under f
-pub goes_map : {A B : Type 0} (f : A → B) {alone : Read A} {followed : List ℕ → Read A} → Goes alone followed → Goes (read_map f alone) (λ b. read_map f (followed b))
-goes_map f (stops none) = stops (ap (read_map f) none)
-goes_map f (goes value rest is on) = goes (f value) rest (ap (read_map f) is) (λ b. ap (read_map f) (on b))
+  -- one reader after another
+  pub goes_then : {X : Type 0} {alone followed : Read X} (next later : X × List ℕ → Read A)
+      → Goes b alone followed → ((value : X) (rest : List ℕ) → Goes b (next (value, ended rest [])) (later (value, ended rest b)))
+      → Goes b (option_and_then next alone) (option_and_then later followed)
+  goes_then next later (stops bad) on = stops (ap (option_and_then next) bad)
+  goes_then next later (goes value rest is is_on) on = rw (is, is_on) (on value rest)
 
--- the same readers, as they are written otherwise
-pub goes_as : {A : Type 0} {alone alone' : Read A} {followed followed' : List ℕ → Read A} → Goes alone followed → alone' ≡ alone → ((b : List ℕ) → followed' b ≡ followed b) → Goes alone' followed'
-goes_as (stops none) same same_on = stops (same ∙ none)
-goes_as (goes value rest is on) same same_on = goes value rest (same ∙ is) (λ b. same_on b ∙ on b)
+  -- what was read, under f
+  pub goes_map : {X : Type 0} {alone followed : Read X} (f : X → A) → Goes b alone followed → Goes b (read_map f alone) (read_map f followed)
+  goes_map f (stops bad) = stops (ap (read_map f) bad)
+  goes_map f (goes value rest is on) = goes (f value) rest (ap (read_map f) is) (ap (read_map f) on)
+
+  -- a reader after what may be found
+  pub goes_some : {X : Type 0} (found : Option X) (next later : X → Read A) → ((x : X) → Goes b (next x) (later x)) → Goes b (option_and_then next found) (option_and_then later found)
+  goes_some None next later on = stops refl
+  goes_some (Some x) next later on = on x
+
+  -- what may be found, and all of the text left
+  pub goes_found : (found : Option A) (s : List ℕ) → Goes b (option_map (λ v. (v, ended s [])) found) (option_map (λ v. (v, ended s b)) found)
+  goes_found None s = stops refl
+  goes_found (Some v) s = goes v s refl refl
+
+  -- a byte, and what is left behind it
+  pub goes_byte : (byte : ℕ) → (line_feed == byte) ≡ false → (value : A) (f : List ℕ → List ℕ) → ((s x : List ℕ) → f (ended s x) ≡ ended (f s) x) → (s : List ℕ)
+      → Goes b (option_map (λ rest. (value, f rest)) (after_byte byte (ended s []))) (option_map (λ rest. (value, f rest)) (after_byte byte (ended s b)))
+  goes_byte byte other value f on [] = stops (rw other refl)
+  goes_byte byte other value f on (c ∷ s) =
+      elim (cases_Bool (c == byte)) [
+        | inl is ↦ rw is (goes value (f s) (rw (on s []) refl) (rw (on s b) refl))
+        | inr differs ↦ rw differs (stops refl)
+      ]
+
+  -- the byte that closes a list, or another reader
+  pub goes_close : {x y : Read A} (byte : ℕ) → (line_feed == byte) ≡ false → (value : A) (s : List ℕ) → Goes b x y
+      → Goes b (cond (first (ended s []) == byte) (Some (value, drop 1 (ended s []))) x) (cond (first (ended s b) == byte) (Some (value, drop 1 (ended s b))) y)
+  goes_close byte other value [] on = rw other on
+  goes_close byte other value (c ∷ s) on = goes_if (c == byte) (λ _. goes value s refl refl) (λ _. on)
+
+  module _ (next later : List ℕ → Read A) (on : (s : List ℕ) → Goes b (next (ended s [])) (later (ended s b))) where
+    -- a reader behind an element of a list
+    pub goes_after : (closing : ℕ) → (line_feed == closing) ≡ false → (0 == closing) ≡ false → (s : List ℕ)
+        → Goes b (option_and_then next (after_element closing (ended s []))) (option_and_then later (after_element closing (ended s b)))
+    unfolding after_element
+    goes_after closing other some s =
+        elim (skip_ended b true false s) [
+          | none is ↦ stops (rw (is, some) refl)
+          | left rest is is_on ↦ rw (is, is_on) (element rest)
+        ]
+      where
+        element : (t : List ℕ) → Goes b (option_and_then next (cond (first (ended t []) == 44) (Some (drop 1 (ended t []))) (cond (first (ended t []) == closing) (Some (ended t [])) None)))
+            (option_and_then later (cond (first (ended t b) == 44) (Some (drop 1 (ended t b))) (cond (first (ended t b) == closing) (Some (ended t b)) None)))
+        element [] = rw other (stops refl)
+        element (c ∷ t) =
+            elim (cases_Bool (c == 44)) [
+              | inl is_comma ↦ rw is_comma (on t)
+              | inr no_comma ↦ rw no_comma (elim (cases_Bool (c == closing)) [ inl closes ↦ rw closes (on (c ∷ t)) | inr neither ↦ rw neither (stops refl) ])
+            ]

@@ -1,8 +1,10 @@
 -- What the grammar reads of a text that ends in a line feed, it reads of the text whatever follows: runs and blanks.
-use Rattle.std.proofs.Common.{◌≡◌, ◌⊎◌, ℕ, Bool, false, List, [], ◌∷◌, ◌++◌, length, take, drop, is_some, unwrap_or, refl, ap, ◌∙◌, inl, inr, arith, append_assoc, take_at, drop_at}
+use Rattle.std.proofs.Common.{◌≡◌, ℕ, ◌≤◌, Bool, false, cond, List, [], ◌∷◌, ◌++◌, length, take, drop, is_some, unwrap_or, refl, ap, inl, inr}
 use Rattle.std.proofs.lemmas.Bool.{cases_Bool}
+use Rattle.std.proofs.lemmas.List.{drop-append-le, take-append-le}
+use Rattle.std.proofs.lemmas.List.Sums.{prefix_len-le-length}
 use Rattle.std.specs.List.{prefix_len}
-use Rattle.toml_parser.specs.Lexical.{first, is_ws, line_feed, skip_from, skip_turn, skip_ws}
+use Rattle.toml_parser.specs.Lexical.{first, is_ws, line_feed, skip_from, skip_turn, skip_ws, split_while}
 
 -- a line feed behind the first part, and then the second
 abbrev pub ended : List ℕ → List ℕ → List ℕ
@@ -13,59 +15,35 @@ pub first_ended : (s b : List ℕ) → first (ended s b) ≡ first (ended s [])
 first_ended [] b = refl
 first_ended (c ∷ s) b = refl
 
--- where the run of bytes that pass ends, of which a line feed is none
-pub record RunEnds (p : ℕ → Bool) (s : List ℕ) : Type 0 where
-  pub run : List ℕ
-  pub rest : List ℕ
-  pub whole : s ≡ run ++ rest
-  pub len : (b : List ℕ) → prefix_len p (ended s b) ≡ length run
-
 -- a run of bytes that are no line feed ends before the text's last one
-pub run_ends : (p : ℕ → Bool) → p line_feed ≡ false → (s : List ℕ) → RunEnds p s
-run_ends p stop [] = record { run = []; rest = []; whole = refl; len = λ b. rw stop refl }
-run_ends p stop (c ∷ s) =
-    let more = run_ends p stop s in
-    elim (cases_Bool (p c)) [
-      | inl passes ↦ record { run = c ∷ more.run; rest = more.rest; whole = ap (λ (x : List ℕ). c ∷ x) more.whole; len = λ b. rw passes (omega (arith, more.len b)) }
-      | inr stops ↦ record { run = []; rest = c ∷ s; whole = refl; len = λ b. rw stops refl }
-    ]
+pub run_ended : (p : ℕ → Bool) → p line_feed ≡ false → (s b : List ℕ) → prefix_len p (ended s b) ≡ prefix_len p s
+run_ended p stop [] b = rw stop refl
+run_ended p stop (c ∷ s) b = rw (run_ended p stop s b) refl
 
--- a text cut behind a front of what stands before its line feed
-pub drop_ended : (s run rest b : List ℕ) → s ≡ run ++ rest → drop (length run) (ended s b) ≡ ended rest b
-drop_ended s run rest b whole = ap (λ (x : List ℕ). drop (length run) (ended x b)) whole ∙ ap (drop (length run)) (append_assoc run rest (line_feed ∷ b)) ∙ drop_at run (ended rest b) (length run) refl
-
--- and that front
-pub take_ended : (s run rest b : List ℕ) → s ≡ run ++ rest → take (length run) (ended s b) ≡ run
-take_ended s run rest b whole = ap (λ (x : List ℕ). take (length run) (ended x b)) whole ∙ ap (take (length run)) (append_assoc run rest (line_feed ∷ b)) ∙ take_at run (ended rest b) (length run) refl
+-- that run, and what follows it
+pub split_ended : (p : ℕ → Bool) → p line_feed ≡ false → (s b : List ℕ) → split_while p (ended s b) ≡ (take (prefix_len p s) s, ended (drop (prefix_len p s) s) b)
+split_ended p stop s b =
+    let within : prefix_len p s ≤ length s = prefix_len-le-length p s in
+    rw (run_ended p stop s b, take-append-le (prefix_len p s) s (line_feed ∷ b) within, drop-append-le (prefix_len p s) s (line_feed ∷ b) within) refl
 
 -- white space at the front
-pub skip_ws_ended : (s : List ℕ) → (t : List ℕ) × ((b : List ℕ) → skip_ws (ended s b) ≡ ended t b)
+pub skip_ws_ended : (s b : List ℕ) → skip_ws (ended s b) ≡ ended (skip_ws s) b
 unfolding skip_ws
-skip_ws_ended s =
-    let ends = run_ends is_ws refl s in
-    (ends.rest, λ b. ap (λ n. drop n (ended s b)) (ends.len b) ∙ drop_ended s ends.run ends.rest b ends.whole)
+skip_ws_ended s b = ap (λ parts. parts.1) (split_ended is_ws refl s b)
 
--- blanks and comments at the front are all of the text, or end before its last line feed
-pub skip_ended : (comments inside : Bool) (s : List ℕ) → (skip_from comments inside (ended s []) ≡ []) ⊎ ((t : List ℕ) × ((b : List ℕ) → skip_from comments inside (ended s b) ≡ ended t b))
-unfolding skip_from
-skip_ended comments inside [] = inl refl
-skip_ended comments inside (c ∷ s) =
-    let turn = skip_turn comments inside c (first (ended s [])) in
-    elim (cases_Bool (is_some turn)) [
-      | inl on ↦ elim (skip_ended comments (unwrap_or turn false) s) [
-        | inl none ↦ inl (rw on none)
-        | inr more ↦ inr (more.0, λ b. rw (first_ended s b, on) (more.1 b))
-      ]
-      | inr stop ↦ inr (c ∷ s, λ b. rw (first_ended s b, stop) refl)
-    ]
+-- of a text, and the same with more behind it, what is left: nothing of the first, or both end as they did
+pub data Left (b alone followed : List ℕ) : Type 0 where
+  none : alone ≡ [] → Left b alone followed
+  left : (rest : List ℕ) → alone ≡ ended rest [] → followed ≡ ended rest b → Left b alone followed
 
--- where all of the text is blank, nothing of what follows is skipped otherwise
-pub skip_behind : (comments inside : Bool) (s b : List ℕ) → skip_from comments inside (ended s []) ≡ [] → skip_from comments inside (ended s b) ≡ skip_from comments false b
+-- one of two, by one test
+pub left_if : {b x x' y y' : List ℕ} (p : Bool) → Left b x x' → Left b y y' → Left b (cond p x y) (cond p x' y')
+left_if p held failed = elim (cases_Bool p) [ inl is ↦ rw is held | inr other ↦ rw other failed ]
+
+-- behind blanks and comments at the front
+pub skip_ended : (b : List ℕ) (comments inside : Bool) (s : List ℕ) → Left b (skip_from comments inside (ended s [])) (skip_from comments inside (ended s b))
 unfolding skip_from
-skip_behind comments inside [] b none = refl
-skip_behind comments inside (c ∷ s) b none =
+skip_ended b comments inside [] = none refl
+skip_ended b comments inside (c ∷ s) =
     let turn = skip_turn comments inside c (first (ended s [])) in
-    elim (cases_Bool (is_some turn)) [
-      | inl on ↦ rw (first_ended s b, on) (skip_behind comments (unwrap_or turn false) s b (rw on at none))
-      | inr stop ↦ absurd (omega (arith, ap length (rw stop at none)))
-    ]
+    rw (first_ended s b) (left_if (is_some turn) (skip_ended b comments (unwrap_or turn false) s) (left (c ∷ s) refl refl))
