@@ -14,7 +14,7 @@ use Rattle.nextest_config_lines.specs.Step.{PathStep, printed_path}
 use Rattle.nextest_config_findings.specs.Document.{AreFindings, keys_of_document}
 use Rattle.nextest_config_findings.specs.Faults.{added_step, IsFaultFound, IsFoundKind, IsFoundOf, led_to}
 use Rattle.nextest_config_findings.specs.Features.{AreFeaturesFound, AreNamedFound, AreToolsFound, features_path, IsNameFound}
-use Rattle.nextest_config_findings.specs.Found.{AreFoundIn, Found, found_at, FoundKind, Meant, the_word, tool_names, unknown_key, unknown_name}
+use Rattle.nextest_config_findings.specs.Found.{AreFoundIn, Found, found_at, FoundKind, IsNearestMeant, Meant, the_word, tool_names, unknown_key, unknown_name}
 use Rattle.nextest_config_findings.specs.Judged.{from_table, JudgedValue}
 use Rattle.nextest_config_findings.specs.Place.{experimental_check, place_check}
 use Rattle.nextest_config_findings.specs.Unknown.{IsHintFor, IsKeyFound, IsKeyFoundFor, is_known, is_of_top, JudgedKey, Known}
@@ -53,10 +53,12 @@ fault_found_once edition judged (Some a) (Some b) (fault, faulty, is) (other, al
 
 -- ---- of a key
 
+meant_once : (words : List (List ℕ)) (name : List ℕ) (a b : Option Meant) → IsNearestMeant words name a → IsNearestMeant words name b → a ≡ b
+meant_once words name a b (word, nearest, is) (other, also, is_too) = is ∙ ap (option_map the_word) (nearest_once words name word other nearest also) ∙ sym is_too
+
 hint_once : (of_top : Bool) (known : Known) (name : List ℕ) (a b : Option Meant) → IsHintFor of_top known name a → IsHintFor of_top known name b → a ≡ b
 hint_once true known name a b h k = h ∙ sym k
-hint_once false known name a b (word, nearest, is) (other, also, is_too) =
-    is ∙ ap (option_map the_word) (nearest_once (map (λ row. row.0) known) name word other nearest also) ∙ sym is_too
+hint_once false known name a b h k = meant_once (map (λ row. row.0) known) name a b h k
 
 key_once : (is : Bool) (judged : JudgedKey) (a b : Option Found) → IsKeyFoundFor is judged a → IsKeyFoundFor is judged b → a ≡ b
 key_once true judged a b h k = h ∙ sym k
@@ -70,10 +72,8 @@ key_found_once judged = key_once (is_known judged.known judged.name) judged
 -- ---- of features
 
 name_once : (name : List ℕ) (a b : Option Found) → IsNameFound name a → IsNameFound name b → a ≡ b
-name_once name a b (hint, (word, nearest, meant), is) (other_hint, (other, also, meant_too), is_too) =
-    let same : word ≡ other = nearest_once (map word_of all_features) name word other nearest also in
-    let same_hint : hint ≡ other_hint = meant ∙ ap (option_map the_word) same ∙ sym meant_too in
-    is ∙ ap (λ (h : Option Meant). Some (found_at features_path (unknown_name name h))) same_hint ∙ sym is_too
+name_once name a b (hint, meant, is) (other, also, is_too) =
+    is ∙ ap (λ (h : Option Meant). Some (found_at features_path (unknown_name name h))) (meant_once (map word_of all_features) name hint other meant also) ∙ sym is_too
 
 tools_once : (features : Features) (a b : List Found) → AreToolsFound features a → AreToolsFound features b → a ≡ b
 tools_once features a b (inl h) (inl k) = h.1 ∙ sym k.1

@@ -1,5 +1,5 @@
 -- What is found of a fault.
-use Rattle.std.proofs.Common.{◌≡◌, ◌↔◌, ℕ, Bool, true, false, IfSome, IsTrue, List, Option, None, Some, ap, inl, inr, is_none, option_map, refl, subst, sym, ◌∙◌}
+use Rattle.std.proofs.Common.{◌≡◌, ◌↔◌, ℕ, Bool, true, false, IfSome, IsTrue, List, Option, None, Some, ap, if◌then◌else◌, inl, inr, is_none, option_map, refl, subst, sym, ◌∙◌}
 use Rattle.toml.specs.Data.{Data}
 use Rattle.nextest_config_values.specs.Read.Fault.{Fault}
 use Rattle.nextest_config_values.specs.Read.{fault_at, fault_of, FaultOrMemory, IsMemory, Reason, Refuses}
@@ -16,15 +16,12 @@ use Rattle.nextest_config_findings.specs.declared.finding.Finding.{Finding}
 abbrev pub IsToldKind : Data → Option Reason → Option FoundKind → Type 0
 IsToldKind value told finding = (reason : Reason) × (kind : FoundKind) × (told ≡ Some reason) × IsFoundKind value reason kind × (finding ≡ Some kind)
 
-pub kind_unjudged : (value : Data) (told : Option Reason) (answer : Bool) → false ≡ is_none told → IfSome told (λ reason. IsTrue answer ↔ IsUnjudged value reason) → IsTrue answer → IsToldKind value told (Some unjudged)
-kind_unjudged value None answer some is told_so = absurd (cc some)
-kind_unjudged value (Some reason) answer some is told_so = (reason, unjudged, refl, inl (is.0 told_so, refl), refl)
-
-pub kind_refused : (value : Data) (told : Option Reason) (answer : Bool) → false ≡ is_none told → IfSome told (λ reason. IsTrue answer ↔ IsUnjudged value reason) → false ≡ answer → IsToldKind value told (option_map refused told)
-kind_refused value None answer some is told_not = absurd (cc some)
-kind_refused value (Some reason) answer some is told_not =
-    let none : IsUnjudged value reason → ⊥ = λ u. (let told_so : answer ≡ true = is.1 u in cc (told_so, told_not)) in
-    (reason, refused reason, refl, inr (none, refl), refl)
+-- what is made of the answer whether the value is an unjudged duration
+pub kind_by : (value : Data) (told : Option Reason) (answer : Bool) → false ≡ is_none told → IfSome told (λ reason. IsTrue answer ↔ IsUnjudged value reason)
+    → IsToldKind value told (if answer then Some unjudged else option_map refused told)
+kind_by value None answer some is = absurd (cc some)
+kind_by value (Some reason) true some is = (reason, unjudged, refl, inl (is.0 refl, refl), refl)
+kind_by value (Some reason) false some is = (reason, refused reason, refl, inr (λ u. absurd (cc (is.1 u)), refl), refl)
 
 -- what is told of a fault at its path, from its kind
 pub finding_told : (path : List PathStep) (value : Data) (fault_path : List ℕ) (added : Option Added) (told : Option Reason) (kind : Option FoundKind) (found_path : List PathStep)

@@ -1,8 +1,7 @@
 -- The keys of tables, and the words that they may be meant for.
-use Rattle.std.proofs.Common.{◌≡◌, ℕ, ◌+◌, ◌<◌, Bool, true, false, List, [], ◌∷◌, ◌++◌, Bor, Global, IsSome, Option, None, Some, String, ap, append_assoc, append-nil, drop, flat_map, get_or, is_some, length, map, nat_eq, option_map, refl, string_bytes, sym, take, ◌∙◌}
+use Rattle.std.proofs.Common.{◌≡◌, ℕ, ◌+◌, ◌<◌, true, false, List, [], ◌∷◌, Bor, Global, IsSome, Option, None, Some, String, ap, drop, get_or, is_some, length, map, nat_eq, refl, string_bytes, sym, ◌∙◌}
 use mathlib.Core.List.{map-map}
-use Rattle.std.proofs.lemmas.List.{drop_more, map_push, take_more}
-use Rattle.std.proofs.lemmas.List.Concat.{flat_map-append}
+use Rattle.std.proofs.lemmas.List.{drop_more}
 use Rattle.std.specs.Cmp.Lexicographic.{pointwise}
 use Rattle.std.specs.Map.{keys_of}
 use Rattle.std.specs.Map.Iter.{deref}
@@ -10,22 +9,16 @@ use Rattle.toml.proofs.Views.{Entry}
 use Rattle.toml.specs.View.{members_view}
 use Rattle.nextest_config_values.specs.Read.{FaultOrMemory, value_of}
 use Rattle.nextest_config_values.specs.Read.Fault.{Fault}
-use Rattle.nextest_config_hints.specs.NearestWord.{IsNearest, words_of}
-use Rattle.nextest_config_findings.specs.Found.{found_at, Meant, the_word, unknown_key}
-use Rattle.nextest_config_findings.specs.Judged.{JudgedValue}
+use Rattle.nextest_config_hints.specs.NearestWord.{words_of}
+use Rattle.nextest_config_findings.specs.Found.{found_at, Meant, unknown_key}
 use Rattle.nextest_config_findings.specs.Place.{keys_told}
-use Rattle.nextest_config_findings.specs.Unknown.{IsHintFor, IsKeyFound, is_known, is_of_top, JudgedKey, keys_in, names_of}
+use Rattle.nextest_config_findings.specs.Unknown.{IsHintFor, IsKeyFound, is_known, is_of_top, JudgedKey, names_of}
 use Rattle.nextest_config_findings.specs.declared.place.Place.{Place}
 
 -- the words of rows
 pub words_told : (rows : List (Bor (List ℕ) × Place)) → map (λ row. row.0) (keys_told rows) ≡ words_of rows
 words_told [] = refl
 words_told (row ∷ rows) = ap (λ (words : List (List ℕ)). row.0.now ∷ words) (words_told rows)
-
--- the nearest word is what a key may be meant for
-pub hint_nearest : (rows : List (Bor (List ℕ) × Place)) (name : List ℕ) (answer : Bool) (word : Option (List ℕ)) → false ≡ answer → IsNearest (words_of rows) name word
-    → IsHintFor answer (keys_told rows) name (option_map the_word word)
-hint_nearest rows name answer word other nearest = rw (← other) (word, rw (words_told rows) nearest, refl)
 
 -- what is found of a key that isn't known
 pub key_found : (judged : JudgedKey) (hint : Option Meant) → false ≡ is_known judged.known judged.name → IsHintFor (is_of_top judged.place judged.name) judged.known judged.name hint
@@ -62,17 +55,6 @@ all_names entries yielded f all =
 -- all names of a set that were yielded
 pub all_texts : (names : List (String Global)) (yielded : List (Bor (String Global))) → map deref yielded ≡ names → map (λ name. string_bytes name.now) yielded ≡ map string_bytes names
 all_texts names yielded all = sym (map-map string_bytes deref yielded) ∙ ap (map string_bytes) all
-
--- the keys of one more judged value
-pub keys_of_one_more : {A : Type 0} (first : List JudgedKey) (v : A → JudgedValue) (xs : List A) (i : ℕ) (x : A) → i < length xs → x ≡ get_or xs i x
-    → (first ++ flat_map keys_in (map v (take i xs))) ++ keys_in (v x) ≡ first ++ flat_map keys_in (map v (take (i + 1) xs))
-keys_of_one_more first v xs i x within at =
-    let more : map v (take (i + 1) xs) ≡ map v (take i xs) ++ (v x ∷ []) = ap (map v) (take_more xs i x within) ∙ map_push v (take i xs) (get_or xs i x) ∙ ap (λ (y : _). map v (take i xs) ++ (v y ∷ [])) (sym at) in
-    append_assoc first (flat_map keys_in (map v (take i xs))) (keys_in (v x))
-    ∙ ap (λ (rest : List JudgedKey). first ++ rest) (flat_map_one (map v (take i xs)) (v x) ∙ ap (flat_map keys_in) (sym more))
-  where
-    flat_map_one : (ys : List JudgedValue) (y : JudgedValue) → flat_map keys_in ys ++ keys_in y ≡ flat_map keys_in (ys ++ (y ∷ []))
-    flat_map_one ys y = ap (λ (rest : List JudgedKey). flat_map keys_in ys ++ rest) (sym (append-nil (keys_in y))) ∙ sym (flat_map-append keys_in ys (y ∷ []))
 
 -- ---- refusals
 

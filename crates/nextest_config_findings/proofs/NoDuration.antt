@@ -11,7 +11,7 @@ use Rattle.nextest_config_findings.specs.Faults.{IsNoDuration}
 use Rattle.nextest_config_findings.specs.Place.{experimental_check}
 
 -- no such fault is that of a duration
-abbrev NeverDuration : (List ℕ → Fault → Type 0) → Type 0
+abbrev pub NeverDuration : (List ℕ → Fault → Type 0) → Type 0
 NeverDuration IsFault = (at : List ℕ) (fault : Fault) → IsFault at fault → IsNoDuration fault.reason → ⊥
 
 -- ---- the faults themselves

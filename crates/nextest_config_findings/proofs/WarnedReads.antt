@@ -12,13 +12,13 @@ use Rattle.nextest_config_sources.specs.declared.nextest_version.edition.Edition
 use Rattle.nextest_config_sources.specs.declared.nextest_version.source.ConfigSourceKind.{ConfigSourceKind}
 use Rattle.nextest_config_sources.specs.declared.nextest_version.source.ConfigSourceKind.TheVariants.{DiscoveredRepository, ExplicitRepository, Tool}
 use Rattle.nextest_config_lines.specs.Step.{key, printed_path}
-use Rattle.nextest_config_findings.proofs.NoDuration.{experimental_no_duration, versions_no_duration}
+use Rattle.nextest_config_findings.proofs.NoDuration.{experimental_no_duration, NeverDuration, versions_no_duration}
 use Rattle.nextest_config_findings.proofs.Warnings.{warned_in}
 use Rattle.nextest_config_findings.specs.Document.{AreFindings}
 use Rattle.nextest_config_findings.specs.FindingsLaws.{IsJudgedWell, IsWarning, NamesNothingForTool}
 use Rattle.nextest_config_findings.specs.Found.{Found}
 use Rattle.nextest_config_findings.specs.Judged.{at_known_key, below_table, deepest, from_table, if_there, judged_at, judged_in, JudgedValue}
-use Rattle.nextest_config_findings.specs.Place.{rows_of}
+use Rattle.nextest_config_findings.specs.Place.{place_check, rows_of}
 use Rattle.nextest_config_findings.specs.declared.place.Place.TheVariants.{Experimental, NextestVersion, Top}
 use Rattle.nextest_config_findings.specs.declared.place.TheConstants.{TOP}
 
@@ -42,26 +42,19 @@ at_top P members h = of_each P (at_known_key [] members) (rows_of TOP.now)
 abbrev MeansOr : {X : Type 0} → Reading Data X → X → Option Data → X → Type 0
 MeansOr reading default found = either found (λ value. reading.means value) (λ x. x ≡ default)
 
--- ---- `nextest-version`
+-- a value whose faults are none of durations means something where it is judged well
+passes_well : (edition : Edition) (judged : JudgedValue) → NeverDuration ((place_check edition judged.place).faults judged.value) → IsJudgedWell edition judged → (place_check edition judged.place).passes judged.value
+passes_well edition judged never (inl passes) = passes
+passes_well edition judged never (inr (fault, faulty, (of_duration, text))) = absurd (never (printed_path judged.path) fault faulty of_duration)
 
-versions_well : (edition : Edition) (value : Data) → IsJudgedWell edition (judged_at [] (key version_key) NextestVersion value)
-    → (versions : Versions) × versions_reading.means value versions
-versions_well edition value (inl means) = means
-versions_well edition value (inr (fault, faulty, (of_duration, text))) =
-    absurd (versions_no_duration value (printed_path (key version_key ∷ [])) fault faulty of_duration)
+-- ---- `nextest-version`
 
 versions_asked : (edition : Edition) (found : Option Data) → AllByRecursion (IsJudgedWell edition) (if_there [] (key version_key) NextestVersion found)
     → (versions : Versions) × MeansOr versions_reading no_versions found versions
 versions_asked edition None h = (no_versions, refl)
-versions_asked edition (Some value) h = versions_well edition value h.0
+versions_asked edition (Some value) h = passes_well edition (judged_at [] (key version_key) NextestVersion value) (versions_no_duration value) h.0
 
 -- ---- `experimental`
-
-features_well : (edition : Edition) (value : Data) → IsJudgedWell edition (judged_at [] (key experimental_key) Experimental value)
-    → ObeysForm edition (Some value) × ((named : FeatureSetting) × features_reading.means value named)
-features_well edition value (inl means) = means
-features_well edition value (inr (fault, faulty, (of_duration, text))) =
-    absurd (experimental_no_duration edition value (printed_path (key experimental_key ∷ [])) fault faulty of_duration)
 
 no_form : (edition : Edition) → ObeysForm edition None
 no_form ArrayAllowed = tt
@@ -84,7 +77,7 @@ features_asked : (edition : Edition) (kind : ConfigSourceKind) (found : Option D
     → AskedFeatures edition kind found
 features_asked edition kind None h may = record { named = no_feature_setting; of_form = no_form edition; of_features = refl; of_tool = no_name kind }
 features_asked edition kind (Some value) h may =
-    let well = features_well edition value h.0 in
+    let well = passes_well edition (judged_at [] (key experimental_key) Experimental value) (experimental_no_duration edition value) h.0 in
     record { named = well.1.0; of_form = well.0; of_features = well.1.1; of_tool = may well.0 well.1.0 well.1.1 }
 
 -- ---- the document

@@ -1,28 +1,23 @@
 -- What is found of the experimental features that a document names.
-use Rattle.std.specs.Prelude.{◌≡◌, ◌≢◌, ◌⊎◌, ℕ, List, [], ◌∷◌, map, Option, Some, None, option_map}
+use Rattle.std.specs.Prelude.{◌≡◌, ◌≢◌, ◌⊎◌, ℕ, List, [], ◌∷◌, map, Option, Some, None}
 use Rattle.toml.specs.Data.{Data}
 use Rattle.nextest_config_values.specs.Read.Fault.{Fault}
 use Rattle.nextest_config_sources.specs.NextestVersion.{all_features, AreNames, experimental_key, Features, FeatureSetting, features_reading, no_features, ObeysForm, word_of}
 use Rattle.nextest_config_sources.specs.declared.nextest_version.edition.Edition.{Edition}
 use Rattle.nextest_config_sources.specs.declared.nextest_version.source.ConfigSourceKind.{ConfigSourceKind}
 use Rattle.nextest_config_sources.specs.declared.nextest_version.source.ConfigSourceKind.TheVariants.{DiscoveredRepository, ExplicitRepository, Tool}
-use Rattle.nextest_config_hints.specs.NearestWord.{IsNearest}
 use Rattle.nextest_config_lines.specs.Step.{key, PathStep}
-use Rattle.nextest_config_findings.specs.Found.{AreFoundIn, Found, found_at, Meant, the_word, tool_names, unknown_name}
+use Rattle.nextest_config_findings.specs.Found.{AreFoundIn, Found, found_at, IsNearestMeant, Meant, tool_names, unknown_name}
 use Rattle.nextest_config_findings.specs.Place.{experimental_check}
 
 -- where the features are named
 abbrev pub features_path : List PathStep
 features_path = key experimental_key ∷ []
 
--- a name may be meant for the nearest feature
-abbrev pub IsFeatureMeant : List ℕ → Option Meant → Type 0
-IsFeatureMeant name hint = (word : Option (List ℕ)) × IsNearest (map word_of all_features) name word
-    × (hint ≡ option_map the_word word)
-
--- an unknown feature name
+-- an unknown feature name, which may be meant for the nearest feature
 abbrev pub IsNameFound : List ℕ → Option Found → Type 0
-IsNameFound name found = (hint : Option Meant) × IsFeatureMeant name hint
+IsNameFound name found =
+    (hint : Option Meant) × IsNearestMeant (map word_of all_features) name hint
     × (found ≡ Some (found_at features_path (unknown_name name hint)))
 
 -- a tool's file that names features, known or not

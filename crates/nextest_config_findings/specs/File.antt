@@ -1,6 +1,6 @@
 -- All that is found in a file, each with its line.
 use Rattle.std.specs.Prelude.{◌≡◌, ◌≢◌, ◌⊎◌, ℕ, suc, ◌≤◌, ◌+◌, ◌||◌, ◌==◌, Bool, List, [], ◌∷◌, ◌++◌, IsUtf8, count_by, if◌then◌else◌, length, map, nat_lt, nat_le, Option, Some, None, take}
-use Rattle.std.specs.List.{AllByRecursion}
+use Rattle.std.specs.List.{AllByRecursion, AllZip}
 use Rattle.std.specs.List.Sorted.{IsPermutation, IsSortedByKey, IsStableByKey}
 use Rattle.std.specs.Ordering.{nat_cmp}
 use Rattle.std.specs.Str.Lossy.{utf8_valid_len}
@@ -14,6 +14,7 @@ use Rattle.nextest_config_lines.specs.Step.{key, PathStep}
 use Rattle.nextest_config_findings.specs.Document.{AreFindings}
 use Rattle.nextest_config_findings.specs.Found.{Found, found_at, FoundKind, found_of, not_toml, not_utf8, unknown_key}
 use Rattle.nextest_config_findings.specs.declared.file.LocatedFinding.{LocatedFinding}
+use Rattle.nextest_config_findings.specs.declared.finding.Finding.{Finding}
 
 -- what a located finding tells: its line, its column, if it has one, and what is found
 abbrev pub Told : Type 0
@@ -84,12 +85,14 @@ pub record IsAtLine (contents : List ℕ) (found : Found) (located : LocatedFind
   pub no_column : located.column ≡ None
   pub at_line : IsLineOrFirst contents (line_path found) located.line
 
+-- the finding is at the line of what it tells
+abbrev pub IsPlaced : List ℕ → Finding → LocatedFinding → Type 0
+IsPlaced contents finding located = (found : Found) → found_of finding ≡ Some found
+    → IsAtLine contents found located
+
 -- each finding at its line
 abbrev pub AreAtLines : List ℕ → List Found → List LocatedFinding → Type 0
-AreAtLines contents [] located = located ≡ []
-AreAtLines contents (found ∷ founds) located = (first : LocatedFinding)
-    × (rest : List LocatedFinding) × (located ≡ first ∷ rest) × IsAtLine contents found first
-    × AreAtLines contents founds rest
+AreAtLines contents = AllZip (IsAtLine contents)
 
 -- the same findings by their lines, those of one line as they were
 pub record AreSorted (before sorted : List LocatedFinding) : Type 0 where

@@ -1,6 +1,7 @@
 -- Findings without where they lie in memory.
 use Rattle.std.specs.Prelude.{◌≡◌, ℕ, List, [], ◌∷◌, ◌++◌, map, Option, Some, option_map, option_to_list, string_bytes}
 use Rattle.nextest_config_values.specs.Read.{Reason, reason_of}
+use Rattle.nextest_config_hints.specs.NearestWord.{IsNearest}
 use Rattle.nextest_config_lines.specs.Step.{PathStep, step_of}
 use Rattle.nextest_config_findings.specs.declared.finding.Finding.{Finding}
 use Rattle.nextest_config_findings.specs.declared.finding.FindingKind.{FindingKind}
@@ -18,6 +19,11 @@ pub data Meant : Type 0 where
 abbrev pub meant_of : Hint → Meant
 meant_of Top = the_top
 meant_of (Nearest word) = the_word word.now
+
+-- a name may be meant for the word that it comes nearest to, if there is one
+abbrev pub IsNearestMeant : List (List ℕ) → List ℕ → Option Meant → Type 0
+IsNearestMeant words name hint = (word : Option (List ℕ)) × IsNearest words name word
+    × (hint ≡ option_map the_word word)
 
 -- what is wrong
 pub data FoundKind : Type 0 where

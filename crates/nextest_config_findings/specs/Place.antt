@@ -73,11 +73,11 @@ kind_check accessor expected = record {
   never_both = λ value at f a b. something_or_nothing (accessor value) a b.0;
 }
 
-abbrev pub is_table : Check Data
-is_table = kind_check as_table (codes "a table")
+abbrev pub table_check : Check Data
+table_check = kind_check as_table (codes "a table")
 
-abbrev pub is_array : Check Data
-is_array = kind_check as_array (codes "an array")
+abbrev pub array_check : Check Data
+array_check = kind_check as_array (codes "an array")
 
 -- the value is an array, where the edition takes tables only
 abbrev pub IsBrokenForm : Edition → Data → Type 0
@@ -109,12 +109,12 @@ place_check edition places.Top = unread_check
 place_check edition places.Unread = unread_check
 place_check edition places.NextestVersion = meaning versions_reading
 place_check edition places.Experimental = experimental_check edition
-place_check edition places.Profiles = is_table
-place_check edition places.Profile = is_table
-place_check edition places.Bench = is_table
-place_check edition places.Overrides = is_array
-place_check edition places.Override = is_table
-place_check edition places.OverrideJunit = is_table
+place_check edition places.Profiles = table_check
+place_check edition places.Profile = table_check
+place_check edition places.Bench = table_check
+place_check edition places.Overrides = array_check
+place_check edition places.Override = table_check
+place_check edition places.OverrideJunit = table_check
 place_check edition places.Retries = meaning retry_policy_reading
 place_check edition places.FlakyResult = meaning flaky_result_reading
 place_check edition places.ThreadsRequired = meaning threads_reading

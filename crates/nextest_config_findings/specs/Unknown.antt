@@ -1,10 +1,9 @@
 -- The keys of a document that aren't known where they stand, and what they may be meant for.
-use Rattle.std.specs.Prelude.{◌≡◌, ◌&&◌, ℕ, Bool, true, false, not, List, [], ◌∷◌, is_some, map, Option, Some, None, option_map}
+use Rattle.std.specs.Prelude.{◌≡◌, ◌&&◌, ℕ, Bool, true, false, not, List, [], ◌∷◌, is_some, map, Option, Some, None}
 use Rattle.toml.specs.Data.{Data, member, Members, no_members, table}
 use Rattle.nextest_config_values.specs.Read.{value_of}
-use Rattle.nextest_config_hints.specs.NearestWord.{IsNearest}
 use Rattle.nextest_config_lines.specs.Step.{PathStep}
-use Rattle.nextest_config_findings.specs.Found.{Found, found_at, Meant, the_top, the_word, unknown_key}
+use Rattle.nextest_config_findings.specs.Found.{Found, found_at, IsNearestMeant, Meant, the_top, unknown_key}
 use Rattle.nextest_config_findings.specs.Judged.{JudgedValue}
 use Rattle.nextest_config_findings.specs.Place.{is_top, keys_of, rows_of}
 use Rattle.nextest_config_findings.specs.declared.place.Place.{Place}
@@ -60,8 +59,7 @@ is_of_top place name = not (is_top place) && is_known (rows_of TOP.now) name
 -- what an unknown key may be meant for: the key of the top, or the nearest of those that are known
 abbrev pub IsHintFor : Bool → Known → List ℕ → Option Meant → Type 0
 IsHintFor true known name hint = hint ≡ Some the_top
-IsHintFor false known name hint = (word : Option (List ℕ))
-    × IsNearest (map (λ row. row.0) known) name word × (hint ≡ option_map the_word word)
+IsHintFor false known name hint = IsNearestMeant (map (λ row. row.0) known) name hint
 
 -- nothing is found of a key that is known
 abbrev pub IsKeyFoundFor : Bool → JudgedKey → Option Found → Type 0

@@ -5,13 +5,12 @@ ghost use Rattle.toml.specs.Data.{get_member};
 ghost use Rattle.toml.specs.View.{table_view, view};
 ghost use Rattle.nextest_config_values.specs.Read.{fault_of};
 ghost use Rattle.nextest_config_sources.specs.NextestVersion.{experimental_key, features_of};
-ghost use Rattle.nextest_config_findings.specs.Features.{AreFeaturesFound, AreNamedFound, AreToolsFound, features_path, IsFeatureMeant, IsNameFound};
-ghost use Rattle.nextest_config_findings.specs.Found.{AddsOne, AreFoundIn, Found, found_at, found_of, kind_told, meant_of, Tells};
+ghost use Rattle.nextest_config_findings.specs.Features.{AreFeaturesFound, AreNamedFound, AreToolsFound, features_path, IsNameFound};
+ghost use Rattle.nextest_config_findings.specs.Found.{AddsOne, AreFoundIn, Found, found_at, found_of, kind_told, Tells};
 
 use crate::finding::{Finding, FindingKind, Hint};
 use crate::judged::at_key;
 use crate::place::read_experimental;
-use nextest_config_hints::nearest_word::nearest;
 use nextest_config_lines::Step;
 use nextest_config_sources::nextest_version::{
     ConfigExperimental, ConfigSourceKind, Edition, ExperimentalDeserialize,
@@ -127,20 +126,10 @@ fn unknown_features(alloc: Global, unknown: &BTreeSet<String>) -> Result<Vec<Fin
 fn add_feature(alloc: Global, name: &str, findings: &mut Vec<Finding>) -> Result<(), AllocError>
     ensures { OnOk result (AddsOne IsNameFound name.now findings.old.items findings.new.items) }
 {
-    let hint = nearest_feature(alloc, name)?;
+    let hint = Hint::nearest(alloc, name, FEATURES)?;
     let name = String::from_str(alloc, name)?;
     findings.push(finding_at(alloc, FindingKind::UnknownFeature { name, hint })?)?;
     Ok(())
-}
-
-// The feature that a name may be meant for.
-fn nearest_feature(alloc: Global, name: &str) -> Result<Option<Hint>, AllocError>
-    ensures { IfOk result (λ hint. IsFeatureMeant name.now (option_map meant_of hint)) }
-{
-    match nearest(alloc, name, FEATURES)? {
-        Some(word) => Ok(Some(Hint::Nearest(word))),
-        None => Ok(None),
-    }
 }
 
 // A finding at the key where features are named.

@@ -1,13 +1,14 @@
 //! All that is found in a file, each with its line.
 
-ghost use Rattle.std.specs.Prelude.{◌≡◌, ◌<◌, ◌^◌, [], ◌∷◌, IfOk, List, None, OnOk, Some, map, option_map};
+ghost use Rattle.std.specs.Prelude.{◌≡◌, ◌<◌, ◌^◌, [], ◌∷◌, IfOk, None, OnOk, Some, map, option_map};
+ghost use Rattle.std.specs.List.{AllZip};
 ghost use Rattle.toml.specs.Errors.{IsMemory, IsWithin};
 ghost use Rattle.toml.specs.Parse.{parse_document};
 ghost use Rattle.toml.specs.View.{table_view};
 ghost use Rattle.nextest_config_lines.specs.Line.{line_behind};
 ghost use Rattle.nextest_config_lines.specs.Step.{step_of};
-ghost use Rattle.nextest_config_findings.specs.File.{AreAtLines, AreInText, AreLocated, AreLocatedIn, column_after, IsAtLine, IsColumn, IsLineOrFirst, IsNotToml, located_told, path_behind};
-ghost use Rattle.nextest_config_findings.specs.Found.{Found, found_at, found_of, FoundKind, kind_told, not_utf8, Tells};
+ghost use Rattle.nextest_config_findings.specs.File.{AreInText, AreLocated, AreLocatedIn, column_after, IsColumn, IsLineOrFirst, IsNotToml, IsPlaced, located_told, path_behind};
+ghost use Rattle.nextest_config_findings.specs.Found.{found_at, FoundKind, kind_told, not_utf8};
 
 use crate::document::findings;
 use crate::finding::{Finding, FindingKind};
@@ -171,8 +172,7 @@ fn at_lines(
     text: &str,
     findings: Vec<Finding>,
 ) -> Result<Vec<LocatedFinding>, AllocError>
-    ensures { IfOk result (λ located. (founds : List Found) → Tells findings.items founds
-        → AreAtLines text.now founds located.items) }
+    ensures { IfOk result (λ located. AllZip (IsPlaced text.now) findings.items located.items) }
 {
     let mut located = Vec::new(alloc);
     for finding in findings {
@@ -183,8 +183,7 @@ fn at_lines(
 
 // A finding with its line.
 fn at_line(alloc: Global, text: &str, finding: Finding) -> Result<LocatedFinding, AllocError>
-    ensures { IfOk result (λ located. (found : Found) → found_of finding ≡ Some found
-        → IsAtLine text.now found located) }
+    ensures { IfOk result (IsPlaced text.now finding) }
 {
     let path = line_path(alloc, &finding)?;
     let line = line_or_first(alloc, text, path.as_slice())?;

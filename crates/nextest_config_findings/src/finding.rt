@@ -1,11 +1,15 @@
 //! What is found wrong in a configuration file.
 
-ghost use Rattle.std.specs.Prelude.{◌≡◌, Some};
+ghost use Rattle.std.specs.Prelude.{◌≡◌, IfOk, option_map, Some};
 ghost use Rattle.std.specs.Fmt.{WritesOnOk};
+ghost use Rattle.nextest_config_hints.specs.NearestWord.{words_of};
+ghost use Rattle.nextest_config_findings.specs.Found.{IsNearestMeant, meant_of};
 ghost use Rattle.nextest_config_findings.specs.Finding.{finding_kind_text, finding_text, hint_text, severity_of};
 
+use nextest_config_hints::nearest_word::nearest;
 use nextest_config_lines::{PathText, Step};
 use nextest_config_values::read::{FaultKind, QuotedText, QuotedTexts};
+use std::alloc::{AllocError, Global};
 use std::collections::BTreeSet;
 use std::fmt::{self, Display};
 
@@ -51,6 +55,23 @@ pub enum Severity {
     Warning,
     /// The file is refused.
     Error,
+}
+
+impl Hint {
+    /// The word that a name may be meant for, of a table of words.
+    pub(crate) fn nearest<T>(
+        alloc: Global,
+        name: &str,
+        words: &[(&'static str, T)],
+    ) -> Result<Option<Hint>, AllocError>
+        ensures { IfOk result (λ hint.
+            IsNearestMeant (words_of words.now) name.now (option_map meant_of hint)) }
+    {
+        match nearest(alloc, name, words)? {
+            Some(word) => Ok(Some(Hint::Nearest(word))),
+            None => Ok(None),
+        }
+    }
 }
 
 impl Finding {

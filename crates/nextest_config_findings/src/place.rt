@@ -5,7 +5,7 @@ ghost use Rattle.std.specs.Bool.{OnFalse, OnTrue};
 ghost use Rattle.toml.specs.View.{view};
 ghost use Rattle.nextest_config_values.specs.Read.{Refuses};
 ghost use Rattle.nextest_config_sources.specs.NextestVersion.{feature_setting_of, features_reading, ObeysForm};
-ghost use Rattle.nextest_config_findings.specs.Place.{experimental_check, is_array, is_table, is_top, IsBrokenForm, keys_of, keys_told, place_check};
+ghost use Rattle.nextest_config_findings.specs.Place.{experimental_check, array_check, table_check, is_top, IsBrokenForm, keys_of, keys_told, place_check};
 
 use nextest_config_elements::global_timeout::GlobalTimeout;
 use nextest_config_elements::junit::{JunitFlakyFailStatus, JunitImpl};
@@ -235,9 +235,9 @@ fn accepted<T: Drop>(read: Result<T, ReadFault>) -> Result<(), ReadFault>
 
 // Whether the value is a table.
 fn check_table(alloc: Global, value: &Value, at: &str) -> Result<(), ReadFault>
-    ensures meant { OnOk result (is_table.passes (view value.now)) }
+    ensures meant { OnOk result (table_check.passes (view value.now)) }
     ensures refused { IfErr result
-        (Refuses (is_table.faults (view value.now) at.now) (Unit {0})) }
+        (Refuses (table_check.faults (view value.now) at.now) (Unit {0})) }
 {
     match value.as_table() {
         Some(_) => Ok(()),
@@ -247,9 +247,9 @@ fn check_table(alloc: Global, value: &Value, at: &str) -> Result<(), ReadFault>
 
 // Whether the value is an array.
 fn check_array(alloc: Global, value: &Value, at: &str) -> Result<(), ReadFault>
-    ensures meant { OnOk result (is_array.passes (view value.now)) }
+    ensures meant { OnOk result (array_check.passes (view value.now)) }
     ensures refused { IfErr result
-        (Refuses (is_array.faults (view value.now) at.now) (Unit {0})) }
+        (Refuses (array_check.faults (view value.now) at.now) (Unit {0})) }
 {
     match value.as_array() {
         Some(_) => Ok(()),

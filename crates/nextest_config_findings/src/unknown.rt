@@ -10,7 +10,6 @@ ghost use Rattle.nextest_config_findings.specs.Unknown.{is_known, is_of_top, IsH
 use crate::finding::{Finding, FindingKind, Hint};
 use crate::judged::{Judged, Mark, steps_of};
 use crate::place::{Place, TOP};
-use nextest_config_hints::nearest_word::nearest;
 use std::alloc::{AllocError, Global};
 use toml::Table;
 
@@ -124,10 +123,8 @@ fn hint_for(
     if is_of_top(place, name) {
         return Ok(Some(Hint::Top));
     }
-    match nearest(alloc, name, known)? {
-        Some(word) => Ok(Some(Hint::Nearest(word))),
-        None => Ok(None),
-    }
+    let hint = Hint::nearest(alloc, name, known)?;
+    Ok(hint)
 }
 
 // Whether the key stands in another table than the top, and is known there.

@@ -1,5 +1,6 @@
 use Rattle.std.proofs.Common.{rules}
 use Rattle.std.proofs.lemmas.List.Sorted.{answers_always}
+use Rattle.nextest_config_findings.proofs.Places.{all_at_lines}
 use Rattle.nextest_config_findings.proofs.file.located_in_document.Goals as goal
 
 pub returns : goal.returns
@@ -9,7 +10,7 @@ returns c =
       founds = found.0;
       are_findings = found.1;
       before = c.in_ok-located.located.items;
-      at_lines = c.in_ok-located.ensures found.0 found.2;
+      at_lines = all_at_lines c.args.text.now _ _ c.in_ok-located.ensures found.0 found.2;
       sorted = record {
         same = c.in_ok-sort_by_key.ensures.permutation;
         by_line = c.in_ok-sort_by_key.ensures.sorted (λ located. located.line) (search (rules, answers_always));
