@@ -1,7 +1,7 @@
 //! Values beside one another: equality, copies, order and hashes.
 
 use crate::likeness::{likeness, order, sameness};
-use crate::rows::{Runner, compare, done, written};
+use crate::rows::{Runner, compare, copied, done, written};
 use crate::values::{FromRow, both};
 use nextest_config_values::identifier::{ConfigIdentifier, ToolName};
 use nextest_config_values::tool_config::ToolConfigFile;
@@ -11,27 +11,62 @@ use std::collections::HashSet;
 use std::fmt::Debug;
 use std::hash::{DefaultHasher, Hash, Hasher};
 
-/// Whether the two values of a row are equal.
-pub fn pair<T: FromRow<By> + PartialEq + Debug + Drop, By>(
+/// How the values of a row compare: two of them, which are the same or differ, or more, which all
+/// differ.
+pub fn likenesses<T: FromRow<By> + PartialEq + Debug + Drop, By>(
     rt: &impl Runner,
     input: &str,
 ) -> String {
+    if input.split(" ~ ").count() <= 2 {
+        return pair::<T, By>(rt, input);
+    }
+    let values: Vec<T> = all(rt, input);
+    let again: Vec<T> = all(rt, input);
+    tell_apart(rt, &values, &again);
+    copied(rt, "differ")
+}
+
+fn pair<T: FromRow<By> + PartialEq + Debug + Drop, By>(rt: &impl Runner, input: &str) -> String {
     let (left, right): (T, T) = both(rt, input, " ~ ");
     likeness(rt, &left, &right)
 }
 
-/// Ends the test where a copy of a value isn't the same, or the other value is.
-pub fn plain<T: Copy + Eq + Debug>(rt: &impl Runner, value: T, other: T) {
-    let copy = value;
-    let clone = done(rt, value.clone());
-    compare_both(rt, &value, &copy, "same");
-    told_apart(rt, &value, &clone, &other);
+fn all<T: FromRow<By> + Drop, By>(rt: &impl Runner, input: &str) -> Vec<T> {
+    let mut values = Vec::new(rt.alloc());
+    for text in input.split(" ~ ") {
+        done(rt, values.push(T::from_row(rt, text)));
+    }
+    values
 }
 
-/// Ends the test where the second value isn't the same as the first, or the third is.
-pub fn told_apart<T: PartialEq + Debug>(rt: &impl Runner, value: &T, same: &T, other: &T) {
-    compare_both(rt, value, same, "same");
-    compare_both(rt, value, other, "differ");
+/// Ends the test where a copy of a value isn't the same, or another value is.
+pub fn plain<T: Copy + Eq + Debug>(rt: &impl Runner, values: &[T]) {
+    for value in values {
+        let copy = *value;
+        let clone = done(rt, value.clone());
+        compare_both(rt, value, &copy, "same");
+        compare_both(rt, value, &clone, "same");
+    }
+    tell_apart(rt, values, values);
+}
+
+/// Ends the test where a value isn't the same as the one at its place in the second list, or is as
+/// another one there.
+pub fn tell_apart<T: PartialEq + Debug>(rt: &impl Runner, values: &[T], again: &[T]) {
+    for (place, value) in values.iter().enumerate() {
+        tell_from_others(rt, place, value, again);
+    }
+}
+
+fn tell_from_others<T: PartialEq + Debug>(rt: &impl Runner, place: usize, value: &T, all: &[T]) {
+    for (at, other) in all.iter().enumerate() {
+        compare_both(
+            rt,
+            value,
+            other,
+            if at == place { "same" } else { "differ" },
+        );
+    }
 }
 
 fn compare_both<T: PartialEq + Debug>(rt: &impl Runner, left: &T, right: &T, wanted: &str) {

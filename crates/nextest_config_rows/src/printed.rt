@@ -1,6 +1,6 @@
 //! Values as texts.
 
-use crate::rows::{Runner, Subject, shown, written};
+use crate::rows::{Runner, Subject, check, check_at, check_range, shown, written};
 use crate::values::FromRow;
 use std::error::Error;
 use std::fmt::{Debug, Display};
@@ -17,6 +17,17 @@ impl<S: Subject> Subject for Written<S> {
             None => S::answer(rt, call, input),
         }
     }
+}
+
+/// A size above a million.
+pub const MILLION: usize = 1_000_001;
+
+/// Asks for the texts of rows at sizes of all kinds: those of every table, each from 1 to 200, and
+/// one above a million.
+pub fn check_sizes<S: Subject>(rt: &impl Runner, rows: &str) {
+    check::<S>(rt, rows);
+    check_range::<S>(rt, rows, 1, 200);
+    check_at::<S>(rt, rows, &[MILLION]);
 }
 
 /// The text of the row's value.

@@ -23,6 +23,22 @@ pub trait Runner {
     fn done<T, E: Debug + Drop>(&self, answer: Result<T, E>) -> T;
 }
 
+/// What can end a test.
+pub trait Ends {
+    /// What a call answered. A refusal ends the test.
+    fn accepted<T, E: Debug + Drop>(&self, answer: Result<T, E>) -> T;
+}
+
+impl<T: Ends> Runner for (T, Global) {
+    fn alloc(&self) -> Global {
+        self.1
+    }
+
+    fn done<U, E: Debug + Drop>(&self, answer: Result<U, E>) -> U {
+        self.0.accepted(answer)
+    }
+}
+
 /// What tables of rows are about.
 pub trait Subject {
     /// What a call answers for an input.

@@ -4,8 +4,8 @@ use Rattle.nextest_config_sources.specs.NextestVersion.{source_under}
 use Rattle.nextest_config_sources.specs.NextestVersion.Source.{Source}
 use Rattle.nextest_config.specs.NextestVersion.{configuration_of, Configuration, IsFirstRefused, IsFirstRefusedAmong, IsJoinOf, IsRefusalOf, join_configurations, neutral_seen, Reads, Refusal, refusal_of, seen_configuration, SeenConfiguration}
 use Rattle.nextest_config.specs.declared.nextest_version.error.ConfigParseError.{ConfigParseError}
-use Rattle.nextest_config.specs.declared.nextest_version.error.ListRefusal.{ListRefusal}
-use Rattle.nextest_config.specs.declared.nextest_version.error.ListRefusal.TheVariants.{Refused}
+use Rattle.nextest_config_lists.specs.declared.merge.PieceRefusal.{PieceRefusal}
+use Rattle.nextest_config_lists.specs.declared.merge.PieceRefusal.TheVariants.{Refused}
 use Rattle.nextest_config_vectors.proofs.Parted.{behind, cut_to, cut_whole, front, front_long, piece, piece_long}
 use Rattle.nextest_config_vectors.proofs.pieces.add_piece.Goals as goal
 
@@ -14,7 +14,7 @@ within_list : (sources : List Source) (position : ℕ) (refusal : Refusal) → I
 within_list sources position refusal first = omega (arith, first.place, ap length first.whole, length-append first.before (first.source ∷ first.after))
 
 -- what a refusal at a position says
-refused_at : (sources : List Source) (told : ListRefusal) (position : ℕ) (error : ConfigParseError) → told ≡ Refused position error → IsRefusalOf sources told → (refusal : Refusal) × (refusal_of error ≡ Some refusal) × IsFirstRefused sources position refusal
+refused_at : (sources : List Source) (told : PieceRefusal ConfigParseError) (position : ℕ) (error : ConfigParseError) → told ≡ Refused position error → IsRefusalOf sources told → (refusal : Refusal) × (refusal_of error ≡ Some refusal) × IsFirstRefused sources position refusal
 refused_at sources told position error is refused = subst (IsRefusalOf sources) is refused
 
 pub returns-in-Ok-merge-clause-stands : goal.returns-in-Ok-merge-clause-stands

@@ -1,0 +1,7 @@
+//! The tables of runs, and how a run is done.
+
+mod blocks;
+mod runner;
+mod runs;
+mod streams;
+mod words;

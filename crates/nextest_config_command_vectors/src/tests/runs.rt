@@ -1,0 +1,260 @@
+//! Runs of the command, with what they write and complain of.
+
+use crate::tests::blocks::check;
+use crate::tests::runner::Test;
+
+const RUNS: &str = r#"
+=== a tool's file, and the repository's above it
+@ /etc/t.toml
+nextest-version = "0.9.50"
+@ .config/nextest.toml
+nextest-version = { recommended = "0.9.60" }
+experimental = ["benchmarks", "future"]
+$ show --tool-config-file=my-tool:/etc/t.toml = 0
+> required: 0.9.50 by tool my-tool (/etc/t.toml)
+> recommended: 0.9.60 by repository .config/nextest.toml
+> known: benchmarks
+> unknown in repository .config/nextest.toml: "future"
+> deprecated array form in repository .config/nextest.toml
+$ check --current=0.9.55 --tool-config-file=my-tool:/etc/t.toml = 0
+> warning: 0.9.60 recommended by repository .config/nextest.toml, current 0.9.55
+> known: benchmarks
+> unknown in repository .config/nextest.toml: "future"
+> deprecated array form in repository .config/nextest.toml
+> .config/nextest.toml:2: warning: experimental: unknown feature "future"
+$ check --current=0.9.49 --tool-config-file=my-tool:/etc/t.toml = 1
+> error: 0.9.50 required by tool my-tool (/etc/t.toml), current 0.9.49
+> known: benchmarks
+> unknown in repository .config/nextest.toml: "future"
+> deprecated array form in repository .config/nextest.toml
+$ check --current=0.9.49 --tool-config-file=my-tool:/etc/t.toml --override = 0
+> error (overridden): 0.9.50 required by tool my-tool (/etc/t.toml), current 0.9.49
+> known: benchmarks
+> unknown in repository .config/nextest.toml: "future"
+> deprecated array form in repository .config/nextest.toml
+> .config/nextest.toml:2: warning: experimental: unknown feature "future"
+$ check --current=0.9.49 --tool-config-file=my-tool:/etc/t.toml --table-only = 2
+> .config/nextest.toml:2: error: experimental: the array form of `experimental` isn't supported, use a table
+$ lint --tool-config-file=my-tool:/etc/t.toml --table-only = 1
+> .config/nextest.toml:2: error: experimental: the array form of `experimental` isn't supported, use a table
+
+=== versions, and no finding
+@ .config/nextest.toml
+nextest-version = { required = "0.9.50", recommended = "0.9.60" }
+$ lint --strict = 0
+$ lint --format=github = 0
+$ check --current=0.9.60 --strict = 0
+> satisfied: 0.9.60
+> known: none
+$ check --current=0.9.55 = 0
+> warning: 0.9.60 recommended by repository .config/nextest.toml, current 0.9.55
+> known: none
+$ check --current=0.9.55 --strict = 1
+> warning: 0.9.60 recommended by repository .config/nextest.toml, current 0.9.55
+> known: none
+$ check --current=0.9.55 --strict --override = 0
+> warning (overridden): 0.9.60 recommended by repository .config/nextest.toml, current 0.9.55
+> known: none
+$ check --current=0.9.50-b.1+c = 1
+> error: 0.9.50 required by repository .config/nextest.toml, current 0.9.50-b.1+c
+> known: none
+$ check --current=0.9.49 --strict --override = 0
+> error (overridden): 0.9.50 required by repository .config/nextest.toml, current 0.9.49
+> known: none
+
+=== tools, of which the first is read last, and the repository above them
+@ /a.toml
+nextest-version = "0.9.50"
+zone = 1
+@ /b.toml
+zone = 1
+nextest-version = { required = "0.9.50", recommended = "0.9.50" }
+@ .config/nextest.toml
+nextest-version = { recommended = "0.9.50" }
+[profile.ci]
+overrides = 1
+$ show --tool-config-file=a:/a.toml --tool-config-file=b:/b.toml = 0
+> required: 0.9.50 by tool a (/a.toml)
+> recommended: 0.9.50 by repository .config/nextest.toml
+> known: none
+$ show --tool-config-file=b:/b.toml --tool-config-file=a:/a.toml --config-file=/a.toml = 0
+> required: 0.9.50 by explicit /a.toml
+> recommended: 0.9.50 by tool b (/b.toml)
+> known: none
+$ lint --tool-config-file=a:/a.toml --tool-config-file=b:/b.toml = 1
+> /b.toml:1: warning: unknown key "zone"
+> /a.toml:2: warning: unknown key "zone"
+> .config/nextest.toml:3: error: profile.ci.overrides: invalid type: integer `1`, expected an array
+$ lint --tool-config-file=b:/b.toml --tool-config-file=a:/a.toml --tool-config-file=b:/a.toml other = 0
+> /a.toml:2: warning: unknown key "zone"
+> /a.toml:2: warning: unknown key "zone"
+> /b.toml:1: warning: unknown key "zone"
+$ lint --config-file=/b.toml --strict = 1
+> /b.toml:1: warning: unknown key "zone"
+$ check --current=0.9.50 --config-file=/b.toml --strict = 1
+> satisfied: 0.9.50
+> known: none
+> /b.toml:1: warning: unknown key "zone"
+$ check --current=0.9.50 --tool-config-file=b:/b.toml = 1
+> satisfied: 0.9.50
+> known: none
+> /b.toml:1: warning: unknown key "zone"
+> .config/nextest.toml:3: error: profile.ci.overrides: invalid type: integer `1`, expected an array
+$ check --current=0.9.49 --tool-config-file=a:/a.toml --strict = 1
+> error: 0.9.50 required by tool a (/a.toml), current 0.9.49
+> known: none
+$ check --current=0.9.49 --override = 1
+> warning (overridden): 0.9.50 recommended by repository .config/nextest.toml, current 0.9.49
+> known: none
+> .config/nextest.toml:3: error: profile.ci.overrides: invalid type: integer `1`, expected an array
+
+=== files that are refused beside one that isn't
+@ /t.toml
+experimental = ["benchmarks", "a"]
+@ /u.toml
+a = flase
+@ .config/nextest.toml
+zone = 1
+# é
+@ ci.toml
+[profile.ci]
+overrides = 1
+retrie = 1
+$ lint --tool-config-file=t:/t.toml --tool-config-file=u:/u.toml = 1
+> /u.toml:1:5: error: *
+> /t.toml:1: error: experimental: experimental features in a tool configuration: "a", "benchmarks"
+> .config/nextest.toml:2: error: not UTF-8
+$ check --current=1.0.0 = 2
+> .config/nextest.toml:2: error: not UTF-8
+$ check --current=1.0.0 --tool-config-file=u:/u.toml --config-file=ci.toml = 2
+> /u.toml:1:5: error: *
+> ci.toml:2: error: profile.ci.overrides: invalid type: integer `1`, expected an array
+> ci.toml:3: warning: profile.ci: unknown key "retrie", did you mean "retries"
+$ check --current=1.0.0 --tool-config-file=t:/t.toml --config-file=ci.toml --strict --override = 2
+> /t.toml:1: error: experimental: experimental features in a tool configuration: "a", "benchmarks"
+> ci.toml:2: error: profile.ci.overrides: invalid type: integer `1`, expected an array
+> ci.toml:3: warning: profile.ci: unknown key "retrie", did you mean "retries"
+$ show = 2
+> .config/nextest.toml:2: error: not UTF-8
+$ show --config-file=/u.toml = 2
+> /u.toml:1:5: error: *
+$ show --tool-config-file=t:/t.toml other = 2
+> /t.toml:1: error: experimental: experimental features in a tool configuration: "a", "benchmarks"
+$ lint --tool-config-file=u:/u.toml --config-file=ci.toml --format=github --strict = 1
+> ::error file=/u.toml,line=1,col=5::*
+> ::error file=ci.toml,line=2::profile.ci.overrides: invalid type: integer `1`, expected an array
+> ::warning file=ci.toml,line=3::profile.ci: unknown key "retrie", did you mean "retries"
+
+=== a version out of its grammar
+@ .config/nextest.toml
+zone = 1
+nextest-version = "0.9.60-rc.1"
+$ check --current=1.0.0 = 2
+> .config/nextest.toml:1: warning: unknown key "zone"
+> .config/nextest.toml:2: error: nextest-version: pre-release identifiers are not supported in nextest-version
+$ show = 2
+> .config/nextest.toml:1: warning: unknown key "zone"
+> .config/nextest.toml:2: error: nextest-version: pre-release identifiers are not supported in nextest-version
+
+=== experimental features
+@ /t.toml
+experimental = []
+@ .config/nextest.toml
+experimental = { z = 1, wrapper-scripts = true, setup-scripts = true, "x\n" = false }
+@ ci.toml
+experimental = ["y", "benchmarks", "x"]
+$ show --tool-config-file=t:/t.toml = 0
+> required: none
+> recommended: none
+> known: setup-scripts, wrapper-scripts
+> unknown in repository .config/nextest.toml: "x\n", "z"
+> deprecated array form in tool t (/t.toml)
+$ show --tool-config-file=t:/t.toml --config-file=ci.toml = 0
+> required: none
+> recommended: none
+> known: benchmarks
+> unknown in explicit ci.toml: "x", "y"
+> deprecated array form in tool t (/t.toml)
+> deprecated array form in explicit ci.toml
+$ show --table-only = 0
+> required: none
+> recommended: none
+> known: setup-scripts, wrapper-scripts
+> unknown in repository .config/nextest.toml: "x\n", "z"
+$ show --tool-config-file=t:/t.toml --table-only = 2
+> /t.toml:1: error: experimental: the array form of `experimental` isn't supported, use a table
+> .config/nextest.toml:1: warning: experimental: unknown feature "x\n"
+> .config/nextest.toml:1: warning: experimental: unknown feature "z"
+
+=== what a line can't have, in paths and in what is found
+@ a:b,c%d.toml
+[profile."x%y"]
+overrides = "50%: a,b"
+@ a←¶b.toml
+nextest-version = { required = "0.9.50", zone = 1 }
+[profile.ci]
+retries = { backoff = "fixed", count = 1, "a\r\nb%:," = 1 }
+$ lint --config-file=a:b,c%d.toml = 1
+> a:b,c%d.toml:2: error: profile."x%y".overrides: invalid type: string "50%: a,b", expected an array
+$ lint --config-file=a:b,c%d.toml --format=github = 1
+> ::error file=a%3Ab%2Cc%25d.toml,line=2::profile."x%25y".overrides: invalid type: string "50%25: a,b", expected an array
+$ lint --config-file=a←¶b.toml = 1
+> a\r\nb.toml:1: warning: nextest-version: unknown key "zone"
+> a\r\nb.toml:3: error: profile.ci.retries: unknown field `a\r\nb%:,`, expected one of `count`, `delay`, `jitter`
+$ lint --config-file=a←¶b.toml --format=github = 1
+> ::warning file=a%0D%0Ab.toml,line=1::nextest-version: unknown key "zone"
+> ::error file=a%0D%0Ab.toml,line=3::profile.ci.retries: unknown field `a%0D%0Ab%25:,`, expected one of `count`, `delay`, `jitter`
+$ show --config-file=a←¶b.toml = 0
+> required: 0.9.50 by explicit a←¶b.toml
+> recommended: none
+> known: none
+
+=== files that ask for nothing
+@ /t.toml
+@ .config/nextest.toml
+# nothing
+$ lint --strict = 0
+$ show --tool-config-file=t:/t.toml other = 0
+> required: none
+> recommended: none
+> known: none
+$ check --current=0.0.0 = 0
+> satisfied: 0.0.0
+> known: none
+
+=== no file
+$ check --current=1.0.0 --strict = 0
+> satisfied: 1.0.0
+> known: none
+! no configuration file: .config/nextest.toml isn't there
+$ lint --format=github = 0
+! no configuration file: .config/nextest.toml isn't there
+$ show a/b/.config/nextest.toml --table-only = 0
+> required: none
+> recommended: none
+> known: none
+! no configuration file: a/b/.config/nextest.toml isn't there
+
+=== files that can't be read
+@ /a.toml
+zone = 1
+@ /b.toml | Permission denied (os error 13)
+@ .config/nextest.toml | Is a directory (os error 21)
+$ lint --tool-config-file=a:/a.toml = 3
+! cannot read .config/nextest.toml: Is a directory (os error 21)
+$ lint --config-file=/a.toml = 0
+> /a.toml:1: warning: unknown key "zone"
+$ lint --tool-config-file=a:/a.toml --config-file=ci.toml = 3
+! cannot read ci.toml: nothing is there
+$ show --config-file=/b.toml = 3
+! cannot read /b.toml: Permission denied (os error 13)
+$ check --current=1.0.0 --tool-config-file=b:/b.toml --tool-config-file=c:/c.toml = 3
+! cannot read /c.toml: nothing is there
+$ check --current=1.0.0 --tool-config-file=c:/c.toml --tool-config-file=a:/a.toml --tool-config-file=b:/b.toml = 3
+! cannot read /b.toml: Permission denied (os error 13)
+"#;
+
+#[test]
+fn runs_as_they_end(rt: HostRuntime) {
+    check(&(Test(&rt), rt.alloc()), RUNS);
+}

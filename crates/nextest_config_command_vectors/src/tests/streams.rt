@@ -1,0 +1,166 @@
+//! Runs over streams that fail.
+
+use crate::memory::MemoryFiles;
+use crate::tests::blocks::Run;
+use crate::tests::words::asked;
+use nextest_config_command::serve;
+use nextest_config_rows::rows::{Runner, compare, copied, done, push};
+use std::alloc::Global;
+use std::io::{self, ErrorKind, Write};
+
+// What an odd call of a writer answers: how many bytes it takes at most, or why it fails.
+type Odd = Result<usize, ErrorKind>;
+
+const ODD: [Odd; 4] = [
+    Ok(0),
+    Ok(1),
+    Err(ErrorKind::Interrupted),
+    Err(ErrorKind::BrokenPipe),
+];
+
+// How a writer is: how many bytes it takes a call, and which of its calls is odd, if one is. Calls
+// are counted from 0, with the flushes among them. Behind a failure it takes more.
+#[derive(Clone, Copy)]
+struct Manner {
+    step: usize,
+    odd: Option<(usize, Odd)>,
+}
+
+const PLAIN: Manner = Manner {
+    step: 4096,
+    odd: None,
+};
+
+// A writer that keeps what it takes.
+#[derive(Drop)]
+struct Watched {
+    manner: Manner,
+    kept: Vec<u8>,
+    calls: usize,
+    is_flushed: bool,
+}
+
+impl Watched {
+    fn new(alloc: Global, manner: Manner) -> Self {
+        Watched {
+            manner,
+            kept: Vec::new(alloc),
+            calls: 0,
+            is_flushed: true,
+        }
+    }
+
+    // How many bytes the next call takes at most.
+    fn next_call(&mut self) -> io::Result<usize> {
+        let call = self.calls;
+        self.calls = call.saturating_add(1);
+        match self.manner.odd {
+            Some((at, Ok(count))) if at == call => Ok(count),
+            Some((at, Err(kind))) if at == call => Err(io::Error::from(kind)),
+            _ => Ok(self.manner.step),
+        }
+    }
+
+    // What was kept, and whether it was passed on.
+    fn told(&self, rt: &impl Runner) -> String {
+        let kept = str::from_utf8(self.kept.as_slice()).unwrap_or("no text");
+        let mark = if self.is_flushed { "" } else { "(not flushed)" };
+        done(rt, format!(in rt.alloc(); "{kept}{mark}"))
+    }
+}
+
+impl Write for Watched {
+    fn write(&mut self, buf: &[u8]) -> io::Result<usize> {
+        let count = self.next_call()?.min(buf.len());
+        self.kept.extend_from_slice(&buf[..count])?;
+        self.is_flushed = self.is_flushed && count == 0;
+        Ok(count)
+    }
+
+    fn flush(&mut self) -> io::Result<()> {
+        self.next_call()?;
+        self.is_flushed = true;
+        Ok(())
+    }
+}
+
+/// Does the run, and again with each call of its streams odd in turn.
+pub(crate) fn check_run(rt: &impl Runner, files: &MemoryFiles, run: &Run<'_>) {
+    compare_run(rt, files, run, PLAIN, PLAIN);
+    for odd in ODD {
+        for call in 0..written_calls(run) {
+            let odd = Some((call, odd));
+            compare_run(rt, files, run, Manner { step: 16, odd }, PLAIN);
+        }
+        for call in 0..=run.complaint.len() {
+            let odd = Some((call, odd));
+            compare_run(rt, files, run, PLAIN, Manner { step: 1, odd });
+        }
+    }
+}
+
+// How often the run calls a writer that takes 16 bytes a call: not at all where a file can't be
+// read.
+fn written_calls(run: &Run<'_>) -> usize {
+    if run.status == "3" {
+        0
+    } else {
+        run.output.len().div_ceil(16).saturating_add(1)
+    }
+}
+
+// Does the run over streams of which one may have an odd call. Where the writer fails, the status
+// is 3, and the run complains of that at last; where a complaint fails, the status and the output
+// stay.
+fn compare_run(
+    rt: &impl Runner,
+    files: &MemoryFiles,
+    run: &Run<'_>,
+    writer_manner: Manner,
+    faults_manner: Manner,
+) {
+    let asked = asked(rt, run.words);
+    let mut writer = Watched::new(rt.alloc(), writer_manner);
+    let mut faults = Watched::new(rt.alloc(), faults_manner);
+    let status = serve(rt.alloc(), &asked, files, &mut writer, &mut faults);
+    let output = writer.told(rt);
+    let complaint = faults.told(rt);
+    let ended = done(
+        rt,
+        format!(in rt.alloc(); "{status} | {output} | {complaint}"),
+    );
+
+    let (is_written, output) = taken(rt, writer_manner, run.output.as_str());
+    let (_, mut complaint) = taken(rt, faults_manner, run.complaint.as_str());
+    let status = if is_written { run.status } else { "3" };
+    if !is_written {
+        push(rt, &mut complaint, "cannot write output\n");
+    }
+    let wanted = done(
+        rt,
+        format!(in rt.alloc(); "{status} | {output} | {complaint}"),
+    );
+    compare(rt, run.words, ended.as_str(), wanted.as_str());
+}
+
+// Whether a writer of this manner takes the text, and what is then told of it. An interrupted write
+// is tried again; a flush isn't.
+fn taken(rt: &impl Runner, manner: Manner, text: &str) -> (bool, String) {
+    let Some((call, odd)) = manner.odd else {
+        return (true, copied(rt, text));
+    };
+    let front = text.get(..call.saturating_mul(manner.step)).unwrap_or(text);
+    let is_write = front.len() < text.len();
+    let goes_on = match odd {
+        Ok(count) => !is_write || count > 0,
+        Err(kind) => is_write && kind == ErrorKind::Interrupted,
+    };
+    let told = if goes_on {
+        copied(rt, text)
+    } else if front.is_empty() {
+        String::new(rt.alloc())
+    } else {
+        done(rt, format!(in rt.alloc(); "{front}(not flushed)"))
+    };
+    (goes_on, told)
+}

@@ -1,0 +1,14 @@
+//! The tables of files, by what is found in them.
+
+mod blocks;
+mod carried;
+mod durations;
+mod features;
+mod files;
+mod findings;
+mod keys;
+mod lines;
+mod orders;
+mod places;
+mod real;
+mod runner;

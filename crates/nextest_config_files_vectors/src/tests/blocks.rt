@@ -1,0 +1,163 @@
+//! Tables of whole files, each a block: a line `=== NAME | SOURCE`, the lines of the file, and what
+//! is found in it, a line each that begins with `> `. Where there is none, nothing is found.
+//!
+//! SOURCE is `repository`, `explicit` or `tool`. A word behind it says more: `tables`, that an
+//! array of experimental features is refused; `latin-1`, that each character of the file is one
+//! byte. A file writes some characters as `\n` or `\u{..}`. A backslash at its end takes away the
+//! last line feed. Blank lines in front of the next block aren't the file's.
+
+use nextest_config_findings::{Finding, LocatedFinding, Severity, findings, located};
+use nextest_config_rows::rows::{
+    Escaped, Runner, Subject, compare, cut, done, push, shown, unknown,
+};
+use nextest_config_rows::values::{FromRow, word};
+use nextest_config_sources::nextest_version::{ConfigSourceKind, Edition};
+use nextest_config_values::identifier::ToolName;
+
+/// Asks for what is found in the file of each block, and compares it.
+pub(crate) fn check<S: Subject>(rt: &impl Runner, blocks: &str) {
+    for block in blocks.split("\n=== ") {
+        if !block.is_empty() {
+            check_block::<Escaped<S>>(rt, block);
+        }
+    }
+}
+
+fn check_block<S: Subject>(rt: &impl Runner, block: &str) {
+    let (heading, body) = block.split_once('\n').unwrap_or((block, ""));
+    let (_name, source) = cut(rt, heading, " | ");
+    let file = lines(rt, body, false);
+    let wanted = lines(rt, body, true);
+    let answer = S::answer(rt, source, file.as_str());
+    compare(rt, block, answer.as_str(), wanted.as_str());
+}
+
+// The lines of a block that say what is found, or those of its file.
+fn lines(rt: &impl Runner, body: &str, found: bool) -> String {
+    let mut lines = String::new(rt.alloc());
+    for line in body.trim_end().lines() {
+        if line.starts_with("> ") == found {
+            push(rt, &mut lines, line);
+            push(rt, &mut lines, "\n");
+        }
+    }
+    lines
+}
+
+/// What is found in the file, as it is listed for a user: `LINE: SEVERITY: FINDING`, or
+/// `LINE:COLUMN: SEVERITY: *` for what `toml` says in words of its own.
+pub(crate) struct Listed;
+
+impl Subject for Listed {
+    fn answer(rt: &impl Runner, call: &str, input: &str) -> String {
+        let source = source(rt, call);
+        let contents = contents(rt, call, input);
+        let found = located(rt.alloc(), &source, edition(call), contents.as_slice());
+        let mut listed = String::new(rt.alloc());
+        for located in done(rt, found) {
+            list(rt, &mut listed, &located);
+        }
+        listed
+    }
+}
+
+fn list(rt: &impl Runner, listed: &mut String, located: &LocatedFinding) {
+    let text = shown(rt, &located.finding);
+    let severity = severity(&located.finding);
+    let line = located.line;
+    match located.column {
+        Some(column) => {
+            let text = starred(text.as_str());
+            done(
+                rt,
+                write!(listed, "> {line}:{column}: {severity}: {text}\n"),
+            );
+        }
+        None => done(rt, write!(listed, "> {line}: {severity}: {text}\n")),
+    }
+}
+
+/// The same in one line: findings stand apart by ` && `.
+pub(crate) struct InRow;
+
+impl Subject for InRow {
+    fn answer(rt: &impl Runner, call: &str, input: &str) -> String {
+        let listed = Listed::answer(rt, call, input);
+        let found = listed.as_str().strip_prefix("> ").unwrap_or("");
+        done(
+            rt,
+            found
+                .strip_suffix('\n')
+                .unwrap_or(found)
+                .replace(rt.alloc(), "\n> ", " && "),
+        )
+    }
+}
+
+// A star in the place of a message that is one line.
+fn starred(message: &str) -> &str {
+    if message.is_empty() || message.contains('\n') || message.contains('\r') {
+        message
+    } else {
+        "*"
+    }
+}
+
+/// What is found in the document, in the order in which it is found: `SEVERITY: FINDING`.
+pub(crate) struct InOrder;
+
+impl Subject for InOrder {
+    fn answer(rt: &impl Runner, call: &str, input: &str) -> String {
+        let source = source(rt, call);
+        let document = done(rt, toml::table_from_str(rt.alloc(), input));
+        let found = findings(rt.alloc(), &source, edition(call), &document);
+        let mut listed = String::new(rt.alloc());
+        for finding in done(rt, found) {
+            let severity = severity(&finding);
+            let text = shown(rt, &finding);
+            done(rt, write!(listed, "> {severity}: {text}\n"));
+        }
+        listed
+    }
+}
+
+fn severity(finding: &Finding) -> &'static str {
+    match finding.severity() {
+        Severity::Error => "error",
+        Severity::Warning => "warning",
+    }
+}
+
+fn source(rt: &impl Runner, call: &str) -> ConfigSourceKind {
+    match word(call).0 {
+        "repository" => ConfigSourceKind::DiscoveredRepository,
+        "explicit" => ConfigSourceKind::ExplicitRepository,
+        "tool" => ConfigSourceKind::Tool(ToolName::from_row(rt, "my-tool")),
+        word => unknown(rt, word),
+    }
+}
+
+fn edition(call: &str) -> Edition {
+    if call.ends_with(" tables") {
+        Edition::TableOnly
+    } else {
+        Edition::ArrayAllowed
+    }
+}
+
+// The bytes of a file.
+fn contents(rt: &impl Runner, call: &str, file: &str) -> Vec<u8> {
+    let text = file.strip_suffix("\\\n").unwrap_or(file);
+    let mut bytes = Vec::new(rt.alloc());
+    if call.ends_with(" latin-1") {
+        for character in text.chars() {
+            done(
+                rt,
+                bytes.push(u8::try_from(u32::from(character)).unwrap_or(0)),
+            );
+        }
+    } else {
+        done(rt, bytes.extend_from_slice(text.as_bytes()));
+    }
+    bytes
+}

@@ -1,0 +1,232 @@
+//! The order in which things are found, wherever they stand in a file.
+
+use crate::tests::blocks::{InOrder, check};
+use crate::tests::runner::Test;
+
+const FILES: &str = r#"
+=== an empty file | repository
+=== a file in which nothing is found | repository
+[profile.ci]
+retries = 1
+
+=== values, then features, then keys | repository
+zone = 1
+experimental = ["future"]
+[profile.ci]
+zone = 1
+retries = "two"
+> error: profile.ci.retries: invalid type: string "two", expected a table ({ backoff = "fixed", count = 5 }) or a number (5)
+> warning: experimental: unknown feature "future"
+> warning: unknown key "zone"
+> warning: profile.ci: unknown key "zone"
+
+=== values, then a tool's features, then keys | tool
+zone = 1
+experimental = ["future"]
+[profile.ci]
+retries = "two"
+> error: profile.ci.retries: invalid type: string "two", expected a table ({ backoff = "fixed", count = 5 }) or a number (5)
+> error: experimental: experimental features in a tool configuration: "future"
+> warning: unknown key "zone"
+
+=== a duration that isn't judged stands among the errors | repository
+[profile.ci]
+zone = 1
+junit = 1
+global-timeout = "0"
+leak-timeout = 1
+> error: profile.ci.leak-timeout: invalid type: integer `1`, expected a table ({ period = "500ms", result = "fail" }) or a string ("100ms")
+> warning: profile.ci.global-timeout: a duration that isn't judged here: only whole numbers, each with a unit, are read
+> error: profile.ci.junit: invalid type: integer `1`, expected a table
+> warning: profile.ci: unknown key "zone"
+
+=== the values of the top | explicit
+profile = 1
+experimental = 1
+nextest-version = 1
+> error: nextest-version: invalid type: integer `1`, expected a table ({ required = "0.9.20", recommended = "0.9.30" }) or a string ("0.9.50")
+> error: experimental: invalid type: integer `1`, expected a table ({ setup-scripts = true, benchmarks = true }) or an array (["setup-scripts", "benchmarks"])
+> error: profile: invalid type: integer `1`, expected a table
+
+=== the values of the top, where features stand in a table alone | repository tables
+profile = 1
+experimental = []
+nextest-version = 1
+> error: nextest-version: invalid type: integer `1`, expected a table ({ required = "0.9.20", recommended = "0.9.30" }) or a string ("0.9.50")
+> error: experimental: the array form of `experimental` isn't supported, use a table
+> error: profile: invalid type: integer `1`, expected a table
+
+=== the values of a profile | repository
+[profile.ci]
+overrides = 1
+bench = 1
+junit = 1
+global-timeout = 1
+leak-timeout = 1
+slow-timeout = 1
+fail-fast = 1
+threads-required = 0
+flaky-result = 1
+retries = "two"
+> error: profile.ci.retries: invalid type: string "two", expected a table ({ backoff = "fixed", count = 5 }) or a number (5)
+> error: profile.ci.flaky-result: invalid type: integer `1`, expected a string
+> error: profile.ci.threads-required: invalid value: integer `0`, expected an integer, the string "num-cpus" or the string "num-test-threads"
+> error: profile.ci.fail-fast: invalid type: integer `1`, expected a boolean or { max-fail = ... }
+> error: profile.ci.slow-timeout: invalid type: integer `1`, expected a table ({ period = "60s", terminate-after = 2 }) or a string ("60s")
+> error: profile.ci.leak-timeout: invalid type: integer `1`, expected a table ({ period = "500ms", result = "fail" }) or a string ("100ms")
+> error: profile.ci.global-timeout: invalid type: integer `1`, expected a duration
+> error: profile.ci.junit: invalid type: integer `1`, expected a table
+> error: profile.ci.bench: invalid type: integer `1`, expected a table
+> error: profile.ci.overrides: invalid type: integer `1`, expected an array
+
+=== the values of a bench and of an override | repository
+[[profile.ci.overrides]]
+junit = { flaky-fail-status = 1, store-failure-output = 1, store-success-output = 1 }
+leak-timeout = 1
+slow-timeout = 1
+flaky-result = 1
+retries = "two"
+threads-required = 0
+priority = 101
+[profile.ci.bench]
+global-timeout = 1
+slow-timeout = 1
+> error: profile.ci.bench.slow-timeout: invalid type: integer `1`, expected a table ({ period = "60s", terminate-after = 2 }) or a string ("60s")
+> error: profile.ci.bench.global-timeout: invalid type: integer `1`, expected a duration
+> error: profile.ci.overrides[0].priority: priority 101 must be between -100 and 100
+> error: profile.ci.overrides[0].threads-required: invalid value: integer `0`, expected an integer, the string "num-cpus" or the string "num-test-threads"
+> error: profile.ci.overrides[0].retries: invalid type: string "two", expected a table ({ backoff = "fixed", count = 5 }) or a number (5)
+> error: profile.ci.overrides[0].flaky-result: invalid type: integer `1`, expected a string
+> error: profile.ci.overrides[0].slow-timeout: invalid type: integer `1`, expected a table ({ period = "60s", terminate-after = 2 }) or a string ("60s")
+> error: profile.ci.overrides[0].leak-timeout: invalid type: integer `1`, expected a table ({ period = "500ms", result = "fail" }) or a string ("100ms")
+> error: profile.ci.overrides[0].junit.store-success-output: invalid type: integer `1`, expected a boolean
+> error: profile.ci.overrides[0].junit.store-failure-output: invalid type: integer `1`, expected a boolean
+> error: profile.ci.overrides[0].junit.flaky-fail-status: invalid type: integer `1`, expected a string
+
+=== profiles in the order of their bytes, with all that stands below each | repository
+[[profile.default.overrides]]
+priority = 101
+[profile."é"]
+flaky-result = 1
+[profile.ci]
+flaky-result = 1
+[profile."a b"]
+flaky-result = 1
+[profile.Z]
+flaky-result = 1
+[profile.default]
+flaky-result = 1
+[profile.ci-2]
+flaky-result = 1
+[[profile.ci.overrides]]
+priority = 101
+[profile.""]
+flaky-result = 1
+> error: profile."".flaky-result: invalid type: integer `1`, expected a string
+> error: profile.Z.flaky-result: invalid type: integer `1`, expected a string
+> error: profile."a b".flaky-result: invalid type: integer `1`, expected a string
+> error: profile.ci.flaky-result: invalid type: integer `1`, expected a string
+> error: profile.ci.overrides[0].priority: priority 101 must be between -100 and 100
+> error: profile.ci-2.flaky-result: invalid type: integer `1`, expected a string
+> error: profile.default.flaky-result: invalid type: integer `1`, expected a string
+> error: profile.default.overrides[0].priority: priority 101 must be between -100 and 100
+> error: profile."é".flaky-result: invalid type: integer `1`, expected a string
+
+=== overrides by index, with all that stands below each | repository
+[profile.ci]
+overrides = [
+  { junit = { flaky-fail-status = 1 }, priority = 101 }, {}, 1, { priority = 101 }, {}, {}, {}, {}, {}, {},
+  { priority = 101 }, { priority = 101 },
+]
+> error: profile.ci.overrides[0].priority: priority 101 must be between -100 and 100
+> error: profile.ci.overrides[0].junit.flaky-fail-status: invalid type: integer `1`, expected a string
+> error: profile.ci.overrides[2]: invalid type: integer `1`, expected a table
+> error: profile.ci.overrides[3].priority: priority 101 must be between -100 and 100
+> error: profile.ci.overrides[10].priority: priority 101 must be between -100 and 100
+> error: profile.ci.overrides[11].priority: priority 101 must be between -100 and 100
+
+=== unknown keys of a table before those of the tables in it | repository
+[[profile.ci.overrides]]
+junit = { b = 1, a = 1 }
+leak-timeout = { period = "1s", b = 1, a = 1 }
+slow-timeout = { period = "1s", b = 1, a = 1 }
+b = 1
+a = 1
+[[profile.ci.overrides]]
+a = 1
+[profile.ci.bench]
+slow-timeout = { period = "1s", b = 1, a = 1 }
+b = 1
+a = 1
+[profile.ci]
+junit = { b = 1, a = 1 }
+leak-timeout = { period = "1s", b = 1, a = 1 }
+slow-timeout = { period = "1s", b = 1, a = 1 }
+fail-fast = { max-fail = 1, b = 1, a = 1 }
+z = 1
+b = 1
+a = 1
+[profile.b]
+a = 1
+[nextest-version]
+b = 1
+a = 1
+[z]
+b = 1
+[a]
+b = 1
+> warning: unknown key "a"
+> warning: unknown key "z"
+> warning: nextest-version: unknown key "a"
+> warning: nextest-version: unknown key "b"
+> warning: profile.b: unknown key "a"
+> warning: profile.ci: unknown key "a"
+> warning: profile.ci: unknown key "b"
+> warning: profile.ci: unknown key "z"
+> warning: profile.ci.fail-fast: unknown key "a"
+> warning: profile.ci.fail-fast: unknown key "b"
+> warning: profile.ci.slow-timeout: unknown key "a"
+> warning: profile.ci.slow-timeout: unknown key "b"
+> warning: profile.ci.leak-timeout: unknown key "a"
+> warning: profile.ci.leak-timeout: unknown key "b"
+> warning: profile.ci.junit: unknown key "a"
+> warning: profile.ci.junit: unknown key "b"
+> warning: profile.ci.bench: unknown key "a"
+> warning: profile.ci.bench: unknown key "b"
+> warning: profile.ci.bench.slow-timeout: unknown key "a"
+> warning: profile.ci.bench.slow-timeout: unknown key "b"
+> warning: profile.ci.overrides[0]: unknown key "a"
+> warning: profile.ci.overrides[0]: unknown key "b"
+> warning: profile.ci.overrides[0].slow-timeout: unknown key "a"
+> warning: profile.ci.overrides[0].slow-timeout: unknown key "b"
+> warning: profile.ci.overrides[0].leak-timeout: unknown key "a"
+> warning: profile.ci.overrides[0].leak-timeout: unknown key "b"
+> warning: profile.ci.overrides[0].junit: unknown key "a"
+> warning: profile.ci.overrides[0].junit: unknown key "b"
+> warning: profile.ci.overrides[1]: unknown key "a"
+
+=== what is wrong with a table doesn't hide what stands beside it | repository
+profile.ci = 1
+profile.a = { overrides = [1, { b = 1, priority = 101 }], bench = 1, b = 1 }
+profile.b = []
+> error: profile.a.bench: invalid type: integer `1`, expected a table
+> error: profile.a.overrides[0]: invalid type: integer `1`, expected a table
+> error: profile.a.overrides[1].priority: priority 101 must be between -100 and 100
+> error: profile.b: invalid type: sequence, expected a table
+> error: profile.ci: invalid type: integer `1`, expected a table
+> warning: profile.a: unknown key "b"
+> warning: profile.a.overrides[1]: unknown key "b"
+
+=== a tool's file where features stand in a table alone | tool tables
+zone = 1
+experimental = { b = true, a = false, benchmarks = true }
+nextest-version = 1
+> error: nextest-version: invalid type: integer `1`, expected a table ({ required = "0.9.20", recommended = "0.9.30" }) or a string ("0.9.50")
+> error: experimental: experimental features in a tool configuration: "a", "b", "benchmarks"
+> warning: unknown key "zone"
+"#;
+
+#[test]
+fn what_is_found_first(rt: HostRuntime) {
+    check::<InOrder>(&(Test(&rt), rt.alloc()), FILES);
+}

@@ -1,0 +1,500 @@
+//! A value of a wrong kind at each place that is read, and values at places that aren't.
+
+use crate::tests::blocks::{Listed, check};
+use crate::tests::runner::Test;
+
+const PLACES: &str = r#"
+=== the version | repository
+nextest-version = 1
+> 1: error: nextest-version: invalid type: integer `1`, expected a table ({ required = "0.9.20", recommended = "0.9.30" }) or a string ("0.9.50")
+
+=== a version text | repository
+nextest-version = "0.9.x"
+> 1: error: nextest-version: invalid version "0.9.x"
+
+=== the version, a table | repository
+[nextest-version]
+recommended = 1
+required = "0.9.20-rc.1"
+> 3: error: nextest-version.required: pre-release identifiers are not supported in nextest-version
+
+=== the recommended version | tool
+[nextest-version]
+required = "0.9.20"
+recommended = 1
+> 3: error: nextest-version.recommended: invalid type: integer `1`, expected a string
+
+=== the required version above the recommended one | explicit
+[nextest-version]
+required = "0.9.20"
+recommended = "0.9.10"
+> 1: error: nextest-version: required version (0.9.20) must not be greater than recommended version (0.9.10)
+
+=== features | repository
+experimental = 1
+> 1: error: experimental: invalid type: integer `1`, expected a table ({ setup-scripts = true, benchmarks = true }) or an array (["setup-scripts", "benchmarks"])
+
+=== features of a tool | tool
+experimental = "benchmarks"
+> 1: error: experimental: invalid type: string "benchmarks", expected a table ({ setup-scripts = true, benchmarks = true }) or an array (["setup-scripts", "benchmarks"])
+
+=== an element of features | repository
+experimental = ["benchmarks", true, 1]
+> 1: error: experimental[1]: invalid type: boolean `true`, expected a string
+
+=== the first element of features | tool
+experimental = [[]]
+> 1: error: experimental[0]: invalid type: sequence, expected a string
+
+=== a feature's switch | repository
+[experimental]
+benchmarks = 1
+wrapper-scripts = "yes"
+> 3: error: experimental.wrapper-scripts: invalid type: string "yes", expected a boolean
+
+=== profiles | repository
+profile = 1
+> 1: error: profile: invalid type: integer `1`, expected a table
+
+=== profiles, an array | tool
+[[profile]]
+retries = "two"
+> 1: error: profile: invalid type: sequence, expected a table
+
+=== a profile | repository
+[profile]
+ci = 1
+default = { retries = "two" }
+"x y" = []
+> 2: error: profile.ci: invalid type: integer `1`, expected a table
+> 3: error: profile.default.retries: invalid type: string "two", expected a table ({ backoff = "fixed", count = 5 }) or a number (5)
+> 4: error: profile."x y": invalid type: sequence, expected a table
+
+=== each setting of a profile | repository
+[profile.ci]
+retries = true
+flaky-result = 1
+threads-required = true
+fail-fast = 1
+slow-timeout = 60
+leak-timeout = 1.5
+global-timeout = 30
+junit = "junit.xml"
+bench = 1
+overrides = "x"
+> 2: error: profile.ci.retries: invalid type: boolean `true`, expected a table ({ backoff = "fixed", count = 5 }) or a number (5)
+> 3: error: profile.ci.flaky-result: invalid type: integer `1`, expected a string
+> 4: error: profile.ci.threads-required: invalid type: boolean `true`, expected an integer, the string "num-cpus" or the string "num-test-threads"
+> 5: error: profile.ci.fail-fast: invalid type: integer `1`, expected a boolean or { max-fail = ... }
+> 6: error: profile.ci.slow-timeout: invalid type: integer `60`, expected a table ({ period = "60s", terminate-after = 2 }) or a string ("60s")
+> 7: error: profile.ci.leak-timeout: invalid type: floating point, expected a table ({ period = "500ms", result = "fail" }) or a string ("100ms")
+> 8: error: profile.ci.global-timeout: invalid type: integer `30`, expected a duration
+> 9: error: profile.ci.junit: invalid type: string "junit.xml", expected a table
+> 10: error: profile.ci.bench: invalid type: integer `1`, expected a table
+> 11: error: profile.ci.overrides: invalid type: string "x", expected an array
+
+=== each setting of a profile, once more | tool
+[profile.default]
+retries = -1
+flaky-result = "Pass"
+threads-required = 0
+fail-fast = []
+slow-timeout = []
+leak-timeout = ""
+global-timeout = {}
+junit = []
+bench = []
+overrides = 1979-05-27
+> 2: error: profile.default.retries: invalid value: integer `-1`, expected a table ({ backoff = "fixed", count = 5 }) or a number (5)
+> 3: error: profile.default.flaky-result: unknown variant `Pass`, expected `fail` or `pass`
+> 4: error: profile.default.threads-required: invalid value: integer `0`, expected an integer, the string "num-cpus" or the string "num-test-threads"
+> 5: error: profile.default.fail-fast: invalid type: sequence, expected a boolean or { max-fail = ... }
+> 6: error: profile.default.slow-timeout: invalid type: sequence, expected a table ({ period = "60s", terminate-after = 2 }) or a string ("60s")
+> 7: error: profile.default.leak-timeout: invalid value: string "", expected a duration
+> 8: error: profile.default.global-timeout: invalid type: map, expected a duration
+> 9: error: profile.default.junit: invalid type: sequence, expected a table
+> 10: error: profile.default.bench: invalid type: sequence, expected a table
+> 11: error: profile.default.overrides: invalid type: datetime, expected an array
+
+=== each key of a bench | repository
+[profile.ci.bench]
+slow-timeout = true
+global-timeout = 1.5
+> 2: error: profile.ci.bench.slow-timeout: invalid type: boolean `true`, expected a table ({ period = "60s", terminate-after = 2 }) or a string ("60s")
+> 3: error: profile.ci.bench.global-timeout: invalid type: floating point, expected a duration
+
+=== an override | repository
+[profile.ci]
+overrides = [
+  1,
+]
+[profile.default]
+overrides = [{}, "x", {}, []]
+> 2: error: profile.ci.overrides[0]: invalid type: integer `1`, expected a table
+> 6: error: profile.default.overrides[1]: invalid type: string "x", expected a table
+> 6: error: profile.default.overrides[3]: invalid type: sequence, expected a table
+
+=== each setting of an override | repository
+[[profile.ci.overrides]]
+priority = "1"
+threads-required = []
+retries = "two"
+flaky-result = true
+slow-timeout = 60
+leak-timeout = 1
+junit = true
+> 2: error: profile.ci.overrides[0].priority: invalid type: string "1", expected i8
+> 3: error: profile.ci.overrides[0].threads-required: invalid type: sequence, expected an integer, the string "num-cpus" or the string "num-test-threads"
+> 4: error: profile.ci.overrides[0].retries: invalid type: string "two", expected a table ({ backoff = "fixed", count = 5 }) or a number (5)
+> 5: error: profile.ci.overrides[0].flaky-result: invalid type: boolean `true`, expected a string
+> 6: error: profile.ci.overrides[0].slow-timeout: invalid type: integer `60`, expected a table ({ period = "60s", terminate-after = 2 }) or a string ("60s")
+> 7: error: profile.ci.overrides[0].leak-timeout: invalid type: integer `1`, expected a table ({ period = "500ms", result = "fail" }) or a string ("100ms")
+> 8: error: profile.ci.overrides[0].junit: invalid type: boolean `true`, expected a table
+
+=== each setting of an override, once more | tool
+[[profile.default.overrides]]
+[[profile.default.overrides]]
+priority = 128
+threads-required = "all"
+retries = 4294967296
+flaky-result = "unknown"
+slow-timeout = "x"
+leak-timeout = false
+junit = []
+> 3: error: profile.default.overrides[1].priority: invalid value: integer `128`, expected i8
+> 4: error: profile.default.overrides[1].threads-required: invalid value: string "all", expected an integer, the string "num-cpus" or the string "num-test-threads"
+> 5: error: profile.default.overrides[1].retries: invalid value: integer `4294967296`, expected a u32
+> 6: error: profile.default.overrides[1].flaky-result: unknown variant `unknown`, expected `fail` or `pass`
+> 7: error: profile.default.overrides[1].slow-timeout: invalid value: string "x", expected a duration
+> 8: error: profile.default.overrides[1].leak-timeout: invalid type: boolean `false`, expected a table ({ period = "500ms", result = "fail" }) or a string ("100ms")
+> 9: error: profile.default.overrides[1].junit: invalid type: sequence, expected a table
+
+=== priorities at their bounds | repository
+[profile.ci]
+overrides = [
+  { priority = -100 }, { priority = 0 }, { priority = 100 },
+]
+[profile.default]
+overrides = [{ priority = -101 }, { priority = 127 }, { priority = -128 }, { priority = -129 }]
+> 6: error: profile.default.overrides[0].priority: priority -101 must be between -100 and 100
+> 6: error: profile.default.overrides[1].priority: priority 127 must be between -100 and 100
+> 6: error: profile.default.overrides[2].priority: priority -128 must be between -100 and 100
+> 6: error: profile.default.overrides[3].priority: invalid value: integer `-129`, expected i8
+
+=== each key of the report of an override | repository
+[profile.ci]
+overrides = [{ filter = "all()", junit = { store-success-output = 1, store-failure-output = "no", flaky-fail-status = 1 } }]
+[[profile.default.overrides]]
+junit.flaky-fail-status = "x"
+junit.store-failure-output = []
+junit.store-success-output = {}
+> 2: error: profile.ci.overrides[0].junit.store-success-output: invalid type: integer `1`, expected a boolean
+> 2: error: profile.ci.overrides[0].junit.store-failure-output: invalid type: string "no", expected a boolean
+> 2: error: profile.ci.overrides[0].junit.flaky-fail-status: invalid type: integer `1`, expected a string
+> 4: error: profile.default.overrides[0].junit.flaky-fail-status: unknown variant `x`, expected `failure` or `success`
+> 5: error: profile.default.overrides[0].junit.store-failure-output: invalid type: sequence, expected a boolean
+> 6: error: profile.default.overrides[0].junit.store-success-output: invalid type: map, expected a boolean
+
+=== each key of the report of a profile | repository
+[profile.a]
+junit = { path = 1 }
+[profile.b]
+junit = { report-name = true, path = "x" }
+[profile.c]
+junit = { store-success-output = "yes" }
+[profile.d]
+junit = { store-failure-output = 1 }
+[profile.e]
+junit = { report-skipped = "some" }
+[profile.f]
+junit = { flaky-fail-status = "fail" }
+[profile.g]
+junit = { flaky-fail-status = "x", report-skipped = 1 }
+> 2: error: profile.a.junit.path: invalid type: integer `1`, expected a string
+> 4: error: profile.b.junit.report-name: invalid type: boolean `true`, expected a string
+> 6: error: profile.c.junit.store-success-output: invalid type: string "yes", expected a boolean
+> 8: error: profile.d.junit.store-failure-output: invalid type: integer `1`, expected a boolean
+> 10: error: profile.e.junit.report-skipped: unknown variant `some`, expected one of `none`, `ignored`, `all`
+> 12: error: profile.f.junit.flaky-fail-status: unknown variant `fail`, expected `failure` or `success`
+> 14: error: profile.g.junit.report-skipped: invalid type: integer `1`, expected a string
+
+=== each key of a slow timeout | repository
+[profile.a]
+slow-timeout = { period = 1 }
+[profile.b]
+slow-timeout = { period = "1s", terminate-after = "2" }
+[profile.c.bench]
+slow-timeout = { period = "1s", terminate-after = 0 }
+[[profile.d.overrides]]
+slow-timeout = { period = "1s", grace-period = 1 }
+[profile.e]
+slow-timeout = { period = "1s", on-timeout = true }
+[profile.f]
+slow-timeout = { period = "1s", on-timeout = "x" }
+[profile.g]
+slow-timeout = {}
+> 2: error: profile.a.slow-timeout.period: invalid type: integer `1`, expected a duration
+> 4: error: profile.b.slow-timeout.terminate-after: invalid type: string "2", expected a nonzero usize
+> 6: error: profile.c.bench.slow-timeout.terminate-after: invalid value: integer `0`, expected a nonzero usize
+> 8: error: profile.d.overrides[0].slow-timeout.grace-period: invalid type: integer `1`, expected a duration
+> 10: error: profile.e.slow-timeout.on-timeout: invalid type: boolean `true`, expected a string
+> 12: error: profile.f.slow-timeout.on-timeout: unknown variant `x`, expected `fail` or `pass`
+> 14: error: profile.g.slow-timeout: missing configuration field "profile.g.slow-timeout.period"
+
+=== each key of a leak timeout | repository
+[profile.a]
+leak-timeout = { period = true }
+[[profile.b.overrides]]
+leak-timeout = { period = "1s", result = 1 }
+[profile.c]
+leak-timeout = { period = "1s", result = "x" }
+[[profile.d.overrides]]
+leak-timeout = { result = "fail" }
+> 2: error: profile.a.leak-timeout.period: invalid type: boolean `true`, expected a duration
+> 4: error: profile.b.overrides[0].leak-timeout.result: invalid type: integer `1`, expected a string
+> 6: error: profile.c.leak-timeout.result: unknown variant `x`, expected `fail` or `pass`
+> 8: error: profile.d.overrides[0].leak-timeout: missing configuration field "profile.d.overrides[0].leak-timeout.period"
+
+=== each key of a fail limit | repository
+[profile.a]
+fail-fast = { max-fail = true }
+[profile.b]
+fail-fast = { max-fail = 0 }
+[profile.c]
+fail-fast = { max-fail = "1" }
+[profile.d]
+fail-fast = { max-fail = "-1" }
+[profile.e]
+fail-fast = { max-fail = "none" }
+[profile.f]
+fail-fast = { max-fail = 1, terminate = 1 }
+[profile.g]
+fail-fast = { max-fail = "all", terminate = "now" }
+> 2: error: profile.a.fail-fast.max-fail: invalid type: boolean `true`, expected a positive integer or the string "all"
+> 4: error: profile.b.fail-fast.max-fail: invalid value: integer `0`, expected a positive integer or the string "all"
+> 6: error: profile.c.fail-fast.max-fail: invalid value: string "1", expected the string "all" (numbers must be specified without quotes)
+> 8: error: profile.d.fail-fast.max-fail: invalid value: string "-1", expected the string "all" (numbers must be positive and without quotes)
+> 10: error: profile.e.fail-fast.max-fail: invalid value: string "none", expected the string "all" or a positive integer
+> 12: error: profile.f.fail-fast.terminate: invalid type: integer `1`, expected a string
+> 14: error: profile.g.fail-fast.terminate: unknown variant `now`, expected `wait` or `immediate`
+
+=== each key of retries | repository
+[profile.a]
+retries = { backoff = "linear", count = 1 }
+[profile.b]
+retries = { backoff = "fixed", count = "two" }
+[[profile.c.overrides]]
+retries = { backoff = "fixed", count = 1, delay = 1 }
+[profile.d]
+retries = { backoff = "fixed", count = 1, delay = "1s", jitter = 1 }
+[[profile.e.overrides]]
+retries = { backoff = "exponential", count = 1, delay = "1s", max-delay = "x" }
+[profile.f]
+retries = { backoff = "exponential", count = 1, delay = "2s", max-delay = "1s" }
+[[profile.g.overrides]]
+retries = { count = 1 }
+[profile.h]
+retries = { backoff = "fixed", count = -1 }
+> 2: error: profile.a.retries.backoff: unknown variant `linear`, expected `fixed` or `exponential`
+> 4: error: profile.b.retries.count: invalid type: string "two", expected u32
+> 6: error: profile.c.overrides[0].retries.delay: invalid type: integer `1`, expected a duration
+> 8: error: profile.d.retries.jitter: invalid type: integer `1`, expected a boolean
+> 10: error: profile.e.overrides[0].retries.max-delay: invalid value: string "x", expected a duration
+> 12: error: profile.f.retries: `max-delay` cannot be less than delay with exponential backoff
+> 14: error: profile.g.overrides[0].retries: missing configuration field "profile.g.overrides[0].retries.backoff"
+> 16: error: profile.h.retries.count: invalid value: integer `-1`, expected u32
+
+=== words and numbers as they are written | repository
+[profile.ci]
+flaky-result = 'a"b\c'
+retries = { backoff = "fixed", count = 1, 'x"y' = 1 }
+[[profile.ci.overrides]]
+priority = 0x65
+> 2: error: profile.ci.flaky-result: unknown variant `a"b\c`, expected `fail` or `pass`
+> 3: error: profile.ci.retries: unknown field `x"y`, expected one of `count`, `delay`, `jitter`
+> 5: error: profile.ci.overrides[0].priority: priority 101 must be between -100 and 100
+
+=== keys of retries are refused | repository
+[profile.a]
+retries = { backoff = "fixed", count = 1, dealy = "1s" }
+[profile.b]
+retries = { backoff = "exponential", count = 1, delay = "1s", profile = 1, cuont = 1 }
+[[profile.c.overrides]]
+retries = { backoff = "fixed", count = 1, max-delay = "1s" }
+> 2: error: profile.a.retries: unknown field `dealy`, expected one of `count`, `delay`, `jitter`
+> 4: error: profile.b.retries: unknown field `cuont`, expected one of `count`, `delay`, `jitter`, `max-delay`
+> 6: error: profile.c.overrides[0].retries: unknown field `max-delay`, expected one of `count`, `delay`, `jitter`
+
+=== faults of every profile and override | repository
+[profile.default]
+retries = "two"
+[[profile.default.overrides]]
+retries = "two"
+[[profile.default.overrides]]
+retries = "two"
+[profile.ci]
+retries = "two"
+[[profile.ci.overrides]]
+retries = "two"
+[profile.other]
+retries = 2
+> 2: error: profile.default.retries: invalid type: string "two", expected a table ({ backoff = "fixed", count = 5 }) or a number (5)
+> 4: error: profile.default.overrides[0].retries: invalid type: string "two", expected a table ({ backoff = "fixed", count = 5 }) or a number (5)
+> 6: error: profile.default.overrides[1].retries: invalid type: string "two", expected a table ({ backoff = "fixed", count = 5 }) or a number (5)
+> 8: error: profile.ci.retries: invalid type: string "two", expected a table ({ backoff = "fixed", count = 5 }) or a number (5)
+> 10: error: profile.ci.overrides[0].retries: invalid type: string "two", expected a table ({ backoff = "fixed", count = 5 }) or a number (5)
+"#;
+
+const UNREAD: &str = r#"
+=== known keys of a file that aren't read | repository
+store = 1
+scripts = "x"
+script = []
+test-groups = 1.5
+
+=== what stands below known keys that aren't read | repository
+[store]
+dri = "target/nextest"
+profile = 1
+[scripts.setup.db]
+comand = "x"
+experimental = 1
+[scripts.wrapper.x]
+commnad = 1
+[script.db]
+comand = "x"
+[test-groups.serial]
+max-thread = 1
+retries = "two"
+[profile.ci.archive]
+inculde = [{ path = 1, on-mising = "x" }]
+[[profile.ci.scripts]]
+filer = 1
+setup = 1
+[profile.ci.default-filter]
+retries = "two"
+
+=== known keys of a profile that aren't read | repository
+[profile.ci]
+inherits = 1
+default-filter = 1
+test-threads = "many"
+run-extra-args = 1
+status-level = "al"
+final-status-level = []
+success-output = 1
+failure-output = {}
+archive = 1
+scripts = 1
+
+=== known keys of an override that aren't read | repository
+[[profile.ci.overrides]]
+filter = 1
+platform = []
+default-filter = 1
+test-group = 1
+run-extra-args = 1
+success-output = 1
+failure-output = {}
+bench = { slow-timeout = 1, slow-timeouts = 1 }
+
+=== known keys of the report of an override that aren't read | repository
+[profile.ci]
+overrides = [{ junit = { path = 1, report-name = 2, report-skipped = 3 } }]
+
+=== each known key | repository
+[nextest-version]
+required = "0.9.20"
+recommended = "0.9.30"
+[experimental]
+setup-scripts = true
+wrapper-scripts = false
+benchmarks = true
+[store]
+dir = "target/nextest"
+[scripts.setup.db]
+command = "db"
+[script.old]
+command = "old"
+[test-groups.serial]
+max-threads = 1
+[profile.ci]
+retries = { backoff = "exponential", count = 3, delay = "1s", jitter = true, max-delay = "10s" }
+flaky-result = "fail"
+threads-required = 2
+fail-fast = { max-fail = 5, terminate = "immediate" }
+slow-timeout = { period = "60s", terminate-after = 2, grace-period = "5s", on-timeout = "pass" }
+leak-timeout = { period = "500ms", result = "fail" }
+global-timeout = "2h"
+inherits = "default"
+default-filter = "all()"
+test-threads = "num-cpus"
+run-extra-args = ["--test-threads", "1"]
+status-level = "all"
+final-status-level = "slow"
+success-output = "never"
+failure-output = "immediate-final"
+[profile.ci.junit]
+path = "junit.xml"
+report-name = "ci"
+store-success-output = false
+store-failure-output = true
+report-skipped = "ignored"
+flaky-fail-status = "success"
+[profile.ci.bench]
+slow-timeout = "60s"
+global-timeout = "1d"
+[profile.ci.archive]
+include = []
+[[profile.ci.scripts]]
+filter = "all()"
+setup = "db"
+[[profile.ci.overrides]]
+priority = 100
+threads-required = "num-test-threads"
+retries = { backoff = "fixed", count = 2, delay = "1s", jitter = true }
+flaky-result = "pass"
+slow-timeout = { period = "1m", terminate-after = 1, grace-period = "0s", on-timeout = "fail" }
+leak-timeout = { period = "1s", result = "pass" }
+filter = "all()"
+platform = "cfg(unix)"
+default-filter = "all()"
+test-group = "serial"
+run-extra-args = []
+success-output = "final"
+failure-output = "final"
+bench.slow-timeout = "1s"
+[profile.ci.overrides.junit]
+store-success-output = true
+store-failure-output = false
+flaky-fail-status = "failure"
+path = "other.xml"
+report-name = "other"
+report-skipped = "none"
+
+=== values of each other form | tool
+nextest-version = "0.9"
+[profile.default]
+retries = 4294967295
+flaky-result = "pass"
+threads-required = "num-cpus"
+fail-fast = true
+slow-timeout = ""
+leak-timeout = "100ms"
+global-timeout = "30y"
+[profile.ci]
+retries = 0
+fail-fast = { max-fail = "all", terminate = "wait" }
+slow-timeout = "1m 30s"
+junit = { report-skipped = "all" }
+"#;
+
+#[test]
+fn a_value_of_a_wrong_kind_at_each_place(rt: HostRuntime) {
+    check::<Listed>(&(Test(&rt), rt.alloc()), PLACES);
+}
+
+#[test]
+fn values_that_are_not_read(rt: HostRuntime) {
+    check::<Listed>(&(Test(&rt), rt.alloc()), UNREAD);
+}

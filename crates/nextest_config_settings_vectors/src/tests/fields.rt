@@ -1,0 +1,102 @@
+//! The fields of tables, and a reader of this crate's own: an integer from 0 to 100.
+
+ghost use Rattle.std.specs.Prelude.{◌≤◌, ℕ, codes};
+ghost use Rattle.nextest_config_values.specs.Read.{number_reading};
+
+use crate::tests::runner::Test;
+use nextest_config_rows::rows::{Runner, Subject, check, cut, done, made, unknown};
+use nextest_config_rows::values::FromRow;
+use nextest_config_values::read::{FromToml, ReadFault, field_or, optional_field, required_field};
+use nextest_config_values::track_default::TrackDefault;
+use std::alloc::Global;
+use toml::{Table, Value};
+
+#[derive(Clone, Copy, Debug, PartialEq, Eq)]
+struct Percent {
+    percent: u8,
+}
+
+impl FromToml for Percent {
+    ghost Seen = { ℕ };
+
+    ghost seen = { λ it. it.percent };
+
+    ghost reading = { number_reading (λ n. n ≤ 100) (codes "a percentage") };
+
+    fn read(alloc: Global, value: &Value, at: &str) -> Result<Self, ReadFault> {
+        let Some(number) = value.as_integer() else {
+            return Err(ReadFault::invalid_type(alloc, value, at, "a percentage"));
+        };
+        match u8::try_from(number) {
+            Ok(percent) if percent <= 100 => Ok(Percent { percent }),
+            _ => Err(ReadFault::invalid_value(alloc, value, at, "a percentage")),
+        }
+    }
+}
+
+const ROWS: &str = r#"
+# fields of an own type are read
+tracked share at p | { share = 40, rest = 101, name = 'x' } | TrackDefault { value: Percent { percent: 40 }, is_deserialized: true }
+optional share at p | { share = 40 } | Some(Percent { percent: 40 })
+optional other at p | { share = 40 } | None
+or 50 share at p | { share = 40 } | Percent { percent: 40 }
+or 50 other at p | { share = 40 } | Percent { percent: 50 }
+
+# faults of an own type have the path of the field
+tracked rest at p | { rest = 101, name = 'x' } | p.rest: invalid value: integer `101`, expected a percentage
+tracked name at  | { rest = 101, name = 'x' } | name: invalid type: string "x", expected a percentage
+tracked other at p | { rest = 101, name = 'x' } | p: missing configuration field "p.other"
+optional rest at p | { rest = 101 } | p.rest: invalid value: integer `101`, expected a percentage
+or 50 rest at p | { rest = 101 } | p.rest: invalid value: integer `101`, expected a percentage
+
+# a missing field is named with its path
+u32 k at p | {} | p: missing configuration field "p.k"
+u32 k at  | {} | missing configuration field "k"
+optional u32 k at p | {} | None
+or 7 k at p | {} | 7
+
+# at every size
+u32 k at p«p» | {} | p«p»: missing configuration field "p«p».k"
+u32 k«k» at p | {} | p: missing configuration field "p.k«k»"
+optional share at p«p» | { share = 101 } | p«p».share: invalid value: integer `101`, expected a percentage
+optional share at p | {«k@ = 1,» share = 40 } | Some(Percent { percent: 40 })
+u32 k at p«p» | { k = '«x»' } | p«p».k: invalid type: string "«x»", expected u32
+optional u32 k at p«p» | { k = -1«#» } | p«p».k: invalid value: integer `-1«#»`, expected u32
+or 7 k at p«p» | { k = -1«#» } | p«p».k: invalid value: integer `-1«#»`, expected u32
+or 7 k«k» at  | { k«k» = -1«#» } | k«k»: invalid value: integer `-1«#»`, expected u32
+"#;
+
+pub(crate) struct Fields;
+
+impl Subject for Fields {
+    fn answer(rt: &impl Runner, call: &str, input: &str) -> String {
+        let value = Value::from_row(rt, input);
+        let table = done(rt, value.as_table().ok_or("a row has no table"));
+        let (call, at) = cut(rt, call, " at ");
+        let (call, key) = done(rt, call.rsplit_once(' ').ok_or("a row has no key"));
+        field(rt, call, table, key, at)
+    }
+}
+
+fn field(rt: &impl Runner, call: &str, table: &Table, key: &str, at: &str) -> String {
+    let alloc = rt.alloc();
+    match call {
+        "tracked" => {
+            made(
+                rt,
+                required_field::<TrackDefault<Percent>>(alloc, table, key, at),
+            )
+        }
+        "optional" => made(rt, optional_field::<Percent>(alloc, table, key, at)),
+        "or 50" => made(rt, field_or(alloc, table, key, at, Percent { percent: 50 })),
+        "u32" => made(rt, required_field::<u32>(alloc, table, key, at)),
+        "optional u32" => made(rt, optional_field::<u32>(alloc, table, key, at)),
+        "or 7" => made(rt, field_or::<u32>(alloc, table, key, at, 7)),
+        _ => unknown(rt, call),
+    }
+}
+
+#[test]
+fn fields_are_read_at_their_paths(rt: HostRuntime) {
+    check::<Fields>(&(Test(&rt), rt.alloc()), ROWS);
+}

@@ -1,0 +1,58 @@
+//! Relative paths.
+
+use crate::tests::ThisCrate;
+use crate::tests::runner::Test;
+use nextest_config_rows::rows::{Runner, Subject, check, copied};
+use nextest_config_rows::told::{Told, answered};
+use nextest_config_rows::values::FromRow;
+use nextest_config_values::helpers::deserialize_relative_path;
+use toml::Value;
+
+const ROWS: &str = r#"
+# relative paths are kept as written
+at p | '' |  |
+at p | '.' | .
+at p | 'foo' | foo
+at p | 'foo/bar' | foo/bar
+at p | 'foo/./bar' | foo/./bar
+at p | './foo/bar' | ./foo/bar
+at p | 'foo/' | foo/
+at p | '..a/b..' | ..a/b..
+at p | '...' | ...
+
+# other paths are refused
+at  | 'foo/../bar' | invalid value: string "foo/../bar", expected a relative path with no parent components
+at p | '/foo/bar' | p: invalid value: string "/foo/bar", expected a relative path with no parent components
+at p | '../foo/bar' | p: invalid value: string "../foo/bar", expected a relative path with no parent components
+at p | '../foo' | p: invalid value: string "../foo", expected a relative path with no parent components
+at p | 'foo/..' | p: invalid value: string "foo/..", expected a relative path with no parent components
+at p | 1 | p: invalid type: integer `1`, expected a string
+
+# at every size
+at p | 'a«/b»' | a«/b»
+at p«p» | 'a«/b»/..' | p«p»: invalid value: string "a«/b»/..", expected a relative path with no parent components
+at p | '«x»' | «x» |
+at p«p» | '/«x»' | p«p»: invalid value: string "/«x»", expected a relative path with no parent components
+at p«p» | 1«#» | p«p»: invalid type: integer `1«#»`, expected a string
+"#;
+
+pub(crate) struct Paths;
+
+impl Subject for Paths {
+    fn answer(rt: &impl Runner, call: &str, input: &str) -> String {
+        let at = call.strip_prefix("at ").unwrap_or("?");
+        let value = Value::from_row(rt, input);
+        answered(rt, "", deserialize_relative_path(rt.alloc(), &value, at))
+    }
+}
+
+impl Told<ThisCrate> for String {
+    fn told(&self, rt: &impl Runner, _call: &str) -> String {
+        copied(rt, self.as_str())
+    }
+}
+
+#[test]
+fn relative_paths_are_kept_as_written_and_others_refused(rt: HostRuntime) {
+    check::<Paths>(&(Test(&rt), rt.alloc()), ROWS);
+}
