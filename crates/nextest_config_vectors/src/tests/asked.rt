@@ -5,7 +5,8 @@ use crate::tests::features::{joined, words};
 use crate::tests::sources::listed;
 use nextest_config::nextest_version::{
     ConfigParseError, ConfigSource, Edition, ExperimentalConfig, ListRefusal, NextestVersionConfig,
-    NextestVersionEval, NextestVersionReq, RepositoryText, SourceText, ToolText, VersionOnlyConfig,
+    NextestVersionEval, NextestVersionReq, RepositoryText, Severity, SourceText, ToolText,
+    UnmetVersion, VersionOnlyConfig, VersionRole,
 };
 use nextest_config_rows::rows::{Runner, Subject, copied, done, push, shown, written};
 use nextest_config_rows::told::{Told, answered, tell};
@@ -187,34 +188,27 @@ fn kept(rt: &impl Runner, req: &NextestVersionReq) -> String {
     }
 }
 
-// A verdict, with its severity.
+// A verdict, with its role and severity.
 impl Told<ThisCrate> for NextestVersionEval {
     fn told(&self, rt: &impl Runner, _call: &str) -> String {
         let severity = self.severity();
-        let (mark, asked, current, source) = match self {
-            NextestVersionEval::Satisfied => return written(rt, severity),
-            NextestVersionEval::Error {
-                required,
-                current,
-                source,
-            } => ("", required, current, source),
-            NextestVersionEval::Warn {
-                recommended,
-                current,
-                source,
-            } => ("", recommended, current, source),
-            NextestVersionEval::ErrorOverride {
-                required,
-                current,
-                source,
-            } => ("overridden ", required, current, source),
-            NextestVersionEval::WarnOverride {
-                recommended,
-                current,
-                source,
-            } => ("overridden ", recommended, current, source),
+        let Some(unmet) = self.unmet() else {
+            return written(rt, severity);
         };
-        let line = format!(in rt.alloc(); "{mark}{severity:?}: {asked}, {source}, {current}");
-        done(rt, line)
+        let mark = if unmet.overridden { "overridden " } else { "" };
+        let grave = match (unmet.role, severity) {
+            (VersionRole::Required, Severity::Error) => "Error",
+            (VersionRole::Recommended, Severity::Warn) => "Warn",
+            _ => "a severity of another role",
+        };
+        told_unmet(rt, mark, grave, &unmet)
     }
+}
+
+fn told_unmet(rt: &impl Runner, mark: &str, grave: &str, unmet: &UnmetVersion) -> String {
+    let (version, source, current) = (unmet.version, unmet.source, unmet.current);
+    done(
+        rt,
+        format!(in rt.alloc(); "{mark}{grave}: {version}, {source}, {current}"),
+    )
 }
