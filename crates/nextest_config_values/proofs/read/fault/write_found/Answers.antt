@@ -1,11 +1,8 @@
 use Rattle.std.proofs.Common.{refl}
-use Rattle.nextest_config_values.proofs.Styled.{styled_append}
+use Rattle.nextest_config_values.proofs.Styled.{styled_then}
 use Rattle.nextest_config_values.proofs.read.fault.write_found.Goals as goal
 
 pub returns-clause-styled : goal.returns-clause-styled
-returns-clause-styled g c flush ok =
-    let took = g.W.Write.write_str_gives in
-    let first = c.in_ok-write_str.ensures.styled flush refl in
-    let second = c.in_ok-write_str-2.ensures.styled first.flush refl in
-    let third = c.in_ok-write_str-3.ensures.styled second.flush refl in
-    styled_append took _ _ _ _ _ first (styled_append took _ _ _ _ _ second (styled_append took _ _ _ _ _ third (c.write_str-4.ensures.styled third.flush ok)))
+returns-clause-styled g c =
+    styled_then (λ flush. c.in_ok-write_str.ensures.styled flush refl)
+    (styled_then (λ flush. c.in_ok-write_str-2.ensures.styled flush refl) (styled_then (λ flush. c.in_ok-write_str-3.ensures.styled flush refl) c.write_str-4.ensures.styled))

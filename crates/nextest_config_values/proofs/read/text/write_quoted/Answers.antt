@@ -1,10 +1,9 @@
 use Rattle.std.proofs.Common.{◌≡◌, ◌∙◌, ℕ, List, ◌++◌, codes, flat_map, map, refl, sym, ap, rules, append_assoc}
-use Rattle.std.proofs.Output.{has_written_append, has_written_of_eq, has_written_styled_of_eq}
 use Rattle.std.proofs.lemmas.Iterator.{YieldsList-from_chars}
 use Rattle.std.proofs.lemmas.Iterator.Consumers.{YieldsList-end}
 use Rattle.std.proofs.lemmas.List.{flat_map_more, map-id}
 use Rattle.std.specs.Str.{chars}
-use Rattle.nextest_config_values.proofs.Styled.{styled_append}
+use Rattle.nextest_config_values.proofs.Styled.{plainly, styled_more}
 use Rattle.nextest_config_values.specs.Read.{quoted_character, quoted_text}
 use Rattle.nextest_config_values.proofs.read.text.write_quoted.Goals as goal
 
@@ -14,20 +13,13 @@ unfolding quoted_text
 between_quotes text cs all = append_assoc (codes "\"") (flat_map quoted_character cs) (codes "\"") ∙ ap (λ ds. codes "\"" ++ (flat_map quoted_character ds ++ codes "\"")) (sym (map-id cs) ∙ all)
 
 pub loop-c-preserved : goal.loop-c-preserved
-loop-c-preserved g c = (
-  (λ p. has_written_of_eq _ _ _ _ _ (flat_map_more quoted_character (codes "\"") c.loop-c.yielded c.in-Some.c) (has_written_append _ _ _ _ _ _ (c.loop-c.invariant.0 p) (search rules))),
-  (λ flush.
-      let before = c.loop-c.invariant.1 flush in
-      has_written_styled_of_eq _ _ _ _ _ (flat_map_more quoted_character (codes "\"") c.loop-c.yielded c.in-Some.c) (styled_append _ _ _ _ _ _ before (c.in_ok-write_escaped.ensures.styled before.flush refl))),
-)
-
-pub returns-clause-writes : goal.returns-clause-writes
-returns-clause-writes g c p ok =
-    let t = YieldsList-end (YieldsList-from_chars c.args.text.now c.utf8.text (search rules)) c.loop-c.yielded _ c.loop-c.yielded_by _ _ c.in-None.is c.next.ensures.steps in
-    has_written_of_eq _ _ _ _ _ (between_quotes c.args.text.now c.loop-c.yielded t.0) (has_written_append _ _ _ _ _ _ (c.loop-c.invariant.0 p) (search rules))
+loop-c-preserved g c flush =
+    styled_more (c.loop-c.invariant flush) c.in_ok-write_escaped.ensures.styled refl (flat_map_more quoted_character (codes "\"") c.loop-c.yielded c.in-Some.c)
 
 pub returns-clause-styled : goal.returns-clause-styled
 returns-clause-styled g c flush ok =
     let t = YieldsList-end (YieldsList-from_chars c.args.text.now c.utf8.text (search rules)) c.loop-c.yielded _ c.loop-c.yielded_by _ _ c.in-None.is c.next.ensures.steps in
-    let before = c.loop-c.invariant.1 flush in
-    has_written_styled_of_eq _ _ _ _ _ (between_quotes c.args.text.now c.loop-c.yielded t.0) (styled_append _ _ _ _ _ _ before (c.write_str-2.ensures.styled before.flush ok))
+    styled_more (c.loop-c.invariant flush) c.write_str-2.ensures.styled ok (between_quotes c.args.text.now c.loop-c.yielded t.0)
+
+pub returns-clause-writes : goal.returns-clause-writes
+returns-clause-writes g c p ok = plainly p (returns-clause-styled g c p.flush ok)

@@ -2,12 +2,10 @@ use Rattle.std.proofs.Common.{◌≡◌, ◌++◌, flat_map}
 use Rattle.std.specs.Char.{encode_utf8}
 use Rattle.std.specs.Char.Escape.{escape_unicode}
 use Rattle.std.specs.Char.Iter.{escape_rest}
-use Rattle.std.specs.Fmt.{HasWritten, HasWrittenStyled, IsFlush, IsPlainFormatter}
+use Rattle.std.specs.Fmt.{HasWrittenStyled, IsFlush}
 use Rattle.nextest_config_values.proofs.read.text.write_unnamed.Given as goal
 
 -- the characters so far are written, and the others come
 abbrev pub invariant-loop-mark : goal.invariant-loop-mark
 invariant-loop-mark g l =
-    (IsPlainFormatter l.fn.f → HasWritten g.W.Write.write_str_gives l.fn.f (flat_map encode_utf8 l.yielded) l.f)
-    × (IsFlush l.fn.f → HasWrittenStyled g.W.Write.write_str_gives l.fn.f (flat_map encode_utf8 l.yielded) l.f)
-    × (escape_unicode l.fn.c ≡ l.yielded ++ escape_rest l.mark-iterator)
+    (IsFlush l.fn.f → HasWrittenStyled g.W.Write.write_str_gives l.fn.f (flat_map encode_utf8 l.yielded) l.f) × (escape_unicode l.fn.c ≡ l.yielded ++ escape_rest l.mark-iterator)

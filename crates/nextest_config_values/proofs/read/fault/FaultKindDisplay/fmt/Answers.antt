@@ -1,5 +1,5 @@
 use Rattle.std.proofs.Common.{refl}
-use Rattle.nextest_config_values.proofs.Styled.{styled_append}
+use Rattle.nextest_config_values.proofs.Styled.{styled_then}
 use Rattle.nextest_config_values.proofs.read.fault.FaultKindDisplay.fmt.Goals as goal
 
 pub returns-in-InvalidValue-clause-writes : goal.returns-in-InvalidValue-clause-writes
@@ -15,8 +15,6 @@ pub returns-in-UnknownField-clause-writes : goal.returns-in-UnknownField-clause-
 returns-in-UnknownField-clause-writes g c = rw (c.in-UnknownField.is, ← c.as_str-in-UnknownField.ensures.value) c.write_found-in-UnknownField.ensures.writes
 
 pub returns-in_ok-write_str-in-MissingField-2-clause-styled : goal.returns-in_ok-write_str-in-MissingField-2-clause-styled
-returns-in_ok-write_str-in-MissingField-2-clause-styled g c = rw (c.in-MissingField.is, ← c.as_str-in-MissingField.ensures.value) (λ flush ok.
-    let took = g.W.Write.write_str_gives in
-    let first = c.in_ok-write_str-in-MissingField.ensures.styled flush refl in
-    let second = c.in_ok-write_str-in-MissingField-2.ensures.styled first.flush refl in
-    styled_append took _ _ _ _ _ first (styled_append took _ _ _ _ _ second (c.write_str-in-MissingField-2.ensures.styled second.flush ok)))
+returns-in_ok-write_str-in-MissingField-2-clause-styled g c = rw (c.in-MissingField.is, ← c.as_str-in-MissingField.ensures.value)
+    (styled_then (λ flush. c.in_ok-write_str-in-MissingField.ensures.styled flush refl)
+    (styled_then (λ flush. c.in_ok-write_str-in-MissingField-2.ensures.styled flush refl) c.write_str-in-MissingField-2.ensures.styled))

@@ -1,8 +1,7 @@
 use Rattle.std.proofs.Common.{refl}
-use Rattle.nextest_config_values.proofs.Styled.{styled_append}
+use Rattle.nextest_config_values.proofs.Styled.{styled_then}
 use Rattle.nextest_config_values.proofs.read.fault.RuleDisplay.fmt.Goals as goal
 
 pub returns-in_ok-write_str-in-NotVersion-clause-styled : goal.returns-in_ok-write_str-in-NotVersion-clause-styled
-returns-in_ok-write_str-in-NotVersion-clause-styled g c = rw (c.in-NotVersion.is, ← c.as_str.ensures.value) (λ flush ok.
-    let first = c.in_ok-write_str-in-NotVersion.ensures.styled flush refl in
-    styled_append g.W.Write.write_str_gives _ _ _ _ _ first (c.fmt.ensures.styled first.flush ok))
+returns-in_ok-write_str-in-NotVersion-clause-styled g c =
+    rw (c.in-NotVersion.is, ← c.as_str.ensures.value) (styled_then (λ flush. c.in_ok-write_str-in-NotVersion.ensures.styled flush refl) c.fmt.ensures.styled)

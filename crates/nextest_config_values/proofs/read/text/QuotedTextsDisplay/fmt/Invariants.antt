@@ -1,5 +1,5 @@
 use Rattle.std.proofs.Common.{◌≡◌, map, string_bytes}
-use Rattle.std.specs.Fmt.{HasWritten, HasWrittenStyled, IsFlush, IsPlainFormatter}
+use Rattle.std.specs.Fmt.{HasWrittenStyled, IsFlush}
 use denote.Text.{Utf8}
 use denote.Shadow.{shadow}
 use Rattle.nextest_config_values.specs.Read.{comma_list, quoted_text}
@@ -11,5 +11,4 @@ abbrev pub invariant-loop-text : goal.invariant-loop-text
 invariant-loop-text g l =
     shadow (Utf8 l.separator)
     × (l.separator ≡ separator_behind l.yielded)
-    × (IsPlainFormatter l.fn.f → HasWritten g.W.Write.write_str_gives l.fn.f (comma_list (map (λ text. quoted_text (string_bytes text.now)) l.yielded)) l.f)
     × (IsFlush l.fn.f → HasWrittenStyled g.W.Write.write_str_gives l.fn.f (comma_list (map (λ text. quoted_text (string_bytes text.now)) l.yielded)) l.f)
