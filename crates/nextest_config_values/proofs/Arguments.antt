@@ -7,7 +7,7 @@ use Rattle.nextest_config_values.specs.Once.{IsJudgedOnce}
 use Rattle.nextest_config_values.specs.Read.{FaultOrMemory, one_then}
 use Rattle.nextest_config_values.specs.declared.tool_config.ToolConfigFileParseError.{ToolConfigFileParseError}
 use Rattle.nextest_config_values.proofs.Faults.{fault_mapped}
-use Rattle.nextest_config_values.specs.ToolConfig.{Argument, ArgumentFault, IsArgumentFault, IsPartsFault, IsPathFault, IsToolArgument, RefusesArgument, RefusesTool, argument_fault, invalid_tool_name}
+use Rattle.nextest_config_values.specs.ToolConfig.{Argument, ArgumentFault, IsArgumentFault, IsPartsFault, IsToolArgument, RefusesArgument, RefusesTool, argument_fault, invalid_tool_name}
 
 no_fault_of_tool : (name tool : List ℕ) (fault : NameFault ToolNameFlaw) → IsToolName name tool → IsToolNameFault name fault → ⊥
 no_fault_of_tool name tool fault a b = no_normal_fault IsPlainIdentifier IsToolNameFlaw one_tool_name_flaw tool_name_not_flawed name tool fault a b
@@ -18,15 +18,12 @@ one_argument text a b h k =
     let tools : a.tool ≡ b.tool = rw (h.tool.1, k.tool.1, same.0) refl in
     ap (λ t. record { tool = t; path = a.path }) tools ∙ ap (λ p. record { tool = b.tool; path = p }) same.1
 
-one_path_fault : (text path : List ℕ) (e f : ArgumentFault) → IsPathFault text path e → IsPathFault text path f → e ≡ f
-one_path_fault text path e f a b = search rules
-
 one_parts_fault : (text name path : List ℕ) (e f : ArgumentFault) → IsPartsFault text name path e → IsPartsFault text name path f → e ≡ f
 one_parts_fault text name path = one_then
     (λ e f a b. a.2 ∙ ap (invalid_tool_name text) (one_normal_fault IsPlainIdentifier IsToolNameFlaw one_tool_name_flaw tool_name_not_flawed name a.0 b.0 a.1 b.1) ∙ sym b.2)
     (λ tool e named a. no_fault_of_tool name tool a.0 named a.1)
     (λ tool other a b. a.1 ∙ sym b.1)
-    (λ tool. one_path_fault text path)
+    (λ tool e f a b. search rules)
 
 one_argument_fault : (text : List ℕ) (e f : ArgumentFault) → IsArgumentFault text e → IsArgumentFault text f → e ≡ f
 one_argument_fault text e f (inl a) b = search (rules, uncut)

@@ -1,5 +1,6 @@
 -- Refusals: what follows from a refusal, and refusals of readings that are put together.
 use Rattle.std.proofs.Common.{◌≡◌, ◌⊎◌, ℕ, List, Option, Some, None, Result, Ok, Err, IsOk, inl, inr, refl, sym, subst, rules}
+use Rattle.std.proofs.Math.Logic.{⊎_elim, ⊎_map}
 use Rattle.std.proofs.lemmas.Result.{err_from_is_err_and}
 use Rattle.std.specs.Result.{IfErr, IsErrAnd}
 use Rattle.nextest_config_values.specs.Identifier.{IsNormalFault, NameFault}
@@ -25,7 +26,7 @@ pub refused_memory : (IsFault : Fault → Type 0) {wanted : Type 0} (fault : Rea
 refused_memory IsFault fault memory wanted = rw memory.1 ((memory.0, refl), wanted)
 
 -- a refusal that `?` passes on
-pub passed_on : {T : Type 0} (IsPassed : ReadFault → Type 0) (result : Result T ReadFault) (fault : ReadFault) → IsErrAnd result (λ passed. passed ≡ fault) → IsPassed fault → IfErr result IsPassed
+pub passed_on : {T E : Type 0} (IsPassed : E → Type 0) (result : Result T E) (fault : E) → IsErrAnd result (λ passed. passed ≡ fault) → IsPassed fault → IfErr result IsPassed
 passed_on IsPassed result fault err refused =
     let passed = err_from_is_err_and result err in
     rw (passed.1, passed.2) refused
@@ -55,10 +56,7 @@ module _ {D X : Type 0} (reading : Reading D X) (value : D) (at : List ℕ) wher
   -- a value that means something, and whose result takes no memory, is read
   pub read_whole : {T : Type 0} (result : Result T ReadFault) → IfErr result (RefusesBy reading value at) → (x : X) → reading.means value x → ¬ reading.takes_memory value → IsOk result
   read_whole (Ok t) refused x meant free = refl
-  read_whole (Err fault) refused x meant free = absurd (none (wanted_of fault refused)) where
-    none : reading.takes_memory value ⊎ ((x : X) → ¬ reading.means value x) → ⊥
-    none (inl takes) = free takes
-    none (inr nothing) = nothing x meant
+  read_whole (Err fault) refused x meant free = absurd (⊎_elim free (λ nothing. nothing x meant) (wanted_of fault refused))
 
 -- ---- of readings that are put together
 
@@ -66,10 +64,7 @@ module _ {X Y : Type 0} {means : X → Type 0} {IsFault : Fault → Type 0} {T :
   -- of one that says more of the value
   pub in_whole : {said : Y → Type 0} {IsSaid : Fault → Type 0} {U : Type 0} → IsRefusal means IsFault T fault → (T → U) → (((x : X) → ¬ means x) → (y : Y) → ¬ said y) → ((f : Fault) → IsFault f → IsSaid f)
       → IsRefusal said IsSaid U fault
-  in_whole {said = said} {U = U} refused takes none step = record { told = refused_mapped fault refused.told wanted step } where
-    wanted : T ⊎ ((x : X) → ¬ means x) → U ⊎ ((y : Y) → ¬ said y)
-    wanted (inl t) = inl (takes t)
-    wanted (inr n) = inr (none n)
+  in_whole refused takes none step = record { told = refused_mapped fault refused.told (⊎_map takes none) step }
 
   -- of what another result is made of
   pub in_made : {make : X → Y} → IsRefusal means IsFault T fault → IsRefusal (λ y. (x : X) × means x × (y ≡ make x)) IsFault T fault

@@ -1,10 +1,9 @@
 use Rattle.std.proofs.Common.{Some, None, ap, inl, inr}
-use Rattle.std.proofs.lemmas.Result.{err_from_is_err_and}
 use Rattle.nextest_config_values.proofs.Arguments.{bad_name}
-use Rattle.nextest_config_values.proofs.Faults.{fault_mapped}
+use Rattle.nextest_config_values.proofs.Faults.{fault_mapped, passed_on}
 use Rattle.nextest_config_values.proofs.Texts.{split_colon}
 use Rattle.nextest_config_values.specs.Identifier.{tool_name_fault}
-use Rattle.nextest_config_values.specs.ToolConfig.{argument_fault, invalid_format}
+use Rattle.nextest_config_values.specs.ToolConfig.{argument_fault, invalid_format, IsArgumentFault, RefusesArgument}
 use Rattle.nextest_config_values.proofs.tool_config.ToolConfigFile.from_str.Goals as goal
 
 pub returns-in_default-clause-refused : goal.returns-in_default-clause-refused
@@ -19,8 +18,8 @@ returns-in-Err-clause-refused c =
 pub returns-in_err-config_file-clause-refused : goal.returns-in_err-config_file-clause-refused
 returns-in_err-config_file-clause-refused c =
     let cut = split_colon c.args.input.now (Some (c.in-Some.name, c.in-Some.path)) c.utf8.input c.in-Some.ensures.cases in
-    let p = err_from_is_err_and c.from_residual-in_err-config_file.result c.from_residual-in_err-config_file.ensures.1 in
-    rw (p.1, p.2) (fault_mapped (argument_fault c.in_err-config_file.field-0.0) c.in_err-config_file.ensures.refused (λ memory. memory)
+    passed_on (RefusesArgument (IsArgumentFault c.args.input.now)) c.from_residual-in_err-config_file.result c.in_err-config_file.field-0.0 c.from_residual-in_err-config_file.ensures.1
+    (fault_mapped (argument_fault c.in_err-config_file.field-0.0) c.in_err-config_file.ensures.refused (λ memory. memory)
     (λ fault bad. inr (c.in-Some.name.now, c.in-Some.path.now, cut.bytes, inr (c.in-Ok.tool, c.in-Ok.ensures.accepted, bad))))
 
 pub returns-clause-accepted : goal.returns-clause-accepted
