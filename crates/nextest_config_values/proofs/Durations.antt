@@ -1,13 +1,13 @@
 -- What the steps of reading a duration have read, and that their faults are those of the text.
 use Rattle.std.proofs.Common.{◌≡◌, ◌≢◌, ℕ, ◌+◌, ◌-◌, ◌*◌, ◌<◌, ◌^◌, Bool, List, [], ◌∷◌, ◌++◌, length, Some, None, refl, sym, ap, ◌∙◌, subst, inl, inr, rules, arith}
-use Rattle.std.specs.Prelude.{min, IsTrue, Err, Result, chars, encode_utf8_all}
+use Rattle.std.specs.Prelude.{min, IsTrue, Err, Ok, Result, chars, encode_utf8_all}
 use Rattle.std.proofs.lemmas.Bool.{cases_Bool}
 use Rattle.std.proofs.lemmas.List.{append_assoc, append-nil, length-append}
 use Rattle.std.proofs.lemmas.Str.{chars-encodes, chars_from_encodes, encodes-append, encodes-chars}
 use Rattle.std.specs.Char.{is_ascii_digit, is_whitespace}
 use Rattle.std.specs.Duration.{FitsDuration}
 use Rattle.std.specs.Str.{IsUtf8, skip_leading_whitespace, trim_start}
-use Rattle.std.proofs.lemmas.Str.Parse.{IsDigitsTest, IsNumeralModel, numerals_by_value, parse_digits}
+use Rattle.std.proofs.lemmas.Str.Parse.{IsNumeralModel, numerals_by_value, parse_digits}
 use Rattle.std.specs.Str.Parse.{ParsesUnsigned, digits_value}
 use Rattle.std.specs.Result.{OkIff}
 use Rattle.nextest_config_values.proofs.Elements.{all_joined, all_weaker}
@@ -50,22 +50,17 @@ run_begins kind (c ∷ cs) = elim (cases_Bool (kind c)) [
   | inr other ↦ ([], c ∷ cs, refl, record { inside = tt; over = search rules })
 ]
 
--- digits are followed by white space and a word, each possibly empty
-pub next_behind : (text digits behind : List ℕ) → text ≡ digits ++ behind → IsRun is_ascii_digit digits behind → (gap word rest : List ℕ) × IsNext text digits gap word rest
-next_behind text digits behind e run =
-    let space = run_begins is_whitespace behind in
-    let letters = run_begins is_in_word space.1 in
-    let parts : behind ≡ space.0 ++ (letters.0 ++ letters.1) = space.2 ∙ ap (λ rest. space.0 ++ rest) letters.2 in (
-      space.0,
-      letters.0,
-      letters.1,
+-- digits, white space and a word, each possibly empty
+module _ {text digits behind gap after word rest : List ℕ} where
+  next_of : text ≡ digits ++ behind → IsRun is_ascii_digit digits behind → IsTrimmed behind gap after → after ≡ word ++ rest → IsRun is_in_word word rest → IsNext text digits gap word rest
+  next_of whole of_digits trim cut of_word =
+      let parts : behind ≡ gap ++ (word ++ rest) = trim.whole ∙ ap (λ r. gap ++ r) cut in
       record {
-        whole = e ∙ ap (λ rest. digits ++ rest) parts;
-        of_digits = subst (IsRun is_ascii_digit digits) parts run;
-        of_gap = subst (IsRun is_whitespace space.0) letters.2 space.3;
-        of_word = letters.3;
-      },
-    )
+        whole = whole ∙ ap (λ r. digits ++ r) parts;
+        of_digits = subst (IsRun is_ascii_digit digits) parts of_digits;
+        of_gap = subst (IsRun is_whitespace gap) cut trim.run;
+        of_word = of_word;
+      }
 
 -- ---- the longest front
 
@@ -90,18 +85,12 @@ longest_front text front behind items a stops = record {
 
 -- ---- the digits of a number
 
-digit_text : IsDigitsTest (AreAll is_ascii_digit)
-digit_text = record { empty = tt; parts = λ c cs h. search rules; more = λ c cs is rest. search rules }
-
 own : IsNumeralModel (AreAll is_ascii_digit) (digits_value 10)
-own = numerals_by_value (AreAll is_ascii_digit) digit_text
-
-digits_ascii : (cs : List ℕ) → AreAll is_ascii_digit cs → encode_utf8_all cs ≡ cs
-digits_ascii cs h = ascii_encoded cs (all_weaker (λ c. IsTrue (is_ascii_digit c)) (λ b. b < 128) (λ c digit. search rules) cs h)
+own = numerals_by_value (AreAll is_ascii_digit) (record { empty = tt; parts = λ c cs h. search rules; more = λ c cs is rest. search rules })
 
 -- digits are the same by bytes and by characters
-pub digits_same : (text : List ℕ) → IsUtf8 text → AreAll is_ascii_digit (chars text) → text ≡ chars text
-digits_same text u h = sym (encodes-chars text u) ∙ digits_ascii (chars text) h
+digits_same : (text : List ℕ) → IsUtf8 text → AreAll is_ascii_digit (chars text) → text ≡ chars text
+digits_same text u h = sym (encodes-chars text u) ∙ ascii_encoded (chars text) (all_weaker (λ c. IsTrue (is_ascii_digit c)) (λ b. b < 128) (λ c digit. search rules) (chars text) h)
 
 -- what `parse` answers of digits
 pub parsed : {E : Type 0} (text : List ℕ) (r : Result ℕ E) → IsUtf8 text → AreAll is_ascii_digit (chars text) → ParsesUnsigned 64 10 text r → OkIff r ((0 < length text) × (digits_value 10 (chars text) < 2 ^ 64)) (digits_value 10 (chars text))
@@ -118,64 +107,66 @@ chars_nil (c ∷ text) e = absurd (omega (arith, e))
 pub chars_some : (text : List ℕ) → IsUtf8 text → 0 < length text → chars text ≢ []
 chars_some text u some e = omega (arith, some, ap length (sym (encodes-chars text u) ∙ ap encode_utf8_all e))
 
-module _ (place : ℕ) (text digits behind : List ℕ) (cut : IsCutBehind is_ascii_digit text digits behind) where
+module _ (place : ℕ) {text digits behind : List ℕ} (cut : IsCutBehind is_ascii_digit text digits behind) where
+  -- a fault of the digits, whatever follows
+  at_digits : (fault : DurationFault) → ((gap word : List ℕ) → IsNextFault place (chars digits) gap word fault) → IsFaultAt place (chars text) fault
+  at_digits fault told =
+      let gap = skipped (chars behind) in
+      let letters = run_begins is_in_word (skip_leading_whitespace (chars behind)) in
+      (chars digits, gap.0, letters.0, letters.1, next_of cut.characters cut.is_run gap.1 letters.2 letters.3, told gap.0 letters.0)
+
   pub number_expected : length digits ≡ 0 → IsFaultAt place (chars text) (faults.NumberExpected place)
-  number_expected none =
-      let next = next_behind (chars text) (chars digits) (chars behind) cut.characters cut.is_run in
-      (chars digits, next.0, next.1, next.2, next.3, (chars_nil digits none, refl))
+  number_expected none = at_digits (faults.NumberExpected place) (λ gap word. (chars_nil digits none, refl))
 
   pub number_too_large : {E : Type 0} (e : E) → 0 < length digits → ParsesUnsigned 64 10 digits (Err e) → IsFaultAt place (chars text) (faults.NumberTooLarge place)
   number_too_large e some p =
-      let next = next_behind (chars text) (chars digits) (chars behind) cut.characters cut.is_run in
       let large : ¬ (digits_value 10 (chars digits) < 2 ^ 64) = λ fits. parsed digits (Err e) cut.run_utf8 cut.is_run.inside p (some, fits) in
-      (chars digits, next.0, next.1, next.2, next.3, (omega (arith, large), refl))
+      at_digits (faults.NumberTooLarge place) (λ gap word. (omega (arith, large), refl))
 
-module _ (place : ℕ) (text digits behind gap trimmed_text word rest : List ℕ) (text_utf8 : IsUtf8 text) (trimmed_utf8 : IsUtf8 trimmed_text)
-    (cut : IsCutBehind is_ascii_digit text digits behind) (trim : IsTrimmed (chars behind) gap (chars trimmed_text)) (letters : IsCutBehind is_in_word trimmed_text word rest)
-    (number : ℕ) (is_number : ((0 < length digits) × (digits_value 10 (chars digits) < 2 ^ 64)) × (number ≡ digits_value 10 (chars digits))) where
-  next : IsNext (chars text) (chars digits) gap (chars word) (chars rest)
-  next =
-      let parts : chars behind ≡ gap ++ (chars word ++ chars rest) = trim.whole ∙ ap (λ r. gap ++ r) letters.characters in
-      record {
-        whole = cut.characters ∙ ap (λ r. chars digits ++ r) parts;
-        of_digits = subst (IsRun is_ascii_digit (chars digits)) parts cut.is_run;
-        of_gap = subst (IsRun is_whitespace gap) letters.characters trim.run;
-        of_word = letters.is_run;
-      }
+-- behind a number that fits
+module _ (place : ℕ) {text digits behind trimmed_text word rest : List ℕ} (text_utf8 : IsUtf8 text) (trimmed_utf8 : IsUtf8 trimmed_text)
+    (cut : IsCutBehind is_ascii_digit text digits behind) (is_trimmed : trimmed_text ≡ trim_start behind) (letters : IsCutBehind is_in_word trimmed_text word rest)
+    {E : Type 0} (answer : Result ℕ E) (parses : ParsesUnsigned 64 10 digits answer) (number : ℕ) (is : answer ≡ Ok number) where
+  gap : (space : List ℕ) × IsTrimmed (chars behind) space (chars trimmed_text)
+  gap = trimmed behind trimmed_text trimmed_utf8 is_trimmed
 
-  at_word : length text ≡ offset (chars digits ++ gap) + length trimmed_text
-  at_word =
-      let parts : chars text ≡ (chars digits ++ gap) ++ chars trimmed_text = cut.characters ∙ ap (λ r. chars digits ++ r) trim.whole ∙ sym (append_assoc (chars digits) gap (chars trimmed_text)) in
-      sym (offset_of_text text text_utf8) ∙ ap offset parts ∙ offset_behind (chars digits ++ gap) (chars trimmed_text) ∙ ap (λ n. offset (chars digits ++ gap) + n) (offset_of_text trimmed_text trimmed_utf8)
+  is_number : ((0 < length digits) × (digits_value 10 (chars digits) < 2 ^ 64)) × (number ≡ digits_value 10 (chars digits))
+  is_number = rw is at (parsed digits answer cut.run_utf8 cut.is_run.inside parses)
+
+  next : IsNext (chars text) (chars digits) gap.0 (chars word) (chars rest)
+  next = next_of cut.characters cut.is_run gap.1 letters.characters letters.is_run
+
+  word_place : place + (length text - length trimmed_text) ≡ place + offset (chars digits ++ gap.0)
+  word_place =
+      let front = chars digits ++ gap.0 in
+      let parts : chars text ≡ front ++ chars trimmed_text = cut.characters ∙ ap (λ r. chars digits ++ r) gap.1.whole ∙ sym (append_assoc (chars digits) gap.0 (chars trimmed_text)) in
+      omega (arith, offset_of_text text text_utf8, ap offset parts, offset_behind front (chars trimmed_text), offset_of_text trimmed_text trimmed_utf8)
 
   fitting : AreFittingDigits (chars digits)
   fitting = (chars_some digits cut.run_utf8 is_number.0.0, is_number.0.1)
 
-  word_place : place + (length text - length trimmed_text) ≡ place + offset (chars digits ++ gap)
-  word_place = omega (arith, at_word)
-
   pub unit_missing : length word ≡ 0 → IsFaultAt place (chars text) (faults.UnitMissing (place + (length text - length trimmed_text)))
-  unit_missing none = (chars digits, gap, chars word, chars rest, next, (fitting, chars_nil word none, word_place))
+  unit_missing none = (chars digits, gap.0, chars word, chars rest, next, (fitting, chars_nil word none, word_place))
 
   pub unit_unknown : 0 < length word → unit_length (chars word) ≡ None → IsFaultAt place (chars text) (faults.UnitUnknown (place + (length text - length trimmed_text)))
-  unit_unknown some unknown = (chars digits, gap, chars word, chars rest, next, (fitting, chars_some word letters.run_utf8 some, unknown, word_place))
+  unit_unknown some unknown = (chars digits, gap.0, chars word, chars rest, next, (fitting, chars_some word letters.run_utf8 some, unknown, word_place))
 
   pub read : (unit : ℕ) → unit_length (chars word) ≡ Some unit → IsReadItem (chars text) (number * unit) (chars rest)
   read unit known = record {
     item = record { number = number; unit = unit };
-    here = chars digits ++ (gap ++ chars word);
-    whole = next.whole ∙ sym (append_assoc (chars digits) (gap ++ chars word) (chars rest) ∙ ap (λ r. chars digits ++ r) (append_assoc gap (chars word) (chars rest)));
+    here = chars digits ++ (gap.0 ++ chars word);
+    whole = next.whole ∙ sym (append_assoc (chars digits) (gap.0 ++ chars word) (chars rest) ∙ ap (λ r. chars digits ++ r) (append_assoc gap.0 (chars word) (chars rest)));
     is_item = record {
       space = [];
       digits = chars digits;
-      gap = gap;
+      gap = gap.0;
       word = chars word;
       whole = refl;
       space_is_white = tt;
       some_digits = fitting.0;
       digits_are = cut.is_run.inside;
       number_is = sym is_number.1;
-      gap_is_white = trim.run.inside;
+      gap_is_white = gap.1.run.inside;
       unit_is = known;
     };
     fits = omega (arith, is_number.0.1, is_number.1);
@@ -232,8 +223,8 @@ pub record IsReadUpTo (text left : List ℕ) (nanoseconds : ℕ) : Type 0 where
   pub some : left ≡ [] → items ≢ []
 
 -- before the first item
-pub begun : (text space left : List ℕ) → IsTrimmed text space left → left ≢ [] → IsReadUpTo text left 0
-begun text space left trim some = record {
+pub begun : {text space left : List ℕ} → IsTrimmed text space left → left ≢ [] → IsReadUpTo text left 0
+begun {space = space} trim some = record {
   front = space;
   items = [];
   is_front = record { whole = trim.whole; spelled = trim.run.inside; fit = tt; uncut = λ ends. absurd (white_no_end space trim.run.inside ends) };
@@ -269,12 +260,13 @@ fault_behind : (front left : List ℕ) (items : List Item) (fault : DurationFaul
 fault_behind front left items fault some told = search rules
 
 -- what isn't an item is the fault of the text
-pub fault_within : (text left : List ℕ) (nanoseconds place : ℕ) (fault : DurationFault) (a : IsReadUpTo (chars text) left nanoseconds) → left ≢ [] → place ≡ offset a.front → IsFaultAt place left fault → IsDurationFault text fault
-fault_within text left nanoseconds place fault a some at told =
+pub fault_within : (text : List ℕ) {left : List ℕ} {nanoseconds : ℕ} (place : ℕ) (fault : DurationFault) (a : IsReadUpTo (chars text) left nanoseconds) → left ≢ [] → place ≡ offset a.front → IsFaultAt place left fault → IsDurationFault text fault
+fault_within text {left} place fault a some at told =
     (a.front, left, a.items, longest_front (chars text) a.front left a.items a.is_front (fault_stops place left fault a.no_space told), fault_behind a.front left a.items fault some (rw at at told))
 
-pub empty_fault : (text space : List ℕ) → IsTrimmed (chars text) space [] → IsDurationFault text faults.Empty
-empty_fault text space trim =
+pub empty_fault : (text : List ℕ) {space left : List ℕ} → IsTrimmed (chars text) space left → left ≡ [] → IsDurationFault text faults.Empty
+empty_fault text {space} trimmed_off none =
+    let trim : IsTrimmed (chars text) space [] = rw none at trimmed_off in
     (space, [], [], longest_front (chars text) space [] [] (record { whole = trim.whole; spelled = trim.run.inside; fit = tt; uncut = λ ends begins. begins }) nothing_stops, refl)
 
 module _ (text : List ℕ) (nanoseconds : ℕ) (a : IsReadUpTo (chars text) [] nanoseconds) where
