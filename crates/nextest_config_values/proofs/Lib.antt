@@ -2,6 +2,7 @@ pub mod Arguments
 pub mod Components
 pub mod Durations
 pub mod Elements
+pub mod Equalities
 pub mod Faults
 pub mod Joined
 pub mod Paths

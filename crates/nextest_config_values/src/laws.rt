@@ -74,6 +74,7 @@ pub fn law_duration_once()
 
 /// Values are equal exactly where they say the same. Of refusals that may hold one of a name this
 /// is said where they tell a fault.
+#[tactic(auto, using(crate::proofs::Equalities::same_rule, crate::proofs::Equalities::same_kind, crate::proofs::Equalities::same_fault))]
 pub fn law_equality()
     ensures duration_fault { IsEquality ⟦<DurationFault as PartialEq>⟧.eq }
     ensures identifier_kind { IsEquality ⟦<InvalidIdentifierKind as PartialEq>⟧.eq }

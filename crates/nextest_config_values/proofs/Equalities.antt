@@ -1,9 +1,11 @@
+-- What `==` of refusals says.
 use Rattle.std.proofs.Common.{◌≡◌, ◌↔◌, ◌&&◌, ℕ, IsTrue, List, Option, Some, None, String, Global, option_map, string_bytes, refl, sym, ap, ap₂, ◌∙◌, rules}
 use Rattle.std.proofs.lemmas.Bool.{and_from, and_parts}
 use Rattle.std.specs.String.{string_eq}
 use Rattle.semver.specs.Identifiers.{parts_of}
 use Rattle.semver.specs.contracts.VersionPartialEq.TheImpl as version_eq
 use Rattle.semver.specs.declared.Version.{Version}
+use Rattle.nextest_config_values.specs.Equality.{IsEqualityBy, IsEqualityOfTold}
 use Rattle.nextest_config_values.specs.Read.{broken_rule, BrokenRule, custom, fault_at, fault_of, identifier, Reason, reason_of, required_above_recommended, tool_name}
 use Rattle.nextest_config_values.specs.Read.Fault.{Fault}
 use Rattle.nextest_config_values.specs.Identifier.{identifier_fault, tool_name_fault}
@@ -12,16 +14,10 @@ use Rattle.nextest_config_values.specs.contracts.identifier.error.InvalidToolNam
 use Rattle.nextest_config_values.specs.contracts.read.fault.FaultKindPartialEq.TheImpl as kind_eq
 use Rattle.nextest_config_values.specs.contracts.read.fault.ReadFaultPartialEq.TheImpl as fault_eq
 use Rattle.nextest_config_values.specs.contracts.read.fault.RulePartialEq.TheImpl as rule_eq
-use Rattle.nextest_config_values.specs.declared.identifier.error.InvalidIdentifier.{InvalidIdentifier}
-use Rattle.nextest_config_values.specs.declared.identifier.error.InvalidToolName.{InvalidToolName}
-use Rattle.nextest_config_values.specs.declared.read.fault.FaultKind.{FaultKind}
 use Rattle.nextest_config_values.specs.declared.read.fault.FaultKind.TheVariants as kinds
-use Rattle.nextest_config_values.specs.declared.read.fault.ReadFault.{ReadFault}
-use Rattle.nextest_config_values.specs.declared.read.fault.Rule.{Rule}
 use Rattle.nextest_config_values.specs.declared.read.fault.Rule.TheVariants as broken
-use Rattle.nextest_config_values.proofs.laws.law_equality.Goals as goal
 
-one_version : (a b : Version) → IsTrue ((version_eq.ghosts).eq a b) ↔ (parts_of a ≡ parts_of b)
+one_version : IsEqualityBy parts_of (version_eq.ghosts).eq
 one_version a b = search rules
 
 two_versions : (a b c d : Version) → IsTrue ((version_eq.ghosts).eq a c && (version_eq.ghosts).eq b d) ↔ (required_above_recommended (parts_of a) (parts_of b) ≡ required_above_recommended (parts_of c) (parts_of d))
@@ -30,14 +26,14 @@ two_versions a b c d = (
   λ same. and_from _ _ ((one_version a c).1 (cc same)) ((one_version b d).1 (cc same)),
 )
 
-same_rule : (a b : Rule) → IsTrue ((rule_eq.ghosts).eq a b) ↔ (broken_rule a ≡ broken_rule b)
+pub same_rule : IsEqualityBy broken_rule (rule_eq.ghosts).eq
 same_rule (broken.RequiredAboveRecommended required recommended) (broken.RequiredAboveRecommended other more) = two_versions required recommended other more
 same_rule a b = search rules
 
-same_identifier : (a b : InvalidIdentifier) → IsTrue ((identifier_eq.ghosts).eq a b) ↔ (identifier_fault a ≡ identifier_fault b)
+same_identifier : IsEqualityBy identifier_fault (identifier_eq.ghosts).eq
 same_identifier a b = search rules
 
-same_tool_name : (a b : InvalidToolName) → IsTrue ((tool_name_eq.ghosts).eq a b) ↔ (tool_name_fault a ≡ tool_name_fault b)
+same_tool_name : IsEqualityBy tool_name_fault (tool_name_eq.ghosts).eq
 same_tool_name a b = search rules
 
 one_told : {F : Type 0} (reason : F → Reason) → ((a b : F) → reason a ≡ reason b → a ≡ b) → (told other : Option F) → option_map reason told ≡ option_map reason other → told ≡ other
@@ -45,23 +41,24 @@ one_told reason one None None e = refl
 one_told reason one (Some a) (Some b) e = ap Some (one a b (cc e))
 one_told reason one told other e = cc e
 
-same_kind : (a b : FaultKind) (reason : Reason) → reason_of a ≡ Some reason → IsTrue ((kind_eq.ghosts).eq a b) ↔ (reason_of b ≡ Some reason)
+-- of a name's fault
+told_alike : {F : Type 0} (make : F → Reason) → ((a b : F) → make a ≡ make b → a ≡ b) → (told other : Option F) (IsSame : Type 0) → IsSame ↔ (told ≡ other) → (reason : Reason) → option_map make told ≡ Some reason
+    → IsSame ↔ (option_map make other ≡ Some reason)
+told_alike make one told other IsSame alike reason is = (λ same. ap (option_map make) (sym (alike.0 same)) ∙ is, λ e. alike.1 (one_told make one told other (is ∙ sym e)))
+
+pub same_kind : IsEqualityOfTold reason_of (kind_eq.ghosts).eq
 same_kind (kinds.Custom rule) (kinds.Custom other) reason is = (
   λ same. ap (λ (r : BrokenRule). Some (custom r)) (sym ((same_rule rule other).0 same)) ∙ is,
   λ told. (same_rule rule other).1 (cc (is, told)),
 )
-same_kind (kinds.Identifier error) (kinds.Identifier other) reason is = (
-  λ same. ap (option_map identifier) (sym ((same_identifier error other).0 same)) ∙ is,
-  λ told. (same_identifier error other).1 (one_told identifier (λ a b e. cc e) (identifier_fault error) (identifier_fault other) (is ∙ sym told)),
-)
-same_kind (kinds.ToolName error) (kinds.ToolName other) reason is = (
-  λ same. ap (option_map tool_name) (sym ((same_tool_name error other).0 same)) ∙ is,
-  λ told. (same_tool_name error other).1 (one_told tool_name (λ a b e. cc e) (tool_name_fault error) (tool_name_fault other) (is ∙ sym told)),
-)
+same_kind (kinds.Identifier error) (kinds.Identifier other) reason is =
+    told_alike identifier (λ a b e. cc e) (identifier_fault error) (identifier_fault other) _ (same_identifier error other) reason is
+same_kind (kinds.ToolName error) (kinds.ToolName other) reason is =
+    told_alike tool_name (λ a b e. cc e) (tool_name_fault error) (tool_name_fault other) _ (same_tool_name error other) reason is
 same_kind kinds.Memory b reason is = cc is
 same_kind a b reason is = search rules
 
-same_text : (a b : String Global) → IsTrue (string_eq a b) ↔ (string_bytes a ≡ string_bytes b)
+same_text : IsEqualityBy {X = String Global} string_bytes string_eq
 same_text a b = search rules
 
 fault_parts : (path : List ℕ) (told : Option Reason) (fault : Fault) → option_map (fault_at path) told ≡ Some fault → (told ≡ Some fault.reason) × (path ≡ fault.path)
@@ -70,7 +67,7 @@ fault_parts path (Some reason) fault e =
     let same : fault_at path reason ≡ fault = cc e in
     (ap (λ (f : Fault). Some f.reason) same, ap (λ (f : Fault). f.path) same)
 
-same_fault : (a b : ReadFault) (fault : Fault) → fault_of a ≡ Some fault → IsTrue ((fault_eq.ghosts).eq a b) ↔ (fault_of b ≡ Some fault)
+pub same_fault : IsEqualityOfTold fault_of (fault_eq.ghosts).eq
 same_fault a b fault is =
     let (reason, path) = fault_parts (string_bytes a.path) (reason_of a.kind) fault is in
     let kind = same_kind a.kind b.kind fault.reason reason in
@@ -82,12 +79,3 @@ same_fault a b fault is =
           let (r, q) = fault_parts (string_bytes b.path) (reason_of b.kind) fault told in
           and_from _ _ (paths.1 (path ∙ sym q)) (kind.1 r),
     )
-
-pub returns-clause-rule : goal.returns-clause-rule
-returns-clause-rule c = same_rule
-
-pub returns-clause-kind : goal.returns-clause-kind
-returns-clause-kind c = same_kind
-
-pub returns-clause-fault : goal.returns-clause-fault
-returns-clause-fault c = same_fault
