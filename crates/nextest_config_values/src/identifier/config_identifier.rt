@@ -10,7 +10,7 @@ ghost use Rattle.nextest_config_values.specs.declared.identifier.error.InvalidId
 use super::error::{IdentifierFlaw, InvalidIdentifier};
 use super::kept_text::KeptText;
 use crate::helpers::{InvalidIdentifierKind, is_valid_identifier_unicode};
-use crate::read::{FaultKind, FromToml, ReadFault};
+use crate::read::{FaultKind, FromToml, ReadFault, held_text};
 use std::alloc::{AllocError, Global};
 use std::fmt;
 use std::marker::Model;
@@ -140,12 +140,10 @@ impl FromToml for ConfigIdentifier {
     ghost reading = { identifier_reading };
 
     fn read(alloc: Global, value: &Value, at: &str) -> Result<Self, ReadFault> {
-        match value.as_str() {
-            Some(text) => match ConfigIdentifier::new(alloc, text) {
-                Ok(identifier) => Ok(identifier),
-                Err(error) => Err(ReadFault::new(alloc, at, FaultKind::from(error))),
-            },
-            None => Err(ReadFault::invalid_type(alloc, value, at, "a string")),
+        let text = held_text(alloc, value, at)?;
+        match ConfigIdentifier::new(alloc, text) {
+            Ok(identifier) => Ok(identifier),
+            Err(error) => Err(ReadFault::new(alloc, at, FaultKind::from(error))),
         }
     }
 }

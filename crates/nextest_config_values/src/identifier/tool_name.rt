@@ -10,7 +10,7 @@ ghost use Rattle.nextest_config_values.specs.declared.identifier.error.InvalidTo
 use super::error::{InvalidToolName, ToolNameFlaw};
 use super::kept_text::KeptText;
 use crate::helpers::{InvalidIdentifierKind, is_valid_identifier_unicode};
-use crate::read::{FaultKind, FromToml, ReadFault};
+use crate::read::{FaultKind, FromToml, ReadFault, held_text};
 use std::alloc::{AllocError, Global};
 use std::fmt;
 use std::marker::Model;
@@ -99,12 +99,10 @@ impl FromToml for ToolName {
     ghost reading = { tool_name_reading };
 
     fn read(alloc: Global, value: &Value, at: &str) -> Result<Self, ReadFault> {
-        match value.as_str() {
-            Some(text) => match ToolName::new(alloc, text) {
-                Ok(name) => Ok(name),
-                Err(error) => Err(ReadFault::new(alloc, at, FaultKind::from(error))),
-            },
-            None => Err(ReadFault::invalid_type(alloc, value, at, "a string")),
+        let text = held_text(alloc, value, at)?;
+        match ToolName::new(alloc, text) {
+            Ok(name) => Ok(name),
+            Err(error) => Err(ReadFault::new(alloc, at, FaultKind::from(error))),
         }
     }
 }

@@ -3,7 +3,8 @@
 ghost use Rattle.std.specs.Prelude.{◌≡◌, ◌++◌, IfOk, is_none, option_map, Some, string_bytes};
 ghost use Rattle.std.specs.Fmt.{WritesOnOk, WritesStyledOnOk};
 ghost use Rattle.toml.specs.View.{view};
-ghost use Rattle.nextest_config_values.specs.Read.{broken_rule, fault_of, IsMemory, kind_text, missing, path_of, path_text, reason_of, RefusesAs, RefusesKind, rule_text, styled_kind_text, styled_rule_text, unknown_key, unknown_word, wrong_type, wrong_value};
+ghost use Rattle.nextest_config_values.specs.Identifier.Error.{identifier_fault, tool_name_fault};
+ghost use Rattle.nextest_config_values.specs.Read.{broken_rule, fault_of, identifier, IsMemory, IsNameKind, kind_text, missing, path_of, path_text, reason_of, RefusesAs, RefusesKind, rule_text, styled_kind_text, styled_rule_text, tool_name, unknown_key, unknown_word, wrong_type, wrong_value};
 ghost use Rattle.nextest_config_values.specs.declared.read.fault.FaultKind.TheVariants.{Memory};
 
 use super::text::{QuotedText, found_text};
@@ -222,9 +223,6 @@ impl From<AllocError> for FaultKind {
 }
 
 impl From<InvalidIdentifier> for FaultKind {
-    ghost use Rattle.nextest_config_values.specs.Identifier.Error.{identifier_fault};
-    ghost use Rattle.nextest_config_values.specs.Read.Fault.{IsNameKind, identifier};
-
     ghost from_gives = { λ error kind. IsNameKind identifier (identifier_fault error) kind };
 
     fn from(error: InvalidIdentifier) -> FaultKind {
@@ -236,9 +234,6 @@ impl From<InvalidIdentifier> for FaultKind {
 }
 
 impl From<InvalidToolName> for FaultKind {
-    ghost use Rattle.nextest_config_values.specs.Identifier.Error.{tool_name_fault};
-    ghost use Rattle.nextest_config_values.specs.Read.Fault.{IsNameKind, tool_name};
-
     ghost from_gives = { λ error kind. IsNameKind tool_name (tool_name_fault error) kind };
 
     fn from(error: InvalidToolName) -> FaultKind {

@@ -1,7 +1,9 @@
 //! The plain readers.
 
-ghost use Rattle.std.specs.Prelude.{◌≡◌, ◌≢◌, ◌<◌, ◌↔◌, ℕ, pos, List, IsSome, IfSome, MatchOption, string_bytes};
-ghost use Rattle.nextest_config_values.specs.Read.{bool_reading, count_reading, IsCount, MeansNumber, text_reading, u32_reading};
+ghost use Rattle.std.specs.Prelude.{◌≡◌, ◌≢◌, ◌<◌, ◌↔◌, ℕ, pos, List, IsSome, IfErr, IfOk, IfSome, MatchOption, None, Some, string_bytes};
+ghost use Rattle.toml.specs.Data.{as_integer, as_str};
+ghost use Rattle.toml.specs.View.{view};
+ghost use Rattle.nextest_config_values.specs.Read.{bool_reading, count_reading, IsCount, MeansNumber, RefusesAs, text_expected, text_reading, u32_reading, wrong_type};
 
 use super::fault::ReadFault;
 use super::from_toml::FromToml;
@@ -32,12 +34,10 @@ impl FromToml for u32 {
     ghost reading = { u32_reading };
 
     fn read(alloc: Global, value: &Value, at: &str) -> Result<Self, ReadFault> {
-        match value.as_integer() {
-            Some(number) => match u32::try_from(number) {
-                Ok(number) => Ok(number),
-                Err(_) => Err(ReadFault::invalid_value(alloc, value, at, "u32")),
-            },
-            None => Err(ReadFault::invalid_type(alloc, value, at, "u32")),
+        let number = held_integer(alloc, value, at, "u32")?;
+        match u32::try_from(number) {
+            Ok(number) => Ok(number),
+            Err(_) => Err(ReadFault::invalid_value(alloc, value, at, "u32")),
         }
     }
 }
@@ -50,12 +50,10 @@ impl FromToml for String {
     ghost reading = { text_reading };
 
     fn read(alloc: Global, value: &Value, at: &str) -> Result<Self, ReadFault> {
-        match value.as_str() {
-            Some(text) => match String::from_str(alloc, text) {
-                Ok(text) => Ok(text),
-                Err(AllocError) => Err(ReadFault::memory(alloc)),
-            },
-            None => Err(ReadFault::invalid_type(alloc, value, at, "a string")),
+        let text = held_text(alloc, value, at)?;
+        match String::from_str(alloc, text) {
+            Ok(text) => Ok(text),
+            Err(AllocError) => Err(ReadFault::memory(alloc)),
         }
     }
 }
@@ -106,12 +104,10 @@ impl FromToml for NonZeroCount {
     ghost reading = { count_reading };
 
     fn read(alloc: Global, value: &Value, at: &str) -> Result<Self, ReadFault> {
-        match value.as_integer() {
-            Some(number) => match count_of(number) {
-                Some(count) => Ok(count),
-                None => Err(ReadFault::invalid_value(alloc, value, at, "a nonzero usize")),
-            },
-            None => Err(ReadFault::invalid_type(alloc, value, at, "a nonzero usize")),
+        let number = held_integer(alloc, value, at, "a nonzero usize")?;
+        match count_of(number) {
+            Some(count) => Ok(count),
+            None => Err(ReadFault::invalid_value(alloc, value, at, "a nonzero usize")),
         }
     }
 }
@@ -124,5 +120,34 @@ fn count_of(number: i64) -> Option<NonZeroCount>
     match usize::try_from(number) {
         Ok(count) => NonZeroCount::new(count),
         Err(_) => None,
+    }
+}
+
+/// The text that the value is.
+pub(crate) fn held_text<'v>(alloc: Global, value: &'v Value, at: &str) -> Result<&'v str, ReadFault>
+    ensures held { IfOk result (λ text. as_str (view value.now) ≡ Some text.now) }
+    ensures refused { IfErr result (λ fault. (as_str (view value.now) ≡ None)
+        × RefusesAs (wrong_type (view value.now) at.now text_expected) fault) }
+{
+    match value.as_str() {
+        Some(text) => Ok(text),
+        None => Err(ReadFault::invalid_type(alloc, value, at, "a string")),
+    }
+}
+
+// The integer that the value is.
+fn held_integer(
+    alloc: Global,
+    value: &Value,
+    at: &str,
+    expected: &'static str,
+) -> Result<i64, ReadFault>
+    ensures held { IfOk result (λ number. as_integer (view value.now) ≡ Some number) }
+    ensures refused { IfErr result (λ fault. (as_integer (view value.now) ≡ None)
+        × RefusesAs (wrong_type (view value.now) at.now expected.now) fault) }
+{
+    match value.as_integer() {
+        Some(number) => Ok(number),
+        None => Err(ReadFault::invalid_type(alloc, value, at, expected)),
     }
 }

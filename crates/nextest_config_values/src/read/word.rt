@@ -5,6 +5,7 @@ ghost use Rattle.nextest_config_values.specs.Read.{value_of, word_reading, words
 
 use super::fault::ReadFault;
 use super::from_toml::FromToml;
+use super::plain::held_text;
 use std::alloc::Global;
 use toml::Value;
 
@@ -39,12 +40,10 @@ impl<T: Word> FromToml for T {
     ghost reading = { word_reading T.all T.word T.reads_back };
 
     fn read(alloc: Global, value: &Value, at: &str) -> Result<Self, ReadFault> {
-        match value.as_str() {
-            Some(text) => match find_word(text) {
-                Some(word) => Ok(word),
-                None => Err(ReadFault::unknown_variant(alloc, text, at, T::expected())),
-            },
-            None => Err(ReadFault::invalid_type(alloc, value, at, "a string")),
+        let text = held_text(alloc, value, at)?;
+        match find_word(text) {
+            Some(word) => Ok(word),
+            None => Err(ReadFault::unknown_variant(alloc, text, at, T::expected())),
         }
     }
 }

@@ -1,4 +1,3 @@
-use Rattle.std.proofs.Common.{sym}
 use Rattle.nextest_config_values.proofs.Faults.{refused_name}
 use Rattle.nextest_config_values.specs.Identifier.{identifier_fault, IsIdentifierFlaw}
 use Rattle.nextest_config_values.specs.Read.{identifier}
@@ -6,4 +5,4 @@ use Rattle.nextest_config_values.proofs.identifier.config_identifier.ConfigIdent
 
 pub returns-in-Err-clause-refused : goal.returns-in-Err-clause-refused
 returns-in-Err-clause-refused c =
-    rw (sym c.in-Some.ensures) (refused_name IsIdentifierFlaw identifier c.in-Some.text.now c.args.at.now (identifier_fault c.in-Err.error) _ c.from.result c.new-in-Err.result c.in-Err.ensures.refused c.from.ensures c.new-in-Err.ensures)
+    rw c.in_ok-text.ensures.held (refused_name IsIdentifierFlaw identifier c.in_ok-text.text.now c.args.at.now (identifier_fault c.in-Err.error) _ c.from.result c.new-in-Err.result c.in-Err.ensures.refused c.from.ensures c.new-in-Err.ensures)
