@@ -1,22 +1,12 @@
 -- The search of a table of names, by bytes and by characters.
-use Rattle.std.proofs.Common.{◌≡◌, ℕ, ◌+◌, ◌<◌, true, false, List, [], ◌∷◌, drop, get_or, length, map, nat_eq, Some, refl, sym, ap, ◌∙◌, inl, inr}
+use Rattle.std.proofs.Common.{◌≡◌, ℕ, true, List, [], ◌∷◌, map, nat_eq, refl, sym, ap, ◌∙◌, inl, inr}
 use Rattle.std.specs.Prelude.{chars, encode_utf8_all}
 use Rattle.std.proofs.lemmas.Bool.{cases_Bool}
-use Rattle.std.proofs.lemmas.List.{drop_more}
 use Rattle.std.proofs.lemmas.Str.{chars-encodes, encodes-chars}
 use Rattle.std.specs.Cmp.Lexicographic.{bytes_decides, other_text, pointwise, same_text}
 use Rattle.std.specs.List.{AllByRecursion}
 use Rattle.std.specs.Str.{IsUtf8, all_scalars as scalars}
-use denote.Ref.{Bor}
-use Rattle.nextest_config_values.specs.Duration.{length_in, rows}
-
-pub past_row : (table : List (Bor (List ℕ) × ℕ)) (i : ℕ) (d : Bor (List ℕ) × ℕ) (word : List ℕ) → i < length table → pointwise nat_eq (get_or table i d).0.now word ≡ false
-    → length_in (rows (drop i table)) word ≡ length_in (rows (drop (i + 1) table)) word
-past_row table i d word within other = rw (drop_more table i d within, other) refl
-
-pub at_row : (table : List (Bor (List ℕ) × ℕ)) (i : ℕ) (d : Bor (List ℕ) × ℕ) (word : List ℕ) → i < length table → pointwise nat_eq (get_or table i d).0.now word ≡ true
-    → length_in (rows (drop i table)) word ≡ Some (get_or table i d).1
-at_row table i d word within same = rw (drop_more table i d within, same) refl
+use Rattle.nextest_config_values.specs.Duration.{length_in}
 
 -- the table by bytes
 abbrev pub encoded : List (List ℕ × ℕ) → List (List ℕ × ℕ)
