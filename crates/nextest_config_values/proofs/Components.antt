@@ -1,29 +1,11 @@
 -- Identifiers that are kept: their forms by characters, and their parts by bytes.
-use Rattle.std.proofs.Common.{◌≡◌, ◌≢◌, ℕ, List, [], ◌∷◌, ◌++◌, Option, Some, None, sym, ap, ◌∙◌, subst, inl, inr}
-use Rattle.std.specs.Prelude.{MatchOption, IsUtf8, chars, encode_utf8_all}
+use Rattle.std.proofs.Common.{◌≡◌, ◌≢◌, ℕ, List, ◌∷◌, ◌++◌, Option, Some, None, sym, ap, ◌∙◌, subst, inl, inr}
+use Rattle.std.specs.Prelude.{MatchOption, IsUtf8, chars}
 use Rattle.std.specs.Borrow.{Bor}
-use Rattle.std.proofs.lemmas.Str.{chars_from_encodes, encodes-chars}
 use Rattle.std.proofs.lemmas.Str.Pattern.{IsSplitOnceResult}
-use Rattle.unicode_normalization.proofs.FormsLemmas.{nfc_idem}
-use Rattle.unicode_normalization.specs.Forms.{nfc}
 use Rattle.nextest_config_values.specs.Helpers.Identifiers.{IsPlainIdentifier}
-use Rattle.nextest_config_values.specs.Identifier.{AreComponents, behind_mark, HasNoColon, IsIdentifierForm, IsKeptText, IsMarked, no_colon_uncut, normal_chars, normal_form, one_cut, plain_no_at_sign, plain_no_colon, tool_mark}
+use Rattle.nextest_config_values.specs.Identifier.{AreComponents, behind_mark, HasNoColon, IsIdentifierForm, IsMarked, no_colon_uncut, one_cut, plain_no_at_sign, plain_no_colon, tool_mark}
 use Rattle.nextest_config_values.proofs.Texts.{chars_behind, mark_plain, no_colon_bytes, no_colon_chars, not_behind, split_colon}
-
--- a text that is kept in its normal form, and judged as it is shown
-module _ (text kept shown : List ℕ) (normal : kept ≡ normal_form text) (same : shown ≡ kept) (u : IsUtf8 shown) where
-  -- what is shown has the characters of the normal form
-  decoded : chars shown ≡ normal_chars text
-  decoded = sym (chars_from_encodes (normal_chars text) shown u (sym (same ∙ normal)))
-
-  pub judged : (Holds : List ℕ → Type 0) → Holds (chars shown) → Holds (normal_chars text)
-  judged Holds = subst Holds decoded
-
-  pub judged_kept : {IsInGrammar : List ℕ → Type 0} → IsInGrammar (chars shown) → IsKeptText IsInGrammar kept
-  judged_kept {IsInGrammar} form = subst (IsKeptText IsInGrammar) same (record { form = form; normal = subst (λ cs. nfc cs ≡ cs) (sym decoded) (nfc_idem (chars text)) })
-
-pub empty_decoded : (kept : List ℕ) → IsUtf8 kept → chars kept ≡ [] → kept ≡ []
-empty_decoded kept u e = sym (encodes-chars kept u) ∙ ap encode_utf8_all e
 
 pub unmarked_plain : (text : List ℕ) → IsUtf8 text → IsIdentifierForm (chars text) → ((rest : List ℕ) → text ≢ tool_mark ++ rest) → IsPlainIdentifier (chars text)
 unmarked_plain text u (inl h) none = h

@@ -42,6 +42,7 @@ impl Model for ConfigIdentifier {
 
 impl ConfigIdentifier {
     /// The identifier that the text is, once it is brought to Normalization Form C (UAX 15).
+    #[tactic(auto, using(crate::specs::Identifier::Laws::identifier_not_flawed))]
     pub fn new(alloc: Global, identifier: &str) -> Result<Self, InvalidIdentifier>
         ensures accepted { IfOk result (IsIdentifier identifier.now) }
         ensures refused { IfErr result

@@ -1,13 +1,14 @@
 //! The texts of identifiers and tool names.
 
-ghost use Rattle.std.specs.Prelude.{◌≡◌, IfOk, IsOk, Some, nat_eq, refl, string_bytes};
+ghost use Rattle.std.specs.Prelude.{◌≡◌, IfOk, IsOk, Some, chars, nat_eq, refl, string_bytes};
 ghost use Rattle.std.proofs.Common.{rules};
 ghost use Rattle.std.specs.Cmp.{partial_equiv_from_equiv};
 ghost use Rattle.std.specs.Cmp.Lexicographic.{nat_list_cmp_total, nat_list_eq_equiv, pointwise, slice_cmp, texts_po, texts_ties};
 ghost use Rattle.std.specs.Cmp.Rules.{hashing};
 ghost use Rattle.std.specs.Hash as fed;
 ghost use Rattle.std.specs.Ordering.{nat_cmp};
-ghost use Rattle.nextest_config_values.specs.Identifier.{FitsInline, IsQuicklyNormal, normal_form};
+ghost use Rattle.unicode_normalization.specs.Forms.{nfc};
+ghost use Rattle.nextest_config_values.specs.Identifier.{FitsInline, IsQuicklyNormal, normal_chars, normal_form};
 
 use arrayvec::ArrayString;
 use std::alloc::{AllocError, Global};
@@ -46,6 +47,8 @@ impl KeptText {
     /// The text in Normalization Form C (UAX 15).
     pub(super) fn normal(alloc: Global, text: &str) -> Result<Self, AllocError>
         ensures normal { IfOk result (λ kept. kept ≡ normal_form text.now) }
+        ensures characters { IfOk result (λ kept. chars kept ≡ normal_chars text.now) }
+        ensures in_form { IfOk result (λ kept. nfc (chars kept) ≡ chars kept) }
         ensures inline { IsQuicklyNormal text.now → FitsInline text.now → IsOk result }
     {
         if let IsNormalized::Yes = is_nfc_quick(text.chars()) {
