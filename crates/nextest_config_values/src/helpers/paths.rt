@@ -38,6 +38,7 @@ fn is_relative_path(path: &str) -> bool
 
 /// The path that `path` names beside the folder `base`, by the rules of Unix: a path that begins
 /// with `/` stays as it is.
+#[tactic(auto, using(crate::proofs::Paths::joins))]
 pub fn join_path(alloc: Global, base: &str, path: &str) -> Result<String, AllocError>
     ensures { IfOk result (λ joined. string_bytes joined ≡ joined_path base.now path.now) }
 {

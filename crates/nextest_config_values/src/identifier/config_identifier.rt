@@ -60,6 +60,7 @@ impl ConfigIdentifier {
     }
 
     /// Whether this is a tool identifier.
+    #[tactic(auto, using(crate::proofs::Components::plain_unmarked))]
     pub fn is_tool_identifier(&self) -> bool
         ensures { IsTrue result ↔ IsMarked self.now }
     {

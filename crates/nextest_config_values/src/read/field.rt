@@ -69,6 +69,7 @@ pub fn field_or<T: FromToml + Drop>(
 }
 
 // The value at a key of the table.
+#[tactic(auto, using(toml::proofs::Views::table_get))]
 fn value_at<'v>(table: &'v Table, key: &str) -> Option<&'v Value>
     ensures { option_map (λ value. view value.now) result
         ≡ get_member key.now (table_view table.now) }
@@ -78,6 +79,7 @@ fn value_at<'v>(table: &'v Table, key: &str) -> Option<&'v Value>
 
 // Reads the value of a key. The path is put together only after a fault, and only where it isn't
 // the key itself.
+#[tactic(auto, using(crate::proofs::Faults::refused_again))]
 fn read_field<T: FromToml>(
     alloc: Global,
     value: &Value,
