@@ -18,6 +18,7 @@ pub enum InvalidIdentifierKind {
 
 /// Judges the text as it is, without normalization: an identifier is a character of XID_Start, then
 /// characters of XID_Continue and `-` (UAX 31).
+#[tactic(auto, using(std::proofs::lemmas::Str::chars_past_char))]
 pub fn is_valid_identifier_unicode(s: &str) -> Result<(), InvalidIdentifierKind>
     ensures accepted { OnOk result (IsPlainIdentifier (chars s.now)) }
     ensures refused { IfErr result (IsPlainFlaw (chars s.now)) }

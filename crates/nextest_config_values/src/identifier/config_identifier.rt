@@ -68,6 +68,7 @@ impl ConfigIdentifier {
     }
 
     /// The tool's name and the identifier behind it, if this is a tool identifier.
+    #[tactic(auto, using(crate::proofs::Texts::strip_text, crate::proofs::Components::unmarked_plain))]
     pub fn tool_components(&self) -> Option<(&str, &str)>
         ensures { MatchOption result (IsPlainIdentifier (chars self.now))
             (λ parts. AreComponents self.now parts.0.now parts.1.now) }

@@ -99,6 +99,7 @@ impl FromToml for ToolName {
 
     ghost reading = { tool_name_reading };
 
+    #[tactic(auto, using(crate::proofs::Faults::refused_name))]
     fn read(alloc: Global, value: &Value, at: &str) -> Result<Self, ReadFault> {
         let text = held_text(alloc, value, at)?;
         match ToolName::new(alloc, text) {

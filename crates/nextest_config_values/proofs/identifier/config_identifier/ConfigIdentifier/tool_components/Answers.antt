@@ -1,5 +1,5 @@
-use Rattle.std.proofs.Common.{◌∙◌, Some, None, sym}
-use Rattle.nextest_config_values.proofs.Components.{marked_components, unmarked_plain}
+use Rattle.std.proofs.Common.{◌∙◌, Some, sym}
+use Rattle.nextest_config_values.proofs.Components.{marked_components}
 use Rattle.nextest_config_values.proofs.Texts.{strip_text}
 use Rattle.nextest_config_values.specs.Identifier.{tool_mark}
 use Rattle.nextest_config_values.proofs.identifier.config_identifier.ConfigIdentifier.tool_components.Goals as goal
@@ -9,9 +9,3 @@ returns-in-Some c =
     let stripped = strip_text tool_mark c.as_str.result.now (Some c.in-Some.components) c.in-Some.ensures.cases in
     let whole = sym (c.as_str.ensures ∙ c.self.view_is) ∙ stripped.0 in
     marked_components _ c.args.self.now c.in-Some.components.now c.split_once.result whole (stripped.1 c.as_str.utf8) (rw c.self.view_is at c.self.invariant.form) c.split_once.ensures.cases
-
-pub returns-in-None : goal.returns-in-None
-returns-in-None c =
-    let same = c.as_str.ensures ∙ c.self.view_is in
-    let none = strip_text tool_mark c.as_str.result.now None c.in-None.ensures.cases in
-    unmarked_plain c.args.self.now (rw same at c.as_str.utf8) (rw c.self.view_is at c.self.invariant.form) (rw same at none)
