@@ -9,8 +9,6 @@ use Rattle.nextest_config_values.specs.Equality.{IsEqualityBy, IsEqualityOfTold}
 use Rattle.nextest_config_values.specs.Read.{broken_rule, BrokenRule, custom, fault_at, fault_of, identifier, Reason, reason_of, required_above_recommended, tool_name}
 use Rattle.nextest_config_values.specs.Read.Fault.{Fault}
 use Rattle.nextest_config_values.specs.Identifier.{identifier_fault, tool_name_fault}
-use Rattle.nextest_config_values.specs.contracts.identifier.error.InvalidIdentifierPartialEq.TheImpl as identifier_eq
-use Rattle.nextest_config_values.specs.contracts.identifier.error.InvalidToolNamePartialEq.TheImpl as tool_name_eq
 use Rattle.nextest_config_values.specs.contracts.read.fault.FaultKindPartialEq.TheImpl as kind_eq
 use Rattle.nextest_config_values.specs.contracts.read.fault.ReadFaultPartialEq.TheImpl as fault_eq
 use Rattle.nextest_config_values.specs.contracts.read.fault.RulePartialEq.TheImpl as rule_eq
@@ -30,12 +28,6 @@ pub same_rule : IsEqualityBy broken_rule (rule_eq.ghosts).eq
 same_rule (broken.RequiredAboveRecommended required recommended) (broken.RequiredAboveRecommended other more) = two_versions required recommended other more
 same_rule a b = search rules
 
-same_identifier : IsEqualityBy identifier_fault (identifier_eq.ghosts).eq
-same_identifier a b = search rules
-
-same_tool_name : IsEqualityBy tool_name_fault (tool_name_eq.ghosts).eq
-same_tool_name a b = search rules
-
 one_told : {F : Type 0} (reason : F → Reason) → ((a b : F) → reason a ≡ reason b → a ≡ b) → (told other : Option F) → option_map reason told ≡ option_map reason other → told ≡ other
 one_told reason one None None e = refl
 one_told reason one (Some a) (Some b) e = ap Some (one a b (cc e))
@@ -52,9 +44,9 @@ same_kind (kinds.Custom rule) (kinds.Custom other) reason is = (
   λ told. (same_rule rule other).1 (cc (is, told)),
 )
 same_kind (kinds.Identifier error) (kinds.Identifier other) reason is =
-    told_alike identifier (λ a b e. cc e) (identifier_fault error) (identifier_fault other) _ (same_identifier error other) reason is
+    told_alike identifier (λ a b e. cc e) (identifier_fault error) (identifier_fault other) _ (search rules) reason is
 same_kind (kinds.ToolName error) (kinds.ToolName other) reason is =
-    told_alike tool_name (λ a b e. cc e) (tool_name_fault error) (tool_name_fault other) _ (same_tool_name error other) reason is
+    told_alike tool_name (λ a b e. cc e) (tool_name_fault error) (tool_name_fault other) _ (search rules) reason is
 same_kind kinds.Memory b reason is = cc is
 same_kind a b reason is = search rules
 

@@ -90,7 +90,6 @@ no_colon_bytes bs u h =
 pub record IsTextCut (text before after : List ℕ) : Type 0 where
   pub bytes : IsCutAtColon text before after
   pub characters : IsCutAtColon (chars text) (chars before) (chars after)
-  pub before_utf8 : IsUtf8 before
   pub after_utf8 : IsUtf8 after
 
 text_cut : (before after : List ℕ) → IsUtf8 (before ++ (58 ∷ after)) → HasNoColon before → IsTextCut (before ++ (58 ∷ after)) before after
@@ -105,7 +104,6 @@ text_cut before after u none =
     record {
       bytes = record { cut = refl; first = none };
       characters = record { cut = chars-append before (58 ∷ after) front ∙ ap (λ cs. chars before ++ cs) behind; first = no_colon_chars before front none };
-      before_utf8 = front;
       after_utf8 = IsUtf8-past_char (58 ∷ after) after 58 back colon;
     }
 
