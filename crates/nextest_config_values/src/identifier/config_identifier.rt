@@ -42,7 +42,7 @@ impl Model for ConfigIdentifier {
 
 impl ConfigIdentifier {
     /// The identifier that the text is, once it is brought to Normalization Form C (UAX 15).
-    #[tactic(auto, using(crate::specs::Identifier::Laws::identifier_not_flawed))]
+    #[tactic(auto, using(crate::specs::Identifier::Laws::identifier_not_flawed, unicode_normalization::proofs::FormsLemmas::nfc_idem))]
     pub fn new(alloc: Global, identifier: &str) -> Result<Self, InvalidIdentifier>
         ensures accepted { IfOk result (IsIdentifier identifier.now) }
         ensures refused { IfErr result

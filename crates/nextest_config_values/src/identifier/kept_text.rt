@@ -7,7 +7,6 @@ ghost use Rattle.std.specs.Cmp.Lexicographic.{nat_list_cmp_total, nat_list_eq_eq
 ghost use Rattle.std.specs.Cmp.Rules.{hashing};
 ghost use Rattle.std.specs.Hash as fed;
 ghost use Rattle.std.specs.Ordering.{nat_cmp};
-ghost use Rattle.unicode_normalization.specs.Forms.{nfc};
 ghost use Rattle.nextest_config_values.specs.Identifier.{FitsInline, IsQuicklyNormal, normal_chars, normal_form};
 
 use arrayvec::ArrayString;
@@ -48,7 +47,6 @@ impl KeptText {
     pub(super) fn normal(alloc: Global, text: &str) -> Result<Self, AllocError>
         ensures normal { IfOk result (λ kept. kept ≡ normal_form text.now) }
         ensures characters { IfOk result (λ kept. chars kept ≡ normal_chars text.now) }
-        ensures in_form { IfOk result (λ kept. nfc (chars kept) ≡ chars kept) }
         ensures inline { IsQuicklyNormal text.now → FitsInline text.now → IsOk result }
     {
         if let IsNormalized::Yes = is_nfc_quick(text.chars()) {

@@ -42,7 +42,7 @@ impl Model for ToolName {
 
 impl ToolName {
     /// The tool name that the text is, once it is brought to Normalization Form C (UAX 15).
-    #[tactic(auto, using(crate::specs::Identifier::Laws::tool_name_not_flawed))]
+    #[tactic(auto, using(crate::specs::Identifier::Laws::tool_name_not_flawed, unicode_normalization::proofs::FormsLemmas::nfc_idem))]
     pub fn new(alloc: Global, name: &str) -> Result<Self, InvalidToolName>
         ensures accepted { IfOk result (IsToolName name.now) }
         ensures refused { IfErr result

@@ -1,9 +1,9 @@
-use Rattle.std.proofs.Common.{◌≡◌, ℕ, List, Some, codes, refl, rules, string_bytes}
+use Rattle.std.proofs.Common.{◌≡◌, ℕ, List, Some, refl, rules, string_bytes}
 use Rattle.toml.specs.Data.{Data, as_str}
 use Rattle.toml.specs.View.{view}
 use Rattle.nextest_config_values.proofs.Faults.{refused_by}
 use Rattle.nextest_config_values.specs.Helpers.Paths.{IsRelativePath, relative_path_in}
-use Rattle.nextest_config_values.specs.Read.{text_reading, wrong_value}
+use Rattle.nextest_config_values.specs.Read.{text_reading}
 use Rattle.nextest_config_values.proofs.helpers.paths.deserialize_relative_path.Goals as goal
 
 -- a value that means a text holds it
@@ -12,8 +12,7 @@ held_text value text meant = search rules
 
 pub returns-else-is_relative_path-clause-refused : goal.returns-else-is_relative_path-clause-refused
 returns-else-is_relative_path-clause-refused c =
-    let value = view c.args.value.now in
     let text = string_bytes c.in_ok-path.path in
     let not_relative : ¬ (IsRelativePath text) = λ h. cc (c.is_relative_path.ensures.1 (rw c.as_str.ensures.value h), c.if-is_relative_path.false) in
-    rw (held_text value text c.in_ok-path.ensures.meant)
-    (refused_by (relative_path_in text) value c.args.at.now (wrong_value value c.args.at.now (codes "a relative path with no parent components")) c.invalid_value.result ((λ path h. not_relative h.1), refl) c.invalid_value.ensures)
+    rw (held_text (view c.args.value.now) text c.in_ok-path.ensures.meant)
+    (refused_by (relative_path_in text) _ c.args.at.now _ c.invalid_value.result ((λ path h. not_relative h.1), refl) c.invalid_value.ensures)
