@@ -52,7 +52,8 @@ run_begins kind (c ∷ cs) = elim (cases_Bool (kind c)) [
 
 -- digits, white space and a word, each possibly empty
 module _ {text digits behind gap after word rest : List ℕ} where
-  next_of : text ≡ digits ++ behind → IsRun is_ascii_digit digits behind → IsTrimmed behind gap after → after ≡ word ++ rest → IsRun is_in_word word rest → IsNext text digits gap word rest
+  next_of : text ≡ digits ++ behind → IsRun is_ascii_digit digits behind → IsTrimmed behind gap after → after ≡ word ++ rest
+      → IsRun is_in_word word rest → IsNext text digits gap word rest
   next_of whole of_digits trim cut of_word =
       let parts : behind ≡ gap ++ (word ++ rest) = trim.whole ∙ ap (λ r. gap ++ r) cut in
       record {
@@ -90,7 +91,8 @@ own = numerals_by_value (AreAll is_ascii_digit) (record { empty = tt; parts = λ
 
 -- digits are the same by bytes and by characters
 digits_same : (text : List ℕ) → IsUtf8 text → AreAll is_ascii_digit (chars text) → text ≡ chars text
-digits_same text u h = sym (encodes-chars text u) ∙ ascii_encoded (chars text) (all_weaker (λ c. IsTrue (is_ascii_digit c)) (λ b. b < 128) (λ c digit. search rules) (chars text) h)
+digits_same text u h = sym (encodes-chars text u) ∙ ascii_encoded (chars text)
+    (all_weaker (λ c. IsTrue (is_ascii_digit c)) (λ b. b < 128) (λ c digit. search rules) (chars text) h)
 
 -- what `parse` answers of digits
 pub parsed : {E : Type 0} (text : List ℕ) (r : Result ℕ E) → IsUtf8 text → AreAll is_ascii_digit (chars text) → ParsesUnsigned 64 10 text r → OkIff r ((0 < length text) × (digits_value 10 (chars text) < 2 ^ 64)) (digits_value 10 (chars text))
@@ -109,7 +111,8 @@ chars_some text u some e = omega (arith, some, ap length (sym (encodes-chars tex
 
 module _ (place : ℕ) {text digits behind : List ℕ} (cut : IsCutBehind is_ascii_digit text digits behind) where
   -- a fault of the digits, whatever follows
-  at_digits : (fault : DurationFault) → ((gap word : List ℕ) → IsNextFault place (chars digits) gap word fault) → IsFaultAt place (chars text) fault
+  at_digits : (fault : DurationFault) → ((gap word : List ℕ) → IsNextFault place (chars digits) gap word fault)
+      → IsFaultAt place (chars text) fault
   at_digits fault told =
       let gap = skipped (chars behind) in
       let letters = run_begins is_in_word (skip_leading_whitespace (chars behind)) in
@@ -125,7 +128,8 @@ module _ (place : ℕ) {text digits behind : List ℕ} (cut : IsCutBehind is_asc
 
 -- behind a number that fits
 module _ (place : ℕ) {text digits behind trimmed_text word rest : List ℕ} (text_utf8 : IsUtf8 text) (trimmed_utf8 : IsUtf8 trimmed_text)
-    (cut : IsCutBehind is_ascii_digit text digits behind) (is_trimmed : trimmed_text ≡ trim_start behind) (letters : IsCutBehind is_in_word trimmed_text word rest)
+    (cut : IsCutBehind is_ascii_digit text digits behind) (is_trimmed : trimmed_text ≡ trim_start behind)
+    (letters : IsCutBehind is_in_word trimmed_text word rest)
     {E : Type 0} (answer : Result ℕ E) (parses : ParsesUnsigned 64 10 digits answer) (number : ℕ) (is : answer ≡ Ok number) where
   gap : (space : List ℕ) × IsTrimmed (chars behind) space (chars trimmed_text)
   gap = trimmed behind trimmed_text trimmed_utf8 is_trimmed
@@ -139,8 +143,15 @@ module _ (place : ℕ) {text digits behind trimmed_text word rest : List ℕ} (t
   word_place : place + (length text - length trimmed_text) ≡ place + offset (chars digits ++ gap.0)
   word_place =
       let front = chars digits ++ gap.0 in
-      let parts : chars text ≡ front ++ chars trimmed_text = cut.characters ∙ ap (λ r. chars digits ++ r) gap.1.whole ∙ sym (append_assoc (chars digits) gap.0 (chars trimmed_text)) in
-      omega (arith, offset_of_text text text_utf8, ap offset parts, offset_behind front (chars trimmed_text), offset_of_text trimmed_text trimmed_utf8)
+      let parts : chars text ≡ front ++ chars trimmed_text = cut.characters ∙ ap (λ r. chars digits ++ r) gap.1.whole
+      ∙ sym (append_assoc (chars digits) gap.0 (chars trimmed_text)) in
+      omega (
+        arith,
+        offset_of_text text text_utf8,
+        ap offset parts,
+        offset_behind front (chars trimmed_text),
+        offset_of_text trimmed_text trimmed_utf8,
+      )
 
   fitting : AreFittingDigits (chars digits)
   fitting = (chars_some digits cut.run_utf8 is_number.0.0, is_number.0.1)
@@ -155,7 +166,8 @@ module _ (place : ℕ) {text digits behind trimmed_text word rest : List ℕ} (t
   read unit known = record {
     item = record { number = number; unit = unit };
     here = chars digits ++ (gap.0 ++ chars word);
-    whole = next.whole ∙ sym (append_assoc (chars digits) (gap.0 ++ chars word) (chars rest) ∙ ap (λ r. chars digits ++ r) (append_assoc gap.0 (chars word) (chars rest)));
+    whole = next.whole ∙ sym (append_assoc (chars digits) (gap.0 ++ chars word) (chars rest) ∙ ap (λ r. chars digits ++ r)
+        (append_assoc gap.0 (chars word) (chars rest)));
     is_item = record {
       space = [];
       digits = chars digits;
@@ -260,7 +272,9 @@ fault_behind : (front left : List ℕ) (items : List Item) (fault : DurationFaul
 fault_behind front left items fault some told = search rules
 
 -- what isn't an item is the fault of the text
-pub fault_within : (text : List ℕ) {left : List ℕ} {nanoseconds : ℕ} (place : ℕ) (fault : DurationFault) (a : IsReadUpTo (chars text) left nanoseconds) → left ≢ [] → place ≡ offset a.front → IsFaultAt place left fault → IsDurationFault text fault
+pub fault_within : (text : List ℕ) {left : List ℕ} {nanoseconds : ℕ} (place : ℕ) (fault : DurationFault)
+    (a : IsReadUpTo (chars text) left nanoseconds) → left ≢ [] → place ≡ offset a.front → IsFaultAt place left fault
+    → IsDurationFault text fault
 fault_within text {left} place fault a some at told =
     (a.front, left, a.items, longest_front (chars text) a.front left a.items a.is_front (fault_stops place left fault a.no_space told), fault_behind a.front left a.items fault some (rw at at told))
 

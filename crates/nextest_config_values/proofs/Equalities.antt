@@ -34,9 +34,13 @@ one_told reason one (Some a) (Some b) e = ap Some (one a b (cc e))
 one_told reason one told other e = cc e
 
 -- of a name's fault
-told_alike : {F : Type 0} (make : F → Reason) → ((a b : F) → make a ≡ make b → a ≡ b) → (told other : Option F) (IsSame : Type 0) → IsSame ↔ (told ≡ other) → (reason : Reason) → option_map make told ≡ Some reason
+told_alike : {F : Type 0} (make : F → Reason) → ((a b : F) → make a ≡ make b → a ≡ b) → (told other : Option F) (IsSame : Type 0)
+    → IsSame ↔ (told ≡ other) → (reason : Reason) → option_map make told ≡ Some reason
     → IsSame ↔ (option_map make other ≡ Some reason)
-told_alike make one told other IsSame alike reason is = (λ same. ap (option_map make) (sym (alike.0 same)) ∙ is, λ e. alike.1 (one_told make one told other (is ∙ sym e)))
+told_alike make one told other IsSame alike reason is = (
+  λ same. ap (option_map make) (sym (alike.0 same)) ∙ is,
+  λ e. alike.1 (one_told make one told other (is ∙ sym e)),
+)
 
 pub same_kind : IsEqualityOfTold reason_of (kind_eq.ghosts).eq
 same_kind (kinds.Custom rule) (kinds.Custom other) reason is = (

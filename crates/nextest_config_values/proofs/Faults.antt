@@ -26,7 +26,8 @@ pub refused_memory : (IsFault : Fault → Type 0) {wanted : Type 0} (fault : Rea
 refused_memory IsFault fault memory wanted = rw memory.1 ((memory.0, refl), wanted)
 
 -- a refusal that `?` passes on
-pub passed_on : {T E : Type 0} (IsPassed : E → Type 0) (result : Result T E) (fault : E) → IsErrAnd result (λ passed. passed ≡ fault) → IsPassed fault → IfErr result IsPassed
+pub passed_on : {T E : Type 0} (IsPassed : E → Type 0) (result : Result T E) (fault : E) → IsErrAnd result (λ passed. passed ≡ fault)
+    → IsPassed fault → IfErr result IsPassed
 passed_on IsPassed result fault err refused =
     let passed = err_from_is_err_and result err in
     rw (passed.1, passed.2) refused

@@ -16,13 +16,19 @@ module _ {W : Type 0} (took : W → List ℕ → W → Type 0) where
 
 module _ {W : Type 0} {took : W → List ℕ → W → Type 0} {f g h : Formatter W} {IsDone : Type 0} {front text : List ℕ} where
   -- one write, and then another
-  pub styled_then : (IsFlush f → HasWrittenStyled took f front g) → (IsFlush g → IsDone → HasWrittenStyled took g text h) → IsFlush f → IsDone → HasWrittenStyled took f (front ++ text) h
-  styled_then first later flush done = let written = first flush in has_written_styled_append took f front g text h written (later written.flush done)
+  pub styled_then : (IsFlush f → HasWrittenStyled took f front g) → (IsFlush g → IsDone → HasWrittenStyled took g text h) → IsFlush f
+      → IsDone → HasWrittenStyled took f (front ++ text) h
+  styled_then first later flush done = let written = first flush in has_written_styled_append took f front g text h written
+      (later written.flush done)
 
   -- one write more, which makes this text
-  pub styled_more : {whole : List ℕ} → HasWrittenStyled took f front g → (IsFlush g → IsDone → HasWrittenStyled took g text h) → IsDone → front ++ text ≡ whole → HasWrittenStyled took f whole h
-  styled_more so_far more done is = subst (λ (t : List ℕ). HasWrittenStyled took f t h) is (has_written_styled_append took f front g text h so_far (more so_far.flush done))
+  pub styled_more : {whole : List ℕ} → HasWrittenStyled took f front g → (IsFlush g → IsDone → HasWrittenStyled took g text h) → IsDone
+      → front ++ text ≡ whole → HasWrittenStyled took f whole h
+  styled_more so_far more done is = subst (λ (t : List ℕ). HasWrittenStyled took f t h) is
+      (has_written_styled_append took f front g text h so_far (more so_far.flush done))
 
 -- what is written so under all options is written so under none
-pub plainly : {W : Type 0} {took : W → List ℕ → W → Type 0} {f g : Formatter W} {text : List ℕ} → IsPlainFormatter f → HasWrittenStyled took f text g → HasWritten took f text g
-plainly plain written = record { wrote = written.wrote; plain = record { bare = subst IsDefaultSpec (sym written.spec) plain.bare; flush = written.flush } }
+pub plainly : {W : Type 0} {took : W → List ℕ → W → Type 0} {f g : Formatter W} {text : List ℕ} → IsPlainFormatter f
+    → HasWrittenStyled took f text g → HasWritten took f text g
+plainly plain written =
+    record { wrote = written.wrote; plain = record { bare = subst IsDefaultSpec (sym written.spec) plain.bare; flush = written.flush } }

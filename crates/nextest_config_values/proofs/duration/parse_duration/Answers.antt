@@ -6,7 +6,8 @@ use Rattle.nextest_config_values.proofs.duration.parse_duration.Goals as goal
 
 pub returns-then-is_empty-clause-refused : goal.returns-then-is_empty-clause-refused
 returns-then-is_empty-clause-refused c =
-    empty_fault c.args.s.now (trimmed _ _ c.trim_start-rest.utf8 c.trim_start-rest.ensures.trim).1 (chars_nil c.trim_start-rest.result.now (search rules))
+    empty_fault c.args.s.now (trimmed _ _ c.trim_start-rest.utf8 c.trim_start-rest.ensures.trim).1
+    (chars_nil c.trim_start-rest.result.now (search rules))
 
 pub loop-rest-init : goal.loop-rest-init
 loop-rest-init c =
@@ -16,7 +17,8 @@ loop-rest-init c =
 pub returns-in_err-item-clause-refused : goal.returns-in_err-item-clause-refused
 returns-in_err-item-clause-refused c =
     passed_on (IsDurationFault c.args.s.now) c.from_residual.result c.in_err-item.field-0.0 c.from_residual.ensures.1
-    (fault_within c.args.s.now _ c.in_err-item.field-0.0 c.loop-rest.invariant.2 (chars_some c.loop-rest.rest.now c.loop-rest.invariant.0 (search rules))
+    (fault_within c.args.s.now _ c.in_err-item.field-0.0 c.loop-rest.invariant.2
+    (chars_some c.loop-rest.rest.now c.loop-rest.invariant.0 (search rules))
     (place_left c.args.s.now c.loop-rest.rest.now c.loop-rest.nanoseconds c.loop-rest.invariant.2 c.utf8.s c.loop-rest.invariant.0) c.in_err-item.ensures.refused)
 
 pub loop-rest-preserved : goal.loop-rest-preserved

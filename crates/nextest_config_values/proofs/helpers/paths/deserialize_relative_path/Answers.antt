@@ -15,4 +15,5 @@ returns-else-is_relative_path-clause-refused c =
     let text = string_bytes c.in_ok-path.path in
     let not_relative : ¬ (IsRelativePath text) = λ h. cc (c.is_relative_path.ensures.1 (rw c.as_str.ensures.value h), c.if-is_relative_path.false) in
     rw (held_text (view c.args.value.now) text c.in_ok-path.ensures.meant)
-    (refused_by (relative_path_in text) _ c.args.at.now _ c.invalid_value.result ((λ path h. not_relative h.1), refl) c.invalid_value.ensures)
+    (refused_by (relative_path_in text) _ c.args.at.now _ c.invalid_value.result
+    ((λ path h. not_relative h.1), refl) c.invalid_value.ensures)

@@ -14,7 +14,8 @@ between_quotes text cs all = append_assoc (codes "\"") (flat_map quoted_characte
 
 pub loop-c-preserved : goal.loop-c-preserved
 loop-c-preserved g c flush =
-    styled_more (c.loop-c.invariant flush) c.in_ok-write_escaped.ensures.styled refl (flat_map_more quoted_character (codes "\"") c.loop-c.yielded c.in-Some.c)
+    styled_more (c.loop-c.invariant flush) c.in_ok-write_escaped.ensures.styled refl
+    (flat_map_more quoted_character (codes "\"") c.loop-c.yielded c.in-Some.c)
 
 pub returns-clause-styled : goal.returns-clause-styled
 returns-clause-styled g c flush ok =

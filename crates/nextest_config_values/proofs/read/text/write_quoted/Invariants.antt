@@ -5,4 +5,5 @@ use Rattle.nextest_config_values.proofs.read.text.write_quoted.Given as goal
 
 -- the opening quote and the characters so far are written
 abbrev pub invariant-loop-c : goal.invariant-loop-c
-invariant-loop-c g l = IsFlush l.fn.f → HasWrittenStyled g.W.Write.write_str_gives l.fn.f (codes "\"" ++ flat_map quoted_character l.yielded) l.f
+invariant-loop-c g l = IsFlush l.fn.f → HasWrittenStyled g.W.Write.write_str_gives l.fn.f
+    (codes "\"" ++ flat_map quoted_character l.yielded) l.f

@@ -10,6 +10,7 @@ one_more all yielded rest left c is next = is ∙ ap (λ xs. yielded ++ xs) next
 
 pub loop-mark-preserved : goal.loop-mark-preserved
 loop-mark-preserved g c = (
-  λ flush. styled_more (c.loop-mark.invariant.0 flush) c.in_ok-write_char.ensures.styled refl (flat_map_more encode_utf8 [] c.loop-mark.yielded c.in-Some.mark),
+  λ flush. styled_more (c.loop-mark.invariant.0 flush) c.in_ok-write_char.ensures.styled refl
+      (flat_map_more encode_utf8 [] c.loop-mark.yielded c.in-Some.mark),
   one_more _ c.loop-mark.yielded _ _ c.in-Some.mark c.loop-mark.invariant.1 c.in-Some.ensures.steps.1.0,
 )

@@ -8,4 +8,5 @@ use Rattle.nextest_config_values.proofs.read.text.write_unnamed.Given as goal
 -- the characters so far are written, and the others come
 abbrev pub invariant-loop-mark : goal.invariant-loop-mark
 invariant-loop-mark g l =
-    (IsFlush l.fn.f → HasWrittenStyled g.W.Write.write_str_gives l.fn.f (flat_map encode_utf8 l.yielded) l.f) × (escape_unicode l.fn.c ≡ l.yielded ++ escape_rest l.mark-iterator)
+    (IsFlush l.fn.f → HasWrittenStyled g.W.Write.write_str_gives l.fn.f (flat_map encode_utf8 l.yielded) l.f)
+    × (escape_unicode l.fn.c ≡ l.yielded ++ escape_rest l.mark-iterator)

@@ -18,7 +18,8 @@ returns-in-Err-clause-refused c =
 pub returns-in_err-config_file-clause-refused : goal.returns-in_err-config_file-clause-refused
 returns-in_err-config_file-clause-refused c =
     let cut = split_colon c.args.input.now (Some (c.in-Some.name, c.in-Some.path)) c.utf8.input c.in-Some.ensures.cases in
-    passed_on (RefusesArgument (IsArgumentFault c.args.input.now)) c.from_residual-in_err-config_file.result c.in_err-config_file.field-0.0 c.from_residual-in_err-config_file.ensures.1
+    passed_on (RefusesArgument (IsArgumentFault c.args.input.now)) c.from_residual-in_err-config_file.result
+    c.in_err-config_file.field-0.0 c.from_residual-in_err-config_file.ensures.1
     (fault_mapped (argument_fault c.in_err-config_file.field-0.0) c.in_err-config_file.ensures.refused (λ memory. memory)
     (λ fault bad. inr (c.in-Some.name.now, c.in-Some.path.now, cut.bytes, inr (c.in-Ok.tool, c.in-Ok.ensures.accepted, bad))))
 

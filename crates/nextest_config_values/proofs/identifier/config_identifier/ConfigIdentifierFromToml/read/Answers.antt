@@ -5,4 +5,5 @@ use Rattle.nextest_config_values.proofs.identifier.config_identifier.ConfigIdent
 
 pub returns-in-Err-clause-refused : goal.returns-in-Err-clause-refused
 returns-in-Err-clause-refused c =
-    rw c.in_ok-text.ensures.held (refused_name IsIdentifierFlaw identifier c.in_ok-text.text.now c.args.at.now (identifier_fault c.in-Err.error) _ c.from.result c.new-in-Err.result c.in-Err.ensures.refused c.from.ensures c.new-in-Err.ensures)
+    rw c.in_ok-text.ensures.held (refused_name IsIdentifierFlaw identifier c.in_ok-text.text.now c.args.at.now
+    (identifier_fault c.in-Err.error) _ c.from.result c.new-in-Err.result c.in-Err.ensures.refused c.from.ensures c.new-in-Err.ensures)

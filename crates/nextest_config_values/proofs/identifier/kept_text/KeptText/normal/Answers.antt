@@ -10,7 +10,11 @@ returns-in-Yes c =
     let text = c.args.text.now in
     let in_form = c.in-Yes.ensures.yes (chars text) (Spells-chars c.chars.result text c.utf8.text c.chars.ensures.rest) refl in
     let same = c.in_ok-kept.ensures.value in
-    record { normal = same ∙ sym (ap encode_utf8_all in_form ∙ encodes-chars text c.utf8.text); characters = ap chars same ∙ sym in_form; inline = λ quick fits. refl }
+    record {
+      normal = same ∙ sym (ap encode_utf8_all in_form ∙ encodes-chars text c.utf8.text);
+      characters = ap chars same ∙ sym in_form;
+      inline = λ quick fits. refl;
+    }
 
 pub returns-in_err-normal : goal.returns-in_err-normal
 returns-in_err-normal c =

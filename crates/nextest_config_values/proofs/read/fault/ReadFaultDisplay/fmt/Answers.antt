@@ -17,7 +17,7 @@ returns-clause-styled g c =
     let path : List ℕ = string_bytes c.args.self.now.path in
     styled_behind took c.args.f.now c.if-not-is_empty.f c.fmt.new.f c.fmt.result (path_text path) (styled_kind_text c.args.self.now.kind) (λ flush. elim c.if-not-is_empty.branch [
       | then-not-is_empty+in_ok-write_str+in_ok-write_str-2 w ↦
-          rw w.f-is (styled_more (rw w.as_str.ensures.value at w.in_ok-write_str.ensures.styled flush refl) w.in_ok-write_str-2.ensures.styled refl
-          (sym (some_path path (rw c.args.self.now.path.bytes.ok.0 at w.if-not-is_empty.ensures))))
+          rw w.f-is (styled_more (rw w.as_str.ensures.value at w.in_ok-write_str.ensures.styled flush refl)
+          w.in_ok-write_str-2.ensures.styled refl (sym (some_path path (rw c.args.self.now.path.bytes.ok.0 at w.if-not-is_empty.ensures))))
       | else-not-is_empty w ↦ rw w.f-is (has_written_styled_of_eq took _ _ _ _ (sym (no_path path (rw c.args.self.now.path.bytes.ok.0 at w.if-not-is_empty.ensures))) (has_written_styled_nil took c.args.f.now flush))
     ]) c.fmt.ensures.styled

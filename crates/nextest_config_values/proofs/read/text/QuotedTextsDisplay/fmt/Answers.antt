@@ -12,7 +12,8 @@ use Rattle.nextest_config_values.proofs.read.text.QuotedTextsDisplay.fmt.Goals a
 abbrev quoted : Bor (String Global) → List ℕ
 quoted text = quoted_text (string_bytes text.now)
 
-one_more : (xs : List (Bor (String Global))) (x : Bor (String Global)) (separator : List ℕ) → separator ≡ separator_behind xs → comma_list (map quoted xs) ++ (separator ++ quoted x) ≡ comma_list (map quoted (xs ++ (x ∷ [])))
+one_more : (xs : List (Bor (String Global))) (x : Bor (String Global)) (separator : List ℕ) → separator ≡ separator_behind xs
+    → comma_list (map quoted xs) ++ (separator ++ quoted x) ≡ comma_list (map quoted (xs ++ (x ∷ [])))
 one_more xs x separator is = rw is (sym (joined_more quoted xs x))
 
 whole : (xs : List (Bor (String Global))) (keys : List (String Global)) → map deref xs ≡ keys → comma_list (map quoted xs) ≡ quoted_texts (map string_bytes keys)
@@ -23,7 +24,8 @@ unfolding lib.Utf8.encode
 loop-text-preserved g c = (
   (44 ∷ 32 ∷ [], (refl, refl)),
   separator_more c.loop-text.yielded c.in-Some.text,
-  λ flush. styled_more (c.loop-text.invariant.2 flush) (styled_then (λ so. c.in_ok-write_str.ensures.styled so refl) (rw c.as_str.ensures.value at c.in_ok-write_quoted.ensures.styled)) refl
+  λ flush. styled_more (c.loop-text.invariant.2 flush)
+      (styled_then (λ so. c.in_ok-write_str.ensures.styled so refl) (rw c.as_str.ensures.value at c.in_ok-write_quoted.ensures.styled)) refl
       (one_more c.loop-text.yielded c.in-Some.text _ c.loop-text.invariant.1),
 )
 
