@@ -1,7 +1,7 @@
 -- What is found in a document is found once.
 use mathlib.Core.Logic.Iff as iff
 use Rattle.std.specs.Prelude.{◌≡◌, ℕ, Bool, true, false, List, [], ◌∷◌, ◌++◌, map, Option, Some, None, option_map, option_to_list}
-use Rattle.std.proofs.Common.{sym, ap, ap₂, refl, subst, ◌∙◌, inl, inr}
+use Rattle.std.proofs.Common.{sym, ap, ap₂, refl, rules, subst, ◌∙◌, inl, inr}
 use Rattle.toml.specs.Data.{Data, get_member, Members}
 use Rattle.nextest_config_values.specs.Read.Fault.{Fault}
 use Rattle.nextest_config_values.specs.Read.{Reason}
@@ -30,10 +30,7 @@ found_once IsFound once (x ∷ xs) a b (here, rest, is, are, whole) (there, othe
 -- ---- of a fault
 
 one_kind : (value : Data) (reason : Reason) (a b : FoundKind) → IsFoundKind value reason a → IsFoundKind value reason b → a ≡ b
-one_kind value reason a b (inl h) (inl k) = h.1 ∙ sym k.1
-one_kind value reason a b (inl h) (inr k) = absurd (k.0 h.0)
-one_kind value reason a b (inr h) (inl k) = absurd (h.0 k.0)
-one_kind value reason a b (inr h) (inr k) = h.1 ∙ sym k.1
+one_kind value reason a b h k = search rules
 
 one_found : (path : List PathStep) (value : Data) (fault : Fault) (a b : Found) → IsFoundOf path value fault a → IsFoundOf path value fault b → a ≡ b
 one_found path value fault a b h k =
@@ -65,9 +62,6 @@ key_once true judged a b h k = h ∙ sym k
 key_once false judged a b (hint, meant, is) (other, also, is_too) =
     is ∙ ap (λ (h : Option Meant). Some (found_at judged.path (unknown_key judged.name h)))
     (hint_once (is_of_top judged.place judged.name) judged.known judged.name hint other meant also) ∙ sym is_too
-
-key_found_once : (judged : JudgedKey) (a b : Option Found) → IsKeyFound judged a → IsKeyFound judged b → a ≡ b
-key_found_once judged = key_once (is_known judged.known judged.name) judged
 
 -- ---- of features
 
@@ -107,6 +101,6 @@ pub findings_once : (edition : Edition) (kind : ConfigSourceKind) (members : Mem
 findings_once edition kind members a b h k =
     let of_faults : h.faults ≡ k.faults = found_once (IsFaultFound edition) (fault_found_once edition) (from_table members) h.faults k.faults h.of_faults k.of_faults in
     let of_features : h.features ≡ k.features = features_once edition kind (get_member experimental_key members) h.features k.features h.of_features k.of_features in
-    let of_unknown : h.unknown ≡ k.unknown = found_once IsKeyFound key_found_once (keys_of_document members) h.unknown k.unknown h.of_unknown k.of_unknown in
+    let of_unknown : h.unknown ≡ k.unknown = found_once IsKeyFound (λ judged. key_once (is_known judged.known judged.name) judged) (keys_of_document members) h.unknown k.unknown h.of_unknown k.of_unknown in
     h.whole ∙ ap₂ (λ (first : List Found) (behind : List Found). first ++ behind) of_faults
     (ap₂ (λ (first : List Found) (behind : List Found). first ++ behind) of_features of_unknown) ∙ sym k.whole

@@ -30,18 +30,10 @@ pub finding_told : (path : List PathStep) (value : Data) (fault_path : List ℕ)
 finding_told path value fault_path added told kind found_path is path_is (reason, told_kind, told_is, found, kind_is) = (
   fault_at fault_path reason,
   found_at found_path told_kind,
-  ap (option_map (fault_at fault_path)) told_is,
-  record {
-    path_is = path_is ∙ ap (with_added path) (sym is);
-    kind_is = subst (λ (step : Option Added). IsFoundKind (led_to value step) reason told_kind) (sym is) found;
-  },
-  ap (option_map (found_at found_path)) kind_is,
+  rw told_is refl,
+  record { path_is = rw is path_is; kind_is = rw is found },
+  rw kind_is refl,
 )
-
--- the step that was found is the one that the definition gives
-pub added_is : {M : Type 0} (tells : M → Added) (result : Option M) (value : Data) (at printed path text : List ℕ) → option_map tells result ≡ added_step value at path → at ≡ printed → path ≡ text
-    → (expected : Option Added) → option_map tells result ≡ expected → added_step value printed text ≡ expected
-added_is tells result value at printed path text is at_is path_is expected found = rw (← at_is, ← path_is) (sym is ∙ found)
 
 -- a finding that is told of a refusal
 abbrev pub IsToldFinding : List PathStep → Data → ReadFault → Finding → Type 0
@@ -53,6 +45,4 @@ pub refused_found : (edition : Edition) (judged : JudgedValue) (refusal : ReadFa
     → IsToldFinding judged.path judged.value refusal finding
     → (here : Option Found) × IsFaultFound edition judged here × (Some (found_of finding) ≡ option_map Some here)
 refused_found edition judged refusal finding refuses (fault, found, told, is_found, finding_is) =
-    let is_fault : (place_check edition judged.place).faults judged.value (printed_path judged.path) fault =
-    subst (λ (t : Option Fault). FaultOrMemory t (IsMemory refusal × Unit {0}) ((place_check edition judged.place).faults judged.value (printed_path judged.path))) told refuses in
-    (Some found, (fault, is_fault, is_found), ap Some finding_is)
+    (Some found, (fault, rw told at refuses, is_found), ap Some finding_is)

@@ -1,7 +1,7 @@
 -- What is found of each element of a list.
 use Rattle.std.proofs.Common.{◌≡◌, List, [], ◌∷◌, ◌++◌, Option, Some, ap, append_assoc, append-nil, map, option_to_list, refl, sym, ◌∙◌}
 use Rattle.std.proofs.lemmas.List.{map-append, map_push}
-use Rattle.nextest_config_findings.specs.Found.{AddsFound, AddsOne, AreFoundIn, Found, found_of}
+use Rattle.nextest_config_findings.specs.Found.{AddsFound, AddsOne, AreFoundIn, Found, found_of, Tells}
 use Rattle.nextest_config_findings.specs.declared.finding.Finding.{Finding}
 
 -- what is found of lists in a row
@@ -16,6 +16,11 @@ found_in_both IsFound (x ∷ xs) ys founds later (here, rest, is, rest_are, whol
   ap (λ (front : List Found). front ++ later) whole ∙ append_assoc (option_to_list here) rest later,
 )
 
+-- what lists of findings in a row tell
+pub told_in_both : (findings more : List Finding) (founds later : List Found)
+    → Tells findings founds → Tells more later → Tells (findings ++ more) (founds ++ later)
+told_in_both findings more founds later told too = rw (map-append found_of findings more, map-append Some founds later, told, too) refl
+
 -- ---- findings that come behind others
 
 -- those of more
@@ -25,10 +30,10 @@ adds_more IsFound xs ys before between now (founds, are, so_far) (later, later_a
     (founds ++ later, found_in_both IsFound xs ys founds later are later_are, cc (more, so_far, append_assoc (map found_of before) (map Some founds) (map Some later), map-append Some founds later))
 
 -- those of one more
-pub adds_one_more : {A : Type 0} (IsFound : A → Option Found → Type 0) (xs : List A) (x : A) (before between now : List Finding)
-    → AddsFound IsFound xs before between → AddsOne IsFound x between now → AddsFound IsFound (xs ++ (x ∷ [])) before now
-adds_one_more IsFound xs x before between now so_far (here, is, more) =
-    adds_more IsFound xs (x ∷ []) before between now so_far (option_to_list here, (here, [], is, refl, sym (append-nil (option_to_list here))), more)
+pub adds_next : {X A : Type 0} (IsFound : A → Option Found → Type 0) (f : X → A) (xs : List X) (x : X) (before between now : List Finding)
+    → AddsFound IsFound (map f xs) before between → AddsOne IsFound (f x) between now → AddsFound IsFound (map f (xs ++ (x ∷ []))) before now
+adds_next IsFound f xs x before between now so_far (here, is, more) = rw (map_push f xs x) (adds_more IsFound _ _ before between now so_far
+    (option_to_list here, (here, [], is, refl, sym (append-nil (option_to_list here))), more))
 
 -- one finding more, which tells this
 pub pushed_found : (before now : List Finding) (finding : Finding) (here : Found) → now ≡ before ++ (finding ∷ []) → found_of finding ≡ Some here

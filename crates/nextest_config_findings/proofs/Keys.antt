@@ -17,17 +17,12 @@ use Rattle.nextest_config_findings.specs.declared.place.Place.{Place}
 
 -- the words of rows
 pub words_told : (rows : List (Bor (List ℕ) × Place)) → map (λ row. row.0) (keys_told rows) ≡ words_of rows
-words_told [] = refl
-words_told (row ∷ rows) = ap (λ (words : List (List ℕ)). row.0.now ∷ words) (words_told rows)
+words_told rows = map-map (λ row. row.0) (λ row. (row.0.now, row.1)) rows
 
 -- what is found of a key that isn't known
 pub key_found : (judged : JudgedKey) (hint : Option Meant) → false ≡ is_known judged.known judged.name → IsHintFor (is_of_top judged.place judged.name) judged.known judged.name hint
     → IsKeyFound judged (Some (found_at judged.path (unknown_key judged.name hint)))
 key_found judged hint unknown is = rw (← unknown) (hint, is, refl)
-
--- a key that is known
-pub key_not_found : (judged : JudgedKey) → true ≡ is_known judged.known judged.name → IsKeyFound judged None
-key_not_found judged known = rw (← known) refl
 
 -- ---- the search for a key
 

@@ -1,11 +1,7 @@
-pub mod Accepted
-pub mod AllFound
 pub mod FindingsOnce
 pub mod FoundKinds
 pub mod FoundLists
-pub mod Fronts
 pub mod Keys
-pub mod Lists
 pub mod NoDuration
 pub mod Places
 pub mod WarnedReads

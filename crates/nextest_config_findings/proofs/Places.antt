@@ -1,14 +1,15 @@
 -- Where findings stand in a text.
 use Rattle.std.proofs.Common.{◌≡◌, ℕ, suc, ◌+◌, ◌<◌, ◌≤◌, Bool, List, [], ◌∷◌, ◌++◌, None, Option, Some, append_assoc, append-nil, ap, arith, cond, count_by, get_or, if◌then◌else◌, inl, inr, length, map, option_map, refl, subst, sym, take, ◌∙◌}
 use Rattle.std.specs.List.{AllZip}
-use Rattle.std.proofs.lemmas.Bool.Decides.{eqb_tells}
+use Rattle.std.proofs.lemmas.Bool.Decides.{eqb_tells, nat_tests}
+use Rattle.std.proofs.lemmas.Grind.{common_steps}
 use Rattle.std.proofs.lemmas.Bool.{cases_Bool}
 use Rattle.std.proofs.lemmas.List.{take_more}
 use Rattle.std.proofs.lemmas.List.Sums.{sum_by_push}
 use Rattle.nextest_config_values.specs.Characters.{line_feed}
 use Rattle.nextest_config_values.proofs.Elements.{all_joined}
 use Rattle.nextest_config_lines.specs.Step.{PathStep, step_of}
-use Rattle.nextest_config_findings.specs.File.{AreAtLines, begins_character, column_after, IsAtLine, IsColumn, IsInLine, IsLineOrFirst, IsPlaced, line_path, path_behind}
+use Rattle.nextest_config_findings.specs.File.{AreAtLines, begins_character, column_after, IsAtLine, IsColumn, IsInLine, IsLineOrFirst, IsFindingAtLine, line_path, path_behind}
 use Rattle.nextest_config_findings.specs.Found.{Found, found_at, FoundKind, found_of, kind_told, Tells}
 use Rattle.nextest_config_findings.specs.declared.file.LocatedFinding.{LocatedFinding}
 use Rattle.nextest_config_findings.specs.declared.finding.Finding.{Finding}
@@ -17,9 +18,7 @@ use Rattle.nextest_config_findings.specs.declared.finding.Finding.{Finding}
 
 -- behind a byte in the line
 next_in_line : (p : ℕ → Bool) (xs : List ℕ) (x column : ℕ) → column ≡ suc (count_by p xs) → (if p x then column + 1 else column) ≡ suc (count_by p (xs ++ (x ∷ [])))
-next_in_line p xs x column is =
-    let counted : count_by p (xs ++ (x ∷ [])) ≡ count_by p xs + cond (p x) 1 0 = sum_by_push (λ y. cond (p y) 1 0) xs x in
-    rw (counted, is) (elim (cases_Bool (p x)) [ inl holds ↦ rw holds (omega arith) | inr fails ↦ rw fails (omega arith) ])
+next_in_line p xs x column is = grind (arith, common_steps, sum_by_push (λ y. cond (p y) 1 0) xs x)
 
 -- the column behind one byte more
 pub column_more : (front : List ℕ) (byte column : ℕ) → IsColumn front column → IsColumn (front ++ (byte ∷ [])) (column_after column byte)
@@ -47,27 +46,12 @@ column_of_more xs i d column within is = rw (take_more xs i d within) (column_mo
 
 -- a column is at most one more than before
 pub column_within : (column byte n : ℕ) → column ≤ n → 0 < n → column_after column byte ≤ n + 1
-column_within column byte n within some = elim (eqb_tells byte line_feed) [
-  | inl told ↦ rw told.0 (omega arith)
-  | inr told ↦ rw told.0 (elim (cases_Bool (begins_character byte)) [ inl begins ↦ rw begins (omega arith) | inr inside ↦ rw inside (omega arith) ])
-]
+column_within column byte n within some = grind (arith, nat_tests)
 
 -- ---- findings at their lines
 
-line_of_told : (contents : List ℕ) (steps path : List PathStep) (line : ℕ) (told : Option FoundKind) (found : Found) → ((kind : FoundKind) → told ≡ Some kind → path ≡ path_behind steps kind)
-    → IsLineOrFirst contents path line → option_map (found_at steps) told ≡ Some found → IsLineOrFirst contents (line_path found) line
-line_of_told contents steps path line None found paths at is = cc is
-line_of_told contents steps path line (Some kind) found paths at is =
-    let same : found_at steps kind ≡ found = cc is in
-    subst (λ (f : Found). IsLineOrFirst contents (line_path f) line) same (subst (λ (p : List PathStep). IsLineOrFirst contents p line) (paths kind refl) at)
-
--- a finding at the line of its path
-pub at_line_of : (contents : List ℕ) (finding : Finding) (path : List PathStep) (line : ℕ) → ((kind : FoundKind) → kind_told finding.kind ≡ Some kind → path ≡ path_behind (map step_of finding.path.items) kind)
-    → IsLineOrFirst contents path line → (found : Found) → found_of finding ≡ Some found → IsAtLine contents found (record { line = line; column = None; finding = finding })
-at_line_of contents finding path line paths at found is = record { told = is; no_column = refl; at_line = line_of_told contents (map step_of finding.path.items) path line (kind_told finding.kind) found paths at is }
-
 -- findings at the lines of what they tell
-pub all_at_lines : (contents : List ℕ) (findings : List Finding) (located : List LocatedFinding) → AllZip (IsPlaced contents) findings located
+pub all_at_lines : (contents : List ℕ) (findings : List Finding) (located : List LocatedFinding) → AllZip (IsFindingAtLine contents) findings located
     → (founds : List Found) → Tells findings founds → AreAtLines contents founds located
 all_at_lines contents [] [] placed [] told = tt
 all_at_lines contents (finding ∷ findings) (one ∷ located) placed (found ∷ founds) told =

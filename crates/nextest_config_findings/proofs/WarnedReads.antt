@@ -1,6 +1,6 @@
 -- A document of which only warnings are found asks something.
 use Rattle.std.specs.Prelude.{◌≡◌, ℕ, zero, suc, List, [], ◌∷◌, flat_map, Option, Some, None}
-use Rattle.std.proofs.Common.{refl, inl, inr}
+use Rattle.std.proofs.Common.{refl, rules, inl, inr}
 use Rattle.std.specs.List.{AllByRecursion}
 use Rattle.toml.specs.Data.{Data, get_member, Members}
 use Rattle.toml.specs.Parse.{parse_document}
@@ -28,15 +28,9 @@ of_each : {X A : Type 0} (P : A → Type 0) (f : X → List A) (xs : List X) →
 of_each P f [] h = tt
 of_each P f (x ∷ xs) h = (all_left P (f x) (flat_map f xs) h, of_each P f xs (all_right P (f x) (flat_map f xs) h))
 
-of_itself : (P : JudgedValue → Type 0) (depth : ℕ) (judged : JudgedValue) → AllByRecursion P (judged_in depth judged) → P judged
-of_itself P zero judged h = h.0
-of_itself P (suc depth) judged h = h.0
-
-at_top : (P : JudgedValue → Type 0) (members : Members) → AllByRecursion P (from_table members)
-    → AllByRecursion (λ known. AllByRecursion P (at_known_key [] members known)) (rows_of TOP.now)
-at_top P members h = of_each P (at_known_key [] members) (rows_of TOP.now)
-    (all_weaker (λ judged. AllByRecursion P (judged_in deepest judged)) P (of_itself P deepest) (below_table Top [] members)
-    (of_each P (judged_in deepest) (below_table Top [] members) h))
+-- the value is judged well, and so is each below it
+abbrev AreJudgedWell : Edition → JudgedValue → Type 0
+AreJudgedWell edition judged = AllByRecursion (IsJudgedWell edition) (judged_in deepest judged)
 
 -- what a reading means by a value, or else the default
 abbrev MeansOr : {X : Type 0} → Reading Data X → X → Option Data → X → Type 0
@@ -49,21 +43,12 @@ passes_well edition judged never (inr (fault, faulty, (of_duration, text))) = ab
 
 -- ---- `nextest-version`
 
-versions_asked : (edition : Edition) (found : Option Data) → AllByRecursion (IsJudgedWell edition) (if_there [] (key version_key) NextestVersion found)
+versions_asked : (edition : Edition) (found : Option Data) → AllByRecursion (AreJudgedWell edition) (if_there [] (key version_key) NextestVersion found)
     → (versions : Versions) × MeansOr versions_reading no_versions found versions
 versions_asked edition None h = (no_versions, refl)
-versions_asked edition (Some value) h = passes_well edition (judged_at [] (key version_key) NextestVersion value) (versions_no_duration value) h.0
+versions_asked edition (Some value) h = passes_well edition (judged_at [] (key version_key) NextestVersion value) (versions_no_duration value) h.0.0
 
 -- ---- `experimental`
-
-no_form : (edition : Edition) → ObeysForm edition None
-no_form ArrayAllowed = tt
-no_form TableOnly = refl
-
-no_name : (kind : ConfigSourceKind) → ObeysToolRule kind no_features
-no_name (Tool name) = refl
-no_name ExplicitRepository = tt
-no_name DiscoveredRepository = tt
 
 -- the features that are asked, in a form that is taken, and by a file that may name them
 record AskedFeatures (edition : Edition) (kind : ConfigSourceKind) (found : Option Data) : Type 0 where
@@ -73,29 +58,24 @@ record AskedFeatures (edition : Edition) (kind : ConfigSourceKind) (found : Opti
   of_tool : ObeysToolRule kind named.features
 
 features_asked : (edition : Edition) (kind : ConfigSourceKind) (found : Option Data)
-    → AllByRecursion (IsJudgedWell edition) (if_there [] (key experimental_key) Experimental found) → NamesNothingForTool edition kind found
+    → AllByRecursion (AreJudgedWell edition) (if_there [] (key experimental_key) Experimental found) → NamesNothingForTool edition kind found
     → AskedFeatures edition kind found
-features_asked edition kind None h may = record { named = no_feature_setting; of_form = no_form edition; of_features = refl; of_tool = no_name kind }
+features_asked edition kind None h may = record { named = no_feature_setting; of_form = search rules; of_features = refl; of_tool = search rules }
 features_asked edition kind (Some value) h may =
-    let well = passes_well edition (judged_at [] (key experimental_key) Experimental value) (experimental_no_duration edition value) h.0 in
+    let well = passes_well edition (judged_at [] (key experimental_key) Experimental value) (experimental_no_duration edition value) h.0.0 in
     record { named = well.1.0; of_form = well.0; of_features = well.1.1; of_tool = may well.0 well.1.0 well.1.1 }
 
 -- ---- the document
-
-asks : (edition : Edition) (kind : ConfigSourceKind) (members : Members) → AllByRecursion (IsJudgedWell edition) (from_table members)
-    → NamesNothingForTool edition kind (get_member experimental_key members) → (ask : Ask) × Asks edition kind members ask
-asks edition kind members well may =
-    let top = at_top (IsJudgedWell edition) members well in
-    let versions = versions_asked edition (get_member version_key members) top.0 in
-    let asked = features_asked edition kind (get_member experimental_key members) top.1.0 may in (
-      record { versions = versions.0; features = asked.named.features; array = asked.named.array },
-      record { of_versions = versions.1; of_form = asked.of_form; of_features = asked.of_features; of_tool = asked.of_tool },
-    )
 
 pub warned_reads : (edition : Edition) (kind : ConfigSourceKind) (text : List ℕ) (members : Members) (founds : List Found)
     → parse_document text ≡ Some members → AreFindings edition kind members founds → AllByRecursion IsWarning founds
     → (ask : Ask) × TextAsks edition kind (Some text) ask
 warned_reads edition kind text members founds is are warned =
     let well = (warned_in edition kind members founds are).0 warned in
-    let asked = asks edition kind members well.0 well.1 in
-    (asked.0, (members, is, asked.1))
+    let each = of_each (IsJudgedWell edition) (judged_in deepest) (below_table Top [] members) well.0 in
+    let top = of_each (AreJudgedWell edition) (at_known_key [] members) (rows_of TOP.now) each in
+    let versions = versions_asked edition (get_member version_key members) top.0 in
+    let asked = features_asked edition kind (get_member experimental_key members) top.1.0 well.1 in (
+      record { versions = versions.0; features = asked.named.features; array = asked.named.array },
+      (members, is, record { of_versions = versions.1; of_form = asked.of_form; of_features = asked.of_features; of_tool = asked.of_tool }),
+    )

@@ -1,6 +1,7 @@
 -- Where each finding is a warning.
+use mathlib.Core.Logic.Iff as iff
 use Rattle.std.specs.Prelude.{◌≡◌, ◌↔◌, ℕ, Bool, true, false, List, [], ◌∷◌, ◌++◌, Option, Some, None, option_to_list}
-use Rattle.std.proofs.Common.{sym, ap, refl, subst, inl, inr}
+use Rattle.std.proofs.Common.{ap, refl, rules, subst, inl, inr}
 use Rattle.std.specs.List.{AllByRecursion}
 use Rattle.toml.specs.Data.{Data, get_member, Members}
 use Rattle.nextest_config_values.specs.Read.Fault.{Fault}
@@ -25,18 +26,18 @@ use Rattle.nextest_config_findings.specs.declared.finding.Severity.TheVariants.{
 abbrev pub AreWarnings : List Found → Type 0
 AreWarnings founds = AllByRecursion IsWarning founds
 
+-- those of two lists in a row are warnings where both are
+in_both : (xs ys : List Found) → AreWarnings (xs ++ ys) ↔ (AreWarnings xs × AreWarnings ys)
+in_both xs ys = (λ h. (all_left IsWarning xs ys h, all_right IsWarning xs ys h), λ h. all_joined IsWarning xs ys h.0 h.1)
+
 -- what is found of each is a warning exactly where each is well
 warned_where : {A : Type 0} (IsFound : A → Option Found → Type 0) (IsWell : A → Type 0)
     → ((x : A) (here : Option Found) → IsFound x here → AreWarnings (option_to_list here) ↔ IsWell x)
     → (xs : List A) (founds : List Found) → AreFoundIn IsFound xs founds → AreWarnings founds ↔ AllByRecursion IsWell xs
-warned_where IsFound IsWell where_well [] founds none = (λ h. tt, λ h. rw none tt)
+warned_where IsFound IsWell where_well [] founds none = rw none iff.rfl
 warned_where IsFound IsWell where_well (x ∷ xs) founds (here, rest, is, are, whole) =
-    let first = where_well x here is in
     let behind = warned_where IsFound IsWell where_well xs rest are in
-    let there : AreWarnings founds → AreWarnings (option_to_list here ++ rest) = subst AreWarnings whole in (
-      λ h. (first.0 (all_left IsWarning (option_to_list here) rest (there h)), behind.0 (all_right IsWarning (option_to_list here) rest (there h))),
-      λ well. subst AreWarnings (sym whole) (all_joined IsWarning (option_to_list here) rest (first.1 well.0) (behind.1 well.1)),
-    )
+    rw whole (iff.trans (in_both (option_to_list here) rest) (iff.and (where_well x here is) behind))
 
 -- what is found of each is a warning, where what is found of one always is
 always_warned : {A : Type 0} (IsFound : A → Option Found → Type 0)
@@ -54,33 +55,26 @@ kind_warned value reason kind (inr (is_not, refused)) = (λ h. absurd (cc (h, ap
 fault_warned : (edition : Edition) (judged : JudgedValue) (here : Option Found) → IsFaultFound edition judged here
     → AreWarnings (option_to_list here) ↔ IsJudgedWell edition judged
 fault_warned edition judged None means = (λ h. inl means, λ well. tt)
-fault_warned edition judged (Some found) (fault, faulty, is) = (λ h. inr (fault, faulty, warned.0 h.0), well)
-  where
-    UnjudgedOf : Fault → Type 0
-    UnjudgedOf f = IsUnjudged (faulty_value judged f) f.reason
-
-    warned : (gravity found.kind ≡ Warning) ↔ UnjudgedOf fault
-    warned = kind_warned (faulty_value judged fault) fault.reason found.kind is.kind_is
-
-    well : IsJudgedWell edition judged → AreWarnings (found ∷ [])
-    well (inl means) = absurd ((place_check edition judged.place).never_both judged.value (printed_path judged.path) fault means faulty)
-    well (inr (other, also, unjudged)) =
-        let same : other ≡ fault = (place_check edition judged.place).one_fault judged.value (printed_path judged.path) other fault also faulty in
-        (warned.1 (subst UnjudgedOf same unjudged), tt)
+fault_warned edition judged (Some found) (fault, faulty, is) =
+    let check = place_check edition judged.place in
+    let at = printed_path judged.path in
+    let warned = kind_warned (faulty_value judged fault) fault.reason found.kind is.kind_is in (
+      λ h. inr (fault, faulty, warned.0 h.0),
+      λ well. elim well [
+        | inl means ↦ absurd (check.never_both judged.value at fault means faulty)
+        | inr unjudged ↦ (warned.1 (rw (check.one_fault judged.value at unjudged.0 fault unjudged.1 faulty) at unjudged.2), tt)
+      ],
+    )
 
 -- ---- of keys
 
-key_for_warned : (is : Bool) (judged : JudgedKey) (here : Option Found) → IsKeyFoundFor is judged here → AreWarnings (option_to_list here)
-key_for_warned true judged here none = rw none tt
-key_for_warned false judged here (hint, meant, is) = rw is (refl, tt)
-
-key_warned : (judged : JudgedKey) (here : Option Found) → IsKeyFound judged here → AreWarnings (option_to_list here)
-key_warned judged = key_for_warned (is_known judged.known judged.name) judged
+key_warned : (is : Bool) (judged : JudgedKey) (here : Option Found) → IsKeyFoundFor is judged here → AreWarnings (option_to_list here)
+key_warned is judged here found = search rules
 
 -- ---- of features
 
 name_warned : (name : List ℕ) (here : Option Found) → IsNameFound name here → AreWarnings (option_to_list here)
-name_warned name here (hint, meant, is) = rw is (refl, tt)
+name_warned name here found = search rules
 
 named_warned : (kind : ConfigSourceKind) (features : Features) (founds : List Found) → AreNamedFound kind features founds → AreWarnings founds ↔ ObeysToolRule kind features
 named_warned (Tool name) features founds (inl (none, is)) = (λ h. none, λ h. rw is tt)
@@ -94,8 +88,7 @@ features_warned : (edition : Edition) (kind : ConfigSourceKind) (found : Option 
 features_warned edition kind None founds none = (λ h. tt, λ h. rw none tt)
 features_warned edition kind (Some value) founds (inl (kept, (named, means, are))) =
     let warned = named_warned kind named.features founds are in (
-      λ h also_kept other means_too.
-          subst (λ (n : FeatureSetting). ObeysToolRule kind n.features) (features_reading.law.one_meaning value named other means means_too) (warned.0 h),
+      λ h also_kept other means_too. rw (features_reading.law.one_meaning value other named means_too means) (warned.0 h),
       λ names. warned.1 (names kept named means),
     )
 features_warned edition kind (Some value) founds (inr ((fault, faulty), none)) = (
@@ -111,12 +104,6 @@ pub warned_in : (edition : Edition) (kind : ConfigSourceKind) (members : Members
 warned_in edition kind members founds are =
     let of_faults = warned_where (IsFaultFound edition) (IsJudgedWell edition) (fault_warned edition) (from_table members) are.faults are.of_faults in
     let of_features = features_warned edition kind (get_member experimental_key members) are.features are.of_features in
-    let of_unknown = always_warned IsKeyFound key_warned (keys_of_document members) are.unknown are.of_unknown in
-    let all : AreWarnings founds → AreWarnings (are.faults ++ (are.features ++ are.unknown)) = subst AreWarnings are.whole in (
-      λ h. (
-        of_faults.0 (all_left IsWarning are.faults (are.features ++ are.unknown) (all h)),
-        of_features.0 (all_left IsWarning are.features are.unknown (all_right IsWarning are.faults (are.features ++ are.unknown) (all h))),
-      ),
-      λ well. subst AreWarnings (sym are.whole) (all_joined IsWarning are.faults (are.features ++ are.unknown) (of_faults.1 well.0)
-          (all_joined IsWarning are.features are.unknown (of_features.1 well.1) of_unknown)),
-    )
+    let of_unknown = always_warned IsKeyFound (λ judged. key_warned (is_known judged.known judged.name) judged) (keys_of_document members) are.unknown are.of_unknown in
+    let behind = iff.trans (in_both are.features are.unknown) (λ h. of_features.0 h.0, λ names. (of_features.1 names, of_unknown)) in
+    rw are.whole (iff.trans (in_both are.faults (are.features ++ are.unknown)) (iff.and of_faults behind))

@@ -32,14 +32,13 @@ first_other first (item value rest) = if is_some (as_str value) then first_other
 
 -- a dot and a key of a table
 abbrev pub key_behind : Members → List ℕ → Option Added
-key_behind held [] = None
-key_behind held (byte ∷ text) = if byte == dot
-    then option_map (λ value. (key text, value)) (get_member text held) else None
+key_behind held text = option_and_then
+    (λ name. option_map (λ value. (key name, value)) (get_member name held)) (behind (dot ∷ []) text)
 
 -- a bracket: the element of an array that is no text
 abbrev pub index_behind : Items → List ℕ → Option Added
-index_behind held [] = None
-index_behind held (byte ∷ text) = if byte == left_bracket then first_other 0 held else None
+index_behind held text =
+    option_and_then (λ rest. first_other 0 held) (behind (left_bracket ∷ []) text)
 
 -- the step that is printed so behind the path of a value
 abbrev pub step_behind : Data → List ℕ → Option Added

@@ -86,8 +86,8 @@ pub record IsAtLine (contents : List ℕ) (found : Found) (located : LocatedFind
   pub at_line : IsLineOrFirst contents (line_path found) located.line
 
 -- the finding is at the line of what it tells
-abbrev pub IsPlaced : List ℕ → Finding → LocatedFinding → Type 0
-IsPlaced contents finding located = (found : Found) → found_of finding ≡ Some found
+abbrev pub IsFindingAtLine : List ℕ → Finding → LocatedFinding → Type 0
+IsFindingAtLine contents finding located = (found : Found) → found_of finding ≡ Some found
     → IsAtLine contents found located
 
 -- each finding at its line

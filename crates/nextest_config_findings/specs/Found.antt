@@ -1,5 +1,6 @@
 -- Findings without where they lie in memory.
-use Rattle.std.specs.Prelude.{◌≡◌, ℕ, List, [], ◌∷◌, ◌++◌, map, Option, Some, option_map, option_to_list, string_bytes}
+use Rattle.std.specs.Prelude.{◌≡◌, ℕ, List, [], ◌∷◌, ◌++◌, map, Option, Some, option_map, option_to_list, string_bytes, Vec}
+use Rattle.std.specs.declared.alloc.Global.{Global}
 use Rattle.nextest_config_values.specs.Read.{Reason, reason_of}
 use Rattle.nextest_config_hints.specs.NearestWord.{IsNearest}
 use Rattle.nextest_config_lines.specs.Step.{PathStep, step_of}
@@ -72,6 +73,10 @@ gravity (not_toml message) = Error
 -- the findings are these
 abbrev pub Tells : List Finding → List Found → Type 0
 Tells findings founds = map found_of findings ≡ map Some founds
+
+-- the findings tell a list that is so
+abbrev pub TellsSome : (List Found → Type 0) → Vec Finding Global → Type 0
+TellsSome AreFound findings = (founds : List Found) × AreFound founds × Tells findings.items founds
 
 -- ---- one for each
 

@@ -1,5 +1,6 @@
 -- The values of a document that have a place, depth-first.
-use Rattle.std.specs.Prelude.{ℕ, suc, zero, List, [], ◌∷◌, ◌++◌, flat_map, map, Option, Some, None}
+use Rattle.std.specs.Prelude.{◌≡◌, ℕ, suc, zero, List, [], ◌∷◌, ◌++◌, flat_map, map, Option, Some, None, Vec}
+use Rattle.std.specs.declared.alloc.Global.{Global}
 use Rattle.toml.specs.Data.{array, Data, get_member, item, Items, member, Members, no_items, no_members, table}
 use Rattle.toml.specs.View.{view}
 use Rattle.nextest_config_lines.specs.Step.{index, key, PathStep}
@@ -27,6 +28,10 @@ judged_value judged =
       path = map mark_step judged.path.items;
       value = view judged.value.now;
     }
+
+-- the judged are these values
+abbrev pub AreJudged : List JudgedValue → Vec Judged Global → Type 0
+AreJudged values all = map judged_value all.items ≡ values
 
 -- ---- what has a place right below a value
 

@@ -1,13 +1,13 @@
 //! What is found wrong with the values of a document by their readers.
 
-ghost use Rattle.std.specs.Prelude.{◌≡◌, ◌↔◌, List, IfOk, IfSome, IsTrue, OnOk, Option, map, option_map};
+ghost use Rattle.std.specs.Prelude.{◌≡◌, ◌↔◌, IfOk, IfSome, IsTrue, OnOk, Option, map, option_map};
 ghost use Rattle.std.specs.Bool.{OnTrue};
 ghost use Rattle.toml.specs.View.{array_view, table_view, view};
 ghost use Rattle.nextest_config_values.specs.Read.Fault.{Fault};
 ghost use Rattle.nextest_config_values.specs.Read.{fault_of, Reason, reason_of};
 ghost use Rattle.nextest_config_lines.specs.Step.{index, printed_path, step_of};
 ghost use Rattle.nextest_config_findings.specs.Faults.{added_step, behind, first_other, index_behind, IsFaultFound, IsFoundKind, IsFoundOf, IsUnjudged, key_behind};
-ghost use Rattle.nextest_config_findings.specs.Found.{AddsOne, AreFoundIn, Found, FoundKind, found_of, kind_told, Tells};
+ghost use Rattle.nextest_config_findings.specs.Found.{AddsOne, AreFoundIn, Found, FoundKind, found_of, kind_told, TellsSome};
 ghost use Rattle.nextest_config_findings.specs.Judged.{judged_value, mark_step};
 ghost use Rattle.nextest_config_findings.specs.Place.{place_check};
 
@@ -27,9 +27,8 @@ pub(crate) fn find_faults(
     edition: Edition,
     judged: &[Judged],
 ) -> Result<Vec<Finding>, AllocError>
-    ensures { IfOk result (λ findings. (founds : List Found)
-        × AreFoundIn (IsFaultFound edition) (map judged_value judged.now) founds
-        × Tells findings.items founds) }
+    ensures { IfOk result
+        (TellsSome (AreFoundIn (IsFaultFound edition) (map judged_value judged.now))) }
 {
     let mut findings = Vec::new(alloc);
     for value in judged {
@@ -183,7 +182,7 @@ fn key_behind<'v, 'p>(table: &'v Table, text: &'p str) -> Option<(Mark<'p>, &'v 
     ensures { option_map (λ added. (mark_step added.0, view added.1.now)) result
         ≡ key_behind (table_view table.now) text.now }
 {
-    let Some(key) = text.strip_prefix('.') else {
+    let Some(key) = behind(text, ".") else {
         return None;
     };
     match at_key(table, key) {
@@ -197,7 +196,7 @@ fn index_behind<'v, 'p>(array: &'v Array, text: &'p str) -> Option<(Mark<'p>, &'
     ensures { option_map (λ added. (mark_step added.0, view added.1.now)) result
         ≡ index_behind (array_view array.now) text.now }
 {
-    let Some(_) = text.strip_prefix('[') else {
+    let Some(_) = behind(text, "[") else {
         return None;
     };
     match first_other(array) {

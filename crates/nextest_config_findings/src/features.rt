@@ -1,12 +1,12 @@
 //! What is found of the experimental features that a document names.
 
-ghost use Rattle.std.specs.Prelude.{◌≡◌, [], IfOk, IsSome, List, OnOk, Some, map, option_map, string_bytes};
+ghost use Rattle.std.specs.Prelude.{◌≡◌, [], IfOk, IsSome, OnOk, Some, map, option_map, string_bytes};
 ghost use Rattle.toml.specs.Data.{get_member};
 ghost use Rattle.toml.specs.View.{table_view, view};
 ghost use Rattle.nextest_config_values.specs.Read.{fault_of};
 ghost use Rattle.nextest_config_sources.specs.NextestVersion.{experimental_key, features_of};
 ghost use Rattle.nextest_config_findings.specs.Features.{AreFeaturesFound, AreNamedFound, AreToolsFound, features_path, IsNameFound};
-ghost use Rattle.nextest_config_findings.specs.Found.{AddsOne, AreFoundIn, Found, found_at, found_of, kind_told, Tells};
+ghost use Rattle.nextest_config_findings.specs.Found.{AddsOne, AreFoundIn, found_at, found_of, kind_told, TellsSome};
 
 use crate::finding::{Finding, FindingKind, Hint};
 use crate::judged::at_key;
@@ -36,9 +36,8 @@ pub(crate) fn find_features(
     edition: Edition,
     document: &Table,
 ) -> Result<Vec<Finding>, AllocError>
-    ensures { IfOk result (λ findings. (founds : List Found) × AreFeaturesFound edition source.now
-        (get_member experimental_key (table_view document.now)) founds
-        × Tells findings.items founds) }
+    ensures { IfOk result (TellsSome (AreFeaturesFound edition source.now
+        (get_member experimental_key (table_view document.now)))) }
 {
     match at_key(document, EXPERIMENTAL_KEY) {
         Some(value) => find_named(alloc, source, edition, value),
@@ -53,9 +52,8 @@ fn find_named(
     edition: Edition,
     value: &Value,
 ) -> Result<Vec<Finding>, AllocError>
-    ensures { IfOk result (λ findings. (founds : List Found)
-        × AreFeaturesFound edition source.now (Some (view value.now)) founds
-        × Tells findings.items founds) }
+    ensures { IfOk result
+        (TellsSome (AreFeaturesFound edition source.now (Some (view value.now)))) }
 {
     match read_experimental(alloc, edition, value, EXPERIMENTAL_KEY) {
         Ok(named) => findings_of(alloc, source, &named),
@@ -84,8 +82,7 @@ fn findings_of(
     source: &ConfigSourceKind,
     named: &ExperimentalDeserialize,
 ) -> Result<Vec<Finding>, AllocError>
-    ensures { IfOk result (λ findings. (founds : List Found)
-        × AreNamedFound source.now (features_of named.now) founds × Tells findings.items founds) }
+    ensures { IfOk result (TellsSome (AreNamedFound source.now (features_of named.now))) }
 {
     match source {
         ConfigSourceKind::Tool(_) => tool_features(alloc, named),
@@ -97,8 +94,7 @@ fn findings_of(
 
 // A tool's file names no feature.
 fn tool_features(alloc: Global, named: &ExperimentalDeserialize) -> Result<Vec<Finding>, AllocError>
-    ensures { IfOk result (λ findings. (founds : List Found)
-        × AreToolsFound (features_of named.now) founds × Tells findings.items founds) }
+    ensures { IfOk result (TellsSome (AreToolsFound (features_of named.now))) }
 {
     let mut findings = Vec::new(alloc);
     if named.is_empty() {
@@ -111,9 +107,8 @@ fn tool_features(alloc: Global, named: &ExperimentalDeserialize) -> Result<Vec<F
 
 // Each name is no feature's.
 fn unknown_features(alloc: Global, unknown: &BTreeSet<String>) -> Result<Vec<Finding>, AllocError>
-    ensures { IfOk result (λ findings. (founds : List Found)
-        × AreFoundIn IsNameFound (map string_bytes unknown.now.keys) founds
-        × Tells findings.items founds) }
+    ensures { IfOk result
+        (TellsSome (AreFoundIn IsNameFound (map string_bytes unknown.now.keys))) }
 {
     let mut findings = Vec::new(alloc);
     for name in unknown {

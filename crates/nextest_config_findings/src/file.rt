@@ -7,8 +7,8 @@ ghost use Rattle.toml.specs.Parse.{parse_document};
 ghost use Rattle.toml.specs.View.{table_view};
 ghost use Rattle.nextest_config_lines.specs.Line.{line_behind};
 ghost use Rattle.nextest_config_lines.specs.Step.{step_of};
-ghost use Rattle.nextest_config_findings.specs.File.{AreInText, AreLocated, AreLocatedIn, column_after, IsColumn, IsLineOrFirst, IsNotToml, IsPlaced, located_told, path_behind};
-ghost use Rattle.nextest_config_findings.specs.Found.{found_at, FoundKind, kind_told, not_utf8};
+ghost use Rattle.nextest_config_findings.specs.File.{AreInText, AreLocated, AreLocatedIn, column_after, IsColumn, IsLineOrFirst, IsNotToml, IsFindingAtLine, line_path, located_told};
+ghost use Rattle.nextest_config_findings.specs.Found.{Found, found_at, found_of, kind_told, not_utf8};
 
 use crate::document::findings;
 use crate::finding::{Finding, FindingKind};
@@ -172,7 +172,8 @@ fn at_lines(
     text: &str,
     findings: Vec<Finding>,
 ) -> Result<Vec<LocatedFinding>, AllocError>
-    ensures { IfOk result (λ located. AllZip (IsPlaced text.now) findings.items located.items) }
+    ensures { IfOk result
+        (λ located. AllZip (IsFindingAtLine text.now) findings.items located.items) }
 {
     let mut located = Vec::new(alloc);
     for finding in findings {
@@ -183,7 +184,7 @@ fn at_lines(
 
 // A finding with its line.
 fn at_line(alloc: Global, text: &str, finding: Finding) -> Result<LocatedFinding, AllocError>
-    ensures { IfOk result (IsPlaced text.now finding) }
+    ensures { IfOk result (IsFindingAtLine text.now finding) }
 {
     let path = line_path(alloc, &finding)?;
     let line = line_or_first(alloc, text, path.as_slice())?;
@@ -206,8 +207,8 @@ fn line_or_first(alloc: Global, text: &str, path: &[Step]) -> Result<usize, Allo
 
 // The path that a finding is located by.
 fn line_path(alloc: Global, finding: &Finding) -> Result<Vec<Step>, AllocError>
-    ensures { IfOk result (λ path. (kind : FoundKind) → kind_told finding.now.kind ≡ Some kind
-        → map step_of path.items ≡ path_behind (map step_of finding.now.path.items) kind) }
+    ensures { IfOk result (λ path. (found : Found) → found_of finding.now ≡ Some found
+        → map step_of path.items ≡ line_path found) }
 {
     let mut path = copy_of(alloc, finding.path.as_slice())?;
     if let FindingKind::UnknownKey { key, .. } = &finding.kind {

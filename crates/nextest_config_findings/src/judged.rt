@@ -4,7 +4,7 @@ ghost use Rattle.std.specs.Prelude.{◌≡◌, ◌++◌, [], ◌∷◌, IfOk, On
 ghost use Rattle.toml.specs.Data.{get_member};
 ghost use Rattle.toml.specs.View.{array_view, table_view, view};
 ghost use Rattle.nextest_config_lines.specs.Step.{step_of};
-ghost use Rattle.nextest_config_findings.specs.Judged.{at_known_key, below, below_table, deepest, from_table, judged_at, judged_in, judged_value, mark_step, overrides_in, profiles_in};
+ghost use Rattle.nextest_config_findings.specs.Judged.{AreJudged, at_known_key, below, below_table, deepest, from_table, judged_at, judged_in, judged_value, mark_step, overrides_in, profiles_in};
 ghost use Rattle.nextest_config_findings.specs.Place.{keys_told};
 
 use crate::place::Place;
@@ -35,8 +35,7 @@ impl<'a> Judged<'a> {
     /// The values of a document that have a place, depth-first: those at the keys of a table in the
     /// order in which its place knows them, profiles by their names, overrides by index.
     pub(crate) fn all(alloc: Global, document: &'a Table) -> Result<Vec<Judged<'a>>, AllocError>
-        ensures { IfOk result
-            (λ all. map judged_value all.items ≡ from_table (table_view document.now)) }
+        ensures { IfOk result (AreJudged (from_table (table_view document.now))) }
     {
         let mut all = Vec::new(alloc);
         for judged in below_table(alloc, Place::Top, &[], document)? {
@@ -68,18 +67,32 @@ impl<'a> Judged<'a> {
 
     // What has a place right below the value.
     fn below(&self, alloc: Global) -> Result<Vec<Judged<'a>>, AllocError>
-        ensures { IfOk result (λ all. map judged_value all.items ≡ below (judged_value self.now)) }
+        ensures { IfOk result (AreJudged (below (judged_value self.now))) }
     {
         if let Some(table) = self.value.as_table() {
             return below_table(alloc, self.place, self.path.as_slice(), table);
         }
         match self.place {
             Place::Overrides => match self.value.as_array() {
-                Some(array) => overrides_in(alloc, self.path.as_slice(), array),
+                Some(array) => self.overrides_in(alloc, array),
                 None => Ok(Vec::new(alloc)),
             },
             _ => Ok(Vec::new(alloc)),
         }
+    }
+
+    // The overrides of an array, which stands here.
+    fn overrides_in(&self, alloc: Global, array: &'a Array) -> Result<Vec<Judged<'a>>, AllocError>
+        ensures { IfOk result
+            (AreJudged (overrides_in (judged_value self.now).path 0 (array_view array.now))) }
+    {
+        let path = self.path.as_slice();
+        let mut all = Vec::new(alloc);
+        for (index, value) in array.iter().enumerate() {
+            let mark = Mark::Index(index);
+            all.push(judged_at(alloc, path, mark, Place::Override, value)?)?;
+        }
+        Ok(all)
     }
 
     /// The steps of the path.
@@ -141,8 +154,8 @@ fn below_table<'a>(
     path: &[Mark<'a>],
     table: &'a Table,
 ) -> Result<Vec<Judged<'a>>, AllocError>
-    ensures { IfOk result (λ all. map judged_value all.items
-        ≡ below_table place (map mark_step path.now) (table_view table.now)) }
+    ensures { IfOk result
+        (AreJudged (below_table place (map mark_step path.now) (table_view table.now))) }
 {
     match place {
         Place::Profiles => profiles_in(alloc, path, table),
@@ -159,30 +172,13 @@ fn profiles_in<'a>(
     path: &[Mark<'a>],
     table: &'a Table,
 ) -> Result<Vec<Judged<'a>>, AllocError>
-    ensures { IfOk result (λ all. map judged_value all.items
-        ≡ profiles_in (map mark_step path.now) (table_view table.now)) }
+    ensures { IfOk result
+        (AreJudged (profiles_in (map mark_step path.now) (table_view table.now))) }
 {
     let mut all = Vec::new(alloc);
     for (name, value) in table {
         let mark = Mark::Key(name.as_str());
         all.push(judged_at(alloc, path, mark, Place::Profile, value)?)?;
-    }
-    Ok(all)
-}
-
-// The overrides of an array.
-fn overrides_in<'a>(
-    alloc: Global,
-    path: &[Mark<'a>],
-    array: &'a Array,
-) -> Result<Vec<Judged<'a>>, AllocError>
-    ensures { IfOk result (λ all. map judged_value all.items
-        ≡ overrides_in (map mark_step path.now) 0 (array_view array.now)) }
-{
-    let mut all = Vec::new(alloc);
-    for (index, value) in array.iter().enumerate() {
-        let mark = Mark::Index(index);
-        all.push(judged_at(alloc, path, mark, Place::Override, value)?)?;
     }
     Ok(all)
 }
@@ -194,9 +190,8 @@ fn known_in<'a>(
     path: &[Mark<'a>],
     table: &'a Table,
 ) -> Result<Vec<Judged<'a>>, AllocError>
-    ensures { IfOk result (λ all. map judged_value all.items
-        ≡ flat_map (at_known_key (map mark_step path.now) (table_view table.now))
-        (keys_told keys.now)) }
+    ensures { IfOk result (AreJudged (flat_map
+        (at_known_key (map mark_step path.now) (table_view table.now)) (keys_told keys.now))) }
 {
     let mut all = Vec::new(alloc);
     for (key, place) in keys {

@@ -1,8 +1,8 @@
 //! The keys of a document that aren't known where they stand.
 
-ghost use Rattle.std.specs.Prelude.{◌≡◌, ◌++◌, [], IfOk, List, OnOk, flat_map, map, option_map};
+ghost use Rattle.std.specs.Prelude.{◌≡◌, ◌++◌, [], IfOk, OnOk, flat_map, map, option_map};
 ghost use Rattle.toml.specs.View.{table_view};
-ghost use Rattle.nextest_config_findings.specs.Found.{AddsFound, AddsOne, AreFoundIn, Found, meant_of, Tells};
+ghost use Rattle.nextest_config_findings.specs.Found.{AddsFound, AddsOne, AreFoundIn, meant_of, TellsSome};
 ghost use Rattle.nextest_config_findings.specs.Judged.{judged_value, mark_step};
 ghost use Rattle.nextest_config_findings.specs.Place.{keys_told};
 ghost use Rattle.nextest_config_findings.specs.Unknown.{is_known, is_of_top, IsHintFor, IsKeyFound, key_at, keys_at, keys_in, names_of};
@@ -19,10 +19,9 @@ pub(crate) fn find_unknown(
     document: &Table,
     judged: &[Judged],
 ) -> Result<Vec<Finding>, AllocError>
-    ensures { IfOk result (λ findings. (founds : List Found) × AreFoundIn IsKeyFound
+    ensures { IfOk result (TellsSome (AreFoundIn IsKeyFound
         (keys_at Place.Top [] (table_view document.now)
-        ++ flat_map keys_in (map judged_value judged.now)) founds
-        × Tells findings.items founds) }
+        ++ flat_map keys_in (map judged_value judged.now)))) }
 {
     let mut findings = Vec::new(alloc);
     add_keys(alloc, Place::Top, &[], document, &mut findings)?;

@@ -1,9 +1,13 @@
 -- The value of `fail-fast` means what was read of it.
+use Rattle.std.proofs.Common.{◌≡◌, Err, IfOk, IsOk, MatchResult, OnOk, Result, rules}
 use Rattle.toml.specs.View.{view}
 use Rattle.nextest_config_elements.specs.MaxFail.{fail_fast_reading}
-use Rattle.nextest_config_findings.proofs.Accepted.{meant_where_read}
 use Rattle.nextest_config_findings.proofs.place.Place.check.Goals as goal
+
+meant_where_read : {T F : Type 0} (read : Result T F) (result : Result (Unit {0}) F) (P : T → Type 0)
+    → IfOk read P → MatchResult read (λ x. IsOk result) (λ fault. result ≡ Err fault) → OnOk result ((x : T) × P x)
+meant_where_read read result P meant is = search rules
 
 pub returns-in-FailFast-clause-meant : goal.returns-in-FailFast-clause-meant
 returns-in-FailFast-clause-meant c =
-    rw c.in-FailFast.is (meant_where_read c.deserialize_fail_fast.result c.accepted-in-FailFast.result (fail_fast_reading.means (view c.args.value.now)) c.deserialize_fail_fast.ensures.meant c.accepted-in-FailFast.ensures)
+    rw c.in-FailFast.is (meant_where_read _ _ (fail_fast_reading.means (view c.args.value.now)) c.deserialize_fail_fast.ensures.meant c.accepted-in-FailFast.ensures)
