@@ -1,11 +1,11 @@
 -- What is found in a document is found once.
 use mathlib.Core.Logic.Iff as iff
 use Rattle.std.specs.Prelude.{◌≡◌, ℕ, Bool, true, false, List, [], ◌∷◌, ◌++◌, map, Option, Some, None, option_map, option_to_list}
-use Rattle.std.proofs.Common.{sym, ap, ap₂, refl, rules, subst, ◌∙◌, inl, inr}
+use Rattle.std.proofs.Common.{sym, ap, ap₂, refl, rules, ◌∙◌, inl, inr}
 use Rattle.toml.specs.Data.{Data, get_member, Members}
 use Rattle.nextest_config_values.specs.Read.Fault.{Fault}
 use Rattle.nextest_config_values.specs.Read.{Reason}
-use Rattle.nextest_config_sources.specs.NextestVersion.{all_features, experimental_key, Features, features_reading, FeatureSetting, texts_in_one_order, word_of}
+use Rattle.nextest_config_sources.specs.NextestVersion.{all_features, experimental_key, Features, features_reading, texts_in_one_order, word_of}
 use Rattle.nextest_config_sources.specs.declared.nextest_version.edition.Edition.{Edition}
 use Rattle.nextest_config_sources.specs.declared.nextest_version.source.ConfigSourceKind.{ConfigSourceKind}
 use Rattle.nextest_config_sources.specs.declared.nextest_version.source.ConfigSourceKind.TheVariants.{DiscoveredRepository, ExplicitRepository, Tool}
@@ -45,8 +45,7 @@ fault_found_once edition judged (Some a) None (fault, faulty, is) k =
     absurd ((place_check edition judged.place).never_both judged.value (printed_path judged.path) fault k faulty)
 fault_found_once edition judged (Some a) (Some b) (fault, faulty, is) (other, also, is_too) =
     let same : fault ≡ other = (place_check edition judged.place).one_fault judged.value (printed_path judged.path) fault other faulty also in
-    let is_so : IsFoundOf judged.path judged.value other a = subst (λ (f : Fault). IsFoundOf judged.path judged.value f a) same is in
-    ap Some (one_found judged.path judged.value other a b is_so is_too)
+    ap Some (one_found judged.path judged.value other a b (rw same at is) is_too)
 
 -- ---- of a key
 
@@ -87,7 +86,7 @@ features_once : (edition : Edition) (kind : ConfigSourceKind) (found : Option Da
 features_once edition kind None a b h k = h ∙ sym k
 features_once edition kind (Some value) a b (inl (kept, (named, means, are))) (inl (kept_too, (other, means_too, are_too))) =
     let same : other ≡ named = features_reading.law.one_meaning value other named means_too means in
-    named_once kind named.features a b are (subst (λ (n : FeatureSetting). AreNamedFound kind n.features b) same are_too)
+    named_once kind named.features a b are (rw same at are_too)
 features_once edition kind (Some value) a b (inl (kept, (named, means, are))) (inr ((fault, faulty), none)) =
     absurd ((experimental_check edition).never_both value experimental_key fault (kept, (named, means)) faulty)
 features_once edition kind (Some value) a b (inr ((fault, faulty), none)) (inl (kept, (named, means, are))) =

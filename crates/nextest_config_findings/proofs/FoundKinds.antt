@@ -1,8 +1,8 @@
 -- What is found of a fault.
-use Rattle.std.proofs.Common.{◌≡◌, ◌↔◌, ℕ, Bool, true, false, IfSome, IsTrue, List, Option, None, Some, ap, if◌then◌else◌, inl, inr, is_none, option_map, refl, subst, sym, ◌∙◌}
+use Rattle.std.proofs.Common.{◌≡◌, ◌↔◌, ℕ, Bool, true, false, IfSome, IsTrue, List, Option, None, Some, ap, if◌then◌else◌, inl, inr, is_none, option_map, refl}
 use Rattle.toml.specs.Data.{Data}
 use Rattle.nextest_config_values.specs.Read.Fault.{Fault}
-use Rattle.nextest_config_values.specs.Read.{fault_at, fault_of, FaultOrMemory, IsMemory, Reason, Refuses}
+use Rattle.nextest_config_values.specs.Read.{fault_at, fault_of, Reason, Refuses}
 use Rattle.nextest_config_values.specs.declared.read.fault.ReadFault.{ReadFault}
 use Rattle.nextest_config_sources.specs.declared.nextest_version.edition.Edition.{Edition}
 use Rattle.nextest_config_lines.specs.Step.{PathStep, printed_path}

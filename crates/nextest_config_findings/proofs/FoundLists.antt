@@ -1,5 +1,5 @@
 -- What is found of each element of a list.
-use Rattle.std.proofs.Common.{◌≡◌, List, [], ◌∷◌, ◌++◌, Option, Some, ap, append_assoc, append-nil, map, option_to_list, refl, sym, ◌∙◌}
+use Rattle.std.proofs.Common.{List, [], ◌∷◌, ◌++◌, Option, Some, ap, append_assoc, append-nil, map, option_to_list, refl, sym, ◌∙◌}
 use Rattle.std.proofs.lemmas.List.{map-append, map_push}
 use Rattle.nextest_config_findings.specs.Found.{AddsFound, AddsOne, AreFoundIn, Found, found_of, Tells}
 use Rattle.nextest_config_findings.specs.declared.finding.Finding.{Finding}
@@ -34,9 +34,3 @@ pub adds_next : {X A : Type 0} (IsFound : A → Option Found → Type 0) (f : X 
     → AddsFound IsFound (map f xs) before between → AddsOne IsFound (f x) between now → AddsFound IsFound (map f (xs ++ (x ∷ []))) before now
 adds_next IsFound f xs x before between now so_far (here, is, more) = rw (map_push f xs x) (adds_more IsFound _ _ before between now so_far
     (option_to_list here, (here, [], is, refl, sym (append-nil (option_to_list here))), more))
-
--- one finding more, which tells this
-pub pushed_found : (before now : List Finding) (finding : Finding) (here : Found) → now ≡ before ++ (finding ∷ []) → found_of finding ≡ Some here
-    → map found_of now ≡ map found_of before ++ map Some (option_to_list (Some here))
-pushed_found before now finding here pushed told =
-    ap (map found_of) pushed ∙ map_push found_of before finding ∙ ap (λ (f : Option Found). map found_of before ++ (f ∷ [])) told

@@ -9,20 +9,9 @@ use Rattle.toml.proofs.Views.{Entry}
 use Rattle.toml.specs.View.{members_view}
 use Rattle.nextest_config_values.specs.Read.{FaultOrMemory, value_of}
 use Rattle.nextest_config_values.specs.Read.Fault.{Fault}
-use Rattle.nextest_config_hints.specs.NearestWord.{words_of}
-use Rattle.nextest_config_findings.specs.Found.{found_at, Meant, unknown_key}
 use Rattle.nextest_config_findings.specs.Place.{keys_told}
-use Rattle.nextest_config_findings.specs.Unknown.{IsHintFor, IsKeyFound, is_known, is_of_top, JudgedKey, names_of}
+use Rattle.nextest_config_findings.specs.Unknown.{names_of}
 use Rattle.nextest_config_findings.specs.declared.place.Place.{Place}
-
--- the words of rows
-pub words_told : (rows : List (Bor (List ℕ) × Place)) → map (λ row. row.0) (keys_told rows) ≡ words_of rows
-words_told rows = map-map (λ row. row.0) (λ row. (row.0.now, row.1)) rows
-
--- what is found of a key that isn't known
-pub key_found : (judged : JudgedKey) (hint : Option Meant) → false ≡ is_known judged.known judged.name → IsHintFor (is_of_top judged.place judged.name) judged.known judged.name hint
-    → IsKeyFound judged (Some (found_at judged.path (unknown_key judged.name hint)))
-key_found judged hint unknown is = rw (← unknown) (hint, is, refl)
 
 -- ---- the search for a key
 

@@ -1,16 +1,14 @@
 -- Where findings stand in a text.
-use Rattle.std.proofs.Common.{◌≡◌, ℕ, suc, ◌+◌, ◌<◌, ◌≤◌, Bool, List, [], ◌∷◌, ◌++◌, None, Option, Some, append_assoc, append-nil, ap, arith, cond, count_by, get_or, if◌then◌else◌, inl, inr, length, map, option_map, refl, subst, sym, take, ◌∙◌}
+use Rattle.std.proofs.Common.{◌≡◌, ℕ, suc, ◌+◌, ◌<◌, ◌≤◌, Bool, List, [], ◌∷◌, ◌++◌, append_assoc, append-nil, ap, arith, cond, count_by, get_or, if◌then◌else◌, inl, inr, length, refl, rules, sym, take, ◌∙◌}
 use Rattle.std.specs.List.{AllZip}
 use Rattle.std.proofs.lemmas.Bool.Decides.{eqb_tells, nat_tests}
 use Rattle.std.proofs.lemmas.Grind.{common_steps}
-use Rattle.std.proofs.lemmas.Bool.{cases_Bool}
 use Rattle.std.proofs.lemmas.List.{take_more}
 use Rattle.std.proofs.lemmas.List.Sums.{sum_by_push}
 use Rattle.nextest_config_values.specs.Characters.{line_feed}
 use Rattle.nextest_config_values.proofs.Elements.{all_joined}
-use Rattle.nextest_config_lines.specs.Step.{PathStep, step_of}
-use Rattle.nextest_config_findings.specs.File.{AreAtLines, begins_character, column_after, IsAtLine, IsColumn, IsInLine, IsLineOrFirst, IsFindingAtLine, line_path, path_behind}
-use Rattle.nextest_config_findings.specs.Found.{Found, found_at, FoundKind, found_of, kind_told, Tells}
+use Rattle.nextest_config_findings.specs.File.{AreAtLines, begins_character, column_after, IsColumn, IsInLine, IsFindingAtLine}
+use Rattle.nextest_config_findings.specs.Found.{Found, Tells}
 use Rattle.nextest_config_findings.specs.declared.file.LocatedFinding.{LocatedFinding}
 use Rattle.nextest_config_findings.specs.declared.finding.Finding.{Finding}
 
@@ -56,7 +54,4 @@ pub all_at_lines : (contents : List ℕ) (findings : List Finding) (located : Li
 all_at_lines contents [] [] placed [] told = tt
 all_at_lines contents (finding ∷ findings) (one ∷ located) placed (found ∷ founds) told =
     (placed.0 found (cc told), all_at_lines contents findings located placed.1 founds (cc told))
-all_at_lines contents [] [] placed (found ∷ founds) told = cc told
-all_at_lines contents (finding ∷ findings) (one ∷ located) placed [] told = cc told
-all_at_lines contents [] (one ∷ located) placed founds told = absurd placed
-all_at_lines contents (finding ∷ findings) [] placed founds told = absurd placed
+all_at_lines contents findings located placed founds told = search rules

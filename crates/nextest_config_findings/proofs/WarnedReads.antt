@@ -1,23 +1,21 @@
 -- A document of which only warnings are found asks something.
-use Rattle.std.specs.Prelude.{◌≡◌, ℕ, zero, suc, List, [], ◌∷◌, flat_map, Option, Some, None}
+use Rattle.std.specs.Prelude.{◌≡◌, ℕ, List, [], ◌∷◌, flat_map, Option, Some, None}
 use Rattle.std.proofs.Common.{refl, rules, inl, inr}
 use Rattle.std.specs.List.{AllByRecursion}
 use Rattle.toml.specs.Data.{Data, get_member, Members}
 use Rattle.toml.specs.Parse.{parse_document}
-use Rattle.nextest_config_values.proofs.Elements.{all_left, all_right, all_weaker}
+use Rattle.nextest_config_values.proofs.Elements.{all_left, all_right}
 use Rattle.nextest_config_values.specs.Read.{either, Reading}
-use Rattle.nextest_config_sources.specs.NextestVersion.{Ask, Asks, experimental_key, features_reading, FeatureSetting, no_feature_setting, no_features, no_versions, ObeysForm, ObeysToolRule, TextAsks, version_key, Versions, versions_reading}
+use Rattle.nextest_config_sources.specs.NextestVersion.{Ask, experimental_key, features_reading, FeatureSetting, no_feature_setting, no_versions, ObeysForm, ObeysToolRule, TextAsks, version_key, Versions, versions_reading}
 use Rattle.nextest_config_sources.specs.declared.nextest_version.edition.Edition.{Edition}
-use Rattle.nextest_config_sources.specs.declared.nextest_version.edition.Edition.TheVariants.{ArrayAllowed, TableOnly}
 use Rattle.nextest_config_sources.specs.declared.nextest_version.source.ConfigSourceKind.{ConfigSourceKind}
-use Rattle.nextest_config_sources.specs.declared.nextest_version.source.ConfigSourceKind.TheVariants.{DiscoveredRepository, ExplicitRepository, Tool}
 use Rattle.nextest_config_lines.specs.Step.{key, printed_path}
 use Rattle.nextest_config_findings.proofs.NoDuration.{experimental_no_duration, NeverDuration, versions_no_duration}
 use Rattle.nextest_config_findings.proofs.Warnings.{warned_in}
 use Rattle.nextest_config_findings.specs.Document.{AreFindings}
 use Rattle.nextest_config_findings.specs.FindingsLaws.{IsJudgedWell, IsWarning, NamesNothingForTool}
 use Rattle.nextest_config_findings.specs.Found.{Found}
-use Rattle.nextest_config_findings.specs.Judged.{at_known_key, below_table, deepest, from_table, if_there, judged_at, judged_in, JudgedValue}
+use Rattle.nextest_config_findings.specs.Judged.{at_known_key, below_table, deepest, if_there, judged_at, judged_in, JudgedValue}
 use Rattle.nextest_config_findings.specs.Place.{place_check, rows_of}
 use Rattle.nextest_config_findings.specs.declared.place.Place.TheVariants.{Experimental, NextestVersion, Top}
 use Rattle.nextest_config_findings.specs.declared.place.TheConstants.{TOP}

@@ -1,13 +1,12 @@
 -- Where each finding is a warning.
 use mathlib.Core.Logic.Iff as iff
-use Rattle.std.specs.Prelude.{◌≡◌, ◌↔◌, ℕ, Bool, true, false, List, [], ◌∷◌, ◌++◌, Option, Some, None, option_to_list}
-use Rattle.std.proofs.Common.{ap, refl, rules, subst, inl, inr}
+use Rattle.std.specs.Prelude.{◌≡◌, ◌↔◌, ℕ, Bool, List, [], ◌∷◌, ◌++◌, Option, Some, None, option_to_list}
+use Rattle.std.proofs.Common.{ap, rules, subst, inl, inr}
 use Rattle.std.specs.List.{AllByRecursion}
 use Rattle.toml.specs.Data.{Data, get_member, Members}
-use Rattle.nextest_config_values.specs.Read.Fault.{Fault}
 use Rattle.nextest_config_values.specs.Read.{Reason}
 use Rattle.nextest_config_values.proofs.Elements.{all_always, all_joined, all_left, all_right}
-use Rattle.nextest_config_sources.specs.NextestVersion.{experimental_key, Features, features_reading, FeatureSetting, ObeysToolRule}
+use Rattle.nextest_config_sources.specs.NextestVersion.{experimental_key, Features, features_reading, ObeysToolRule}
 use Rattle.nextest_config_sources.specs.declared.nextest_version.edition.Edition.{Edition}
 use Rattle.nextest_config_sources.specs.declared.nextest_version.source.ConfigSourceKind.{ConfigSourceKind}
 use Rattle.nextest_config_sources.specs.declared.nextest_version.source.ConfigSourceKind.TheVariants.{DiscoveredRepository, ExplicitRepository, Tool}

@@ -1,7 +1,7 @@
-use Rattle.std.proofs.Common.{◌≡◌, List, [], ◌∷◌, ◌++◌, Some, ap, option_map, refl, rules, ◌∙◌}
+use Rattle.std.proofs.Common.{◌≡◌, [], ◌∷◌, ◌++◌, Some, option_map, refl, rules}
+use Rattle.std.proofs.lemmas.List.{map_push}
 use Rattle.nextest_config_findings.specs.Features.{features_path}
 use Rattle.nextest_config_findings.specs.Found.{found_at, meant_of, unknown_name}
-use Rattle.nextest_config_findings.proofs.FoundLists.{pushed_found}
 use Rattle.nextest_config_findings.proofs.features.add_feature.Goals as goal
 
 pub returns : goal.returns
@@ -10,6 +10,5 @@ returns c =
     let pushed : c.push.new.self.items ≡ c.args.findings.now.items ++ (c.in_ok-finding_at.field-0 ∷ []) = search rules in (
       Some (found_at features_path (unknown_name c.args.name.now hint)),
       (hint, c.in_ok-hint.ensures, refl),
-      pushed_found c.args.findings.now.items c.push.new.self.items c.in_ok-finding_at.field-0 (found_at features_path (unknown_name c.args.name.now hint)) pushed
-          (c.in_ok-finding_at.ensures ∙ ap (λ (name : List _). Some (found_at features_path (unknown_name name hint))) c.in_ok-name.ensures.ok),
+      rw (pushed, map_push, c.in_ok-finding_at.ensures, c.in_ok-name.ensures.ok) refl,
     )

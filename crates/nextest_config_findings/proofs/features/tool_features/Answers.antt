@@ -1,7 +1,7 @@
-use Rattle.std.proofs.Common.{◌≡◌, ◌≢◌, [], ◌∷◌, ap, inr, map, refl, rules, string_bytes, ◌∙◌}
+use Rattle.std.proofs.Common.{◌≡◌, ◌≢◌, [], ◌∷◌, inr, map, refl, rules, string_bytes}
 use Rattle.nextest_config_sources.specs.NextestVersion.{features_of, no_features}
 use Rattle.nextest_config_findings.specs.Features.{features_path}
-use Rattle.nextest_config_findings.specs.Found.{found_at, found_of, tool_names}
+use Rattle.nextest_config_findings.specs.Found.{found_at, tool_names}
 use Rattle.nextest_config_findings.proofs.features.tool_features.Goals as goal
 
 pub returns : goal.returns
@@ -11,5 +11,5 @@ returns c =
     let pushed : c.push.new.self.items ≡ c.in_ok-finding_at.field-0 ∷ [] = search rules in (
       found_at features_path (tool_names names) ∷ [],
       inr (some, (names, c.in_ok-features.ensures, refl)),
-      ap (map found_of) pushed ∙ ap (λ f. f ∷ []) c.in_ok-finding_at.ensures,
+      rw (pushed, c.in_ok-finding_at.ensures) refl,
     )

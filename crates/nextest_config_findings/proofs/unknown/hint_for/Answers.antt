@@ -1,5 +1,5 @@
-use Rattle.nextest_config_findings.proofs.Keys.{words_told}
+use mathlib.Core.List.{map-map}
 use Rattle.nextest_config_findings.proofs.unknown.hint_for.Goals as goal
 
 pub returns : goal.returns
-returns c = rw (← c.if-is_of_top.ensures, words_told c.args.known.now) c.in_ok-hint.ensures
+returns c = rw (← c.if-is_of_top.ensures, map-map) c.in_ok-hint.ensures
