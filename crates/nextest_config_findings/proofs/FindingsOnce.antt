@@ -8,7 +8,7 @@ use Rattle.nextest_config_values.specs.Read.{Reason}
 use Rattle.nextest_config_sources.specs.NextestVersion.{all_features, experimental_key, Features, features_reading, texts_in_one_order, word_of}
 use Rattle.nextest_config_sources.specs.declared.nextest_version.edition.Edition.{Edition}
 use Rattle.nextest_config_sources.specs.declared.nextest_version.source.ConfigSourceKind.{ConfigSourceKind}
-use Rattle.nextest_config_sources.specs.declared.nextest_version.source.ConfigSourceKind.TheVariants.{DiscoveredRepository, ExplicitRepository, Tool}
+use Rattle.nextest_config_sources.specs.declared.nextest_version.source.ConfigSourceKind.TheVariants.{Tool}
 use Rattle.nextest_config_hints.specs.NearestWord.{nearest_once}
 use Rattle.nextest_config_lines.specs.Step.{PathStep, printed_path}
 use Rattle.nextest_config_findings.specs.Document.{AreFindings, keys_of_document}
@@ -78,8 +78,7 @@ tools_once features a b (inr (some, (names, are, is))) (inr (also, (others, are_
 
 named_once : (kind : ConfigSourceKind) (features : Features) (a b : List Found) → AreNamedFound kind features a → AreNamedFound kind features b → a ≡ b
 named_once (Tool name) features a b h k = tools_once features a b h k
-named_once ExplicitRepository features a b h k = found_once IsNameFound name_once features.unknown a b h k
-named_once DiscoveredRepository features a b h k = found_once IsNameFound name_once features.unknown a b h k
+named_once kind features a b h k = found_once IsNameFound name_once features.unknown a b h k
 
 features_once : (edition : Edition) (kind : ConfigSourceKind) (found : Option Data) (a b : List Found)
     → AreFeaturesFound edition kind found a → AreFeaturesFound edition kind found b → a ≡ b

@@ -1,16 +1,11 @@
 -- What is found of a fault.
-use Rattle.std.proofs.Common.{◌≡◌, ◌↔◌, ℕ, Bool, true, false, IfSome, IsTrue, List, Option, None, Some, ap, if◌then◌else◌, inl, inr, is_none, option_map, refl}
+use Rattle.std.proofs.Common.{◌≡◌, ◌↔◌, ℕ, Bool, true, false, IfSome, IsTrue, List, Option, None, Some, if◌then◌else◌, inl, inr, is_none, option_map, refl}
 use Rattle.toml.specs.Data.{Data}
 use Rattle.nextest_config_values.specs.Read.Fault.{Fault}
-use Rattle.nextest_config_values.specs.Read.{fault_at, fault_of, Reason, Refuses}
-use Rattle.nextest_config_values.specs.declared.read.fault.ReadFault.{ReadFault}
-use Rattle.nextest_config_sources.specs.declared.nextest_version.edition.Edition.{Edition}
+use Rattle.nextest_config_values.specs.Read.{fault_at, Reason}
 use Rattle.nextest_config_lines.specs.Step.{PathStep, printed_path}
-use Rattle.nextest_config_findings.specs.Faults.{Added, added_step, IsFaultFound, IsFoundKind, IsFoundOf, IsUnjudged, led_to, with_added}
-use Rattle.nextest_config_findings.specs.Found.{Found, found_at, found_of, FoundKind, refused, unjudged}
-use Rattle.nextest_config_findings.specs.Judged.{JudgedValue}
-use Rattle.nextest_config_findings.specs.Place.{place_check}
-use Rattle.nextest_config_findings.specs.declared.finding.Finding.{Finding}
+use Rattle.nextest_config_findings.specs.Faults.{Added, added_step, IsFoundKind, IsFoundOf, IsUnjudged, led_to, with_added}
+use Rattle.nextest_config_findings.specs.Found.{Found, found_at, FoundKind, refused, unjudged}
 
 -- a kind of finding that is told so
 abbrev pub IsToldKind : Data → Option Reason → Option FoundKind → Type 0
@@ -34,15 +29,3 @@ finding_told path value fault_path added told kind found_path is path_is (reason
   record { path_is = rw is path_is; kind_is = rw is found },
   rw kind_is refl,
 )
-
--- a finding that is told of a refusal
-abbrev pub IsToldFinding : List PathStep → Data → ReadFault → Finding → Type 0
-IsToldFinding path value refusal finding = (fault : Fault) × (found : Found) × (fault_of refusal ≡ Some fault) × IsFoundOf path value fault found × (found_of finding ≡ Some found)
-
--- a refusal that tells a fault, and what is found of it
-pub refused_found : (edition : Edition) (judged : JudgedValue) (refusal : ReadFault) (finding : Finding)
-    → Refuses ((place_check edition judged.place).faults judged.value (printed_path judged.path)) (Unit {0}) refusal
-    → IsToldFinding judged.path judged.value refusal finding
-    → (here : Option Found) × IsFaultFound edition judged here × (Some (found_of finding) ≡ option_map Some here)
-refused_found edition judged refusal finding refuses (fault, found, told, is_found, finding_is) =
-    (Some found, (fault, rw told at refuses, is_found), ap Some finding_is)

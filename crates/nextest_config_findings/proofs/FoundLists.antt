@@ -1,5 +1,5 @@
 -- What is found of each element of a list.
-use Rattle.std.proofs.Common.{List, [], ◌∷◌, ◌++◌, Option, Some, ap, append_assoc, append-nil, map, option_to_list, refl, sym, ◌∙◌}
+use Rattle.std.proofs.Common.{List, [], ◌∷◌, ◌++◌, Option, Some, append_assoc, append-nil, map, option_to_list, refl, sym}
 use Rattle.std.proofs.lemmas.List.{map-append, map_push}
 use Rattle.nextest_config_findings.specs.Found.{AddsFound, AddsOne, AreFoundIn, Found, found_of, Tells}
 use Rattle.nextest_config_findings.specs.declared.finding.Finding.{Finding}
@@ -8,13 +8,8 @@ use Rattle.nextest_config_findings.specs.declared.finding.Finding.{Finding}
 pub found_in_both : {A : Type 0} (IsFound : A → Option Found → Type 0) (xs ys : List A) (founds later : List Found)
     → AreFoundIn IsFound xs founds → AreFoundIn IsFound ys later → AreFoundIn IsFound (xs ++ ys) (founds ++ later)
 found_in_both IsFound [] ys founds later none are = rw none are
-found_in_both IsFound (x ∷ xs) ys founds later (here, rest, is, rest_are, whole) are = (
-  here,
-  rest ++ later,
-  is,
-  found_in_both IsFound xs ys rest later rest_are are,
-  ap (λ (front : List Found). front ++ later) whole ∙ append_assoc (option_to_list here) rest later,
-)
+found_in_both IsFound (x ∷ xs) ys founds later (here, rest, is, rest_are, whole) are =
+    (here, rest ++ later, is, found_in_both IsFound xs ys rest later rest_are are, rw whole (append_assoc (option_to_list here) rest later))
 
 -- what lists of findings in a row tell
 pub told_in_both : (findings more : List Finding) (founds later : List Found)

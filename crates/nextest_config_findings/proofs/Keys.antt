@@ -1,5 +1,5 @@
 -- The keys of tables, and the words that they may be meant for.
-use Rattle.std.proofs.Common.{◌≡◌, ℕ, ◌+◌, ◌<◌, true, false, List, [], ◌∷◌, Bor, Global, IsSome, Option, None, Some, String, ap, drop, get_or, is_some, length, map, nat_eq, refl, string_bytes, sym, ◌∙◌}
+use Rattle.std.proofs.Common.{◌≡◌, ℕ, ◌+◌, ◌<◌, true, false, List, [], ◌∷◌, Bor, Global, String, ap, drop, get_or, is_some, length, map, nat_eq, refl, string_bytes, sym, ◌∙◌}
 use mathlib.Core.List.{map-map}
 use Rattle.std.proofs.lemmas.List.{drop_more}
 use Rattle.std.specs.Cmp.Lexicographic.{pointwise}
@@ -7,8 +7,7 @@ use Rattle.std.specs.Map.{keys_of}
 use Rattle.std.specs.Map.Iter.{deref}
 use Rattle.toml.proofs.Views.{Entry}
 use Rattle.toml.specs.View.{members_view}
-use Rattle.nextest_config_values.specs.Read.{FaultOrMemory, value_of}
-use Rattle.nextest_config_values.specs.Read.Fault.{Fault}
+use Rattle.nextest_config_values.specs.Read.{value_of}
 use Rattle.nextest_config_findings.specs.Place.{keys_told}
 use Rattle.nextest_config_findings.specs.Unknown.{names_of}
 use Rattle.nextest_config_findings.specs.declared.place.Place.{Place}
@@ -39,10 +38,3 @@ all_names entries yielded f all =
 -- all names of a set that were yielded
 pub all_texts : (names : List (String Global)) (yielded : List (Bor (String Global))) → map deref yielded ≡ names → map (λ name. string_bytes name.now) yielded ≡ map string_bytes names
 all_texts names yielded all = sym (map-map string_bytes deref yielded) ∙ ap (map string_bytes) all
-
--- ---- refusals
-
--- a refusal that isn't memory tells a fault
-pub fault_there : (told : Option Fault) (memory : Type 0) (IsFault : Fault → Type 0) → FaultOrMemory told memory IsFault → IsSome told → (fault : Fault) × IsFault fault
-fault_there None memory IsFault refuses some = cc some
-fault_there (Some fault) memory IsFault refuses some = (fault, refuses)

@@ -1,6 +1,6 @@
 -- The faults of `nextest-version` and of `experimental` are none of durations.
 use Rattle.std.specs.Prelude.{◌≡◌, ℕ, List, [], ◌∷◌, Option, Some, None}
-use Rattle.std.proofs.Common.{ap, inl, inr}
+use Rattle.std.proofs.Common.{ap, inl, inr, rules}
 use Rattle.toml.specs.Data.{as_array, as_bool, as_str, as_table, Data, Items, Members}
 use Rattle.nextest_config_values.specs.Read.Fault.{BrokenRule, Fault}
 use Rattle.nextest_config_values.specs.Read.{custom, either, fault_at, path_of, Then, wrong_type}
@@ -45,9 +45,7 @@ version value = by_kind _ _ text (wrong value _) (as_str value)
 
 order : (required recommended : Option _) → NeverDuration ((in_order required recommended).faults tt)
 order (Some required) (Some recommended) at fault (inl a) = of_rule at _ fault a.1
-order (Some required) (Some recommended) at fault (inr a) = absurd a.1
-order (Some required) None at fault a = absurd a
-order None recommended at fault a = absurd a
+order required recommended at fault a = search rules
 
 table : (held : Members) → NeverDuration (version_table.faults held)
 table held = in_turn _ _ _ (by_kind _ _ (λ value at. version value (path_of at _)) no_fault _)

@@ -1,7 +1,7 @@
 -- Where each finding is a warning.
 use mathlib.Core.Logic.Iff as iff
 use Rattle.std.specs.Prelude.{◌≡◌, ◌↔◌, ℕ, Bool, List, [], ◌∷◌, ◌++◌, Option, Some, None, option_to_list}
-use Rattle.std.proofs.Common.{ap, rules, subst, inl, inr}
+use Rattle.std.proofs.Common.{rules, subst, inl, inr}
 use Rattle.std.specs.List.{AllByRecursion}
 use Rattle.toml.specs.Data.{Data, get_member, Members}
 use Rattle.nextest_config_values.specs.Read.{Reason}
@@ -48,8 +48,7 @@ always_warned IsFound always xs founds are =
 -- ---- of faults
 
 kind_warned : (value : Data) (reason : Reason) (kind : FoundKind) → IsFoundKind value reason kind → (gravity kind ≡ Warning) ↔ IsUnjudged value reason
-kind_warned value reason kind (inl (is, unjudged)) = (λ h. is, λ h. ap gravity unjudged)
-kind_warned value reason kind (inr (is_not, refused)) = (λ h. absurd (cc (h, ap gravity refused)), λ is. absurd (is_not is))
+kind_warned value reason kind found = search rules
 
 fault_warned : (edition : Edition) (judged : JudgedValue) (here : Option Found) → IsFaultFound edition judged here
     → AreWarnings (option_to_list here) ↔ IsJudgedWell edition judged
