@@ -99,6 +99,7 @@ pub findings_once : (edition : Edition) (kind : ConfigSourceKind) (members : Mem
 findings_once edition kind members a b h k =
     let of_faults : h.faults ≡ k.faults = found_once (IsFaultFound edition) (fault_found_once edition) (from_table members) h.faults k.faults h.of_faults k.of_faults in
     let of_features : h.features ≡ k.features = features_once edition kind (get_member experimental_key members) h.features k.features h.of_features k.of_features in
-    let of_unknown : h.unknown ≡ k.unknown = found_once IsKeyFound (λ judged. key_once (is_known judged.known judged.name) judged) (keys_of_document members) h.unknown k.unknown h.of_unknown k.of_unknown in
+    let of_unknown : h.unknown ≡ k.unknown = found_once IsKeyFound
+    (λ judged. key_once (is_known judged.known judged.name) judged) (keys_of_document members) h.unknown k.unknown h.of_unknown k.of_unknown in
     h.whole ∙ ap₂ (λ (first : List Found) (behind : List Found). first ++ behind) of_faults
     (ap₂ (λ (first : List Found) (behind : List Found). first ++ behind) of_features of_unknown) ∙ sym k.whole

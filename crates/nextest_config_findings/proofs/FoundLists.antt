@@ -9,7 +9,8 @@ pub found_in_both : {A : Type 0} (IsFound : A → Option Found → Type 0) (xs y
     → AreFoundIn IsFound xs founds → AreFoundIn IsFound ys later → AreFoundIn IsFound (xs ++ ys) (founds ++ later)
 found_in_both IsFound [] ys founds later none are = rw none are
 found_in_both IsFound (x ∷ xs) ys founds later (here, rest, is, rest_are, whole) are =
-    (here, rest ++ later, is, found_in_both IsFound xs ys rest later rest_are are, rw whole (append_assoc (option_to_list here) rest later))
+    let behind = found_in_both IsFound xs ys rest later rest_are are in
+    (here, rest ++ later, is, behind, rw whole (append_assoc (option_to_list here) rest later))
 
 -- what lists of findings in a row tell
 pub told_in_both : (findings more : List Finding) (founds later : List Found)

@@ -102,6 +102,7 @@ pub warned_in : (edition : Edition) (kind : ConfigSourceKind) (members : Members
 warned_in edition kind members founds are =
     let of_faults = warned_where (IsFaultFound edition) (IsJudgedWell edition) (fault_warned edition) (from_table members) are.faults are.of_faults in
     let of_features = features_warned edition kind (get_member experimental_key members) are.features are.of_features in
-    let of_unknown = always_warned IsKeyFound (λ judged. key_warned (is_known judged.known judged.name) judged) (keys_of_document members) are.unknown are.of_unknown in
+    let of_unknown = always_warned IsKeyFound (λ judged. key_warned (is_known judged.known judged.name) judged)
+    (keys_of_document members) are.unknown are.of_unknown in
     let behind = iff.trans (in_both are.features are.unknown) (λ h. of_features.0 h.0, λ names. (of_features.1 names, of_unknown)) in
     rw are.whole (iff.trans (in_both are.faults (are.features ++ are.unknown)) (iff.and of_faults behind))

@@ -7,7 +7,8 @@ returns c =
     let faults = c.in_ok-findings.ensures in
     let features = c.in_ok-features.ensures in
     let unknown = c.in_ok-unknown.ensures in
-    let whole : c.append-2.new.self.items ≡ c.in_ok-findings.findings.items ++ (c.in_ok-features.features.items ++ c.in_ok-unknown.unknown.items) = search rules in (
+    let whole : c.append-2.new.self.items
+    ≡ c.in_ok-findings.findings.items ++ (c.in_ok-features.features.items ++ c.in_ok-unknown.unknown.items) = search rules in (
       faults.0 ++ (features.0 ++ unknown.0),
       record {
         faults = faults.0;

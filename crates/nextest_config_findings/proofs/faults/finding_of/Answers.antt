@@ -13,7 +13,8 @@ returns-in-Some c =
     let step = mark_step c.in-Some.mark in
     let pushed : c.push.new.self.items ≡ c.args.steps.items ++ (c.in_ok-step-in-Some.field-0 ∷ []) = search rules in
     let path_is : map step_of c.push.new.self.items ≡ steps ++ (step ∷ []) = rw (pushed, map_push, c.in_ok-step-in-Some.ensures) refl in
-    let is : added_step (view c.args.value.now) (printed_path steps) (string_bytes c.args.fault.path) ≡ Some (step, view c.in-Some.inner.now) = search rules in
+    let is : added_step (view c.args.value.now) (printed_path steps) (string_bytes c.args.fault.path)
+    ≡ Some (step, view c.in-Some.inner.now) = search rules in
     finding_told steps (view c.args.value.now) (string_bytes c.args.fault.path) _ _ _ _ is path_is c.in_ok-kind_of-in-Some.ensures
 
 pub returns : goal.returns
