@@ -7,7 +7,7 @@ use Rattle.std.proofs.lemmas.List.{take_more}
 use Rattle.std.proofs.lemmas.List.Sums.{sum_by_push}
 use Rattle.nextest_config_values.specs.Characters.{line_feed}
 use Rattle.nextest_config_values.proofs.Elements.{all_joined}
-use Rattle.nextest_config_findings.specs.File.{AreAtLines, begins_character, column_after, IsColumn, IsInLine, IsFindingAtLine}
+use Rattle.nextest_config_findings.specs.File.{AreAtLines, begins_character, column_after, IsColumn, IsFindingAtLine, IsInLine}
 use Rattle.nextest_config_findings.specs.Found.{Found, Tells}
 use Rattle.nextest_config_findings.specs.declared.file.LocatedFinding.{LocatedFinding}
 use Rattle.nextest_config_findings.specs.declared.finding.Finding.{Finding}

@@ -7,7 +7,7 @@ ghost use Rattle.toml.specs.Parse.{parse_document};
 ghost use Rattle.toml.specs.View.{table_view};
 ghost use Rattle.nextest_config_lines.specs.Line.{line_behind};
 ghost use Rattle.nextest_config_lines.specs.Step.{step_of};
-ghost use Rattle.nextest_config_findings.specs.File.{AreInText, AreLocated, AreLocatedIn, column_after, IsColumn, IsLineOrFirst, IsNotToml, IsFindingAtLine, line_path, located_told};
+ghost use Rattle.nextest_config_findings.specs.File.{AreInText, AreLocated, AreLocatedIn, column_after, IsColumn, IsFindingAtLine, IsLineOrFirst, IsNotToml, line_path, located_told};
 ghost use Rattle.nextest_config_findings.specs.Found.{Found, found_at, found_of, kind_told, not_utf8};
 
 use crate::document::findings;
