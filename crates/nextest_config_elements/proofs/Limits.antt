@@ -45,20 +45,27 @@ no_bad_mode text count mode fault h b = mode_meant text count b.1 b.2 h.word mod
 no_digits : (text : List ℕ) (number : ℤ) → text ≡ [] → IsNumberText text number → ⊥
 no_digits text number none h = absurd (omega (arith, (number_parts [] number (subst (λ t. IsNumberText t number) none h)).0.0))
 
-not_too_large : (number : ℕ) → number < 2 ^ 63 → pos (2 ^ 63) ≤ℤ pos number → ⊥
-not_too_large number fits large = search rules
+large_not_in : (number : ℤ) → pos (2 ^ 63) ≤ℤ number → FitsSigned w64 number → ⊥
+large_not_in number large fits = search rules
 
-not_too_small : (number : ℕ) → pos number <ℤ neg_ℤ (pos (2 ^ 63)) → ⊥
-not_too_small number small = search rules
+small_not_in : (number : ℤ) → number <ℤ neg_ℤ (pos (2 ^ 63)) → FitsSigned w64 number → ⊥
+small_not_in number small fits = search rules
+
+-- a number of an isize has none of these faults
+fault_not_in : (count : List ℕ) (number : ℤ) (reason : CountFault) → IsNumberText count number → FitsSigned w64 number → IsCountFault count reason → ⊥
+fault_not_in count number Empty h fits b = no_digits count number b h
+fault_not_in count number InvalidDigit h fits b = b.1 number h
+fault_not_in count number TooLarge h fits b = large_not_in number (subst (λ n. pos (2 ^ 63) ≤ℤ n) (one_number count b.0 number b.1 h) b.2) fits
+fault_not_in count number TooSmall h fits b = small_not_in number (subst (λ n. n <ℤ neg_ℤ (pos (2 ^ 63))) (one_number count b.0 number b.1 h) b.2) fits
+
+count_fits : (number : ℕ) → number < 2 ^ 63 → FitsSigned w64 (pos number)
+count_fits number fits = search rules
 
 not_zero : (number : ℕ) → 0 < number → pos number ≤ℤ pos 0 → ⊥
 not_zero number positive zero = search rules
 
 pub count_not_faulty : (count : List ℕ) (max_fail : ℕ) (reason : CountFault) → IsCountText count max_fail → IsCountFault count reason → ⊥
-count_not_faulty count max_fail Empty h b = no_digits count _ b h.number
-count_not_faulty count max_fail InvalidDigit h b = b.1 _ h.number
-count_not_faulty count max_fail TooLarge h b = not_too_large max_fail h.fits (subst (λ n. pos (2 ^ 63) ≤ℤ n) (one_number count b.0 _ b.1 h.number) b.2)
-count_not_faulty count max_fail TooSmall h b = not_too_small max_fail (subst (λ n. n <ℤ neg_ℤ (pos (2 ^ 63))) (one_number count b.0 _ b.1 h.number) b.2)
+count_not_faulty count max_fail reason h = fault_not_in count (pos max_fail) reason h.number (count_fits max_fail h.fits)
 
 count_positive : (count : List ℕ) (max_fail : ℕ) → IsCountText count max_fail → IsNotPositive count → ⊥
 count_positive count max_fail h b = not_zero max_fail h.positive (subst (λ n. n ≤ℤ pos 0) (one_number count b.0 _ b.1 h.number) b.3)
@@ -101,12 +108,6 @@ limit_not_faulty text limit fault h (inr b) = no_limit_without_count text b.0 b.
 large_not_small : (number : ℤ) → pos (2 ^ 63) ≤ℤ number → number <ℤ neg_ℤ (pos (2 ^ 63)) → ⊥
 large_not_small number large small = search rules
 
-large_not_in : (number : ℤ) → pos (2 ^ 63) ≤ℤ number → FitsSigned w64 number → ⊥
-large_not_in number large fits = search rules
-
-small_not_in : (number : ℤ) → number <ℤ neg_ℤ (pos (2 ^ 63)) → FitsSigned w64 number → ⊥
-small_not_in number small fits = search rules
-
 both_beyond : (count : List ℕ) → IsCountFault count TooLarge → IsCountFault count TooSmall → ⊥
 both_beyond count a b = large_not_small b.0 (subst (λ n. pos (2 ^ 63) ≤ℤ n) (one_number count a.0 b.0 a.1 b.1) a.2) b.2
 
@@ -115,13 +116,10 @@ one_reason count InvalidDigit TooLarge a b = absurd (a.1 b.0 b.1)
 one_reason count InvalidDigit TooSmall a b = absurd (a.1 b.0 b.1)
 one_reason count TooLarge InvalidDigit a b = absurd (b.1 a.0 a.1)
 one_reason count TooSmall InvalidDigit a b = absurd (b.1 a.0 a.1)
-one_reason count r s a b = search (rules, no_digits, both_beyond)
+one_reason count r s a b = search rules
 
 reason_not_in : (count : List ℕ) (r : CountFault) → IsCountFault count r → IsNotPositive count → ⊥
-reason_not_in count Empty a b = no_digits count b.0 a b.1
-reason_not_in count InvalidDigit a b = a.1 b.0 b.1
-reason_not_in count TooLarge a b = large_not_in b.0 (subst (λ n. pos (2 ^ 63) ≤ℤ n) (one_number count a.0 b.0 a.1 b.1) a.2) b.2
-reason_not_in count TooSmall a b = small_not_in b.0 (subst (λ n. n <ℤ neg_ℤ (pos (2 ^ 63))) (one_number count a.0 b.0 a.1 b.1) a.2) b.2
+reason_not_in count r a b = fault_not_in count b.0 r b.1 b.2 a
 
 one_bad_count : (count : List ℕ) (e f : LimitFault) → IsBadCount count e → IsBadCount count f → e ≡ f
 one_bad_count count (bad_count text r) (bad_count other s) a b = ap (λ written. bad_count written r) (a.0 ∙ sym b.0) ∙ ap (bad_count other) (one_reason count r s a.1 b.1)

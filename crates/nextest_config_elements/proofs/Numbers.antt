@@ -25,14 +25,8 @@ too_large text digits out none =
 
 -- ---- the sign of a number that was read
 
-positive_tested : (value : ℤ) → int_lt (pos 0) value ≡ true → pos 0 <ℤ value
-positive_tested value tested = search rules
-
-not_positive_tested : (value : ℤ) → int_lt (pos 0) value ≡ false → value ≤ℤ pos 0
-not_positive_tested value tested = search rules
-
 pub positive : (number value : ℤ) → FitsSigned w64 value → number ≡ value → int_lt (pos 0) (to_z w64 (of_z w64 number)) ≡ true → pos 0 <ℤ value
-positive number value fits same tested = positive_tested value (rw (same, to_z-of_z fits) at tested)
+positive number value fits same tested = let above : int_lt (pos 0) value ≡ true = rw (same, to_z-of_z fits) at tested in search (rules, above)
 
 pub not_positive : (number value : ℤ) → FitsSigned w64 value → number ≡ value → int_lt (pos 0) (to_z w64 (of_z w64 number)) ≡ false → value ≤ℤ pos 0
-not_positive number value fits same tested = not_positive_tested value (rw (same, to_z-of_z fits) at tested)
+not_positive number value fits same tested = let above : int_lt (pos 0) value ≡ false = rw (same, to_z-of_z fits) at tested in search (rules, above)

@@ -91,27 +91,28 @@ pub record JunitTable : Type 0 where
   pub report_skipped : Option ReportSkipPolicy
   pub flaky_fail_status : Option JunitFlakyFailStatus
 
+-- the table that says this, key by key
+abbrev pub table_of_keys : Option (List ℕ) → Option (List ℕ) → Option Bool → Option Bool
+    → Option ReportSkipPolicy → Option JunitFlakyFailStatus → JunitTable
+table_of_keys path report_name store_success_output store_failure_output report_skipped status =
+    record {
+      path = path;
+      report_name = report_name;
+      store_success_output = store_success_output;
+      store_failure_output = store_failure_output;
+      report_skipped = report_skipped;
+      flaky_fail_status = status;
+    }
+
 -- what is kept of a table
 abbrev pub table_of : JunitImpl → JunitTable
-table_of junit = record {
-  path = option_map string_bytes junit.path;
-  report_name = option_map string_bytes junit.report_name;
-  store_success_output = junit.store_success_output;
-  store_failure_output = junit.store_failure_output;
-  report_skipped = junit.report_skipped;
-  flaky_fail_status = junit.flaky_fail_status;
-}
+table_of junit = table_of_keys (option_map string_bytes junit.path)
+    (option_map string_bytes junit.report_name) junit.store_success_output
+    junit.store_failure_output junit.report_skipped junit.flaky_fail_status
 
 -- the table that says nothing
 abbrev pub empty_table : JunitTable
-empty_table = record {
-  path = None;
-  report_name = None;
-  store_success_output = None;
-  store_failure_output = None;
-  report_skipped = None;
-  flaky_fail_status = None;
-}
+empty_table = table_of_keys None None None None None None
 
 abbrev pub path_key : List ℕ
 path_key = codes "path"
@@ -139,14 +140,8 @@ junit_table =
     then (optional store_success_output_key bool_reading) (λ store_success_output.
     then (optional store_failure_output_key bool_reading) (λ store_failure_output.
     then (optional report_skipped_key report_skip_reading) (λ report_skipped.
-    made_of (λ flaky_fail_status. record {
-      path = path;
-      report_name = report_name;
-      store_success_output = store_success_output;
-      store_failure_output = store_failure_output;
-      report_skipped = report_skipped;
-      flaky_fail_status = flaky_fail_status;
-    }) (optional flaky_fail_status_key flaky_fail_reading))))))
+    made_of (table_of_keys path report_name store_success_output store_failure_output report_skipped)
+    (optional flaky_fail_status_key flaky_fail_reading))))))
 
 -- the table has a text, which is kept in memory of its own
 abbrev pub HasText : JunitTable → Type 0

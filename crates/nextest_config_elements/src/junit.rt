@@ -107,14 +107,7 @@ impl<'cfg> JunitConfig<'cfg> {
         ensures { IfOk result (λ config. report_of config ≡ report_of self.now) }
     {
         let path = self.path.clone()?;
-        Ok(JunitConfig {
-            path,
-            report_name: self.report_name,
-            store_success_output: self.store_success_output,
-            store_failure_output: self.store_failure_output,
-            report_skipped: self.report_skipped,
-            flaky_fail_status: self.flaky_fail_status,
-        })
+        Ok(JunitConfig { path, ..*self })
     }
 
     /// The path of the report: absolute where the folder or the setting is.
@@ -225,10 +218,7 @@ impl DefaultJunitImpl {
         Ok(DefaultJunitImpl {
             path,
             report_name,
-            store_success_output: self.store_success_output,
-            store_failure_output: self.store_failure_output,
-            report_skipped: self.report_skipped,
-            flaky_fail_status: self.flaky_fail_status,
+            ..*self
         })
     }
 }
@@ -295,10 +285,7 @@ impl JunitImpl {
         Ok(JunitImpl {
             path,
             report_name,
-            store_success_output: self.store_success_output,
-            store_failure_output: self.store_failure_output,
-            report_skipped: self.report_skipped,
-            flaky_fail_status: self.flaky_fail_status,
+            ..*self
         })
     }
 

@@ -43,29 +43,12 @@ returns-in_err-flaky_fail_status-clause-refused c =
     (in_later (optional store_failure_output_key bool_reading) table c.in_ok-store_failure_output.ensures.meant
     (in_later (optional report_skipped_key report_skip_reading) table c.in_ok-report_skipped.ensures.meant (in_made c.in_err-flaky_fail_status.ensures.refused))))))
 
+-- a first part means this, and what comes behind it that
+in_turn : {X : Type 0} {First Later : X → Type 0} (x : X) → First x → Later x → (v : X) × First v × Later v
+in_turn x first later = (x, first, later)
+
 pub returns-clause-meant : goal.returns-clause-meant
-returns-clause-meant c = (
-  _,
-  c.in_ok-path.ensures.meant,
-  (
-    _,
-    c.in_ok-report_name.ensures.meant,
-    (
-      _,
-      c.in_ok-store_success_output.ensures.meant,
-      (
-        _,
-        c.in_ok-store_failure_output.ensures.meant,
-        (
-          _,
-          c.in_ok-report_skipped.ensures.meant,
-          (
-            _,
-            c.in_ok-flaky_fail_status.ensures.meant,
-            rw (option_map_id c.in_ok-store_success_output.store_success_output, option_map_id c.in_ok-store_failure_output.store_failure_output, option_map_id c.in_ok-report_skipped.report_skipped, option_map_id c.in_ok-flaky_fail_status.flaky_fail_status) refl,
-          ),
-        ),
-      ),
-    ),
-  ),
-)
+returns-clause-meant c =
+    in_turn _ c.in_ok-path.ensures.meant (in_turn _ c.in_ok-report_name.ensures.meant
+    (in_turn _ c.in_ok-store_success_output.ensures.meant (in_turn _ c.in_ok-store_failure_output.ensures.meant
+    (in_turn _ c.in_ok-report_skipped.ensures.meant (in_turn _ c.in_ok-flaky_fail_status.ensures.meant (simp option_map_id))))))

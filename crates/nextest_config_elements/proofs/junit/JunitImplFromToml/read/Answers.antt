@@ -9,9 +9,6 @@ use Rattle.nextest_config_elements.proofs.junit.JunitImplFromToml.read.Goals as 
 has_text : (table : Members) (said : JunitTable) → junit_table.means table said → junit_table.takes_memory table → HasText said
 has_text table said meant takes = search rules
 
-pub returns-in-Some-clause-refused : goal.returns-in-Some-clause-refused
-returns-in-Some-clause-refused c = rw (sym c.in-Some.ensures) c.read_table.ensures.refused
-
 pub returns-in-Some-clause-texts : goal.returns-in-Some-clause-texts
 returns-in-Some-clause-texts c said meant none =
     let table = table_view c.in-Some.table.now in

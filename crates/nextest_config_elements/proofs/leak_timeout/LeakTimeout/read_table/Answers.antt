@@ -8,7 +8,5 @@ use Rattle.nextest_config_elements.proofs.leak_timeout.LeakTimeout.read_table.Go
 
 pub returns-in_err-result-clause-refused : goal.returns-in_err-result-clause-refused
 returns-in_err-result-clause-refused c =
-    let table = table_view c.args.table.now in
-    let word = word_reading leak_timeout_results leak_timeout_word leak_timeout_reads_back in
-    let refused = subst (λ result. RefusesBy (or_default result_key result word) table c.args.at.now c.in_err-result.field-0.0) c.default.ensures c.in_err-result.ensures.refused in
-    passed_on _ c.from_residual-in_err-result.result _ c.from_residual-in_err-result.ensures.1 (in_later (required period_key duration_reading) table c.in_ok-period.ensures.meant (in_made refused))
+    passed_on _ c.from_residual-in_err-result.result _ c.from_residual-in_err-result.ensures.1
+    (in_later (required period_key duration_reading) (table_view c.args.table.now) c.in_ok-period.ensures.meant (in_made (simp c.default.ensures at c.in_err-result.ensures.refused)))

@@ -8,21 +8,18 @@ use Rattle.nextest_config_elements.specs.MaxFail.{bad_mode, IsAllText, limit_fau
 use Rattle.nextest_config_elements.specs.declared.max_fail.TerminateMode.TheVariants.{Wait}
 use Rattle.nextest_config_elements.proofs.max_fail.MaxFail.from_str.Goals as goal
 
-pub returns-in_err-terminate-in-Some-clause-refused : goal.returns-in_err-terminate-in-Some-clause-refused
-returns-in_err-terminate-in-Some-clause-refused c =
+pub returns-in_err-terminate-in-Some : goal.returns-in_err-terminate-in-Some
+returns-in_err-terminate-in-Some c =
     let not_all : ¬ (IsAllText c.args.s.now) = λ all. false≢true (c.if-eq_ignore_ascii_case.ensures.test.1 all) in
     let cut = split_colon c.args.s.now (Some (c.in-Some.count, c.in-Some.mode)) c.utf8.s c.in-Some.ensures.cases in
     let passed = err_from_is_err_and c.from_residual.result c.from_residual.ensures.1 in
-    rw (passed.1, passed.2) (fault_mapped (limit_fault c.in_err-terminate-in-Some.field-0.0) c.in_err-terminate-in-Some.ensures.refused (λ memory. memory)
-    (λ fault same. inl (not_all, c.in-Some.count.now, c.in-Some.mode.now, cut.bytes, c.in_err-terminate-in-Some.ensures.only, same)))
-
-pub returns-in_err-terminate-in-Some-clause-only : goal.returns-in_err-terminate-in-Some-clause-only
-returns-in_err-terminate-in-Some-clause-only c =
-    let not_all : ¬ (IsAllText c.args.s.now) = λ all. false≢true (c.if-eq_ignore_ascii_case.ensures.test.1 all) in
-    let cut = split_colon c.args.s.now (Some (c.in-Some.count, c.in-Some.mode)) c.utf8.s c.in-Some.ensures.cases in
-    let passed = err_from_is_err_and c.from_residual.result c.from_residual.ensures.1 in
-    rw passed.1 (λ limit. no_limit_at_bad_mode c.args.s.now (bad_mode c.in-Some.mode.now) limit
-    (not_all, c.in-Some.count.now, c.in-Some.mode.now, cut.bytes, c.in_err-terminate-in-Some.ensures.only, refl))
+    record {
+      accepted = rw passed.1 tt;
+      refused = rw (passed.1, passed.2) (fault_mapped (limit_fault c.in_err-terminate-in-Some.field-0.0) c.in_err-terminate-in-Some.ensures.refused (λ memory. memory)
+          (λ fault same. inl (not_all, c.in-Some.count.now, c.in-Some.mode.now, cut.bytes, c.in_err-terminate-in-Some.ensures.only, same)));
+      only = rw passed.1 (λ limit. no_limit_at_bad_mode c.args.s.now (bad_mode c.in-Some.mode.now) limit
+          (not_all, c.in-Some.count.now, c.in-Some.mode.now, cut.bytes, c.in_err-terminate-in-Some.ensures.only, refl));
+    }
 
 pub returns-in_ok-terminate-in-Some : goal.returns-in_ok-terminate-in-Some
 returns-in_ok-terminate-in-Some c =

@@ -15,17 +15,14 @@ returns-in_err-terminate_after-clause-refused c =
 pub returns-in_err-grace_period-clause-refused : goal.returns-in_err-grace_period-clause-refused
 returns-in_err-grace_period-clause-refused c =
     let table = table_view c.args.table.now in
-    let fault = c.in_err-grace_period.field-0.0 in
-    let refused = subst (λ grace. RefusesBy (or_default grace_period_key grace duration_reading) table c.args.at.now fault) c.default_grace_period.ensures c.in_err-grace_period.ensures.refused in
     passed_on _ c.from_residual-in_err-grace_period.result _ c.from_residual-in_err-grace_period.ensures.1
-    (in_later (required period_key duration_reading) table c.in_ok-period.ensures.meant (in_later (optional terminate_after_key count_reading) table c.in_ok-terminate_after.ensures.meant (in_first refused)))
+    (in_later (required period_key duration_reading) table c.in_ok-period.ensures.meant (in_later (optional terminate_after_key count_reading) table c.in_ok-terminate_after.ensures.meant
+    (in_first (simp c.default_grace_period.ensures at c.in_err-grace_period.ensures.refused))))
 
 pub returns-in_err-on_timeout-clause-refused : goal.returns-in_err-on_timeout-clause-refused
 returns-in_err-on_timeout-clause-refused c =
     let table = table_view c.args.table.now in
-    let word = word_reading slow_timeout_results slow_timeout_word slow_timeout_reads_back in
     let grace_period = subst (λ grace. (or_default grace_period_key grace duration_reading).means table (as_nanos c.in_ok-grace_period.grace_period)) c.default_grace_period.ensures c.in_ok-grace_period.ensures.meant in
-    let refused = subst (λ result. RefusesBy (or_default on_timeout_key result word) table c.args.at.now c.in_err-on_timeout.field-0.0) c.default.ensures c.in_err-on_timeout.ensures.refused in
     passed_on _ c.from_residual-in_err-on_timeout.result _ c.from_residual-in_err-on_timeout.ensures.1
     (in_later (required period_key duration_reading) table c.in_ok-period.ensures.meant (in_later (optional terminate_after_key count_reading) table c.in_ok-terminate_after.ensures.meant
-    (in_later (or_default grace_period_key default_grace_period duration_reading) table grace_period (in_made refused))))
+    (in_later (or_default grace_period_key default_grace_period duration_reading) table grace_period (in_made (simp c.default.ensures at c.in_err-on_timeout.ensures.refused)))))
