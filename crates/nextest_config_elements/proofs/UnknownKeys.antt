@@ -1,5 +1,5 @@
 -- The keys of a table, in order, against the known ones.
-use Rattle.std.proofs.Common.{◌≡◌, ℕ, ◌++◌, List, [], ◌∷◌, Option, Some, IsSome, Equal, Global, Less, Ordering, String, ap, nat_cmp, refl, rules, string_bytes, subst, sym, ◌∙◌}
+use Rattle.std.proofs.Common.{◌≡◌, ℕ, ◌++◌, List, [], ◌∷◌, Option, Some, IsSome, Equal, Global, Less, Ordering, String, nat_cmp, refl, rules, string_bytes, subst, sym}
 use Rattle.std.proofs.lemmas.Cmp.{nat_list_cmp_total}
 use Rattle.std.proofs.lemmas.Map.Keys.{sorted_head, sorted_tail}
 use Rattle.std.proofs.lemmas.Map.Lookups.{exact_bytes}

@@ -1,4 +1,3 @@
-use Rattle.std.proofs.Common.{refl}
 use Rattle.std.proofs.lemmas.Iterator.Adapters.{option_map_id}
 use Rattle.toml.specs.View.{table_view}
 use Rattle.nextest_config_values.proofs.Faults.{in_first, in_later, in_made, passed_on}
