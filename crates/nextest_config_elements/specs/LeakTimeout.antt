@@ -2,10 +2,11 @@
 use Rattle.std.specs.Prelude.{◌≡◌, ℕ, List, [], ◌∷◌, codes, Option, Some}
 use Rattle.std.proofs.Common.{rules}
 use Rattle.std.specs.Duration.{as_nanos}
-use Rattle.toml.specs.Data.{Data, Members, as_str, as_table}
+use Rattle.toml.specs.Data.{Data, Members, as_str}
 use Rattle.nextest_config_values.specs.Duration.{duration_reading}
-use Rattle.nextest_config_values.specs.Read.{held, kind, made_of, or_default, Reading, required, then, value_of, word_reading, wrong_kind}
+use Rattle.nextest_config_values.specs.Read.{kind, made_of, or_default, Reading, required, then, value_of, word_reading}
 use Rattle.nextest_config_elements.specs.Durations.{milliseconds}
+use Rattle.nextest_config_elements.specs.FromTable.{set_by_table}
 use Rattle.nextest_config_elements.specs.declared.leak_timeout.LeakTimeout.{LeakTimeout}
 use Rattle.nextest_config_elements.specs.declared.leak_timeout.LeakTimeoutResult.{LeakTimeoutResult}
 use Rattle.nextest_config_elements.specs.declared.leak_timeout.LeakTimeoutResult.TheVariants.{Fail, Pass}
@@ -65,5 +66,4 @@ leak_timeout_expected =
 abbrev pub leak_timeout_reading : Reading Data (Option LeakTimeoutRecord)
 leak_timeout_reading =
     kind as_str (λ text. made_of (λ period. Some (leak_timeout period Pass)) duration_reading)
-    (kind as_table (held (made_of Some leak_timeout_table))
-    (wrong_kind leak_timeout_expected))
+    (set_by_table leak_timeout_table leak_timeout_expected)

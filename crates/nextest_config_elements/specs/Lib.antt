@@ -1,4 +1,5 @@
 pub mod Durations
+pub mod FromTable
 pub mod GlobalTimeout
 pub mod Junit
 pub mod LeakTimeout

@@ -3,9 +3,10 @@ use Rattle.std.specs.Prelude.{◌≡◌, ◌<◌, ℕ, ℤ, pos, negsuc, Bool, t
 use Rattle.std.proofs.Common.{rules}
 use Rattle.std.specs.Duration.{as_nanos}
 use Rattle.std.specs.Fmt.{decimal}
-use Rattle.toml.specs.Data.{Data, Members, as_integer, as_table}
+use Rattle.toml.specs.Data.{Data, Members, as_integer}
 use Rattle.nextest_config_values.specs.Duration.{duration_reading}
-use Rattle.nextest_config_values.specs.Read.{behind, bool_reading, both, Check, count_zero, delay_zero, held, in_range, IsU32, jitter_without_delay, kind, made_of, max_delay_below_delay, max_delay_zero, only, optional, or_default, outside, Reading, required, rule, rule_check, then, u32_reading, value_of, word_reading, words_text, wrong_kind}
+use Rattle.nextest_config_values.specs.Read.{behind, bool_reading, both, Check, count_zero, delay_zero, in_range, IsU32, jitter_without_delay, kind, made_of, max_delay_below_delay, max_delay_zero, only, optional, or_default, outside, Reading, required, rule, rule_check, then, u32_reading, value_of, word_reading, words_text}
+use Rattle.nextest_config_elements.specs.FromTable.{set_by_table}
 use Rattle.nextest_config_elements.specs.UnknownKeys.{keys_check}
 use Rattle.nextest_config_elements.specs.declared.retry_policy.Backoff.{Backoff}
 use Rattle.nextest_config_elements.specs.declared.retry_policy.Backoff.TheVariants as backoffs
@@ -190,4 +191,4 @@ retry_number (negsuc number) = outside retries_expected
 abbrev pub retry_policy_reading : Reading Data (Option RetryPolicyRecord)
 retry_policy_reading =
     kind as_integer (λ number. made_of Some (retry_number number))
-    (kind as_table (held (made_of Some retry_table)) (wrong_kind retries_expected))
+    (set_by_table retry_table retries_expected)

@@ -2,10 +2,11 @@
 use Rattle.std.specs.Prelude.{◌≡◌, ℕ, List, [], ◌∷◌, codes, Option, Some, None}
 use Rattle.std.proofs.Common.{rules}
 use Rattle.std.specs.Duration.{as_nanos}
-use Rattle.toml.specs.Data.{Data, Members, as_str, as_table}
+use Rattle.toml.specs.Data.{Data, Members, as_str}
 use Rattle.nextest_config_values.specs.Duration.{duration_reading}
-use Rattle.nextest_config_values.specs.Read.{count_reading, held, kind, made_of, only, optional, or_default, Reading, required, then, value_of, word_reading, wrong_kind}
+use Rattle.nextest_config_values.specs.Read.{count_reading, kind, made_of, only, optional, or_default, Reading, required, then, value_of, word_reading}
 use Rattle.nextest_config_elements.specs.Durations.{seconds}
+use Rattle.nextest_config_elements.specs.FromTable.{set_by_table}
 use Rattle.nextest_config_elements.specs.declared.slow_timeout.SlowTimeout.{SlowTimeout}
 use Rattle.nextest_config_elements.specs.declared.slow_timeout.SlowTimeoutResult.{SlowTimeoutResult}
 use Rattle.nextest_config_elements.specs.declared.slow_timeout.SlowTimeoutResult.TheVariants.{Fail, Pass}
@@ -96,5 +97,4 @@ slow_timeout_expected =
 -- a text, or a table
 abbrev pub slow_timeout_reading : Reading Data (Option SlowTimeoutRecord)
 slow_timeout_reading =
-    kind as_str slow_timeout_text
-    (kind as_table (held (made_of Some slow_timeout_table)) (wrong_kind slow_timeout_expected))
+    kind as_str slow_timeout_text (set_by_table slow_timeout_table slow_timeout_expected)

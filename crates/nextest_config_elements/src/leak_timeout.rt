@@ -1,10 +1,11 @@
 //! The timeout of handles that a test leaks.
 
 ghost use Rattle.std.specs.Prelude.{◌≡◌, IfOk, IfErr, option_map};
-ghost use Rattle.toml.specs.View.{table_view, view};
+ghost use Rattle.toml.specs.View.{view};
 ghost use Rattle.nextest_config_values.specs.Read.{RefusesBy};
-ghost use Rattle.nextest_config_elements.specs.LeakTimeout.{default_leak_timeout, leak_timeout_of, leak_timeout_reading, leak_timeout_reads_back, leak_timeout_results, leak_timeout_table, leak_timeout_word};
+ghost use Rattle.nextest_config_elements.specs.LeakTimeout.{default_leak_timeout, leak_timeout_of, leak_timeout_reading, leak_timeout_reads_back, leak_timeout_results, leak_timeout_table, leak_timeout_word, LeakTimeoutRecord};
 
+use crate::from_table::{FromTable, read_set};
 use nextest_config_values::read::{FromToml, ReadFault, Word, field_or, required_field};
 use std::alloc::Global;
 use std::time::Duration;
@@ -37,14 +38,14 @@ impl Default for LeakTimeout {
     }
 }
 
-impl LeakTimeout {
-    // The timeout that a table means.
-    fn read_table(alloc: Global, table: &Table, at: &str) -> Result<Self, ReadFault>
-        ensures meant { IfOk result (λ timeout.
-            leak_timeout_table.means (table_view table.now) (leak_timeout_of timeout)) }
-        ensures refused { IfErr result
-            (RefusesBy leak_timeout_table (table_view table.now) at.now) }
-    {
+impl FromTable for LeakTimeout {
+    ghost Seen = { LeakTimeoutRecord };
+
+    ghost seen = { leak_timeout_of };
+
+    ghost reading = { leak_timeout_table };
+
+    fn read_table(alloc: Global, table: &Table, at: &str) -> Result<Self, ReadFault> {
         let period: Duration = required_field(alloc, table, PERIOD_KEY, at)?;
         let result = field_or(alloc, table, RESULT_KEY, at, LeakTimeoutResult::default())?;
         Ok(LeakTimeout { period, result })
@@ -68,13 +69,7 @@ pub fn deserialize_leak_timeout(
             let result = LeakTimeoutResult::default();
             Ok(Some(LeakTimeout { period, result }))
         }
-        None => match value.as_table() {
-            Some(table) => {
-                let timeout = LeakTimeout::read_table(alloc, table, at)?;
-                Ok(Some(timeout))
-            }
-            None => Err(ReadFault::invalid_type(alloc, value, at, EXPECTED)),
-        },
+        None => read_set(alloc, value, at, EXPECTED),
     }
 }
 

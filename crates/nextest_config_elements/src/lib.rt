@@ -1,6 +1,7 @@
 //! The settings of nextest's profiles.
 #![tactic(auto)]
 
+mod from_table;
 pub mod global_timeout;
 pub mod junit;
 pub mod laws;

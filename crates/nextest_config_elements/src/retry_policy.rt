@@ -4,9 +4,10 @@ ghost use Rattle.std.specs.Prelude.{◌≡◌, ◌↔◌, ◌∷◌, ℕ, IfOk, 
 ghost use Rattle.std.specs.Duration.{as_nanos};
 ghost use Rattle.toml.specs.View.{table_view, view};
 ghost use Rattle.nextest_config_values.specs.Read.{broken_rule, custom, fault_at, RefusesAs, RefusesBy, RefusesOne, words_text};
-ghost use Rattle.nextest_config_elements.specs.RetryPolicy.{backoff_key, backoff_reads_back, backoff_word, backoffs_in_order, count_of, exponential_rules, exponential_table, fail_message, fixed_table, flaky_result_reads_back, flaky_result_word, flaky_results, keys_beside, other_keys, retry_number, retry_policy_of, retry_policy_reading, retry_table, without_delay};
+ghost use Rattle.nextest_config_elements.specs.RetryPolicy.{backoff_key, backoff_reads_back, backoff_word, backoffs_in_order, count_of, exponential_rules, exponential_table, fail_message, fixed_table, flaky_result_reads_back, flaky_result_word, flaky_results, keys_beside, other_keys, retry_number, retry_policy_of, retry_policy_reading, retry_table, RetryPolicyRecord, table_of, without_delay};
 ghost use Rattle.nextest_config_elements.specs.UnknownKeys.{IsOneOf};
 
+use crate::from_table::{FromTable, read_set};
 use nextest_config_values::read::{
     FaultKind, FromToml, ReadFault, Rule, Word, field_or, optional_field, required_field,
 };
@@ -97,13 +98,7 @@ pub fn deserialize_retry_policy(
         let policy = read_number(alloc, value, number, at)?;
         return Ok(Some(policy));
     }
-    match value.as_table() {
-        Some(table) => {
-            let policy = read_table(alloc, table, at)?;
-            Ok(Some(policy))
-        }
-        None => Err(ReadFault::invalid_type(alloc, value, at, EXPECTED)),
-    }
+    read_set(alloc, value, at, EXPECTED)
 }
 
 // The policy that a value with this integer means.
@@ -126,16 +121,16 @@ fn read_number(
     }
 }
 
-// The policy that a table means.
-fn read_table(alloc: Global, table: &Table, at: &str) -> Result<RetryPolicy, ReadFault>
-    ensures meant { IfOk result (λ policy.
-        retry_table.means (table_view table.now) (retry_policy_of policy)) }
-    ensures refused { IfErr result (RefusesBy retry_table (table_view table.now) at.now) }
-{
-    let backoff: Backoff = required_field(alloc, table, BACKOFF_KEY, at)?;
-    match backoff {
-        Backoff::Fixed => read_fixed(alloc, table, at),
-        Backoff::Exponential => read_exponential(alloc, table, at),
+impl FromTable for RetryPolicy {
+    ghost Seen = { RetryPolicyRecord };
+
+    ghost seen = { retry_policy_of };
+
+    ghost reading = { retry_table };
+
+    fn read_table(alloc: Global, table: &Table, at: &str) -> Result<Self, ReadFault> {
+        let backoff: Backoff = required_field(alloc, table, BACKOFF_KEY, at)?;
+        backoff.read_table(alloc, table, at)
     }
 }
 
@@ -245,6 +240,18 @@ impl Word for Backoff {
 }
 
 impl Backoff {
+    // The policy that a table with this backoff means.
+    fn read_table(self, alloc: Global, table: &Table, at: &str) -> Result<RetryPolicy, ReadFault>
+        ensures meant { IfOk result (λ policy.
+            (table_of self).means (table_view table.now) (retry_policy_of policy)) }
+        ensures refused { IfErr result (RefusesBy (table_of self) (table_view table.now) at.now) }
+    {
+        match self {
+            Backoff::Fixed => read_fixed(alloc, table, at),
+            Backoff::Exponential => read_exponential(alloc, table, at),
+        }
+    }
+
     // Refuses the first key, in byte order, that doesn't belong to this backoff.
     fn check_keys(self, alloc: Global, table: &Table, at: &str) -> Result<(), ReadFault>
         ensures kept { OnOk result ((other_keys self).passes (table_view table.now)) }

@@ -2,11 +2,12 @@
 
 ghost use Rattle.std.specs.Prelude.{◌≡◌, IfOk, IfErr, option_map};
 ghost use Rattle.std.specs.Duration.{as_nanos};
-ghost use Rattle.toml.specs.View.{table_view, view};
+ghost use Rattle.toml.specs.View.{view};
 ghost use Rattle.nextest_config_values.specs.Read.{RefusesBy};
 ghost use Rattle.nextest_config_elements.specs.Durations.{seconds};
-ghost use Rattle.nextest_config_elements.specs.SlowTimeout.{default_grace_period, slow_timeout_of, slow_timeout_reading, slow_timeout_reads_back, slow_timeout_results, slow_timeout_table, slow_timeout_word, with_period};
+ghost use Rattle.nextest_config_elements.specs.SlowTimeout.{default_grace_period, slow_timeout_of, slow_timeout_reading, slow_timeout_reads_back, slow_timeout_results, slow_timeout_table, slow_timeout_word, SlowTimeoutRecord, with_period};
 
+use crate::from_table::{FromTable, read_set};
 use nextest_config_values::read::{
     FromToml, NonZeroCount, ReadFault, Word, field_or, optional_field, required_field,
 };
@@ -56,14 +57,16 @@ impl SlowTimeout {
             on_timeout: SlowTimeoutResult::Fail,
         }
     }
+}
 
-    // The timeout that a table means.
-    fn read_table(alloc: Global, table: &Table, at: &str) -> Result<Self, ReadFault>
-        ensures meant { IfOk result (λ timeout.
-            slow_timeout_table.means (table_view table.now) (slow_timeout_of timeout)) }
-        ensures refused { IfErr result
-            (RefusesBy slow_timeout_table (table_view table.now) at.now) }
-    {
+impl FromTable for SlowTimeout {
+    ghost Seen = { SlowTimeoutRecord };
+
+    ghost seen = { slow_timeout_of };
+
+    ghost reading = { slow_timeout_table };
+
+    fn read_table(alloc: Global, table: &Table, at: &str) -> Result<Self, ReadFault> {
         let period: Duration = required_field(alloc, table, PERIOD_KEY, at)?;
         let terminate_after: Option<NonZeroCount> = optional_field(
             alloc,
@@ -107,13 +110,7 @@ pub fn deserialize_slow_timeout(
         let period = Duration::read(alloc, value, at)?;
         return Ok(Some(SlowTimeout::with_period(period)));
     }
-    match value.as_table() {
-        Some(table) => {
-            let timeout = SlowTimeout::read_table(alloc, table, at)?;
-            Ok(Some(timeout))
-        }
-        None => Err(ReadFault::invalid_type(alloc, value, at, EXPECTED)),
-    }
+    read_set(alloc, value, at, EXPECTED)
 }
 
 // The grace period where none is given.

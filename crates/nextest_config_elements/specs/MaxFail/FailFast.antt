@@ -2,8 +2,9 @@
 use Rattle.std.specs.Prelude.{◌≡◌, ◌≢◌, ℕ, ℤ, pos, ◌≤ℤ◌, ◌<ℤ◌, List, [], ◌∷◌, codes, FitsSigned, ◌⊎◌, Option, Some}
 use Rattle.std.proofs.Common.{sym, ap, ◌∙◌, subst, rules}
 use Rattle.std.specs.Int.{w64}
-use Rattle.toml.specs.Data.{Data, Members, as_bool, as_integer, as_str, as_table}
-use Rattle.nextest_config_values.specs.Read.{held, in_range, IsCount, kind, made_of, only, or_default, Reading, required, then, value_of, word_reading, wrong_kind, wrong_value}
+use Rattle.toml.specs.Data.{Data, Members, as_bool, as_integer, as_str}
+use Rattle.nextest_config_values.specs.Read.{in_range, IsCount, kind, made_of, only, or_default, Reading, required, then, value_of, word_reading, wrong_kind, wrong_value}
+use Rattle.nextest_config_elements.specs.FromTable.{set_by_table}
 use Rattle.nextest_config_elements.specs.MaxFail.Limit.{fail_fast_limit, mode_word}
 use Rattle.nextest_config_elements.specs.MaxFail.NumberText.{IsNumberText}
 use Rattle.nextest_config_elements.specs.MaxFail.NumberTextLaws.{one_number}
@@ -101,4 +102,4 @@ fail_fast_table =
 abbrev pub fail_fast_reading : Reading Data (Option MaxFail)
 fail_fast_reading =
     kind as_bool (λ truth. only (Some (fail_fast_limit truth)))
-    (kind as_table (held (made_of Some fail_fast_table)) (wrong_kind fail_fast_expected))
+    (set_by_table fail_fast_table fail_fast_expected)

@@ -1,11 +1,12 @@
 //! The setting `fail-fast`.
 
 ghost use Rattle.std.specs.Prelude.{◌≡◌, IfErr, IfOk};
-ghost use Rattle.toml.specs.View.{table_view, view};
+ghost use Rattle.toml.specs.View.{view};
 ghost use Rattle.nextest_config_values.specs.Read.{RefusesBy};
 ghost use Rattle.nextest_config_elements.specs.MaxFail.{fail_fast_reading, fail_fast_table, IsExpected, limit_of, max_fail_reading};
 
 use super::{MaxFail, TerminateMode};
+use crate::from_table::{FromTable, read_set};
 use nextest_config_values::read::{FromToml, ReadFault, field_or, required_field};
 use std::alloc::Global;
 use toml::{Table, Value};
@@ -27,23 +28,21 @@ pub fn deserialize_fail_fast(
     if let Some(fail_fast) = value.as_bool() {
         return Ok(Some(MaxFail::from_fail_fast(fail_fast)));
     }
-    match value.as_table() {
-        Some(table) => {
-            let limit = read_table(alloc, table, at)?;
-            Ok(Some(limit))
-        }
-        None => Err(ReadFault::invalid_type(alloc, value, at, EXPECTED)),
-    }
+    read_set(alloc, value, at, EXPECTED)
 }
 
-// The limit of a table.
-fn read_table(alloc: Global, table: &Table, at: &str) -> Result<MaxFail, ReadFault>
-    ensures meant { IfOk result (fail_fast_table.means (table_view table.now)) }
-    ensures refused { IfErr result (RefusesBy fail_fast_table (table_view table.now) at.now) }
-{
-    let count: MaxFailCount = required_field(alloc, table, "max-fail", at)?;
-    let terminate = field_or(alloc, table, "terminate", at, TerminateMode::Wait)?;
-    Ok(count.with(terminate))
+impl FromTable for MaxFail {
+    ghost Seen = { Self };
+
+    ghost seen = { λ limit. limit };
+
+    ghost reading = { fail_fast_table };
+
+    fn read_table(alloc: Global, table: &Table, at: &str) -> Result<Self, ReadFault> {
+        let count: MaxFailCount = required_field(alloc, table, "max-fail", at)?;
+        let terminate = field_or(alloc, table, "terminate", at, TerminateMode::Wait)?;
+        Ok(count.with(terminate))
+    }
 }
 
 // What the key `max-fail` holds.

@@ -3,9 +3,9 @@ use Rattle.std.specs.Duration.{as_nanos}
 use Rattle.toml.specs.View.{table_view}
 use Rattle.nextest_config_values.proofs.Faults.{in_first, in_later, in_made, passed_on}
 use Rattle.nextest_config_values.specs.Duration.{duration_reading}
-use Rattle.nextest_config_values.specs.Read.{count_reading, optional, or_default, RefusesBy, required, word_reading}
-use Rattle.nextest_config_elements.specs.SlowTimeout.{default_grace_period, grace_period_key, on_timeout_key, period_key, slow_timeout_reads_back, slow_timeout_results, slow_timeout_word, terminate_after_key}
-use Rattle.nextest_config_elements.proofs.slow_timeout.SlowTimeout.read_table.Goals as goal
+use Rattle.nextest_config_values.specs.Read.{count_reading, optional, or_default, required}
+use Rattle.nextest_config_elements.specs.SlowTimeout.{default_grace_period, grace_period_key, period_key, terminate_after_key}
+use Rattle.nextest_config_elements.proofs.slow_timeout.SlowTimeoutFromTable.read_table.Goals as goal
 
 pub returns-in_err-terminate_after-clause-refused : goal.returns-in_err-terminate_after-clause-refused
 returns-in_err-terminate_after-clause-refused c =

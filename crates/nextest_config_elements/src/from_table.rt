@@ -1,0 +1,48 @@
+//! Settings that a table sets.
+
+ghost use Rattle.std.specs.Prelude.{IfErr, IfOk, option_map};
+ghost use Rattle.toml.specs.Data.{Members};
+ghost use Rattle.toml.specs.View.{table_view, view};
+ghost use Rattle.nextest_config_values.specs.Read.{Reading, RefusesBy};
+ghost use Rattle.nextest_config_elements.specs.FromTable.{set_by_table};
+
+use nextest_config_values::read::ReadFault;
+use std::alloc::Global;
+use toml::{Table, Value};
+
+// A type that is read from a table.
+pub trait FromTable: Sized {
+    // What is seen of a Self.
+    ghost Seen: { Type 0 };
+
+    ghost seen: { Self → Seen };
+
+    // What tables mean, and what is wrong with them.
+    ghost reading: { Reading Members Seen };
+
+    // Reads the table of a value. A fault names its path, which begins with `at`.
+    fn read_table(alloc: Global, table: &Table, at: &str) -> Result<Self, ReadFault>
+        ensures meant { IfOk result (λ x. reading.means (table_view table.now) (seen x)) }
+        ensures refused { IfErr result (RefusesBy reading (table_view table.now) at.now) };
+}
+
+// Reads a value that is to be a table; `expected` names what the setting takes.
+pub fn read_set<T: FromTable>(
+    alloc: Global,
+    value: &Value,
+    at: &str,
+    expected: &'static str,
+) -> Result<Option<T>, ReadFault>
+    ensures meant { IfOk result (λ x.
+        (set_by_table T.reading expected.now).means (view value.now) (option_map T.seen x)) }
+    ensures refused { IfErr result
+        (RefusesBy (set_by_table T.reading expected.now) (view value.now) at.now) }
+{
+    match value.as_table() {
+        Some(table) => {
+            let x = T::read_table(alloc, table, at)?;
+            Ok(Some(x))
+        }
+        None => Err(ReadFault::invalid_type(alloc, value, at, expected)),
+    }
+}
