@@ -1,15 +1,15 @@
 -- A text has one fail limit, or one fault.
 use Rattle.std.proofs.Common.{◌≡◌, ◌∙◌, ℕ, ◌<◌, ◌^◌, ℤ, pos, List, [], refl, sym, ap, subst, inl, inr, arith, rules, Option, Some, None}
-use Rattle.std.specs.Prelude.{◌≤ℤ◌, ◌<ℤ◌, neg_ℤ, FitsSigned, IfErr, IfOk}
+use Rattle.std.specs.Prelude.{FitsSigned, IfErr, IfOk}
 use Rattle.std.specs.Int.{w64}
 use Rattle.std.specs.declared.result.Result.{Result}
 use Rattle.std.proofs.lemmas.Result.{IfErr-weaker, IfOk-weaker}
 use Rattle.nextest_config_values.specs.Identifier.{HasNoColon, IsCutAtColon, same_cut, uncut}
 use Rattle.nextest_config_values.specs.Once.{IsJudgedOnce}
 use Rattle.nextest_config_values.proofs.Faults.{fault_mapped}
-use Rattle.nextest_config_elements.specs.MaxFail.{bad_count, bad_mode, HasCount, IsAllText, IsBadCount, IsBadMode, IsCountFault, IsCountLimit, IsCountText, IsLimitFault, IsLimitText, IsNoMode, IsNotPositive, IsParted, limit_fault, LimitFault, MeansMode, IsNumberText, mode_word, not_positive, number_parts, one_number, RefusesLimit}
+use Rattle.nextest_config_elements.specs.MaxFail.{bad_count, bad_mode, HasCount, IsAllText, IsBadCount, IsBadMode, IsCountFault, IsCountLimit, IsCountText, IsLimitFault, IsLimitText, IsNoMode, IsNotPositive, IsParted, limit_fault, LimitFault, MeansMode, IsNumberText, mode_word, number_parts, one_number, RefusesLimit}
 use Rattle.nextest_config_elements.specs.declared.max_fail.CountFault.{CountFault}
-use Rattle.nextest_config_elements.specs.declared.max_fail.CountFault.TheVariants.{Empty, InvalidDigit, TooLarge, TooSmall}
+use Rattle.nextest_config_elements.specs.declared.max_fail.CountFault.TheVariants.{InvalidDigit, TooLarge, TooSmall}
 use Rattle.nextest_config_elements.specs.declared.max_fail.MaxFail.{MaxFail}
 use Rattle.nextest_config_elements.specs.declared.max_fail.MaxFail.TheVariants.{Count, All}
 use Rattle.nextest_config_elements.specs.declared.max_fail.MaxFailParseError.{MaxFailParseError}
@@ -45,40 +45,25 @@ no_bad_mode text count mode fault h b = mode_meant text count b.1 b.2 h.word mod
 no_digits : (text : List ℕ) (number : ℤ) → text ≡ [] → IsNumberText text number → ⊥
 no_digits text number none h = absurd (omega (arith, (number_parts [] number (subst (λ t. IsNumberText t number) none h)).0.0))
 
-large_not_in : (number : ℤ) → pos (2 ^ 63) ≤ℤ number → FitsSigned w64 number → ⊥
-large_not_in number large fits = search rules
-
-small_not_in : (number : ℤ) → number <ℤ neg_ℤ (pos (2 ^ 63)) → FitsSigned w64 number → ⊥
-small_not_in number small fits = search rules
-
 -- a number of an isize has none of these faults
 fault_not_in : (count : List ℕ) (number : ℤ) (reason : CountFault) → IsNumberText count number → FitsSigned w64 number → IsCountFault count reason → ⊥
-fault_not_in count number Empty h fits b = no_digits count number b h
 fault_not_in count number InvalidDigit h fits b = b.1 number h
-fault_not_in count number TooLarge h fits b = large_not_in number (subst (λ n. pos (2 ^ 63) ≤ℤ n) (one_number count b.0 number b.1 h) b.2) fits
-fault_not_in count number TooSmall h fits b = small_not_in number (subst (λ n. n <ℤ neg_ℤ (pos (2 ^ 63))) (one_number count b.0 number b.1 h) b.2) fits
+fault_not_in count number reason h fits b = search (rules, no_digits)
 
 count_fits : (number : ℕ) → number < 2 ^ 63 → FitsSigned w64 (pos number)
 count_fits number fits = search rules
-
-not_zero : (number : ℕ) → 0 < number → pos number ≤ℤ pos 0 → ⊥
-not_zero number positive zero = search rules
 
 pub count_not_faulty : (count : List ℕ) (max_fail : ℕ) (reason : CountFault) → IsCountText count max_fail → IsCountFault count reason → ⊥
 count_not_faulty count max_fail reason h = fault_not_in count (pos max_fail) reason h.number (count_fits max_fail h.fits)
 
 count_positive : (count : List ℕ) (max_fail : ℕ) → IsCountText count max_fail → IsNotPositive count → ⊥
-count_positive count max_fail h b = not_zero max_fail h.positive (subst (λ n. n ≤ℤ pos 0) (one_number count b.0 _ b.1 h.number) b.3)
+count_positive count max_fail h b = search rules
 
 not_bad_count : (count : List ℕ) (max_fail : ℕ) (fault : LimitFault) → IsCountText count max_fail → IsBadCount count fault → ⊥
-not_bad_count count max_fail (bad_mode word) h b = b
 not_bad_count count max_fail (bad_count written reason) h b = count_not_faulty count max_fail reason h b.1
-not_bad_count count max_fail not_positive h b = count_positive count max_fail h b
+not_bad_count count max_fail fault h b = search (rules, count_positive)
 
 -- ---- a text's limit
-
-same_number : (count : List ℕ) (m n : ℕ) → IsCountText count m → IsCountText count n → m ≡ n
-same_number count m n h k = let same = one_number count _ _ h.number k.number in cc same
 
 one_limit : (text : List ℕ) (a b : MaxFail) → IsLimitText text a → IsLimitText text b → a ≡ b
 one_limit text All All h k = refl
@@ -86,8 +71,8 @@ one_limit text All (Count n mode) h k = absurd (k.1.not_all h)
 one_limit text (Count m mode) All h k = absurd (h.1.not_all k)
 one_limit text (Count m mode) (Count n other) h k =
     let same = same_count text h.0 k.0 mode other h.1 k.1 in
-    let number : m ≡ n = same_number k.0 m n (subst (λ count. IsCountText count m) same.0 h.2) k.2 in
-    ap (λ number. Count number mode) number ∙ ap (Count n) same.1
+    let number = one_number k.0 (pos m) (pos n) (subst (λ count. IsCountText count m) same.0 h.2).number k.2.number in
+    cc (same.1, number)
 
 pub no_limit_at_bad_mode : (text : List ℕ) (fault : LimitFault) (limit : MaxFail) → IsBadMode text fault → IsLimitText text limit → ⊥
 no_limit_at_bad_mode text fault All b h = b.0 h
@@ -103,13 +88,6 @@ limit_not_faulty text limit fault h (inl b) = no_limit_at_bad_mode text fault li
 limit_not_faulty text limit fault h (inr b) = no_limit_without_count text b.0 b.1 limit b.2 (λ max_fail count. not_bad_count b.0 max_fail fault count b.3) h
 
 -- ---- a text's fault
-
--- no number is beyond the one end of the range and within it, or beyond the other
-large_not_small : (number : ℤ) → pos (2 ^ 63) ≤ℤ number → number <ℤ neg_ℤ (pos (2 ^ 63)) → ⊥
-large_not_small number large small = search rules
-
-both_beyond : (count : List ℕ) → IsCountFault count TooLarge → IsCountFault count TooSmall → ⊥
-both_beyond count a b = large_not_small b.0 (subst (λ n. pos (2 ^ 63) ≤ℤ n) (one_number count a.0 b.0 a.1 b.1) a.2) b.2
 
 one_reason : (count : List ℕ) (r s : CountFault) → IsCountFault count r → IsCountFault count s → r ≡ s
 one_reason count InvalidDigit TooLarge a b = absurd (a.1 b.0 b.1)

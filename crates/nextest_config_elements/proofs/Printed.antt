@@ -9,7 +9,7 @@ use Rattle.std.proofs.lemmas.Fmt.{decimal_is_IsNumeral}
 use Rattle.std.proofs.lemmas.Str.Parse.{digit_from_value}
 use Rattle.nextest_config_values.specs.Identifier.{HasNoColon}
 use Rattle.nextest_config_elements.proofs.Limits.{cut_count, whole_count}
-use Rattle.nextest_config_elements.specs.MaxFail.{IsAllText, IsCountText, IsLimitText, limit_text, unsigned}
+use Rattle.nextest_config_elements.specs.MaxFail.{HasCount, IsAllText, IsCountText, IsLimitText, limit_text, unsigned}
 use Rattle.nextest_config_elements.specs.declared.max_fail.MaxFail.TheVariants.{Count}
 use Rattle.nextest_config_elements.specs.declared.max_fail.TerminateMode.{TerminateMode}
 use Rattle.nextest_config_elements.specs.declared.max_fail.TerminateMode.TheVariants.{Wait, Immediate}
@@ -35,16 +35,13 @@ count_printed max_fail positive fits =
       fits = fits;
     }
 
+printed_count : (max_fail : ℕ) (mode : TerminateMode) → IsNumeral 10 (decimal max_fail) → HasCount (limit_text (Count max_fail mode)) (decimal max_fail) mode
+printed_count max_fail Wait digits =
+    whole_count (decimal max_fail) (rw append-nil at (digits_not_all (decimal max_fail) [] digits)) (digits_uncut (decimal max_fail) digits.1)
+printed_count max_fail Immediate digits =
+    cut_count (limit_text (Count max_fail Immediate)) (decimal max_fail) (codes "immediate") Immediate
+    (digits_not_all (decimal max_fail) (codes ":immediate") digits) (record { cut = refl; first = digits_uncut (decimal max_fail) digits.1 }) refl
+
 pub limit_printed : (max_fail : ℕ) (mode : TerminateMode) → 0 < max_fail → max_fail < 2 ^ 63 → IsLimitText (limit_text (Count max_fail mode)) (Count max_fail mode)
-limit_printed max_fail Wait positive fits =
-    let digits = (decimal_is_IsNumeral max_fail (omega arith)).0 in
-    let behind = digits_not_all (decimal max_fail) [] digits in
-    let not_all : ¬ (IsAllText (decimal max_fail)) = rw append-nil at behind in
-    (decimal max_fail, whole_count (decimal max_fail) not_all (digits_uncut (decimal max_fail) digits.1), count_printed max_fail positive fits)
-limit_printed max_fail Immediate positive fits =
-    let digits = (decimal_is_IsNumeral max_fail (omega arith)).0 in (
-      decimal max_fail,
-      cut_count (limit_text (Count max_fail Immediate)) (decimal max_fail) (codes "immediate") Immediate (digits_not_all (decimal max_fail) (codes ":immediate") digits)
-          (record { cut = refl; first = digits_uncut (decimal max_fail) digits.1 }) refl,
-      count_printed max_fail positive fits,
-    )
+limit_printed max_fail mode positive fits =
+    (decimal max_fail, printed_count max_fail mode (decimal_is_IsNumeral max_fail (omega arith)).0, count_printed max_fail positive fits)

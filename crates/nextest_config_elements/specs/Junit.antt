@@ -132,16 +132,19 @@ report_skipped_key = codes "report-skipped"
 abbrev pub flaky_fail_status_key : List ℕ
 flaky_fail_status_key = codes "flaky-fail-status"
 
--- other keys don't count
-abbrev pub junit_table : Reading Members JunitTable
-junit_table =
-    then (optional path_key text_reading) (λ path.
-    then (optional report_name_key text_reading) (λ report_name.
+-- the keys behind the path and the name
+abbrev pub keys_behind_texts : Option (List ℕ) → Option (List ℕ) → Reading Members JunitTable
+keys_behind_texts path report_name =
     then (optional store_success_output_key bool_reading) (λ store_success_output.
     then (optional store_failure_output_key bool_reading) (λ store_failure_output.
     then (optional report_skipped_key report_skip_reading) (λ report_skipped.
     made_of (table_of_keys path report_name store_success_output store_failure_output report_skipped)
-    (optional flaky_fail_status_key flaky_fail_reading))))))
+    (optional flaky_fail_status_key flaky_fail_reading))))
+
+-- the keys in turn; other keys don't count
+abbrev pub junit_table : Reading Members JunitTable
+junit_table = then (optional path_key text_reading) (λ path.
+    then (optional report_name_key text_reading) (keys_behind_texts path))
 
 -- the table has a text, which is kept in memory of its own
 abbrev pub HasText : JunitTable → Type 0
