@@ -56,12 +56,9 @@ count_fits number fits = search rules
 pub count_not_faulty : (count : List ℕ) (max_fail : ℕ) (reason : CountFault) → IsCountText count max_fail → IsCountFault count reason → ⊥
 count_not_faulty count max_fail reason h = fault_not_in count (pos max_fail) reason h.number (count_fits max_fail h.fits)
 
-count_positive : (count : List ℕ) (max_fail : ℕ) → IsCountText count max_fail → IsNotPositive count → ⊥
-count_positive count max_fail h b = search rules
-
 not_bad_count : (count : List ℕ) (max_fail : ℕ) (fault : LimitFault) → IsCountText count max_fail → IsBadCount count fault → ⊥
 not_bad_count count max_fail (bad_count written reason) h b = count_not_faulty count max_fail reason h b.1
-not_bad_count count max_fail fault h b = search (rules, count_positive)
+not_bad_count count max_fail fault h b = search rules
 
 -- ---- a text's limit
 
