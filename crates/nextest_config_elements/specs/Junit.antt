@@ -138,8 +138,8 @@ keys_behind_texts path report_name =
     then (optional store_success_output_key bool_reading) (λ store_success_output.
     then (optional store_failure_output_key bool_reading) (λ store_failure_output.
     then (optional report_skipped_key report_skip_reading) (λ report_skipped.
-    made_of (table_of_keys path report_name store_success_output store_failure_output report_skipped)
-    (optional flaky_fail_status_key flaky_fail_reading))))
+    made_of (table_of_keys path report_name store_success_output store_failure_output
+    report_skipped) (optional flaky_fail_status_key flaky_fail_reading))))
 
 -- the keys in turn; other keys don't count
 abbrev pub junit_table : Reading Members JunitTable
