@@ -1,18 +1,17 @@
--- Leaving out gaps, a run of white space at a time.
-use Rattle.std.proofs.Common.{◌≡◌, ℕ, Bool, true, false, List, [], ◌∷◌, ◌++◌, length, refl, ap, sym, ◌∙◌, inl, inr, append_assoc, rules, arith}
-use Rattle.std.proofs.lemmas.List.{append-nil}
-use Rattle.std.proofs.lemmas.Bool.{cases_Bool}
-use Rattle.std.specs.Prelude.{IsTrue, ◌&&◌}
+-- Leaving out gaps, a character at a time.
+use Rattle.std.proofs.Common.{◌≡◌, ℕ, Bool, true, false, List, [], ◌∷◌, ◌++◌, refl, ap, sym, ◌∙◌, inl, inr, append_assoc, rules}
+use Rattle.std.proofs.lemmas.Bool.{and_parts, cases_Bool, false≢true}
+use Rattle.std.specs.Prelude.{IsTrue, ◌&&◌, ◌||◌}
 use Rattle.std.specs.Char.{is_ascii_digit, is_whitespace}
-use Rattle.nextest_config_values.specs.Duration.{AreAll, BeginsWith, IsRun}
-use Rattle.nextest_config_hints.specs.UnjudgedDuration.{begins_with_digit, space_then_digit, without_gaps_behind}
+use Rattle.nextest_config_values.specs.Duration.{IsRun}
+use Rattle.nextest_config_hints.specs.UnjudgedDuration.{begins_with_digit, space_then_digit, without_gaps, without_gaps_behind}
 
 -- white space is no digit
 no_digit : (c : ℕ) → IsTrue (is_whitespace c) → is_ascii_digit c ≡ false
 no_digit c white = search rules
 
 -- behind white space, a digit comes next or not
-past_space : (space behind : List ℕ) → IsRun is_whitespace space behind → space_then_digit (space ++ behind) ≡ begins_with_digit behind
+pub past_space : (space behind : List ℕ) → IsRun is_whitespace space behind → space_then_digit (space ++ behind) ≡ begins_with_digit behind
 past_space [] [] h = refl
 past_space [] (c ∷ cs) h = let no : is_whitespace c ≡ false = search rules in elim (cases_Bool (is_ascii_digit c)) [
   | inl holds ↦ rw holds refl
@@ -22,52 +21,35 @@ past_space (c ∷ space) behind h =
     let white : is_whitespace c ≡ true = search rules in
     rw (no_digit c h.inside.0, white) (past_space space behind (record { inside = h.inside.1; over = h.over }))
 
--- where no white space comes next, it is the same behind a digit or not
-no_space_next : (cs : List ℕ) → ¬ BeginsWith is_whitespace cs → without_gaps_behind true cs ≡ without_gaps_behind false cs
-no_space_next [] over = refl
-no_space_next (c ∷ cs) over = let no : is_whitespace c ≡ false = search rules in rw no refl
+-- within a gap, a digit comes next behind the white space
+gap_goes_on : (in_gap : Bool) (c : ℕ) (cs : List ℕ) → (in_gap ≡ true → space_then_digit (c ∷ cs) ≡ true)
+    → (is_whitespace c && (in_gap || space_then_digit cs)) ≡ (is_whitespace c && space_then_digit cs)
+gap_goes_on false c cs next = refl
+gap_goes_on true c cs next = elim (cases_Bool (is_whitespace c)) [
+  | inl white ↦ rw white (sym (rw (no_digit c white, white) at (next refl)))
+  | inr other ↦ rw other refl
+]
 
--- white space between two digits is left out
-gap_left_out : (space behind : List ℕ) → IsRun is_whitespace space behind → begins_with_digit behind ≡ true → without_gaps_behind true (space ++ behind) ≡ without_gaps_behind false behind
-gap_left_out [] behind h digit = no_space_next behind h.over
-gap_left_out (c ∷ space) behind h digit =
-    let rest : IsRun is_whitespace space behind = record { inside = h.inside.1; over = h.over } in
-    let white : is_whitespace c ≡ true = search rules in
-    rw (white, past_space space behind rest, digit) (gap_left_out space behind rest digit)
+-- ---- the loop
 
--- white space that stands behind no digit stays
-space_stays : (space behind : List ℕ) → AreAll is_whitespace space → without_gaps_behind false (space ++ behind) ≡ space ++ without_gaps_behind false behind
-space_stays [] behind h = refl
-space_stays (c ∷ space) behind h = rw (no_digit c h.0) (ap (λ rest. c ∷ rest) (space_stays space behind h.1))
+-- what is kept so far, and that a digit comes next within a gap
+pub record IsSoFar (text kept rest : List ℕ) (behind_digit in_gap : Bool) : Type 0 where
+  pub whole : kept ++ without_gaps_behind behind_digit rest ≡ without_gaps text
+  pub digit_next : in_gap ≡ true → space_then_digit rest ≡ true
 
--- white space behind a digit and before none stays
-space_kept : (space behind : List ℕ) → IsRun is_whitespace space behind → begins_with_digit behind ≡ false → without_gaps_behind true (space ++ behind) ≡ space ++ without_gaps_behind false behind
-space_kept [] behind h none = no_space_next behind h.over
-space_kept (c ∷ space) behind h none =
-    let rest : IsRun is_whitespace space behind = record { inside = h.inside.1; over = h.over } in
-    let white : is_whitespace c ≡ true = search rules in
-    rw (white, past_space space behind rest, none, no_digit c h.inside.0) (ap (λ rest. c ∷ rest) (space_stays space behind h.inside.1))
+-- a character of a gap is left out
+pub left_out : {text kept : List ℕ} {behind_digit in_gap : Bool} (c : ℕ) (behind : List ℕ) → IsSoFar text kept (c ∷ behind) behind_digit in_gap
+    → (behind_digit && (is_whitespace c && (in_gap || space_then_digit behind))) ≡ true → IsSoFar text kept behind behind_digit true
+left_out {text} {kept} {behind_digit} {in_gap} c behind so gap =
+    let (digit, white_next) = and_parts behind_digit (is_whitespace c && (in_gap || space_then_digit behind)) gap in
+    let (white, next) = and_parts (is_whitespace c) (space_then_digit behind) (sym (gap_goes_on in_gap c behind so.digit_next) ∙ white_next) in
+    record { whole = rw digit (rw (digit, white, next) at so.whole); digit_next = λ h. next }
 
--- ---- steps of the loop
-
--- white space before no digit stays
-pub space_step : (kept text space behind rest : List ℕ) (behind_digit : Bool) → kept ++ without_gaps_behind behind_digit rest ≡ text → behind_digit ≡ true → rest ≡ space ++ behind
-    → IsRun is_whitespace space behind → begins_with_digit behind ≡ false → (kept ++ space) ++ without_gaps_behind false behind ≡ text
-space_step kept text space behind rest behind_digit so digit whole h none =
-    append_assoc kept space (without_gaps_behind false behind) ∙ ap (λ back. kept ++ back) (sym (space_kept space behind h none)) ∙ rw (digit, whole) at so
-
--- white space before a digit is left out
-pub gap_step : (kept text space behind rest : List ℕ) (behind_digit : Bool) → kept ++ without_gaps_behind behind_digit rest ≡ text → behind_digit ≡ true → rest ≡ space ++ behind
-    → IsRun is_whitespace space behind → begins_with_digit behind ≡ true → kept ++ without_gaps_behind false behind ≡ text
-gap_step kept text space behind rest behind_digit so digit whole h begins = ap (λ back. kept ++ back) (sym (gap_left_out space behind h begins)) ∙ rw (digit, whole) at so
-
--- a character that isn't white space behind a digit stays
-pub stays_step : (kept text rest behind : List ℕ) (behind_digit : Bool) (c : ℕ) → kept ++ without_gaps_behind behind_digit rest ≡ text → rest ≡ c ∷ behind → (behind_digit && is_whitespace c) ≡ false
-    → (kept ++ (c ∷ [])) ++ without_gaps_behind (is_ascii_digit c) behind ≡ text
-stays_step kept text rest behind false c so whole other = append_assoc kept (c ∷ []) (without_gaps_behind (is_ascii_digit c) behind) ∙ rw whole at so
-stays_step kept text rest behind true c so whole other = append_assoc kept (c ∷ []) (without_gaps_behind (is_ascii_digit c) behind) ∙ rw (whole, other) at so
-
--- at the end all is kept that stays
-pub nothing_left : (kept text rest : List ℕ) (behind_digit : Bool) → kept ++ without_gaps_behind behind_digit rest ≡ text → length rest ≡ 0 → kept ≡ text
-nothing_left kept text [] behind_digit so none = sym (append-nil kept) ∙ so
-nothing_left kept text (c ∷ rest) behind_digit so none = absurd (omega (arith, none))
+-- any other stays
+pub stays : {text kept : List ℕ} {behind_digit in_gap : Bool} (c : ℕ) (behind : List ℕ) → IsSoFar text kept (c ∷ behind) behind_digit in_gap
+    → (behind_digit && (is_whitespace c && (in_gap || space_then_digit behind))) ≡ false → IsSoFar text (kept ++ (c ∷ [])) behind (is_ascii_digit c) false
+stays {text} {kept} {behind_digit} {in_gap} c behind so none =
+    let other : (behind_digit && (is_whitespace c && space_then_digit behind)) ≡ false = ap (λ b. behind_digit && b) (sym (gap_goes_on in_gap c behind so.digit_next)) ∙ none in record {
+      whole = append_assoc kept (c ∷ []) (without_gaps_behind (is_ascii_digit c) behind) ∙ rw other at so.whole;
+      digit_next = λ never. absurd (false≢true never);
+    }

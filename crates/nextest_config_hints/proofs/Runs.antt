@@ -1,8 +1,9 @@
 -- Lists of characters that are cut behind a run of one kind.
-use Rattle.std.proofs.Common.{◌≡◌, ℕ, ◌+◌, ◌≤◌, suc, Bool, cond, List, [], ◌∷◌, length, take, drop, get_or, ◌-◌, Some, None, nat_lt, refl, ◌∙◌, inl, inr, rules, arith}
+use Rattle.std.proofs.Common.{◌≡◌, ℕ, ◌+◌, ◌≤◌, suc, Bool, cond, List, [], ◌∷◌, length, take, drop, get_or, ◌-◌, Some, None, nat_lt, ◌∙◌, inl, inr, rules, arith}
 use Rattle.std.specs.Prelude.{not}
 use Rattle.std.proofs.lemmas.Bool.{cases_Bool}
 use Rattle.std.proofs.lemmas.Bool.Decides.{nat_tests}
+use Rattle.std.proofs.lemmas.Grind.{common_steps}
 use Rattle.std.proofs.lemmas.List.{take_all}
 use Rattle.std.proofs.lemmas.List.Sums.{prefix_len-le-length}
 use Rattle.std.specs.List.{position, position_or_len}
@@ -23,10 +24,7 @@ cut_at_place kind (c ∷ cs) =
 
 -- the place that `position` finds, or the end
 place_found : (n len : ℕ) → n ≤ len → unwrap_or (cond (nat_lt n len) (Some n) None) len ≡ n
-place_found n len within = elim (cases_Bool (nat_lt n len)) [
-  | inl less ↦ rw less refl
-  | inr more ↦ rw more (grind (arith, nat_tests))
-]
+place_found n len within = grind (arith, nat_tests, common_steps)
 
 -- a list that is cut where the first character ends the run, or at its end
 pub cut_found : (kind : ℕ → Bool) (text : List ℕ) (end : ℕ) → end ≡ unwrap_or (position (λ c. not (kind c)) text) (length text) → IsRun kind (take end text) (drop end text)
@@ -37,6 +35,4 @@ cut_found kind text end found =
 -- a list with an element, as a pattern takes it apart
 pub first_and_rest : (text : List ℕ) (c : ℕ) → 1 ≤ length text → c ≡ get_or text 0 c → text ≡ c ∷ take (length text - 1) (drop 1 text)
 first_and_rest [] c some first = absurd (omega (arith, some))
-first_and_rest (d ∷ text) c some first =
-    let all : length text ≤ suc (length text) - 1 = omega arith in
-    rw (take_all (suc (length text) - 1) text all) (cc first)
+first_and_rest (d ∷ text) c some first = rw (take_all (suc (length text) - 1) text (omega arith)) (cc first)

@@ -5,6 +5,7 @@ ghost use Rattle.nextest_config_hints.specs.NearestWord.{IsNearest};
 ghost use Rattle.nextest_config_hints.specs.UnjudgedDuration.{without_fractions, without_gaps};
 
 /// A name has one nearest word, or none.
+#[tactic(auto, using(crate::specs::NearestWord::nearest_once))]
 pub fn law_nearest_once()
     ensures { (words : List (List ℕ)) (name : List ℕ) (a b : Option (List ℕ))
         → IsNearest words name a → IsNearest words name b → a ≡ b }

@@ -32,6 +32,7 @@ pub fn nearest<T>(
 }
 
 // How many characters the text has.
+#[tactic(auto, using(std::proofs::lemmas::Str::chars_from_encodes))]
 fn characters(text: &str) -> usize
     ensures { result ≡ length (chars text.now) }
 {

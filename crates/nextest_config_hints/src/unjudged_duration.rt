@@ -1,9 +1,9 @@
 //! Durations that the grammar doesn't take, and a more generous one may.
 
-ghost use Rattle.std.specs.Prelude.{◌≡◌, ◌↔◌, ◌++◌, IfOk, IsTrue, chars, encode_utf8_all, not, position, string_bytes};
+ghost use Rattle.std.specs.Prelude.{◌≡◌, ◌↔◌, ◌++◌, ◌&&◌, ◌||◌, IfOk, IsTrue, chars, encode_utf8_all, not, position, string_bytes};
 ghost use Rattle.std.specs.Char.{is_ascii_digit, is_whitespace};
 ghost use Rattle.nextest_config_values.specs.Duration.{IsRun};
-ghost use Rattle.nextest_config_hints.specs.UnjudgedDuration.{begins_with_digit, MayBeDuration, tidied, without_fractions, without_gaps};
+ghost use Rattle.nextest_config_hints.specs.UnjudgedDuration.{begins_with_digit, MayBeDuration, space_then_digit, tidied, without_fractions, without_gaps};
 
 use nextest_config_values::duration::parse_duration;
 use std::alloc::{AllocError, Global};
@@ -31,6 +31,7 @@ fn tidied(alloc: Global, text: &str) -> Result<String, AllocError>
 }
 
 // The characters of the text.
+#[tactic(auto, using(std::proofs::lemmas::Str::chars_from_encodes))]
 fn characters(alloc: Global, text: &str) -> Result<Vec<char>, AllocError>
     ensures { IfOk result (λ characters. characters.items ≡ chars text.now) }
 {
@@ -70,22 +71,26 @@ fn without_gaps(alloc: Global, text: &[char]) -> Result<Vec<char>, AllocError>
 {
     let mut kept = Vec::new(alloc);
     let mut behind_digit = false;
+    let mut in_gap = false;
     let mut rest = text;
     while let [first, behind @ ..] = rest {
-        if behind_digit && first.is_whitespace() {
-            let (space, after) = split_space(rest);
-            if !begins_with_digit(after) {
-                kept.extend_from_slice(space)?;
-            }
-            behind_digit = false;
-            rest = after;
-        } else {
+        in_gap = is_in_gap(behind_digit, in_gap, *first, behind);
+        if !in_gap {
             kept.push(*first)?;
             behind_digit = first.is_ascii_digit();
-            rest = behind;
         }
+        rest = behind;
     }
     Ok(kept)
+}
+
+// Whether the character is white space between two digits. Within a gap it is known that a digit
+// comes next, so that each gap is looked through once.
+fn is_in_gap(behind_digit: bool, in_gap: bool, first: char, behind: &[char]) -> bool
+    ensures { result
+        ≡ (behind_digit && (is_whitespace first && (in_gap || space_then_digit behind.now))) }
+{
+    behind_digit && first.is_whitespace() && (in_gap || space_then_digit(behind))
 }
 
 // Whether a digit comes next.
@@ -106,12 +111,12 @@ fn split_digits(text: &[char]) -> (&[char], &[char])
     text.split_at(first_behind_digits(text).unwrap_or(text.len()))
 }
 
-// The white space at the beginning of the text, and what stands behind it.
-fn split_space(text: &[char]) -> (&[char], &[char])
-    ensures whole { text.now ≡ result.0.now ++ result.1.now }
-    ensures is_run { IsRun is_whitespace result.0.now result.1.now }
+// Whether a digit comes next, or white space and then a digit.
+fn space_then_digit(text: &[char]) -> bool
+    ensures { result ≡ space_then_digit text.now }
 {
-    text.split_at(first_behind_space(text).unwrap_or(text.len()))
+    let (_, after) = text.split_at(first_behind_space(text).unwrap_or(text.len()));
+    begins_with_digit(after)
 }
 
 // The place of the first character that is no digit.
