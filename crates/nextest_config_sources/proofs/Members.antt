@@ -1,8 +1,8 @@
--- The elements of lists: after an insertion, of two lists in one, of a mapped list, found by a test, in order, and those that hold something.
-use Rattle.std.proofs.Common.{◌≡◌, ◌↔◌, ◌⊎◌, zero, suc, Bool, true, List, [], ◌∷◌, ◌++◌, map, Contains, Ordering, Less, Equal, Greater, refl, subst, sym, ap, ◌∙◌, inl, inr, ⊎_elim, arith}
+-- The elements of lists: after an insertion, of a mapped list, found by a test, in order, and those that hold something.
+use Rattle.std.proofs.Common.{◌≡◌, ◌↔◌, ◌⊎◌, zero, suc, Bool, true, List, [], ◌∷◌, ◌++◌, map, Contains, Ordering, Less, Equal, Greater, refl, subst, sym, ap, ◌∙◌, inl, inr, ⊎_elim, append_assoc, arith}
 use Rattle.std.proofs.lemmas.Bool.{or_left, or_right}
 use mathlib.Core.Logic.{⊎_map}
-use Rattle.std.proofs.lemmas.List.{map-id, map_push}
+use Rattle.std.proofs.lemmas.List.{append-nil, map-id, map_push}
 use Rattle.std.proofs.lemmas.List.Elements.{Contains-append_left, Contains-push, Contains-push_cases}
 use Rattle.std.proofs.lemmas.Map.Views.{Contains-from_any}
 use Rattle.std.specs.BTreeSet.{insert_key}
@@ -25,31 +25,32 @@ contains_cases x xs (suc k, within, is) = inr (k, omega arith, is)
 pub contains_none : {X : Type 0} {y : X} → Contains [] y → ⊥
 contains_none (k, within, is) = omega arith
 
+one_in_front : {X : Type 0} (xs : List X) (x : X) → HasOneMore xs x (x ∷ xs)
+one_in_front xs x y = (λ h. ⊎_elim inr inl (contains_cases x xs h), ⊎_elim (contains_later x xs) (contains_first xs))
+
+-- an element in front of both lists
+behind_another : {X : Type 0} (z x : X) (before after : List X) → HasOneMore before x after → HasOneMore (z ∷ before) x (z ∷ after)
+behind_another z x before after more y =
+    let still = contains_later z after in (
+      λ h. ⊎_elim (λ same. inl (contains_first before same)) (λ h. ⊎_map (contains_later z before) (λ same. same) ((more y).0 h)) (contains_cases z after h),
+      ⊎_elim (λ h. ⊎_elim (contains_first after) (λ h. still ((more y).1 (inl h))) (contains_cases z before h)) (λ same. still ((more y).1 (inr same))),
+    )
+
 -- an order on the keys, and what is seen of each key, which is the same at keys that are equal by the order
 module _ {K Y : Type 0} (cmp : K → K → Ordering) (seen : K → Y) (exact : (x y : K) → cmp x y ≡ Equal → seen x ≡ seen y) (k : K) where
-  abbrev placed : Ordering → K → List K → List K
-  placed order x xs = match_ordering order (k ∷ x ∷ xs) (x ∷ xs) (x ∷ insert_key cmp xs k)
+  inserted_by : (order : Ordering) (x : K) (xs : List K) → cmp k x ≡ order → HasOneMore (map seen xs) (seen k) (map seen (insert_key cmp xs k))
+      → HasOneMore (map seen (x ∷ xs)) (seen k) (map seen (match_ordering order (k ∷ x ∷ xs) (x ∷ xs) (x ∷ insert_key cmp xs k)))
+  inserted_by Less x xs is more = one_in_front (map seen (x ∷ xs)) (seen k)
+  inserted_by Equal x xs is more = λ y. (inl, ⊎_elim (λ h. h) (λ same. contains_first (map seen xs) (sym (exact k x is) ∙ same)))
+  inserted_by Greater x xs is more = behind_another (seen x) (seen k) (map seen xs) (map seen (insert_key cmp xs k)) more
 
-  inserted_by : (order : Ordering) (x : K) (xs : List K) (y : Y) → cmp k x ≡ order → Contains (map seen (insert_key cmp xs k)) y ↔ (Contains (map seen xs) y ⊎ (seen k ≡ y))
-      → Contains (map seen (placed order x xs)) y ↔ (Contains (map seen (x ∷ xs)) y ⊎ (seen k ≡ y))
-  inserted_by Less x xs y is more =
-      let all = map seen (x ∷ xs) in
-      (λ h. ⊎_elim inr inl (contains_cases (seen k) all h), ⊎_elim (contains_later (seen k) all) (contains_first all))
-  inserted_by Equal x xs y is more = (inl, ⊎_elim (λ h. h) (λ same. contains_first (map seen xs) (sym (exact k x is) ∙ same)))
-  inserted_by Greater x xs y is more =
-      let later = contains_later (seen x) (map seen xs) in
-      let still = contains_later (seen x) (map seen (insert_key cmp xs k)) in (
-        λ h. ⊎_elim (λ same. inl (contains_first (map seen xs) same)) (λ h. ⊎_map later (λ same. same) (more.0 h)) (contains_cases (seen x) (map seen (insert_key cmp xs k)) h),
-        ⊎_elim (λ h. ⊎_elim (contains_first (map seen (insert_key cmp xs k))) (λ h. still (more.1 (inl h))) (contains_cases (seen x) (map seen xs) h)) (λ same. still (more.1 (inr same))),
-      )
-
-  inserted : (ks : List K) (y : Y) → Contains (map seen (insert_key cmp ks k)) y ↔ (Contains (map seen ks) y ⊎ (seen k ≡ y))
-  inserted [] y = (λ h. ⊎_elim inr inl (contains_cases (seen k) [] h), ⊎_elim (λ none. absurd (contains_none none)) (contains_first []))
-  inserted (x ∷ xs) y = inserted_by (cmp k x) x xs y refl (inserted xs y)
+  inserted : (ks : List K) → HasOneMore (map seen ks) (seen k) (map seen (insert_key cmp ks k))
+  inserted [] = one_in_front [] (seen k)
+  inserted (x ∷ xs) = inserted_by (cmp k x) x xs refl (inserted xs)
 
 -- after an insertion, a set has one more of what is seen of its keys, and one more key
 pub one_more_seen : {K Y : Type 0} (cmp : K → K → Ordering) (seen : K → Y) → ((x y : K) → cmp x y ≡ Equal → seen x ≡ seen y) → (k : K) (before after : List K) → after ≡ insert_key cmp before k → HasOneMore (map seen before) (seen k) (map seen after)
-one_more_seen cmp seen exact k before after is y = rw is (inserted cmp seen exact k before y)
+one_more_seen cmp seen exact k before after is = rw is (inserted cmp seen exact k before)
 
 pub one_more : {K : Type 0} (cmp : K → K → Ordering) → ((x y : K) → cmp x y ≡ Equal → x ≡ y) → (k : K) (before after : List K) → after ≡ insert_key cmp before k → HasOneMore before k after
 one_more {K} cmp exact k before after is = rw (map-id before, map-id after) at (one_more_seen cmp (λ (x : K). x) exact k before after is)
@@ -57,23 +58,7 @@ one_more {K} cmp exact k before after is = rw (map-id before, map-id after) at (
 pub pushed : {X : Type 0} (xs : List X) (x : X) → HasOneMore xs x (xs ++ x ∷ [])
 pushed xs x y = (Contains-push_cases xs x y, ⊎_elim (Contains-append_left xs (x ∷ []) y) (λ same. subst (Contains (xs ++ x ∷ [])) same (Contains-push xs x)))
 
--- ---- elements of two lists in one
-
--- the last list has the elements of both others
-abbrev pub HasBoth : {X : Type 0} → List X → List X → List X → Type 0
-HasBoth {X} xs ys both = (x : X) → Contains both x ↔ (Contains xs x ⊎ Contains ys x)
-
-pub both_with_none : {X : Type 0} (xs : List X) → HasBoth xs [] xs
-both_with_none xs x = (inl, ⊎_elim (λ h. h) (λ none. absurd (contains_none none)))
-
-pub both_with_more : {X Y : Type 0} (seen : X → Y) (xs : List Y) (ys : List X) (both later : List Y) (y : X) → HasBoth xs (map seen ys) both → HasOneMore both (seen y) later
-    → HasBoth xs (map seen (ys ++ y ∷ [])) later
-both_with_more seen xs ys both later y has more x =
-    let grown = pushed (map seen ys) (seen y) x in
-    rw (map_push seen ys y) (
-      λ h. ⊎_elim (λ there. ⊎_map (λ in_xs. in_xs) (λ in_ys. grown.1 (inl in_ys)) ((has x).0 there)) (λ same. inr (grown.1 (inr same))) ((more x).0 h),
-      λ h. (more x).1 (⊎_elim (λ in_xs. inl ((has x).1 (inl in_xs))) (λ in_ys. ⊎_map (λ earlier. (has x).1 (inr earlier)) (λ same. same) (grown.0 in_ys)) h),
-    )
+-- ---- images
 
 pub among_images : {X Y : Type 0} (f : X → Y) (xs : List X) (y : Y) → Contains (map f xs) y ↔ ((x : X) × Contains xs x × (f x ≡ y))
 among_images f [] y = (λ h. absurd (contains_none h), λ (x, none, image). absurd (contains_none none))
@@ -136,3 +121,15 @@ one_that_fails Holds so_far those x are fails other =
       λ h. let (stood, held) = (are other).0 h in (grown.1 (inl stood), held),
       λ (there, held). (are other).1 (⊎_elim (λ stood. stood) (λ same. absurd (fails (subst Holds (sym same) held))) (grown.0 there), held),
     )
+
+-- ---- those that hold something, behind others, as they are seen
+
+-- each element of a list is among those of which nothing is asked
+pub none_behind : {X : Type 0} (xs : List X) → AreThoseOf (λ x. Unit {0}) (xs ++ []) xs
+none_behind xs x = rw (append-nil xs) (λ h. (h, tt), λ h. h.0)
+
+pub seen_holds : {X Y : Type 0} (seen : X → Y) (Holds : Y → Type 0) (base : List Y) (xs : List X) (x : X) (before after : List Y) (y : Y) → AreThoseOf Holds (base ++ map seen xs) before
+    → HasOneMore before y after → y ≡ seen x → Holds (seen x) → AreThoseOf Holds (base ++ map seen (xs ++ x ∷ [])) after
+seen_holds seen Holds base xs x before after y those more is holds =
+    rw (map_push seen xs x) (subst (λ ys. AreThoseOf Holds ys after) (append_assoc base (map seen xs) (seen x ∷ []))
+    (one_that_holds Holds (base ++ map seen xs) before after (seen x) those (subst (λ z. HasOneMore before z after) is more) holds))

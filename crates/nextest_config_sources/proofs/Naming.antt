@@ -3,13 +3,14 @@ use Rattle.std.proofs.Common.{◌≡◌, ◌↔◌, ◌⊎◌, ◌++◌, ℕ, �
 use mathlib.Core.List.{map-map}
 use mathlib.Core.Logic.{⊎_map}
 use mathlib.Core.Logic.Iff as iff
-use Rattle.std.proofs.lemmas.List.Elements.{All-contains, All-from_recursion}
+use Rattle.std.proofs.lemmas.List.Elements.{All-contains, All-from_recursion, Contains-append_cases, Contains-append_left, Contains-append_right}
 use Rattle.std.proofs.lemmas.Bool.{cases_lt, false≢true}
 use Rattle.std.proofs.lemmas.Cmp.{nat_list_cmp_total}
 use Rattle.std.proofs.lemmas.List.{append-nil, map-append}
 use Rattle.std.specs.List.{AllByRecursion}
 use Rattle.std.proofs.lemmas.Option.{same_Some}
 use Rattle.std.proofs.lemmas.Map.Lookups.{exact_bytes}
+use Rattle.std.proofs.lemmas.Map.Made.{Contains-tail}
 use Rattle.std.specs.Cmp.{tied_itself}
 use Rattle.std.specs.Cmp.Lexicographic.{slice_cmp}
 use Rattle.std.specs.Map.{keys_of}
@@ -28,7 +29,7 @@ use Rattle.nextest_config_sources.specs.declared.nextest_version.experimental.Co
 use Rattle.nextest_config_sources.specs.declared.nextest_version.experimental.ConfigExperimental.TheVariants as features
 use Rattle.nextest_config_values.proofs.Elements.{all_joined}
 use Rattle.nextest_config_sources.proofs.Features.{among_all_features, goes_on}
-use Rattle.nextest_config_sources.proofs.Members.{AreThoseOf, HasBoth, among_images, contains_cases, contains_first, contains_later, contains_none, none_in_order, one_that_fails, one_that_holds}
+use Rattle.nextest_config_sources.proofs.Members.{AreThoseOf, among_images, contains_cases, contains_first, contains_later, contains_none, none_in_order, one_that_fails, one_that_holds}
 
 -- ---- one more name
 
@@ -210,18 +211,15 @@ read_in_turn [] members named read names = names
 read_in_turn (feature ∷ rest) members named read names = ((read feature).0, (read feature).1, read_in_turn rest members named read names)
 
 -- a key that the text isn't
-other_key : (text key : List ℕ) (rest : Option Data) (others : List (List ℕ)) → slice_cmp nat_cmp text key ≢ Equal → Contains others text ↔ IsSome rest → Contains (key ∷ others) text ↔ IsSome rest
-other_key text key rest others apart more = (
-  λ h. ⊎_elim (λ same. absurd (apart (ap (slice_cmp nat_cmp text) same ∙ tied_itself nat_list_cmp_total text))) more.0 (contains_cases key others h),
-  λ some. contains_later key others (more.1 some),
-)
+other_key : (text key : List ℕ) (rest : Option Data) (others : List (List ℕ)) → (key ≡ text → ⊥) → Contains others text ↔ IsSome rest → Contains (key ∷ others) text ↔ IsSome rest
+other_key text key rest others apart more = (λ h. more.0 (Contains-tail key others text apart h), λ some. contains_later key others (more.1 some))
 
 -- a text is one of the keys where it has a value
 found_key : (o : Ordering) (text key : List ℕ) (value : Data) (rest : Option Data) (others : List (List ℕ)) → slice_cmp nat_cmp text key ≡ o → Contains others text ↔ IsSome rest
     → Contains (key ∷ others) text ↔ IsSome (match_ordering o rest (Some value) rest)
 found_key Equal text key value rest others e more = (λ h. refl, λ some. contains_first others (sym (exact_bytes text key e)))
-found_key Less text key value rest others e more = other_key text key rest others (λ same. cc (e, same)) more
-found_key Greater text key value rest others e more = other_key text key rest others (λ same. cc (e, same)) more
+found_key Less text key value rest others e more = other_key text key rest others (λ same. cc (e, ap (slice_cmp nat_cmp text) same, tied_itself nat_list_cmp_total text)) more
+found_key Greater text key value rest others e more = other_key text key rest others (λ same. cc (e, ap (slice_cmp nat_cmp text) same, tied_itself nat_list_cmp_total text)) more
 
 among_keys : (entries : List Entry) (text : List ℕ) → Contains (map string_bytes (keys_of entries)) text ↔ IsSome (get_member text (members_view entries))
 among_keys [] text = (λ h. absurd (contains_none h), λ some. cc some)
@@ -237,10 +235,6 @@ pub key_known : (ks : List (Bor (String Global))) (key : Bor (String Global)) (t
     → word_of feature ≡ string_bytes key.now → AreThoseOf IsUnknown (map seen_key (ks ++ key ∷ [])) those
 key_known ks key those feature are word = rw (map-append seen_key ks (key ∷ [])) (one_that_fails IsUnknown (map seen_key ks) those (string_bytes key.now) are (λ none. none feature word))
 
-pub key_unknown : (ks : List (Bor (String Global))) (key : Bor (String Global)) (before after : List (List ℕ)) → AreThoseOf IsUnknown (map seen_key ks) before
-    → HasOneMore before (string_bytes key.now) after → IsUnknown (string_bytes key.now) → AreThoseOf IsUnknown (map seen_key (ks ++ key ∷ [])) after
-key_unknown ks key before after are more none = rw (map-append seen_key ks (key ∷ [])) (one_that_holds IsUnknown (map seen_key ks) before after (string_bytes key.now) are more none)
-
 pub all_keys : (entries : List Entry) (ks : List (Bor (String Global))) (those : List (List ℕ)) → map deref ks ≡ keys_of entries → AreThoseOf IsUnknown (map seen_key ks) those
     → (text : List ℕ) → Contains those text ↔ IsUnknownFeatureKey (members_view entries) text
 all_keys entries ks those all are text =
@@ -251,22 +245,23 @@ all_keys entries ks those all are text =
 
 -- ---- the names of both sets
 
-pub all_words : (known : List ConfigExperimental) (fs : List (Bor ConfigExperimental)) (words : List (List ℕ)) → map deref fs ≡ known → HasBoth [] (map seen_word fs) words
+pub all_words : (known : List ConfigExperimental) (fs : List (Bor ConfigExperimental)) (words : List (List ℕ)) → map deref fs ≡ known → AreThoseOf (λ text. Unit {0}) (map seen_word fs) words
     → (text : List ℕ) → Contains words text ↔ IsWordAmong known text
-all_words known fs words all has text =
+all_words known fs words all are text =
     let same : map seen_word fs ≡ map word_of known = sym (map-map word_of deref fs) ∙ ap (map word_of) all in (
-      λ h. (among_images word_of known text).0 (subst (λ xs. Contains xs text) same (⊎_elim (λ none. absurd (contains_none none)) (λ h. h) ((has text).0 h))),
-      λ h. (has text).1 (inr (subst (λ xs. Contains xs text) (sym same) ((among_images word_of known text).1 h))),
+      λ h. (among_images word_of known text).0 (subst (λ xs. Contains xs text) same ((are text).0 h).0),
+      λ h. (are text).1 (subst (λ xs. Contains xs text) (sym same) ((among_images word_of known text).1 h), tt),
     )
 
 pub all_names : (named : Features) (words names : List (List ℕ)) (ks : List (Bor (String Global))) (keys : List (String Global)) → map deref ks ≡ keys → named.unknown ≡ map string_bytes keys
-    → ((text : List ℕ) → Contains words text ↔ IsWordAmong named.known text) → TextsInOrder names → HasBoth words (map seen_key ks) names → AreNames named names
-all_names named words names ks keys all unknown are in_order has =
+    → ((text : List ℕ) → Contains words text ↔ IsWordAmong named.known text) → TextsInOrder names → AreThoseOf (λ text. Unit {0}) (words ++ map seen_key ks) names → AreNames named names
+all_names named words names ks keys all unknown are in_order both =
     let same : map seen_key ks ≡ named.unknown = sym (map-map string_bytes deref ks) ∙ ap (map string_bytes) all ∙ sym unknown in
+    let split : AreThoseOf (λ text. Unit {0}) (words ++ named.unknown) names = subst (λ xs. AreThoseOf (λ text. Unit {0}) (words ++ xs) names) same both in
     record {
       of_both = λ text. (
-        λ h. ⊎_elim (λ h. inr ((are text).0 h)) (λ h. inl (subst (λ xs. Contains xs text) same h)) ((has text).0 h),
-        λ h. (has text).1 (⊎_elim (λ h. inr (subst (λ xs. Contains xs text) (sym same) h)) (λ h. inl ((are text).1 h)) h),
+        λ h. ⊎_elim (λ h. inr ((are text).0 h)) inl (Contains-append_cases words named.unknown text ((split text).0 h).0),
+        λ h. (split text).1 (⊎_elim (Contains-append_right words named.unknown text) (λ h. Contains-append_left words named.unknown text ((are text).1 h)) h, tt),
       );
       in_order = in_order;
     }

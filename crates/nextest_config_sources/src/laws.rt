@@ -19,6 +19,7 @@ pub fn law_version_once()
 
 /// A current version is enough for the version of a text where its numbers are greater in order, or
 /// are the same and it has no pre-release.
+#[tactic(auto, using(crate::proofs::Enough::enough_by_numbers))]
 pub fn law_enough()
     ensures { (current : Parts) (asked : Numbers)
         → IsEnough current (plain asked) ↔ IsEnoughByNumbers current asked }

@@ -1,23 +1,21 @@
-use Rattle.std.proofs.Common.{[], map, string_bytes, subst}
+use Rattle.std.proofs.Common.{[], map, string_bytes}
 use Rattle.std.proofs.lemmas.Map.Iter.{iter_end}
 use Rattle.std.specs.Cmp.Lexicographic.{slice_cmp}
 use Rattle.std.specs.Map.Iter.{deref}
 use Rattle.std.specs.Ordering.{nat_cmp}
-use Rattle.nextest_config_sources.specs.NextestVersion.{HasOneMore}
-use Rattle.nextest_config_sources.proofs.Members.{both_with_more, both_with_none, none_in_order}
+use Rattle.nextest_config_sources.proofs.Members.{none_in_order, none_of_none, seen_holds}
 use Rattle.nextest_config_sources.proofs.Naming.{all_words, seen_word}
 use Rattle.nextest_config_sources.proofs.nextest_version.experimental_deserialize.known_words.Goals as goal
 
 pub loop-feature-init : goal.loop-feature-init
-loop-feature-init c = rw c.new-words.ensures.empty (none_in_order (slice_cmp nat_cmp), both_with_none [])
+loop-feature-init c = rw c.new-words.ensures.empty (none_in_order (slice_cmp nat_cmp), none_of_none (λ text. Unit {0}))
 
 pub loop-feature-preserved : goal.loop-feature-preserved
-loop-feature-preserved c =
-    let more = subst (λ text. HasOneMore (map string_bytes c.loop-feature.words.keys) text (map string_bytes c.add_text.new.texts.keys)) c.as_word.ensures c.in_ok-add_text.ensures.added in (
-      c.in_ok-add_text.ensures.in_order,
-      both_with_more seen_word [] c.loop-feature.yielded
-          (map string_bytes c.loop-feature.words.keys) (map string_bytes c.add_text.new.texts.keys) c.in-Some.feature c.loop-feature.invariant.1 more,
-    )
+loop-feature-preserved c = (
+  c.in_ok-add_text.ensures.in_order,
+  seen_holds seen_word (λ text. Unit {0}) [] c.loop-feature.yielded c.in-Some.feature (map string_bytes c.loop-feature.words.keys) (map string_bytes c.add_text.new.texts.keys)
+      c.as_word.result.now c.loop-feature.invariant.1 c.in_ok-add_text.ensures.added c.as_word.ensures tt,
+)
 
 pub returns-clause-words : goal.returns-clause-words
 returns-clause-words c =

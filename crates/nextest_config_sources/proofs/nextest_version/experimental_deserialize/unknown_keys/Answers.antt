@@ -1,12 +1,12 @@
-use Rattle.std.proofs.Common.{◌∙◌, map, string_bytes, subst}
+use Rattle.std.proofs.Common.{◌∙◌, [], map, string_bytes, subst}
 use Rattle.std.proofs.lemmas.Map.Iter.{iter_end}
 use Rattle.std.specs.BTreeMap.{keys}
 use Rattle.std.specs.Cmp.Lexicographic.{slice_cmp}
 use Rattle.std.specs.Map.Iter.{deref}
 use Rattle.std.specs.Ordering.{nat_cmp}
-use Rattle.nextest_config_sources.specs.NextestVersion.{HasOneMore, IsUnknown}
-use Rattle.nextest_config_sources.proofs.Members.{none_in_order, none_of_none}
-use Rattle.nextest_config_sources.proofs.Naming.{all_keys, key_known, key_unknown}
+use Rattle.nextest_config_sources.specs.NextestVersion.{IsUnknown}
+use Rattle.nextest_config_sources.proofs.Members.{none_in_order, none_of_none, seen_holds}
+use Rattle.nextest_config_sources.proofs.Naming.{all_keys, key_known, seen_key}
 use Rattle.nextest_config_sources.proofs.nextest_version.experimental_deserialize.unknown_keys.Goals as goal
 
 pub loop-key-init : goal.loop-key-init
@@ -19,9 +19,8 @@ loop-key-preserved-in-Ok c =
 pub loop-key-preserved : goal.loop-key-preserved
 loop-key-preserved c = (
   c.in_ok-add_text-in-Err.ensures.in_order,
-  key_unknown c.loop-key.yielded c.in-Some.key (map string_bytes c.loop-key.unknown.keys) (map string_bytes c.add_text.new.texts.keys) c.loop-key.invariant.1
-      (subst (λ text. HasOneMore (map string_bytes c.loop-key.unknown.keys) text (map string_bytes c.add_text.new.texts.keys)) c.as_str-in-Err.ensures.value c.in_ok-add_text-in-Err.ensures.added)
-      (subst IsUnknown c.as_str.ensures.value c.in-Err.ensures.refused),
+  seen_holds seen_key IsUnknown [] c.loop-key.yielded c.in-Some.key (map string_bytes c.loop-key.unknown.keys) (map string_bytes c.add_text.new.texts.keys) c.as_str-in-Err.result.now
+      c.loop-key.invariant.1 c.in_ok-add_text-in-Err.ensures.added c.as_str-in-Err.ensures.value (subst IsUnknown c.as_str.ensures.value c.in-Err.ensures.refused),
 )
 
 pub returns-clause-unknown : goal.returns-clause-unknown

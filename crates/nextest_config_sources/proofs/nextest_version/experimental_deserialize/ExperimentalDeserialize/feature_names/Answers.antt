@@ -1,22 +1,20 @@
-use Rattle.std.proofs.Common.{map, refl, string_bytes, subst}
+use Rattle.std.proofs.Common.{map, refl, string_bytes}
 use Rattle.std.proofs.lemmas.Map.Iter.{iter_end}
 use Rattle.std.specs.Map.Iter.{deref}
-use Rattle.nextest_config_sources.specs.NextestVersion.{features_of, HasOneMore}
-use Rattle.nextest_config_sources.proofs.Members.{both_with_more, both_with_none}
+use Rattle.nextest_config_sources.specs.NextestVersion.{features_of}
+use Rattle.nextest_config_sources.proofs.Members.{none_behind, seen_holds}
 use Rattle.nextest_config_sources.proofs.Naming.{all_names, seen_key}
 use Rattle.nextest_config_sources.proofs.nextest_version.experimental_deserialize.ExperimentalDeserialize.feature_names.Goals as goal
 
 pub loop-name-init : goal.loop-name-init
-loop-name-init c = (c.in_ok-names.ensures.in_order, both_with_none (map string_bytes c.in_ok-names.names.keys))
+loop-name-init c = (c.in_ok-names.ensures.in_order, none_behind (map string_bytes c.in_ok-names.names.keys))
 
 pub loop-name-preserved : goal.loop-name-preserved
-loop-name-preserved c =
-    let words = map string_bytes c.in_ok-names.names.keys in
-    let more = subst (λ text. HasOneMore (map string_bytes c.loop-name.names.keys) text (map string_bytes c.add_text.new.texts.keys)) c.as_str.ensures.value c.in_ok-add_text.ensures.added in (
-      c.in_ok-add_text.ensures.in_order,
-      both_with_more seen_key words c.loop-name.yielded
-          (map string_bytes c.loop-name.names.keys) (map string_bytes c.add_text.new.texts.keys) c.in-Some.name c.loop-name.invariant.1 more,
-    )
+loop-name-preserved c = (
+  c.in_ok-add_text.ensures.in_order,
+  seen_holds seen_key (λ text. Unit {0}) (map string_bytes c.in_ok-names.names.keys) c.loop-name.yielded c.in-Some.name (map string_bytes c.loop-name.names.keys)
+      (map string_bytes c.add_text.new.texts.keys) c.as_str.result.now c.loop-name.invariant.1 c.in_ok-add_text.ensures.added c.as_str.ensures.value tt,
+)
 
 pub returns : goal.returns
 returns c =
