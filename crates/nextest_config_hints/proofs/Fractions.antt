@@ -1,5 +1,5 @@
--- Leaving out fractions, a step at a time.
-use Rattle.std.proofs.Common.{◌≡◌, ℕ, Bool, true, false, List, [], ◌∷◌, ◌++◌, refl, sym, ap, ◌∙◌, rules}
+-- Leaving out a fraction.
+use Rattle.std.proofs.Common.{◌≡◌, ℕ, Bool, true, false, List, [], ◌∷◌, ◌++◌, refl, rules}
 use Rattle.std.specs.Char.{is_ascii_digit}
 use Rattle.nextest_config_values.specs.Characters.{dot}
 use Rattle.nextest_config_values.specs.Duration.{IsRun}
@@ -14,15 +14,9 @@ past_digits (c ∷ run) behind h =
     let yes : is_ascii_digit c ≡ true = search rules in
     rw yes (past_digits run behind (record { inside = h.inside.1; over = h.over }))
 
--- what comes behind a fraction is read as behind a digit
-fraction_left_out : (c : ℕ) (cs run behind : List ℕ) → c ≡ dot → begins_with_digit cs ≡ true → cs ≡ run ++ behind → IsRun is_ascii_digit run behind
-    → without_fractions_behind digit (c ∷ cs) ≡ without_fractions_behind digit behind
-fraction_left_out c cs run behind is_dot begins whole h = rw (is_dot, begins, whole) (past_digits run behind h)
-
--- ---- a step of the loop
-
 -- a dot between two digits is left out, with the digits behind it
-pub fraction_step : (kept text rest behind digits after : List ℕ) (behind_digit : Bool) (c : ℕ) → kept ++ without_fractions_behind (before_by behind_digit) rest ≡ text → behind_digit ≡ true → rest ≡ c ∷ behind
-    → c ≡ dot → begins_with_digit behind ≡ true → behind ≡ digits ++ after → IsRun is_ascii_digit digits after → kept ++ without_fractions_behind (before_by behind_digit) after ≡ text
-fraction_step kept text rest behind digits after behind_digit c so digit_before whole is_dot begins parts h =
-    rw digit_before (ap (λ back. kept ++ back) (sym (fraction_left_out c behind digits after is_dot begins parts h)) ∙ rw (digit_before, whole) at so)
+pub fraction_step : {text behind digits after : List ℕ} {behind_digit : Bool} (kept : List ℕ) (c : ℕ) → kept ++ without_fractions_behind (before_by behind_digit) (c ∷ behind) ≡ text
+    → behind_digit ≡ true → c ≡ dot → begins_with_digit behind ≡ true → behind ≡ digits ++ after → IsRun is_ascii_digit digits after
+    → kept ++ without_fractions_behind (before_by behind_digit) after ≡ text
+fraction_step {digits = digits} {after = after} kept c so digit_before is_dot begins parts h =
+    rw digit_before (rw (digit_before, is_dot, begins, parts, past_digits digits after h) at so)

@@ -1,5 +1,5 @@
 -- Leaving out gaps, a character at a time.
-use Rattle.std.proofs.Common.{◌≡◌, ℕ, Bool, true, false, List, [], ◌∷◌, ◌++◌, refl, ap, sym, ◌∙◌, inl, inr, append_assoc, rules}
+use Rattle.std.proofs.Common.{◌≡◌, ℕ, Bool, true, false, List, [], ◌∷◌, ◌++◌, refl, ap, sym, ◌∙◌, inl, inr, ⊎_elim, append_assoc, rules}
 use Rattle.std.proofs.lemmas.Bool.{and_parts, cases_Bool, false≢true}
 use Rattle.std.specs.Prelude.{IsTrue, ◌&&◌, ◌||◌}
 use Rattle.std.specs.Char.{is_ascii_digit, is_whitespace}
@@ -25,10 +25,8 @@ past_space (c ∷ space) behind h =
 gap_goes_on : (in_gap : Bool) (c : ℕ) (cs : List ℕ) → (in_gap ≡ true → space_then_digit (c ∷ cs) ≡ true)
     → (is_whitespace c && (in_gap || space_then_digit cs)) ≡ (is_whitespace c && space_then_digit cs)
 gap_goes_on false c cs next = refl
-gap_goes_on true c cs next = elim (cases_Bool (is_whitespace c)) [
-  | inl white ↦ rw white (sym (rw (no_digit c white, white) at (next refl)))
-  | inr other ↦ rw other refl
-]
+gap_goes_on true c cs next =
+    ⊎_elim (λ white. rw white (sym (rw (no_digit c white, white) at (next refl)))) (λ other. rw other refl) (cases_Bool (is_whitespace c))
 
 -- ---- the loop
 

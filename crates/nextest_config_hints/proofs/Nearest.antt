@@ -1,5 +1,5 @@
 -- The nearest word so far, word by word.
-use Rattle.std.proofs.Common.{◌≡◌, ℕ, ◌<◌, ◌≤◌, List, [], ◌∷◌, ◌++◌, length, min, ◌+◌, get_or, take, Option, Some, None, refl, ap, ◌∙◌, inl, inr, append_assoc, arith}
+use Rattle.std.proofs.Common.{◌≡◌, ℕ, ◌<◌, ◌≤◌, List, [], ◌∷◌, ◌++◌, length, min, ◌+◌, get_or, take, Option, Some, None, refl, ap, ◌∙◌, ⊎_elim, append_assoc, arith}
 use Rattle.std.specs.Prelude.{chars}
 use denote.Ref.{Bor}
 use Rattle.std.proofs.lemmas.Bool.{cases_lt}
@@ -21,10 +21,9 @@ pub record IsSoFar (words : List (List ℕ)) (name : List ℕ) (found : Option (
 
 -- a word that isn't close is farther than one that is
 farther : (name word other : List ℕ) → IsClose name word → ¬ IsClose name other → distance name word < distance name other
-farther name word other close none = elim (cases_lt (distance name word) (distance name other)) [
-  | inl less ↦ less
-  | inr more ↦ absurd (none (record { few = omega (arith, close.few); below_length = omega (arith, close.below_length) }))
-]
+farther name word other close none =
+    ⊎_elim (λ less. less) (λ more. absurd (none (record { few = omega (arith, close.few); below_length = omega (arith, close.below_length) })))
+    (cases_lt (distance name word) (distance name other))
 
 -- each word so far is farther than a nearer one
 all_farther : (name word : List ℕ) (words : List (List ℕ)) (found : Option (List ℕ)) → IsNearest words name found → IsClose name word → distance name word < limit_of name found

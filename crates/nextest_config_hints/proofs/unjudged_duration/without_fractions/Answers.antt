@@ -5,7 +5,6 @@ use Rattle.nextest_config_hints.proofs.unjudged_duration.without_fractions.Goals
 
 pub loop-rest-preserved-then-begins_with_digit : goal.loop-rest-preserved-then-begins_with_digit
 loop-rest-preserved-then-begins_with_digit c =
-    let rest = c.loop-rest.rest.now in
-    let parts = first_and_rest rest c.first-item.result c.in-len1-up.len_at_least c.first-item.is in
-    fraction_step c.loop-rest.kept.items _ rest _ c.split_digits.result.0.now c.split_digits.result.1.now c.loop-rest.behind_digit c.first-item.result c.loop-rest.invariant c.if-behind_digit.true parts
-    c.if-first-eq46.true (sym c.if-begins_with_digit.ensures) c.split_digits.ensures.whole c.split_digits.ensures.is_run
+    let parts = first_and_rest c.loop-rest.rest.now c.first-item.result c.in-len1-up.len_at_least c.first-item.is in
+    fraction_step c.loop-rest.kept.items c.first-item.result (rw parts at c.loop-rest.invariant) c.if-behind_digit.true c.if-first-eq46.true
+    (sym c.if-begins_with_digit.ensures) c.split_digits.ensures.whole c.split_digits.ensures.is_run
