@@ -1,5 +1,5 @@
 -- When a current version is enough, by its numbers.
-use Rattle.std.proofs.Common.{◌≡◌, ℕ, ◌<◌, ◌↔◌, ◌⊎◌, Bool, true, false, not, List, [], ◌∷◌, length, refl, sym, inl, inr, arith, nat_cmp}
+use Rattle.std.proofs.Common.{◌≡◌, ℕ, ◌<◌, ◌↔◌, ◌⊎◌, Bool, true, false, not, List, [], ◌∷◌, length, refl, sym, inl, inr, ⊎_elim, arith, nat_cmp}
 use Rattle.std.proofs.lemmas.Bool.{cases_order, false≢true, ne_eqb}
 use Rattle.std.specs.Cmp.{nat_cmp_is}
 use Rattle.std.specs.Ordering.{is_lt, ordering_then}
@@ -15,13 +15,12 @@ IsNotLess o = ¬ (is_lt o ≡ true)
 
 -- a number, and then the rest
 then_rest : (x y : ℕ) (rest : Ordering) (P : Type 0) → IsNotLess rest ↔ P → IsNotLess (ordering_then (nat_cmp x y) rest) ↔ ((y < x) ⊎ ((x ≡ y) × P))
-then_rest x y rest P h = elim (cases_order x y) [
-  | inl same ↦ rw (sym (nat_cmp_is x y Equal same)) (λ e. inr (same, h.0 e), λ s. elim s [ inl above ↦ absurd (omega (arith, same)) | inr p ↦ h.1 p.1 ])
-  | inr other ↦ elim other [
-    | inl less ↦ rw (sym (nat_cmp_is x y Less less)) (λ e. absurd (e refl), λ s. elim s [ inl above ↦ absurd (omega (arith, less)) | inr same ↦ absurd (omega (arith, less, same.0)) ])
-    | inr above ↦ rw (sym (nat_cmp_is x y Greater above)) (λ e. inl above, λ s e. false≢true e)
-  ]
-]
+then_rest x y rest P h = ⊎_elim
+    (λ same. rw (sym (nat_cmp_is x y Equal same)) (λ e. inr (same, h.0 e), ⊎_elim (λ above. absurd (omega (arith, same))) (λ p. h.1 p.1)))
+    (⊎_elim
+      (λ less. rw (sym (nat_cmp_is x y Less less)) (λ e. absurd (e refl), ⊎_elim (λ above. absurd (omega (arith, less))) (λ same. absurd (omega (arith, less, same.0)))))
+      (λ above. rw (sym (nat_cmp_is x y Greater above)) (λ e. inl above, λ s e. false≢true e)))
+    (cases_order x y)
 
 no_pre_release : (pre : List ℕ) → IsNotLess (pre_cmp pre []) ↔ (pre ≡ [])
 no_pre_release [] = (λ e. refl, λ e f. false≢true f)

@@ -1,9 +1,9 @@
 -- The elements of lists: after an insertion, of a mapped list, found by a test, in order, and those that hold something.
 use Rattle.std.proofs.Common.{◌≡◌, ◌↔◌, ◌⊎◌, zero, suc, Bool, true, List, [], ◌∷◌, ◌++◌, map, Contains, Ordering, Less, Equal, Greater, refl, subst, sym, ap, ◌∙◌, inl, inr, ⊎_elim, append_assoc, arith}
-use Rattle.std.proofs.lemmas.Bool.{or_left, or_right}
 use mathlib.Core.Logic.{⊎_map}
 use Rattle.std.proofs.lemmas.List.{append-nil, map-id, map_push}
 use Rattle.std.proofs.lemmas.List.Elements.{Contains-append_left, Contains-push, Contains-push_cases}
+use Rattle.std.proofs.lemmas.List.Folds.{list_any_at}
 use Rattle.std.proofs.lemmas.Map.Views.{Contains-from_any}
 use Rattle.std.specs.BTreeSet.{insert_key}
 use Rattle.std.specs.List.Sorted.{IsStrictlySortedBy}
@@ -71,14 +71,8 @@ among_images f (x ∷ xs) y = (
 
 -- a test that tells elements apart finds those of a list
 module _ {K : Type 0} (eq : K → K → Bool) (itself : (x : K) → eq x x ≡ true) (exact : (x y : K) → eq x y ≡ true → x ≡ y) where
-  found_member : (k : K) (xs : List K) → Contains xs k → is_member eq xs k ≡ true
-  found_member k [] h = absurd (contains_none h)
-  found_member k (x ∷ xs) h = ⊎_elim (λ same. or_left (eq k x) (is_member eq xs k) (subst (λ y. eq k y ≡ true) (sym same) (itself k)))
-      (λ later. or_right (eq k x) (is_member eq xs k) (found_member k xs later)) (contains_cases x xs h)
-
-  -- the test finds those that the list has
   pub member_iff : (k : K) (xs : List K) → (is_member eq xs k ≡ true) ↔ Contains xs k
-  member_iff k xs = (Contains-from_any exact k xs, found_member k xs)
+  member_iff k xs = (Contains-from_any exact k xs, λ (i, within, is). list_any_at (eq k) xs i k within (subst (λ y. eq k y ≡ true) (sym is) (itself k)))
 
 -- ---- elements in order
 

@@ -1,5 +1,5 @@
 -- The features that an array and a table name, and the names of both sets.
-use Rattle.std.proofs.Common.{◌≡◌, ◌↔◌, ◌⊎◌, ◌++◌, ℕ, ◌+◌, ◌<◌, ◌≤◌, ◌==◌, Bool, true, false, cond, List, [], ◌∷◌, length, map, get_or, Contains, Option, Some, None, IsSome, String, Global, Ordering, Less, Equal, Greater, Bor, string_bytes, nat_cmp, refl, sym, ap, subst, ◌∙◌, inl, inr, ⊎_elim, ◌≢◌, arith, rules}
+use Rattle.std.proofs.Common.{◌≡◌, ◌↔◌, ◌⊎◌, ◌++◌, ℕ, ◌+◌, ◌<◌, ◌≤◌, ◌==◌, Bool, true, false, cond, List, [], ◌∷◌, length, map, get_or, Contains, Option, Some, None, IsSome, String, Global, Ordering, Less, Equal, Greater, Bor, string_bytes, nat_cmp, refl, sym, ap, subst, ◌∙◌, inl, inr, ⊎_elim, arith, rules}
 use mathlib.Core.List.{map-map}
 use mathlib.Core.Logic.{⊎_map}
 use mathlib.Core.Logic.Iff as iff
@@ -29,7 +29,7 @@ use Rattle.nextest_config_sources.specs.declared.nextest_version.experimental.Co
 use Rattle.nextest_config_sources.specs.declared.nextest_version.experimental.ConfigExperimental.TheVariants as features
 use Rattle.nextest_config_values.proofs.Elements.{all_joined}
 use Rattle.nextest_config_sources.proofs.Features.{among_all_features, goes_on}
-use Rattle.nextest_config_sources.proofs.Members.{AreThoseOf, among_images, contains_cases, contains_first, contains_later, contains_none, none_in_order, one_that_fails, one_that_holds}
+use Rattle.nextest_config_sources.proofs.Members.{AreThoseOf, among_images, contains_first, contains_later, contains_none, none_in_order, one_that_fails, one_that_holds}
 
 -- ---- one more name
 
@@ -43,9 +43,9 @@ told_word feature = search rules
 one_feature : (f g : ConfigExperimental) → word_of f ≡ word_of g → f ≡ g
 one_feature f g same = sym (told_word f) ∙ ap told same ∙ told_word g
 
-pub adds_feature : (before : Features) (text : List ℕ) (feature : ConfigExperimental) (known : List ConfigExperimental) → word_of feature ≡ text → HasOneMore before.known feature known
+pub adds_feature : {before : Features} {text : List ℕ} {known : List ConfigExperimental} (feature : ConfigExperimental) → word_of feature ≡ text → HasOneMore before.known feature known
     → FeaturesInOrder known → AddsText before text (record { known = known; unknown = before.unknown })
-adds_feature before text feature known word more in_order = record {
+adds_feature feature word more in_order = record {
   more_known = λ f. (
     λ h. ⊎_map (λ h. h) (λ same. ap word_of (sym same) ∙ word) ((more f).0 h),
     λ h. (more f).1 (⊎_map (λ h. h) (λ same. one_feature feature f (word ∙ sym same)) h),
@@ -54,9 +54,9 @@ adds_feature before text feature known word more in_order = record {
   still_in_order = λ h. record { known_in_order = in_order; unknown_in_order = h.unknown_in_order };
 }
 
-pub adds_other : (before : Features) (text : List ℕ) (unknown : List (List ℕ)) → IsUnknown text → HasOneMore before.unknown text unknown
+pub adds_other : {before : Features} {text : List ℕ} {unknown : List (List ℕ)} → IsUnknown text → HasOneMore before.unknown text unknown
     → TextsInOrder unknown → AddsText before text (record { known = before.known; unknown = unknown })
-adds_other before text unknown none more in_order = record {
+adds_other none more in_order = record {
   more_known = λ f. (inl, ⊎_elim (λ h. h) (λ word. absurd (none f word)));
   more_unknown = λ other. (
     λ h. ⊎_map (λ h. h) (λ same. (same, subst IsUnknown same none)) ((more other).0 h),
@@ -98,26 +98,24 @@ module _ (items : Items) (count : ℕ) (text : List ℕ) (here : text_in (get_it
   )
 
   named_more : (before after : Features) → NamedSoFar items count before → AddsText before text after → NamedSoFar items (count + 1) after
-  named_more before after so_far adds =
-      let known = so_far.of_names.of_known in
-      let unknown = so_far.of_names.of_unknown in
-      record {
-        of_texts = λ index below. ⊎_elim (so_far.of_texts index) (λ last. subst IsSome (sym (ap (λ i. text_in (get_item i items)) last ∙ here)) refl) (last_or_below index count below);
-        of_names = record {
-          of_known = λ f. (
-            λ h. (among_more (word_of f)).1 (⊎_map (known f).0 sym ((adds.more_known f).0 h)),
-            λ h. (adds.more_known f).1 (⊎_map (known f).1 sym ((among_more (word_of f)).0 h)),
-          );
-          of_unknown = λ t. (
-            λ h. ⊎_elim (λ h. ((among_more t).1 (inl ((unknown t).0 h).0), ((unknown t).0 h).1)) (λ h. ((among_more t).1 (inr h.0), h.1)) ((adds.more_unknown t).0 h),
-            λ h. (adds.more_unknown t).1 (⊎_map (λ there. (unknown t).1 (there, h.1)) (λ same. (same, h.1)) ((among_more t).0 h.0)),
-          );
-          in_order = adds.still_in_order so_far.of_names.in_order;
-        };
-      }
+  named_more before after so_far adds = record {
+    of_texts = λ index below. ⊎_elim (so_far.of_texts index) (λ last. subst IsSome (sym (ap (λ i. text_in (get_item i items)) last ∙ here)) refl) (last_or_below index count below);
+    of_names = record {
+      of_known = λ f. (
+        λ h. (among_more (word_of f)).1 (⊎_map (so_far.of_names.of_known f).0 sym ((adds.more_known f).0 h)),
+        λ h. (adds.more_known f).1 (⊎_map (so_far.of_names.of_known f).1 sym ((among_more (word_of f)).0 h)),
+      );
+      of_unknown = λ t. (
+        λ h. let there = so_far.of_names.of_unknown t in
+          ⊎_elim (λ h. ((among_more t).1 (inl (there.0 h).0), (there.0 h).1)) (λ h. ((among_more t).1 (inr h.0), h.1)) ((adds.more_unknown t).0 h),
+        λ h. (adds.more_unknown t).1 (⊎_map (λ there. (so_far.of_names.of_unknown t).1 (there, h.1)) (λ same. (same, h.1)) ((among_more t).0 h.0)),
+      );
+      in_order = adds.still_in_order so_far.of_names.in_order;
+    };
+  }
 
-pub item_added : (items : Items) (count : ℕ) (value : Data) (before after : Features) → NamedSoFar items count before → get_item count items ≡ Some value → AddsItem before value after → NamedSoFar items (count + 1) after
-item_added items count value before after so_far is (text, held, adds) = named_more items count text (ap text_in is ∙ held) before after so_far adds
+pub item_added : {items : Items} {count : ℕ} {value : Data} {before after : Features} → NamedSoFar items count before → get_item count items ≡ Some value → AddsItem before value after → NamedSoFar items (count + 1) after
+item_added {items} {count} {before = before} {after = after} so_far is (text, held, adds) = named_more items count text (ap text_in is ∙ held) before after so_far adds
 
 -- what stands at an index of the elements
 pub item_here : (xs items : List Value) (index : ℕ) (value : Value) → xs ≡ items → index < length xs → value ≡ get_or xs index value → get_item index (items_view items) ≡ Some (view value)
@@ -148,10 +146,9 @@ module _ (vs : List Value) (count : ℕ) (past : length vs ≤ count) where
   }
 
 -- an element that is no text, behind texts
-pub refuses_array : (items : Items) (index : ℕ) (value : Data) (named : Features) (at : List ℕ) (fault : ReadFault) → NamedSoFar items index named → get_item index items ≡ Some value
+pub refuses_array : {items : Items} {index : ℕ} {value : Data} {named : Features} (at : List ℕ) (fault : ReadFault) → NamedSoFar items index named → get_item index items ≡ Some value
     → Refuses (ItemFaults value index at) (Unit {0}) fault → RefusesBy (made_of (in_form true) feature_array) items at fault
-refuses_array items index value named at fault so_far is refused =
-    record { told = refused_mapped fault refused inl (λ f wrong. (index, value, is, so_far.of_texts, wrong)) }
+refuses_array {index = index} {value = value} at fault so_far is refused = record { told = refused_mapped fault refused inl (λ f wrong. (index, value, is, so_far.of_texts, wrong)) }
 
 -- ---- a table
 
@@ -167,9 +164,9 @@ pub record SwitchedSoFar (members : Members) (so_far left known : List ConfigExp
   pub in_order : FeaturesInOrder known
 
 -- one more switch, which is off
-pub switched_off : (members : Members) (so_far left known after : List ConfigExperimental) (feature : ConfigExperimental) → SwitchedSoFar members so_far left known → left ≡ feature ∷ after
+pub switched_off : {members : Members} {so_far left known after : List ConfigExperimental} {feature : ConfigExperimental} → SwitchedSoFar members so_far left known → left ≡ feature ∷ after
     → (switch feature).means members false → SwitchedSoFar members (so_far ++ feature ∷ []) after known
-switched_off members so_far left known after feature h step off = record {
+switched_off {members} {so_far} {left} {known} {after} {feature} h step off = record {
   whole = goes_on so_far left after feature h.whole step;
   read = all_joined _ so_far (feature ∷ []) h.read ((false, off), tt);
   on = one_that_fails (λ f. (switch f).means members true) so_far known feature h.on (λ on. false≢true ((switch feature).law.one_meaning members false true off on));
@@ -177,9 +174,9 @@ switched_off members so_far left known after feature h step off = record {
 }
 
 -- one more switch, which is on
-pub switched_on : (members : Members) (so_far left known after more : List ConfigExperimental) (feature : ConfigExperimental) → SwitchedSoFar members so_far left known → left ≡ feature ∷ after
+pub switched_on : {members : Members} {so_far left known after more : List ConfigExperimental} {feature : ConfigExperimental} → SwitchedSoFar members so_far left known → left ≡ feature ∷ after
     → (switch feature).means members true → HasOneMore known feature more → FeaturesInOrder more → SwitchedSoFar members (so_far ++ feature ∷ []) after more
-switched_on members so_far left known after more feature h step on adds in_order = record {
+switched_on {members} {so_far} {left} {known} {after} {more} {feature} h step on adds in_order = record {
   whole = goes_on so_far left after feature h.whole step;
   read = all_joined _ so_far (feature ∷ []) h.read ((true, on), tt);
   on = one_that_holds (λ f. (switch f).means members true) so_far known more feature h.on adds on;
@@ -192,15 +189,15 @@ first_of : (members : Members) (at : List ℕ) (fault : Fault) (so_far after : L
 first_of table at fault [] after feature read wrong = inl wrong
 first_of table at fault (x ∷ so_far) after feature read wrong = inr (read.0.0, read.0.1, first_of table at fault so_far after feature read.1 wrong)
 
-pub refuses_switches : (members : Members) (at : List ℕ) (fault : ReadFault) (so_far left known after : List ConfigExperimental) (feature : ConfigExperimental) → SwitchedSoFar members so_far left known → left ≡ feature ∷ after
+pub refuses_switches : {members : Members} {so_far left known after : List ConfigExperimental} {feature : ConfigExperimental} (at : List ℕ) (fault : ReadFault) → SwitchedSoFar members so_far left known → left ≡ feature ∷ after
     → RefusesBy (switch feature) members at fault → RefusesBy feature_table members at fault
-refuses_switches members at fault so_far left known after feature h step refused =
+refuses_switches {members} {so_far} {after = after} {feature} at fault h step refused =
     let whole : all_features ≡ so_far ++ feature ∷ after = h.whole ∙ ap (λ rest. so_far ++ rest) step in
     record { told = refused_mapped fault refused.told (λ wanted. inl tt) (λ f wrong. subst (λ of. (switches of).faults members at f) (sym whole) (first_of members at f so_far after feature h.read wrong)) }
 
 -- behind the last switch
-pub all_switches : (members : Members) (so_far left known : List ConfigExperimental) → SwitchedSoFar members so_far left known → left ≡ [] → (feature : ConfigExperimental) → (on : Bool) × (switch feature).means members on
-all_switches members so_far left known h ended feature =
+pub all_switches : {members : Members} {so_far left known : List ConfigExperimental} → SwitchedSoFar members so_far left known → left ≡ [] → (feature : ConfigExperimental) → (on : Bool) × (switch feature).means members on
+all_switches {members} {so_far} h ended feature =
     let Read : ConfigExperimental → Type 0 = λ f. (on : Bool) × (switch f).means members on in
     let all : all_features ≡ so_far = h.whole ∙ ap (λ rest. so_far ++ rest) ended ∙ append-nil so_far in
     All-contains Read so_far feature (All-from_recursion Read so_far h.read) (subst (λ fs. Contains fs feature) all (among_all_features feature))

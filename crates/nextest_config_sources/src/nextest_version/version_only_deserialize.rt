@@ -2,7 +2,7 @@
 
 ghost use Rattle.std.specs.Prelude.{◌≡◌, IfOk, IfErr, OnOk, option_map, string_bytes};
 ghost use Rattle.toml.specs.Data.{get_member};
-ghost use Rattle.toml.specs.View.{array_view, table_view};
+ghost use Rattle.toml.specs.View.{array_view, table_view, view};
 ghost use Rattle.nextest_config_sources.specs.NextestVersion.{array_in, ask_of, Asks, AsksFeatures, BreaksForm, BreaksToolRule, broken_form, experimental_key, feature_setting_of, features_of, IsWrong, IsWrongBehind, IsWrongNamed, IsWrongTable, nothing, ObeysForm, ObeysToolRule, RefusesSource, TextAsks};
 
 use super::edition::Edition;
@@ -12,7 +12,7 @@ use super::nextest_version_deserialize::NextestVersionDeserialize;
 use super::source::ConfigSourceKind;
 use nextest_config_values::read::{FaultKind, ReadFault, Rule, field_or};
 use std::alloc::Global;
-use toml::Table;
+use toml::{Table, Value};
 use toml::value::Array;
 
 const VERSION_KEY: &str = "nextest-version";
@@ -125,10 +125,19 @@ fn array_form(table: &Table) -> Option<&Array>
     ensures { option_map (λ array. array_view array.now) result
         ≡ array_in (get_member experimental_key (table_view table.now)) }
 {
-    match table.get(EXPERIMENTAL_KEY) {
+    match experimental_in(table) {
         Some(value) => value.as_array(),
         None => None,
     }
+}
+
+// The value at the key of features.
+#[tactic(auto, using(toml::proofs::Views::table_get))]
+fn experimental_in(table: &Table) -> Option<&Value>
+    ensures { option_map (λ value. view value.now) result
+        ≡ get_member experimental_key (table_view table.now) }
+{
+    table.get(EXPERIMENTAL_KEY)
 }
 
 // What is wrong with an array of features where the edition takes tables only.

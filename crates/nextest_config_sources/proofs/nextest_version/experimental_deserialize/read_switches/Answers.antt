@@ -1,25 +1,20 @@
 use Rattle.nextest_config_values.proofs.Faults.{passed_on}
-use Rattle.toml.specs.View.{table_view}
-use Rattle.nextest_config_sources.specs.NextestVersion.{features_left}
 use Rattle.nextest_config_sources.proofs.Naming.{all_switches, refuses_switches, switched_off, switched_on}
 use Rattle.nextest_config_sources.proofs.nextest_version.experimental_deserialize.read_switches.Goals as goal
 
 pub returns-in_err-read_switch-clause-refused : goal.returns-in_err-read_switch-clause-refused
 returns-in_err-read_switch-clause-refused c =
     passed_on _ c.from_residual.result _ c.from_residual.ensures.1
-    (refuses_switches (table_view c.args.table.now) c.args.at.now c.in_err-read_switch.field-0.0 c.loop-feature.yielded _ c.loop-feature.known.keys (features_left c.next.new.self) c.in-Some.feature
-    c.loop-feature.invariant c.in-Some.ensures.steps c.in_err-read_switch.ensures.refused)
+    (refuses_switches c.args.at.now c.in_err-read_switch.field-0.0 c.loop-feature.invariant c.in-Some.ensures.steps c.in_err-read_switch.ensures.refused)
 
 pub loop-feature-preserved-then-not-branch : goal.loop-feature-preserved-then-not-branch
 loop-feature-preserved-then-not-branch c =
-    let off = rw c.if-not-branch.true at c.in_ok-read_switch.ensures.meant in
-    switched_off (table_view c.args.table.now) c.loop-feature.yielded _ c.loop-feature.known.keys (features_left c.next.new.self) c.in-Some.feature c.loop-feature.invariant c.in-Some.ensures.steps off
+    switched_off c.loop-feature.invariant c.in-Some.ensures.steps (rw c.if-not-branch.true at c.in_ok-read_switch.ensures.meant)
 
 pub loop-feature-preserved : goal.loop-feature-preserved
 loop-feature-preserved c =
     let on = rw c.if-not-branch.false at c.in_ok-read_switch.ensures.meant in
-    switched_on (table_view c.args.table.now) c.loop-feature.yielded _ c.loop-feature.known.keys (features_left c.next.new.self) c.add_feature.new.features.keys c.in-Some.feature c.loop-feature.invariant c.in-Some.ensures.steps on
-    c.in-Ok.ensures.added c.in-Ok.ensures.in_order
+    switched_on c.loop-feature.invariant c.in-Some.ensures.steps on c.in-Ok.ensures.added c.in-Ok.ensures.in_order
 
 pub returns-clause-switches : goal.returns-clause-switches
-returns-clause-switches c = all_switches (table_view c.args.table.now) c.loop-feature.yielded _ c.loop-feature.known.keys c.loop-feature.invariant c.in-None.ensures.steps.0
+returns-clause-switches c = all_switches c.loop-feature.invariant c.in-None.ensures.steps.0
