@@ -18,8 +18,8 @@ then_rest : (x y : ℕ) (rest : Ordering) (P : Type 0) → IsNotLess rest ↔ P 
 then_rest x y rest P h = ⊎_elim
     (λ same. rw (sym (nat_cmp_is x y Equal same)) (λ e. inr (same, h.0 e), ⊎_elim (λ above. absurd (omega (arith, same))) (λ p. h.1 p.1)))
     (⊎_elim
-      (λ less. rw (sym (nat_cmp_is x y Less less)) (λ e. absurd (e refl), ⊎_elim (λ above. absurd (omega (arith, less))) (λ same. absurd (omega (arith, less, same.0)))))
-      (λ above. rw (sym (nat_cmp_is x y Greater above)) (λ e. inl above, λ s e. false≢true e)))
+    (λ less. rw (sym (nat_cmp_is x y Less less)) (λ e. absurd (e refl), ⊎_elim (λ above. absurd (omega (arith, less))) (λ same. absurd (omega (arith, less, same.0)))))
+    (λ above. rw (sym (nat_cmp_is x y Greater above)) (λ e. inl above, λ s e. false≢true e)))
     (cases_order x y)
 
 no_pre_release : (pre : List ℕ) → IsNotLess (pre_cmp pre []) ↔ (pre ≡ [])

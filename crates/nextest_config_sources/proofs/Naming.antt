@@ -107,7 +107,7 @@ module _ (items : Items) (count : ℕ) (text : List ℕ) (here : text_in (get_it
       );
       of_unknown = λ t. (
         λ h. let there = so_far.of_names.of_unknown t in
-          ⊎_elim (λ h. ((among_more t).1 (inl (there.0 h).0), (there.0 h).1)) (λ h. ((among_more t).1 (inr h.0), h.1)) ((adds.more_unknown t).0 h),
+            ⊎_elim (λ h. ((among_more t).1 (inl (there.0 h).0), (there.0 h).1)) (λ h. ((among_more t).1 (inr h.0), h.1)) ((adds.more_unknown t).0 h),
         λ h. (adds.more_unknown t).1 (⊎_map (λ there. (so_far.of_names.of_unknown t).1 (there, h.1)) (λ same. (same, h.1)) ((among_more t).0 h.0)),
       );
       in_order = adds.still_in_order so_far.of_names.in_order;
@@ -120,8 +120,7 @@ item_added {items} {count} {before = before} {after = after} so_far is (text, he
 -- what stands at an index of the elements
 pub item_here : (xs items : List Value) (index : ℕ) (value : Value) → xs ≡ items → index < length xs → value ≡ get_or xs index value → get_item index (items_view items) ≡ Some (view value)
 item_here xs items index value same below is =
-    let here : get_item index (items_view xs) ≡ Some (view value) = sym (get_item_within xs index value below) ∙ ap (λ v. Some (view v)) (sym is) in
-    subst (λ ys. get_item index (items_view ys) ≡ Some (view value)) same here
+    subst (λ ys. get_item index (items_view ys) ≡ Some (view value)) same (sym (get_item_within xs index value below) ∙ ap (λ v. Some (view v)) (sym is))
 
 -- behind the last element
 module _ (vs : List Value) (count : ℕ) (past : length vs ≤ count) where

@@ -17,11 +17,8 @@ by_place x y = search rules
 pub derived_exact : CmpEqualImpliesEq derived_cmp
 derived_exact x y equal = one_at_a_place x y (sym (by_place x y) ∙ equal)
 
-equal_to_itself : (x : ConfigExperimental) → eq_by_cmp derived_cmp x x ≡ true
-equal_to_itself x = search rules
-
 pub copies_equal : (x y : ConfigExperimental) → y ≡ x → eq_by_cmp derived_cmp x y ≡ true
-copies_equal x y same = subst (λ z. eq_by_cmp derived_cmp x z ≡ true) (sym same) (equal_to_itself x)
+copies_equal x y same = subst (λ z. eq_by_cmp derived_cmp x z ≡ true) (sym same) (search rules)
 
 pub features_in_order : (keys : List ConfigExperimental) → IsStrictlySortedBy derived_cmp keys → FeaturesInOrder keys
 features_in_order = in_order_by derived_cmp feature_cmp by_place

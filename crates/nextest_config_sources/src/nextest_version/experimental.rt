@@ -103,6 +103,7 @@ impl ConfigExperimental {
 }
 
 // Adds a feature to a set.
+#[tactic(auto, using(crate::proofs::Orders::features_in_order))]
 pub(crate) fn add_feature(
     features: &mut BTreeSet<ConfigExperimental>,
     feature: ConfigExperimental,

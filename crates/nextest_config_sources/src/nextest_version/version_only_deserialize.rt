@@ -12,8 +12,8 @@ use super::nextest_version_deserialize::NextestVersionDeserialize;
 use super::source::ConfigSourceKind;
 use nextest_config_values::read::{FaultKind, ReadFault, Rule, field_or};
 use std::alloc::Global;
-use toml::{Table, Value};
 use toml::value::Array;
+use toml::{Table, Value};
 
 const VERSION_KEY: &str = "nextest-version";
 

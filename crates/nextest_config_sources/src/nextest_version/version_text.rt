@@ -67,6 +67,7 @@ fn parse_version(alloc: Global, text: &str) -> Result<Version, FaultKind>
 }
 
 // The rule that the first hyphen or plus sign breaks.
+#[tactic(auto, using(crate::specs::NextestVersion::VersionTextLaws::mark_at))]
 fn first_mark(text: &str) -> Option<Rule>
     ensures { MatchOption result (AllByRecursion IsPlain text.now)
         (λ rule. IsVersionFault text.now (broken_rule rule)) }

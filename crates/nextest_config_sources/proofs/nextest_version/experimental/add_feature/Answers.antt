@@ -1,9 +1,6 @@
 use Rattle.nextest_config_sources.proofs.Members.{one_more}
-use Rattle.nextest_config_sources.proofs.Orders.{derived_cmp, derived_exact, features_in_order}
+use Rattle.nextest_config_sources.proofs.Orders.{derived_cmp, derived_exact}
 use Rattle.nextest_config_sources.proofs.nextest_version.experimental.add_feature.Goals as goal
 
 pub returns-clause-added : goal.returns-clause-added
 returns-clause-added c = one_more derived_cmp derived_exact c.args.feature c.args.features.now.keys c.insert.new.self.keys c.in_ok-insert.ensures.keys
-
-pub returns-clause-in_order : goal.returns-clause-in_order
-returns-clause-in_order c = features_in_order c.insert.new.self.keys c.insert.ensures.ordered
