@@ -360,43 +360,38 @@ fn complains_through_an_odd_call(rt: HostRuntime) -> Result<(), Fail> {
     Ok(())
 }
 
+// Runs version 1.0.0 on an input, with nothing overridden and arrays allowed.
+fn outcome_of<R: Read>(
+    alloc: Global,
+    reader: &mut R,
+    writer: &mut Watched,
+) -> Result<Outcome, RunFault> {
+    let current = Version::new(1, 0, 0);
+    run(
+        alloc,
+        reader,
+        writer,
+        &current,
+        false,
+        Edition::ArrayAllowed,
+    )
+}
+
 #[test]
 fn tells_which_stream_failed(rt: HostRuntime) -> Result<(), Fail> {
     let alloc = rt.alloc();
-    let current = Version::new(1, 0, 0);
     let mut reader = Pieces {
         rest: b"x = 1\n",
         step: 1,
         end: Some(ErrorKind::Other),
     };
     let mut writer = Watched::new(alloc, 4096, Some((0, Err(ErrorKind::BrokenPipe))));
-    let outcome = run(
-        alloc,
-        &mut reader,
-        &mut writer,
-        &current,
-        false,
-        Edition::ArrayAllowed,
-    );
+    let outcome = outcome_of(alloc, &mut reader, &mut writer);
     assert_eq!(rt; outcome, Err(RunFault::Read));
-    let outcome = run(
-        alloc,
-        &mut &b"x = 1\n"[..],
-        &mut writer,
-        &current,
-        false,
-        Edition::ArrayAllowed,
-    );
-    assert_eq!(rt; outcome, Err(RunFault::Write));
-    let outcome = run(
-        alloc,
-        &mut &b"x = 1\n"[..],
-        &mut writer,
-        &current,
-        false,
-        Edition::ArrayAllowed,
-    );
-    assert_eq!(rt; outcome, Ok(Outcome::Refused));
+    for want in [Err(RunFault::Write), Ok(Outcome::Refused)] {
+        let outcome = outcome_of(alloc, &mut &b"x = 1\n"[..], &mut writer);
+        assert_eq!(rt; outcome, want);
+    }
     Ok(())
 }
 
