@@ -11,7 +11,6 @@ use Rattle.nextest_config_check.specs.declared.streams.RunFault.TheVariants as f
 -- words that are refused end with status 3 only where memory runs out
 pub words_cut_short : (command : Command) (fault : WordsFault) (left old said says : Option (List ℕ)) (status : ℕ) → IsWordsFault command fault → status ≡ words_status fault
     → AddsFront said says (words_fault_text fault ++ codes "\n") → status ≡ 3 → IfCheck command (λ current overridden edition. IsCutShort left old old said says)
-words_cut_short command words.Usage left old said says status h is told three = cc (is, three)
-words_cut_short command (words.NotVersion word) left old said says status h is told three = cc (is, three)
+words_cut_short (complain text) fault left old said says status h is told three = tt
 words_cut_short (check current overridden edition) words.Memory left old said says status h is told three = (faults.Memory, Keeps-refl old, told)
-words_cut_short (complain text) words.Memory left old said says status h is told three = tt
+words_cut_short command fault left old said says status h is told three = cc (is, three)

@@ -2,6 +2,7 @@
 use Rattle.std.proofs.Common.{◌≡◌, ℕ, ◌<◌, ◌==◌, true, false, if◌then◌else◌, List, [], ◌∷◌, ◌++◌, length, Option, Some, refl, sym, ap, ap₂, ◌∙◌, subst, inl, inr, ◌⊎◌, append_assoc, append-nil, length-append, arith}
 use Rattle.std.specs.List.{AllByRecursion}
 use Rattle.std.proofs.Math.Logic.{⊎_elim, ⊎_map}
+use Rattle.std.proofs.lemmas.Bool.{cond_both}
 use Rattle.std.proofs.lemmas.List.{append_cancel_right}
 use Rattle.nextest_config_sources.specs.NextestVersion.Source.{Given}
 use Rattle.nextest_config_sources.specs.NextestVersion.{Place}
@@ -42,10 +43,7 @@ IsMarked text = (more : List ℕ) × (text ≡ mark ++ more)
 
 trimmed_front : (line : List ℕ) → (end : List ℕ) × (line ≡ trimmed line ++ end)
 trimmed_front [] = ([], refl)
-trimmed_front (byte ∷ []) = elim (byte == carriage_return) as (λ takes. (end : List ℕ) × (byte ∷ [] ≡ (if takes then [] else byte ∷ []) ++ end)) [
-  | true ↦ (byte ∷ [], refl)
-  | false ↦ ([], refl)
-]
+trimmed_front (byte ∷ []) = cond_both (byte == carriage_return) [] (byte ∷ []) (λ l. (end : List ℕ) × (byte ∷ [] ≡ l ++ end)) (λ _. (byte ∷ [], refl)) (λ _. ([], refl))
 trimmed_front (byte ∷ next ∷ rest) = let more = trimmed_front (next ∷ rest) in (more.0, ap (λ l. byte ∷ l) more.1)
 
 first_line_front : (text line rest : List ℕ) → IsFirstLine text line rest → (more : List ℕ) × (text ≡ line ++ more)
@@ -91,19 +89,15 @@ append_cut (byte ∷ front) rest (other ∷ longer) after e =
     ⊎_map (λ (shorter : IsFront front rest longer after). (shorter.0, ap₂ (λ b l. b ∷ l) (sym head) shorter.1, shorter.2))
     (λ (shorter : IsFront longer after front rest). (shorter.0, ap₂ (λ b l. b ∷ l) head shorter.1, shorter.2)) (append_cut front rest longer after (cc e))
 
--- what ends a line is no part of the mark, unless it is empty
-mark_ends_nothing : (byte : ℕ) (front rest : List ℕ) → mark ≡ (byte ∷ front) ++ rest → EndsLine (byte ∷ front) → ⊥
-mark_ends_nothing byte front rest e (inl empty) = cc empty
-mark_ends_nothing byte front rest e (inr ends) =
-    let whole : mark ≡ ends.0 ++ (line_feed ∷ rest) = cc (e, ends.1, append_assoc ends.0 (line_feed ∷ []) rest) in
-    not_in_line ends.0 rest (subst (AllByRecursion IsInLine) whole (omega arith))
-
--- a front of a text with the mark is marked itself, where it is the text or ends a line
+-- a front of a text with the mark is marked itself, where it is the text or ends a line: what ends a line is no part of the mark
 front_marked : (byte : ℕ) (front after more : List ℕ) → mark ++ more ≡ (byte ∷ front) ++ after → (after ≡ []) ⊎ EndsLine (byte ∷ front) → IsMarked (byte ∷ front)
 front_marked byte front after more e (inl empty) = (more, cc (e, empty, append-nil (byte ∷ front)))
-front_marked byte front after more e (inr ends) =
-    ⊎_elim (λ (longer : IsFront mark more (byte ∷ front) after). (longer.0, longer.1))
-    (λ (shorter : IsFront (byte ∷ front) after mark more). absurd (mark_ends_nothing byte front shorter.0 shorter.1 ends)) (append_cut mark more (byte ∷ front) after e)
+front_marked byte front after more e (inr (inl empty)) = absurd (cc empty)
+front_marked byte front after more e (inr (inr (before, ended))) =
+    let within : IsFront (byte ∷ front) after mark more → IsMarked (byte ∷ front) = λ shorter.
+    let whole : mark ≡ before ++ (line_feed ∷ shorter.0) = cc (shorter.1, ended, append_assoc before (line_feed ∷ []) shorter.0) in
+    absurd (not_in_line before shorter.0 (subst (AllByRecursion IsInLine) whole (omega arith))) in
+    ⊎_elim (λ (longer : IsFront mark more (byte ∷ front) after). (longer.0, longer.1)) within (append_cut mark more (byte ∷ front) after e)
 
 -- behind the end of a line in a block no mark follows
 mark_below : (block more : List ℕ) → 0 < length block → EndsLine block → IsMarked more → HasNoMarkedLineBelow (block ++ more) → ⊥
@@ -111,18 +105,14 @@ mark_below block more some (inl empty) marked unmarked = absurd (omega (arith, a
 mark_below block more some (inr ends) marked unmarked = unmarked ends.0 marked.0 (cc (ends.1, marked.1, append_assoc ends.0 (line_feed ∷ []) more))
 
 -- where a text is cut, the block goes on by nothing
-cut_ends : (text block rest more after : List ℕ) → IsCut text block rest → IsCut text (block ++ more) after → rest ≡ more ++ after → more ≡ []
-cut_ends text block rest [] after cut other rest_is = refl
-cut_ends text block rest (byte ∷ more) after cut other rest_is =
-    let some : 0 < length block = cut.some (omega (arith, ap length cut.whole, length-append block rest, ap length rest_is)) in
-    let ends : (after ≡ []) ⊎ EndsLine (byte ∷ more) = ⊎_map (λ e. e) (λ ends. ends_line_rest block (byte ∷ more) ends.0) other.ended in
-    let marked = λ (next : IsMarked rest). front_marked byte more after next.0 (sym next.1 ∙ rest_is) ends in
-    absurd (⊎_elim (λ empty. omega (arith, ap length (sym rest_is ∙ empty))) (λ ended. mark_below block (byte ∷ more) some ended.0 (marked ended.1) other.unmarked) cut.ended)
-
 cut_front : (text block rest longer after : List ℕ) → IsCut text block rest → IsCut text longer after → IsFront block rest longer after → (block ≡ longer) × (rest ≡ after)
-cut_front text block rest longer after cut other (more, longer_is, rest_is) =
-    let none = cut_ends text block rest more after cut (rw longer_is at other) rest_is in
-    (cc (longer_is, none, append-nil block), cc (rest_is, none))
+cut_front text block rest longer after cut other ([], longer_is, rest_is) = (cc (longer_is, append-nil block), rest_is)
+cut_front text block rest longer after cut other (byte ∷ more, longer_is, rest_is) =
+    let some : 0 < length block = cut.some (omega (arith, ap length cut.whole, length-append block rest, ap length rest_is)) in
+    let going : IsCut text (block ++ (byte ∷ more)) after = rw longer_is at other in
+    let ends : (after ≡ []) ⊎ EndsLine (byte ∷ more) = ⊎_map (λ e. e) (λ ends. ends_line_rest block (byte ∷ more) ends.0) going.ended in
+    let marked = λ (next : IsMarked rest). front_marked byte more after next.0 (sym next.1 ∙ rest_is) ends in
+    absurd (⊎_elim (λ empty. omega (arith, ap length (sym rest_is ∙ empty))) (λ ended. mark_below block (byte ∷ more) some ended.0 (marked ended.1) going.unmarked) cut.ended)
 
 cut_once : (text block rest other after : List ℕ) → IsCut text block rest → IsCut text other after → (block ≡ other) × (rest ≡ after)
 cut_once text block rest other after cut another =
@@ -179,21 +169,16 @@ record StopsAt (text : List ℕ) (sources : List Given) (rest : List ℕ) : Type
   before : AreSourcesBefore text sources rest
   stop : (rest ≡ []) ⊎ IsFaultyBlock rest
 
--- where no block begins, none is cut off
-stop_or_block : (text block after : List ℕ) (source : Given) → (text ≡ []) ⊎ IsFaultyBlock text → IsCut text block after → IsBlock block source → ⊥
-stop_or_block text block after source (inl empty) cut is_block =
-    omega (arith, ap length (sym cut.whole ∙ empty), length-append block after, block_some block source is_block)
-stop_or_block text block after source (inr (line, more, first, faulty)) cut is_block =
-    let begins = first_line_of_cut text block after is_block.line is_block.contents cut (block_some block source is_block) is_block.first in
-    let same = first_line_once text line more is_block.line begins.0 first begins.1 in
-    faulty source.place (rw same.0 is_block.names)
-
 -- where the text stops at once, no block is in front of another rest
 stop_or_more : (text rest after : List ℕ) (source : Given) (sources : List Given) → StopsAt text [] rest → AreSourcesBefore text (source ∷ sources) after → ⊥
 stop_or_more text rest after source sources stops before =
     let first = first_block text source sources after before in
+    let line = first.is_block.line in
+    let some = block_some first.block source first.is_block in
     let same : rest ≡ text = cc (stops.before.whole, stops.before.blocks) in
-    stop_or_block text first.block first.after source (rw same at stops.stop) first.cut first.is_block
+    let begins = first_line_of_cut text first.block first.after line first.is_block.contents first.cut some first.is_block.first in
+    let faulty = λ (stop : IsFaultyBlock text). stop.3 source.place (rw (first_line_once text stop.0 stop.1 line begins.0 stop.2 begins.1).0 first.is_block.names) in
+    ⊎_elim (λ empty. omega (arith, ap length (sym first.cut.whole ∙ empty), length-append first.block first.after, some)) faulty (rw same at stops.stop)
 
 -- the sources up to where no block begins are one list, and there is one such rest
 stops_once : (sources others : List Given) (text rest after : List ℕ) → StopsAt text sources rest → StopsAt text others after → (sources ≡ others) × (rest ≡ after)
@@ -215,10 +200,10 @@ blocks_stop input sources blocks =
     record { before = record { front = input; whole = sym (append-nil input); blocks = blocks; ended = inr refl; owed = inr refl }; stop = inl refl }
 
 faulty_stop : (input : List ℕ) (number : ℕ) (fault : IsFaultyLine input number) → StopsAt input fault.sources fault.rest
-faulty_stop input number fault = record {
-  before = record { front = fault.front; whole = fault.whole; blocks = fault.blocks; ended = inl fault.ended; owed = inl fault.owed };
-  stop = inr (fault.line, fault.more, fault.first, fault.faulty);
-}
+faulty_stop input number fault =
+    let before : AreSourcesBefore input fault.sources fault.rest =
+    record { front = fault.front; whole = fault.whole; blocks = fault.blocks; ended = inl fault.ended; owed = inl fault.owed } in
+    record { before = before; stop = inr (fault.line, fault.more, fault.first, fault.faulty) }
 
 pub sources_once : (input : List ℕ) (sources others : List Given) → AreBlocks sources input → AreBlocks others input → sources ≡ others
 sources_once input sources others blocks other_blocks = (stops_once sources others input [] [] (blocks_stop input sources blocks) (blocks_stop input others other_blocks)).0

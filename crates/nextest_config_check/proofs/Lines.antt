@@ -4,14 +4,15 @@ use Rattle.std.specs.List.{AllByRecursion}
 use Rattle.std.specs.Str.Pattern.{FindsText}
 use Rattle.std.proofs.Math.Logic.{⊎_elim}
 use Rattle.std.proofs.lemmas.Bool.{ne_eqb}
+use Rattle.std.proofs.lemmas.Grind.{get_or_default_zero}
 use Rattle.std.proofs.lemmas.List.{take_more, length-take, length-drop, drop-drop, get_or-drop}
+use Rattle.std.proofs.lemmas.List.Elements.{recursion_from_All}
 use Rattle.std.proofs.lemmas.List.Prefix.{front_fits, front_rest}
 use Rattle.nextest_config_values.proofs.Elements.{all_right}
 use Rattle.nextest_config_check.specs.Layout.{line_feed, carriage_return, mark, trimmed, EndsLine, IsInLine, IsFirstLine, IsLastLine, HasNoMarkedLine, HasNoMarkedLineBelow, IsCut}
 
 pub in_line_from_reads : (text : List ℕ) → ((i : ℕ) → i < length text → get_or text i 0 ≢ line_feed) → AllByRecursion IsInLine text
-in_line_from_reads [] reads = tt
-in_line_from_reads (byte ∷ rest) reads = (reads 0 (omega arith), in_line_from_reads rest (λ i l. reads (suc i) (omega arith)))
+in_line_from_reads text reads = recursion_from_All IsInLine text (λ i byte within e. reads i within (sym (get_or_default_zero text i byte within) ∙ e))
 
 pub not_in_line : (front rest : List ℕ) → AllByRecursion IsInLine (front ++ (line_feed ∷ rest)) → ⊥
 not_in_line front rest one_line = (all_right IsInLine front (line_feed ∷ rest) one_line).0 refl

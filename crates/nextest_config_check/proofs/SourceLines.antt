@@ -21,12 +21,7 @@ source_once text (Tool tool) (Tool other) path another names others =
     (ap (λ (a : Argument). Tool a.tool) argument, ap (λ (a : Argument). a.path) argument)
 source_once text ExplicitRepository ExplicitRepository path another names others = (refl, append_cancel_left (codes "explicit ") path another (sym names.whole ∙ others.whole))
 source_once text DiscoveredRepository DiscoveredRepository path another names others = (refl, append_cancel_left (codes "repository ") path another (sym names.whole ∙ others.whole))
-source_once text (Tool tool) ExplicitRepository path another names others = absurd (omega (arith, ap first_byte (sym names.whole ∙ others.whole)))
-source_once text (Tool tool) DiscoveredRepository path another names others = absurd (omega (arith, ap first_byte (sym names.whole ∙ others.whole)))
-source_once text ExplicitRepository (Tool other) path another names others = absurd (omega (arith, ap first_byte (sym names.whole ∙ others.whole)))
-source_once text ExplicitRepository DiscoveredRepository path another names others = absurd (omega (arith, ap first_byte (sym names.whole ∙ others.whole)))
-source_once text DiscoveredRepository (Tool other) path another names others = absurd (omega (arith, ap first_byte (sym names.whole ∙ others.whole)))
-source_once text DiscoveredRepository ExplicitRepository path another names others = absurd (omega (arith, ap first_byte (sym names.whole ∙ others.whole)))
+source_once text kind other path another names others = absurd (omega (arith, ap first_byte (sym names.whole ∙ others.whole)))
 
 pub place_once : (line : List ℕ) (place other : Place) → IsSourceLine line place → IsSourceLine line other → place ≡ other
 place_once line place other names others =

@@ -34,13 +34,7 @@ of_text-scan : (pos : Position) (acc seg : ℕ) (nondigit lead : Bool) (text : L
 unfolding scan
 of_text-scan pos acc seg nondigit lead [] = search (rules, of_text)
 of_text-scan pos acc seg nondigit lead (b ∷ rest) =
-    search (
-      rules,
-      of_text,
-      of_text-scan pos acc (seg + 1) true lead rest,
-      of_text-scan pos acc (seg + 1) nondigit (starts_zero lead seg b) rest,
-      of_text-scan pos (acc + seg + 1) 0 false false rest,
-    )
+    search (rules, of_text, λ (acc seg : ℕ) (nondigit lead : Bool). of_text-scan pos acc seg nondigit lead rest)
 
 of_text-tail_end : (pos : Position) (major minor patch : ℕ) (pre build text : List ℕ) → IsOfText (tail_end pos major minor patch pre build text)
 of_text-tail_end pos major minor patch pre build [] = search (rules, of_text)

@@ -23,6 +23,7 @@ pub fn law_layout_once()
 
 /// For a current version, the flag and an edition, an input has at most one report, with one
 /// outcome.
+#[tactic(auto, using(crate::proofs::OneReport::report_once))]
 pub fn law_report_once()
     ensures { (input : List ℕ) (current : Parts) (overridden : Bool) (edition : Edition)
         (text other : List ℕ) (outcome another : Outcome)

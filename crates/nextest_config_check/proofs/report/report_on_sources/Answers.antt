@@ -17,15 +17,13 @@ listed edition sources = sym (map-map (under edition) given_of sources)
 
 pub returns-in-Ok : goal.returns-in-Ok
 returns-in-Ok c =
-    let sources = map given_of c.args.sources.now in
-    let edition = c.args.edition in
     let configuration = configuration_of c.in-Ok.config in
     let current = parts_of c.args.current.now in
     let overridden = c.args.override_version_check in
-    let selected = subst (λ read. SelectsFor read configuration.roles) (listed edition c.args.sources.now) c.in-Ok.ensures.selected in
-    let stands = subst (λ read. StandsFor read configuration) (listed edition c.args.sources.now) c.in-Ok.ensures.stands in
-    IfOk-weaker c.report_on_read.result _ _ (λ report is_report input text blocks. subst₂ (IsReport input current overridden edition) (sym is_report.text) (sym is_report.outcome)
-    (read_list sources (verdict configuration.roles current overridden) configuration text blocks (selected.0, selected.1, selected.2 current overridden) stands))
+    let selected = subst (λ read. SelectsFor read configuration.roles) (listed c.args.edition c.args.sources.now) c.in-Ok.ensures.selected in
+    let stands = subst (λ read. StandsFor read configuration) (listed c.args.edition c.args.sources.now) c.in-Ok.ensures.stands in
+    IfOk-weaker c.report_on_read.result _ _ (λ report is_report input text blocks. subst₂ (IsReport input current overridden c.args.edition) (sym is_report.text) (sym is_report.outcome)
+    (read_list (map given_of c.args.sources.now) (verdict configuration.roles current overridden) configuration text blocks (selected.0, selected.1, selected.2 current overridden) stands))
     c.report_on_read.ensures
 
 pub returns-in_ok-format-in-Err-Refused : goal.returns-in_ok-format-in-Err-Refused
