@@ -94,6 +94,17 @@ impl Subject for InRow {
     }
 }
 
+/// The same of one statement in a repository's file, below the heading that a row has for its table
+/// or below a blank line.
+pub(crate) struct InTable;
+
+impl Subject for InTable {
+    fn answer(rt: &impl Runner, call: &str, input: &str) -> String {
+        let file = done(rt, format!(in rt.alloc(); "{call}\n{input}\n"));
+        InRow::answer(rt, "repository", file.as_str())
+    }
+}
+
 // A star in the place of a message that is one line.
 fn starred(message: &str) -> &str {
     if message.is_empty() || message.contains('\n') || message.contains('\r') {

@@ -1,7 +1,8 @@
 //! Keys that aren't known, at each table whose keys are judged, and what they may be meant for.
 
-use crate::tests::blocks::{Listed, check};
+use crate::tests::blocks::{InTable, Listed, check};
 use crate::tests::runner::Test;
+use nextest_config_rows::rows::{self, Escaped};
 
 const UNKNOWN: &str = r#"
 === a key of each table | repository
@@ -202,210 +203,110 @@ experimentall = 1
 > 4: warning: profile.ci: unknown key "experimentall"
 "#;
 
+// A statement in each row, and what is found in it: which known key an unknown one is near, if any.
 const NEAR: &str = r#"
-=== near keys of the top | repository
-nextest-verson = 1
-experimentel = 1
-profiles = 1
-stor = 1
-test-group = 1
-> 1: warning: unknown key "nextest-verson", did you mean "nextest-version"
-> 2: warning: unknown key "experimentel", did you mean "experimental"
-> 3: warning: unknown key "profiles", did you mean "profile"
-> 4: warning: unknown key "stor", did you mean "store"
-> 5: warning: unknown key "test-group", did you mean "test-groups"
+# near keys of the top
+ | nextest-verson = 1 | 2: warning: unknown key "nextest-verson", did you mean "nextest-version"
+ | experimentel = 1 | 2: warning: unknown key "experimentel", did you mean "experimental"
+ | profiles = 1 | 2: warning: unknown key "profiles", did you mean "profile"
+ | stor = 1 | 2: warning: unknown key "stor", did you mean "store"
+ | test-group = 1 | 2: warning: unknown key "test-group", did you mean "test-groups"
 
-=== near keys of the version | repository
-[nextest-version]
-requierd = 1
-recommend = 1
-recomended = 1
-> 2: warning: nextest-version: unknown key "requierd", did you mean "required"
-> 3: warning: nextest-version: unknown key "recommend", did you mean "recommended"
-> 4: warning: nextest-version: unknown key "recomended", did you mean "recommended"
+# near keys of the version
+[nextest-version] | requierd = 1 | 2: warning: nextest-version: unknown key "requierd", did you mean "required"
+[nextest-version] | recommend = 1 | 2: warning: nextest-version: unknown key "recommend", did you mean "recommended"
+[nextest-version] | recomended = 1 | 2: warning: nextest-version: unknown key "recomended", did you mean "recommended"
 
-=== near keys of a profile | repository
-[profile.ci]
-retry = 1
-retires = 1
-retrys = 1
-flaky-results = 1
-thread-required = 1
-fail_fast = 1
-failfast = 1
-slow-timeouts = 1
-leak_timeout = 1
-global-timout = 1
-junitt = 1
-benches = 1
-override = 1
-inherit = 1
-default-filters = 1
-test-thread = 1
-run-extra-arg = 1
-status-levels = 1
-final-status = 1
-sucess-output = 1
-failure-outputs = 1
-archives = 1
-scrips = 1
-> 2: warning: profile.ci: unknown key "retry"
-> 3: warning: profile.ci: unknown key "retires", did you mean "retries"
-> 4: warning: profile.ci: unknown key "retrys", did you mean "retries"
-> 5: warning: profile.ci: unknown key "flaky-results", did you mean "flaky-result"
-> 6: warning: profile.ci: unknown key "thread-required", did you mean "threads-required"
-> 7: warning: profile.ci: unknown key "fail_fast", did you mean "fail-fast"
-> 8: warning: profile.ci: unknown key "failfast", did you mean "fail-fast"
-> 9: warning: profile.ci: unknown key "slow-timeouts", did you mean "slow-timeout"
-> 10: warning: profile.ci: unknown key "leak_timeout", did you mean "leak-timeout"
-> 11: warning: profile.ci: unknown key "global-timout", did you mean "global-timeout"
-> 12: warning: profile.ci: unknown key "junitt", did you mean "junit"
-> 13: warning: profile.ci: unknown key "benches", did you mean "bench"
-> 14: warning: profile.ci: unknown key "override", did you mean "overrides"
-> 15: warning: profile.ci: unknown key "inherit", did you mean "inherits"
-> 16: warning: profile.ci: unknown key "default-filters", did you mean "default-filter"
-> 17: warning: profile.ci: unknown key "test-thread", did you mean "test-threads"
-> 18: warning: profile.ci: unknown key "run-extra-arg", did you mean "run-extra-args"
-> 19: warning: profile.ci: unknown key "status-levels", did you mean "status-level"
-> 20: warning: profile.ci: unknown key "final-status"
-> 21: warning: profile.ci: unknown key "sucess-output", did you mean "success-output"
-> 22: warning: profile.ci: unknown key "failure-outputs", did you mean "failure-output"
-> 23: warning: profile.ci: unknown key "archives", did you mean "archive"
-> 24: warning: profile.ci: unknown key "scrips", did you mean "scripts"
+# near keys of a profile
+[profile.ci] | retry = 1 | 2: warning: profile.ci: unknown key "retry"
+[profile.ci] | retires = 1 | 2: warning: profile.ci: unknown key "retires", did you mean "retries"
+[profile.ci] | retrys = 1 | 2: warning: profile.ci: unknown key "retrys", did you mean "retries"
+[profile.ci] | flaky-results = 1 | 2: warning: profile.ci: unknown key "flaky-results", did you mean "flaky-result"
+[profile.ci] | thread-required = 1 | 2: warning: profile.ci: unknown key "thread-required", did you mean "threads-required"
+[profile.ci] | fail_fast = 1 | 2: warning: profile.ci: unknown key "fail_fast", did you mean "fail-fast"
+[profile.ci] | failfast = 1 | 2: warning: profile.ci: unknown key "failfast", did you mean "fail-fast"
+[profile.ci] | slow-timeouts = 1 | 2: warning: profile.ci: unknown key "slow-timeouts", did you mean "slow-timeout"
+[profile.ci] | leak_timeout = 1 | 2: warning: profile.ci: unknown key "leak_timeout", did you mean "leak-timeout"
+[profile.ci] | global-timout = 1 | 2: warning: profile.ci: unknown key "global-timout", did you mean "global-timeout"
+[profile.ci] | junitt = 1 | 2: warning: profile.ci: unknown key "junitt", did you mean "junit"
+[profile.ci] | benches = 1 | 2: warning: profile.ci: unknown key "benches", did you mean "bench"
+[profile.ci] | override = 1 | 2: warning: profile.ci: unknown key "override", did you mean "overrides"
+[profile.ci] | inherit = 1 | 2: warning: profile.ci: unknown key "inherit", did you mean "inherits"
+[profile.ci] | default-filters = 1 | 2: warning: profile.ci: unknown key "default-filters", did you mean "default-filter"
+[profile.ci] | test-thread = 1 | 2: warning: profile.ci: unknown key "test-thread", did you mean "test-threads"
+[profile.ci] | run-extra-arg = 1 | 2: warning: profile.ci: unknown key "run-extra-arg", did you mean "run-extra-args"
+[profile.ci] | status-levels = 1 | 2: warning: profile.ci: unknown key "status-levels", did you mean "status-level"
+[profile.ci] | final-status = 1 | 2: warning: profile.ci: unknown key "final-status"
+[profile.ci] | sucess-output = 1 | 2: warning: profile.ci: unknown key "sucess-output", did you mean "success-output"
+[profile.ci] | failure-outputs = 1 | 2: warning: profile.ci: unknown key "failure-outputs", did you mean "failure-output"
+[profile.ci] | archives = 1 | 2: warning: profile.ci: unknown key "archives", did you mean "archive"
+[profile.ci] | scrips = 1 | 2: warning: profile.ci: unknown key "scrips", did you mean "scripts"
 
-=== near keys of an override | repository
-[[profile.ci.overrides]]
-priorty = 1
-filters = 1
-platfrom = 1
-test-groep = 1
-junits = 1
-> 2: warning: profile.ci.overrides[0]: unknown key "priorty", did you mean "priority"
-> 3: warning: profile.ci.overrides[0]: unknown key "filters", did you mean "filter"
-> 4: warning: profile.ci.overrides[0]: unknown key "platfrom", did you mean "platform"
-> 5: warning: profile.ci.overrides[0]: unknown key "test-groep", did you mean "test-group"
-> 6: warning: profile.ci.overrides[0]: unknown key "junits", did you mean "junit"
+# near keys of an override
+[[profile.ci.overrides]] | priorty = 1 | 2: warning: profile.ci.overrides[0]: unknown key "priorty", did you mean "priority"
+[[profile.ci.overrides]] | filters = 1 | 2: warning: profile.ci.overrides[0]: unknown key "filters", did you mean "filter"
+[[profile.ci.overrides]] | platfrom = 1 | 2: warning: profile.ci.overrides[0]: unknown key "platfrom", did you mean "platform"
+[[profile.ci.overrides]] | test-groep = 1 | 2: warning: profile.ci.overrides[0]: unknown key "test-groep", did you mean "test-group"
+[[profile.ci.overrides]] | junits = 1 | 2: warning: profile.ci.overrides[0]: unknown key "junits", did you mean "junit"
 
-=== near keys of the other tables | repository
-[profile.ci]
-fail-fast = { max-fail = 1, max_fail = 1, terminated = 1 }
-slow-timeout = { period = "1s", ontimeout = 1, grace_period = 1, peroid = 1 }
-leak-timeout = { period = "1s", results = 1 }
-junit = { pat = 1, reportname = 1, report-skiped = 1 }
-bench = { slow-timeot = 1, globaltimeout = 1 }
-[[profile.ci.overrides]]
-junit = { store-sucess-output = 1, flaky-fail-state = 1, paths = 1 }
-> 2: warning: profile.ci.fail-fast: unknown key "max_fail", did you mean "max-fail"
-> 2: warning: profile.ci.fail-fast: unknown key "terminated", did you mean "terminate"
-> 3: warning: profile.ci.slow-timeout: unknown key "grace_period", did you mean "grace-period"
-> 3: warning: profile.ci.slow-timeout: unknown key "ontimeout", did you mean "on-timeout"
-> 3: warning: profile.ci.slow-timeout: unknown key "peroid", did you mean "period"
-> 4: warning: profile.ci.leak-timeout: unknown key "results", did you mean "result"
-> 5: warning: profile.ci.junit: unknown key "pat", did you mean "path"
-> 5: warning: profile.ci.junit: unknown key "report-skiped", did you mean "report-skipped"
-> 5: warning: profile.ci.junit: unknown key "reportname", did you mean "report-name"
-> 6: warning: profile.ci.bench: unknown key "globaltimeout", did you mean "global-timeout"
-> 6: warning: profile.ci.bench: unknown key "slow-timeot", did you mean "slow-timeout"
-> 8: warning: profile.ci.overrides[0].junit: unknown key "flaky-fail-state", did you mean "flaky-fail-status"
-> 8: warning: profile.ci.overrides[0].junit: unknown key "paths", did you mean "path"
-> 8: warning: profile.ci.overrides[0].junit: unknown key "store-sucess-output", did you mean "store-success-output"
+# near keys of the other tables
+[profile.ci] | fail-fast = { max-fail = 1, max_fail = 1, terminated = 1 } | 2: warning: profile.ci.fail-fast: unknown key "max_fail", did you mean "max-fail" && 2: warning: profile.ci.fail-fast: unknown key "terminated", did you mean "terminate"
+[profile.ci] | slow-timeout = { period = "1s", ontimeout = 1, grace_period = 1, peroid = 1 } | 2: warning: profile.ci.slow-timeout: unknown key "grace_period", did you mean "grace-period" && 2: warning: profile.ci.slow-timeout: unknown key "ontimeout", did you mean "on-timeout" && 2: warning: profile.ci.slow-timeout: unknown key "peroid", did you mean "period"
+[profile.ci] | leak-timeout = { period = "1s", results = 1 } | 2: warning: profile.ci.leak-timeout: unknown key "results", did you mean "result"
+[profile.ci] | junit = { pat = 1, reportname = 1, report-skiped = 1 } | 2: warning: profile.ci.junit: unknown key "pat", did you mean "path" && 2: warning: profile.ci.junit: unknown key "report-skiped", did you mean "report-skipped" && 2: warning: profile.ci.junit: unknown key "reportname", did you mean "report-name"
+[profile.ci] | bench = { slow-timeot = 1, globaltimeout = 1 } | 2: warning: profile.ci.bench: unknown key "globaltimeout", did you mean "global-timeout" && 2: warning: profile.ci.bench: unknown key "slow-timeot", did you mean "slow-timeout"
+[[profile.ci.overrides]] | junit = { store-sucess-output = 1, flaky-fail-state = 1, paths = 1 } | 2: warning: profile.ci.overrides[0].junit: unknown key "flaky-fail-state", did you mean "flaky-fail-status" && 2: warning: profile.ci.overrides[0].junit: unknown key "paths", did you mean "path" && 2: warning: profile.ci.overrides[0].junit: unknown key "store-sucess-output", did you mean "store-success-output"
 
-=== one, two and three letters too few, too many and other ones | repository
-[profile.ci]
-archiv = 1
-archi = 1
-arch = 1
-archivex = 1
-archivexx = 1
-archivexxx = 1
-archivx = 1
-archixx = 1
-archxxx = 1
-xrchivx = 1
-rchivex = 1
-> 2: warning: profile.ci: unknown key "archiv", did you mean "archive"
-> 3: warning: profile.ci: unknown key "archi", did you mean "archive"
-> 4: warning: profile.ci: unknown key "arch"
-> 5: warning: profile.ci: unknown key "archivex", did you mean "archive"
-> 6: warning: profile.ci: unknown key "archivexx", did you mean "archive"
-> 7: warning: profile.ci: unknown key "archivexxx"
-> 8: warning: profile.ci: unknown key "archivx", did you mean "archive"
-> 9: warning: profile.ci: unknown key "archixx", did you mean "archive"
-> 10: warning: profile.ci: unknown key "archxxx"
-> 11: warning: profile.ci: unknown key "xrchivx", did you mean "archive"
-> 12: warning: profile.ci: unknown key "rchivex", did you mean "archive"
+# one, two and three letters too few, too many and other ones
+[profile.ci] | archiv = 1 | 2: warning: profile.ci: unknown key "archiv", did you mean "archive"
+[profile.ci] | archi = 1 | 2: warning: profile.ci: unknown key "archi", did you mean "archive"
+[profile.ci] | arch = 1 | 2: warning: profile.ci: unknown key "arch"
+[profile.ci] | archivex = 1 | 2: warning: profile.ci: unknown key "archivex", did you mean "archive"
+[profile.ci] | archivexx = 1 | 2: warning: profile.ci: unknown key "archivexx", did you mean "archive"
+[profile.ci] | archivexxx = 1 | 2: warning: profile.ci: unknown key "archivexxx"
+[profile.ci] | archivx = 1 | 2: warning: profile.ci: unknown key "archivx", did you mean "archive"
+[profile.ci] | archixx = 1 | 2: warning: profile.ci: unknown key "archixx", did you mean "archive"
+[profile.ci] | archxxx = 1 | 2: warning: profile.ci: unknown key "archxxx"
+[profile.ci] | xrchivx = 1 | 2: warning: profile.ci: unknown key "xrchivx", did you mean "archive"
+[profile.ci] | rchivex = 1 | 2: warning: profile.ci: unknown key "rchivex", did you mean "archive"
 
-=== letters that change places are two | repository
-[profile.ci]
-jnuit = 1
-jnuti = 1
-> 2: warning: profile.ci: unknown key "jnuit", did you mean "junit"
-> 3: warning: profile.ci: unknown key "jnuti"
+# letters that change places are two
+[profile.ci] | jnuit = 1 | 2: warning: profile.ci: unknown key "jnuit", did you mean "junit"
+[profile.ci] | jnuti = 1 | 2: warning: profile.ci: unknown key "jnuti"
 
-=== as far as the key is long is too far | repository
-[profile.ci.junit]
-pa = 1
-ph = 1
-p = 1
-pat = 1
-pax = 1
-xat = 1
-"" = 1
-> 2: warning: profile.ci.junit: unknown key "pa"
-> 3: warning: profile.ci.junit: unknown key "ph"
-> 4: warning: profile.ci.junit: unknown key "p"
-> 5: warning: profile.ci.junit: unknown key "pat", did you mean "path"
-> 6: warning: profile.ci.junit: unknown key "pax", did you mean "path"
-> 7: warning: profile.ci.junit: unknown key "xat", did you mean "path"
-> 8: warning: profile.ci.junit: unknown key ""
+# as far as the key is long is too far
+[profile.ci.junit] | pa = 1 | 2: warning: profile.ci.junit: unknown key "pa"
+[profile.ci.junit] | ph = 1 | 2: warning: profile.ci.junit: unknown key "ph"
+[profile.ci.junit] | p = 1 | 2: warning: profile.ci.junit: unknown key "p"
+[profile.ci.junit] | pat = 1 | 2: warning: profile.ci.junit: unknown key "pat", did you mean "path"
+[profile.ci.junit] | pax = 1 | 2: warning: profile.ci.junit: unknown key "pax", did you mean "path"
+[profile.ci.junit] | xat = 1 | 2: warning: profile.ci.junit: unknown key "xat", did you mean "path"
+[profile.ci.junit] | "" = 1 | 2: warning: profile.ci.junit: unknown key ""
 
-=== characters count and not bytes | repository
-[profile.ci]
-"rétriés" = 1
-"jµnît" = 1
-"日本it" = 1
-"日本語it" = 1
-"日unit" = 1
-leak-timeout = { period = "1s", "pérîod" = "5s" }
-> 2: warning: profile.ci: unknown key "rétriés", did you mean "retries"
-> 3: warning: profile.ci: unknown key "jµnît", did you mean "junit"
-> 4: warning: profile.ci: unknown key "日本it"
-> 5: warning: profile.ci: unknown key "日本語it"
-> 6: warning: profile.ci: unknown key "日unit", did you mean "junit"
-> 7: warning: profile.ci.leak-timeout: unknown key "pérîod", did you mean "period"
+# characters count and not bytes
+[profile.ci] | "rétriés" = 1 | 2: warning: profile.ci: unknown key "rétriés", did you mean "retries"
+[profile.ci] | "jµnît" = 1 | 2: warning: profile.ci: unknown key "jµnît", did you mean "junit"
+[profile.ci] | "日本it" = 1 | 2: warning: profile.ci: unknown key "日本it"
+[profile.ci] | "日本語it" = 1 | 2: warning: profile.ci: unknown key "日本語it"
+[profile.ci] | "日unit" = 1 | 2: warning: profile.ci: unknown key "日unit", did you mean "junit"
+[profile.ci] | leak-timeout = { period = "1s", "pérîod" = "5s" } | 2: warning: profile.ci.leak-timeout: unknown key "pérîod", did you mean "period"
 
-=== the nearest | repository
-scrip = 1
-scriptss = 1
-[profile.ci]
-final-status-leve = 1
-leaktimeout = 1
-> 1: warning: unknown key "scrip", did you mean "script"
-> 2: warning: unknown key "scriptss", did you mean "scripts"
-> 4: warning: profile.ci: unknown key "final-status-leve", did you mean "final-status-level"
-> 5: warning: profile.ci: unknown key "leaktimeout", did you mean "leak-timeout"
+# the nearest
+ | scrip = 1 | 2: warning: unknown key "scrip", did you mean "script"
+ | scriptss = 1 | 2: warning: unknown key "scriptss", did you mean "scripts"
+[profile.ci] | final-status-leve = 1 | 2: warning: profile.ci: unknown key "final-status-leve", did you mean "final-status-level"
+[profile.ci] | leaktimeout = 1 | 2: warning: profile.ci: unknown key "leaktimeout", did you mean "leak-timeout"
 
-=== of equally near ones the first | repository
-scriptx = 1
-[profile.ci]
-slak-timeout = 1
-junch = 1
-bench = { slowal-timeout = 1 }
-[[profile.ci.overrides]]
-slak-timeout = 1
-junch = 1
-> 1: warning: unknown key "scriptx", did you mean "scripts"
-> 3: warning: profile.ci: unknown key "slak-timeout", did you mean "slow-timeout"
-> 4: warning: profile.ci: unknown key "junch", did you mean "junit"
-> 5: warning: profile.ci.bench: unknown key "slowal-timeout", did you mean "slow-timeout"
-> 7: warning: profile.ci.overrides[0]: unknown key "slak-timeout", did you mean "slow-timeout"
-> 8: warning: profile.ci.overrides[0]: unknown key "junch", did you mean "junit"
+# of equally near ones the first
+ | scriptx = 1 | 2: warning: unknown key "scriptx", did you mean "scripts"
+[profile.ci] | slak-timeout = 1 | 2: warning: profile.ci: unknown key "slak-timeout", did you mean "slow-timeout"
+[profile.ci] | junch = 1 | 2: warning: profile.ci: unknown key "junch", did you mean "junit"
+[profile.ci] | bench = { slowal-timeout = 1 } | 2: warning: profile.ci.bench: unknown key "slowal-timeout", did you mean "slow-timeout"
+[[profile.ci.overrides]] | slak-timeout = 1 | 2: warning: profile.ci.overrides[0]: unknown key "slak-timeout", did you mean "slow-timeout"
+[[profile.ci.overrides]] | junch = 1 | 2: warning: profile.ci.overrides[0]: unknown key "junch", did you mean "junit"
 
-=== a key that stands beside the one it is near | repository
-[profile.ci]
-retries = 1
-retrie = 1
-> 3: warning: profile.ci: unknown key "retrie", did you mean "retries"
+# a key that stands beside the one it is near
+[profile.ci] | retries = 1\nretrie = 1 | 3: warning: profile.ci: unknown key "retrie", did you mean "retries"
 "#;
 
 #[test]
@@ -420,5 +321,5 @@ fn keys_of_the_top(rt: HostRuntime) {
 
 #[test]
 fn keys_that_are_near_known_ones(rt: HostRuntime) {
-    check::<Listed>(&(Test(&rt), rt.alloc()), NEAR);
+    rows::check::<Escaped<InTable>>(&(Test(&rt), rt.alloc()), NEAR);
 }

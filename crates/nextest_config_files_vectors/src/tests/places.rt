@@ -1,7 +1,8 @@
 //! A value of a wrong kind at each place that is read, and values at places that aren't.
 
-use crate::tests::blocks::{Listed, check};
+use crate::tests::blocks::{InTable, Listed, check};
 use crate::tests::runner::Test;
+use nextest_config_rows::rows::{self, Escaped};
 
 const PLACES: &str = r#"
 === the version | repository
@@ -402,76 +403,6 @@ bench = { slow-timeout = 1, slow-timeouts = 1 }
 [profile.ci]
 overrides = [{ junit = { path = 1, report-name = 2, report-skipped = 3 } }]
 
-=== each known key | repository
-[nextest-version]
-required = "0.9.20"
-recommended = "0.9.30"
-[experimental]
-setup-scripts = true
-wrapper-scripts = false
-benchmarks = true
-[store]
-dir = "target/nextest"
-[scripts.setup.db]
-command = "db"
-[script.old]
-command = "old"
-[test-groups.serial]
-max-threads = 1
-[profile.ci]
-retries = { backoff = "exponential", count = 3, delay = "1s", jitter = true, max-delay = "10s" }
-flaky-result = "fail"
-threads-required = 2
-fail-fast = { max-fail = 5, terminate = "immediate" }
-slow-timeout = { period = "60s", terminate-after = 2, grace-period = "5s", on-timeout = "pass" }
-leak-timeout = { period = "500ms", result = "fail" }
-global-timeout = "2h"
-inherits = "default"
-default-filter = "all()"
-test-threads = "num-cpus"
-run-extra-args = ["--test-threads", "1"]
-status-level = "all"
-final-status-level = "slow"
-success-output = "never"
-failure-output = "immediate-final"
-[profile.ci.junit]
-path = "junit.xml"
-report-name = "ci"
-store-success-output = false
-store-failure-output = true
-report-skipped = "ignored"
-flaky-fail-status = "success"
-[profile.ci.bench]
-slow-timeout = "60s"
-global-timeout = "1d"
-[profile.ci.archive]
-include = []
-[[profile.ci.scripts]]
-filter = "all()"
-setup = "db"
-[[profile.ci.overrides]]
-priority = 100
-threads-required = "num-test-threads"
-retries = { backoff = "fixed", count = 2, delay = "1s", jitter = true }
-flaky-result = "pass"
-slow-timeout = { period = "1m", terminate-after = 1, grace-period = "0s", on-timeout = "fail" }
-leak-timeout = { period = "1s", result = "pass" }
-filter = "all()"
-platform = "cfg(unix)"
-default-filter = "all()"
-test-group = "serial"
-run-extra-args = []
-success-output = "final"
-failure-output = "final"
-bench.slow-timeout = "1s"
-[profile.ci.overrides.junit]
-store-success-output = true
-store-failure-output = false
-flaky-fail-status = "failure"
-path = "other.xml"
-report-name = "other"
-report-skipped = "none"
-
 === values of each other form | tool
 nextest-version = "0.9"
 [profile.default]
@@ -489,6 +420,60 @@ slow-timeout = "1m 30s"
 junit = { report-skipped = "all" }
 "#;
 
+// Each known key.
+const KNOWN: &str = r#"
+[nextest-version] | required = "0.9.20" |  |
+[nextest-version] | recommended = "0.9.30" |  |
+[experimental] | setup-scripts = true |  |
+[experimental] | wrapper-scripts = false |  |
+[experimental] | benchmarks = true |  |
+[store] | dir = "target/nextest" |  |
+[scripts.setup.db] | command = "db" |  |
+[script.old] | command = "old" |  |
+[test-groups.serial] | max-threads = 1 |  |
+[profile.ci] | retries = { backoff = "exponential", count = 3, delay = "1s", jitter = true, max-delay = "10s" } |  |
+[profile.ci] | flaky-result = "fail" |  |
+[profile.ci] | threads-required = 2 |  |
+[profile.ci] | fail-fast = { max-fail = 5, terminate = "immediate" } |  |
+[profile.ci] | slow-timeout = { period = "60s", terminate-after = 2, grace-period = "5s", on-timeout = "pass" } |  |
+[profile.ci] | leak-timeout = { period = "500ms", result = "fail" } |  |
+[profile.ci] | global-timeout = "2h" |  |
+[profile.ci] | inherits = "default" |  |
+[profile.ci] | default-filter = "all()" |  |
+[profile.ci] | test-threads = "num-cpus" |  |
+[profile.ci] | run-extra-args = ["--test-threads", "1"] |  |
+[profile.ci] | status-level = "all" |  |
+[profile.ci] | final-status-level = "slow" |  |
+[profile.ci] | success-output = "never" |  |
+[profile.ci] | failure-output = "immediate-final" |  |
+[profile.ci.junit] | path = "junit.xml" |  |
+[profile.ci.junit] | report-name = "ci" |  |
+[profile.ci.junit] | store-success-output = false |  |
+[profile.ci.junit] | store-failure-output = true |  |
+[profile.ci.junit] | report-skipped = "ignored" |  |
+[profile.ci.junit] | flaky-fail-status = "success" |  |
+[profile.ci.bench] | slow-timeout = "60s" |  |
+[profile.ci.bench] | global-timeout = "1d" |  |
+[profile.ci.archive] | include = [] |  |
+[[profile.ci.scripts]] | filter = "all()" |  |
+[[profile.ci.scripts]] | setup = "db" |  |
+[[profile.ci.overrides]] | priority = 100 |  |
+[[profile.ci.overrides]] | threads-required = "num-test-threads" |  |
+[[profile.ci.overrides]] | retries = { backoff = "fixed", count = 2, delay = "1s", jitter = true } |  |
+[[profile.ci.overrides]] | flaky-result = "pass" |  |
+[[profile.ci.overrides]] | slow-timeout = { period = "1m", terminate-after = 1, grace-period = "0s", on-timeout = "fail" } |  |
+[[profile.ci.overrides]] | leak-timeout = { period = "1s", result = "pass" } |  |
+[[profile.ci.overrides]] | filter = "all()" |  |
+[[profile.ci.overrides]] | platform = "cfg(unix)" |  |
+[[profile.ci.overrides]] | default-filter = "all()" |  |
+[[profile.ci.overrides]] | test-group = "serial" |  |
+[[profile.ci.overrides]] | run-extra-args = [] |  |
+[[profile.ci.overrides]] | success-output = "final" |  |
+[[profile.ci.overrides]] | failure-output = "final" |  |
+[[profile.ci.overrides]] | bench.slow-timeout = "1s" |  |
+[[profile.ci.overrides]] | [profile.ci.overrides.junit]\nstore-success-output = true\nstore-failure-output = false\nflaky-fail-status = "failure"\npath = "other.xml"\nreport-name = "other"\nreport-skipped = "none" |  |
+"#;
+
 #[test]
 fn a_value_of_a_wrong_kind_at_each_place(rt: HostRuntime) {
     check::<Listed>(&(Test(&rt), rt.alloc()), PLACES);
@@ -497,4 +482,9 @@ fn a_value_of_a_wrong_kind_at_each_place(rt: HostRuntime) {
 #[test]
 fn values_that_are_not_read(rt: HostRuntime) {
     check::<Listed>(&(Test(&rt), rt.alloc()), UNREAD);
+}
+
+#[test]
+fn each_known_key(rt: HostRuntime) {
+    rows::check::<Escaped<InTable>>(&(Test(&rt), rt.alloc()), KNOWN);
 }
