@@ -24,8 +24,7 @@ blocks-append (first ∷ sources) front block source (text, rest, whole, is_firs
 
 -- what holds of the text before a rest that isn't empty
 unless_empty : {P : Type 0} (rest : List ℕ) → 0 < length rest → P ⊎ (rest ≡ []) → P
-unless_empty rest some (inl p) = p
-unless_empty rest some (inr empty) = absurd (omega (arith, ap length empty))
+unless_empty rest some = ⊎_elim (λ p. p) (λ empty. absurd (omega (arith, ap length empty)))
 
 pub sources_before-push : (input rest block after : List ℕ) (sources : List Given) (source : Given) → AreSourcesBefore input sources rest → 0 < length rest → IsCut rest block after → IsBlock block source → AreSourcesBefore input (sources ++ (source ∷ [])) after
 sources_before-push input rest block after sources source before some cut is_block =

@@ -1,6 +1,5 @@
 pub mod Lines
 pub mod Blocks
-pub mod CutShort
 pub mod Versions
 pub mod SourceLines
 pub mod Layouts

@@ -1,7 +1,7 @@
 -- Source lines: one names one place, and what names none.
 use Rattle.std.proofs.Common.{◌≡◌, ◌≢◌, ℕ, List, ◌++◌, get_or, codes, Option, Some, None, refl, sym, ap, ap₂, ◌∙◌, arith}
 use Rattle.std.proofs.lemmas.List.{append_cancel_left}
-use Rattle.nextest_config_values.specs.ToolConfig.{Argument, ArgumentFault, IsArgumentFault, IsToolArgument, RefusesArgument, argument_fault}
+use Rattle.nextest_config_values.specs.ToolConfig.{Argument, ArgumentFault, IsArgumentFault, IsToolArgument}
 use Rattle.nextest_config_values.specs.Read.{FaultOrMemory}
 use Rattle.nextest_config_values.specs.declared.tool_config.ToolConfigFileParseError.{ToolConfigFileParseError}
 use Rattle.nextest_config_values.specs.declared.tool_config.ToolConfigFileParseError.TheVariants as errors
@@ -38,9 +38,7 @@ tool_names_none text none ExplicitRepository path names = omega (arith, ap first
 tool_names_none text none DiscoveredRepository path names = omega (arith, ap first_byte names.whole)
 
 -- nor does a refused one, unless memory was wanted
-pub refused_names_none : (text : List ℕ) (error : ToolConfigFileParseError) → RefusesArgument (IsArgumentFault text) error → error ≢ errors.Memory → (place : Place) → ¬ NamesPlace (codes "tool " ++ text) place
-refused_names_none text error refused some place = by_fault (argument_fault error) refused
-  where
-    by_fault : (told : Option ArgumentFault) → FaultOrMemory told (error ≡ errors.Memory) (IsArgumentFault text) → ¬ NamesPlace (codes "tool " ++ text) place
-    by_fault (Some fault) faulty = tool_names_none text (λ argument is_argument. argument_not_refused text argument fault is_argument faulty) place.kind place.path
-    by_fault None memory = absurd (some memory)
+pub refused_names_none : (text : List ℕ) (error : ToolConfigFileParseError) (told : Option ArgumentFault) → FaultOrMemory told (error ≡ errors.Memory) (IsArgumentFault text) → error ≢ errors.Memory → (place : Place) → ¬ NamesPlace (codes "tool " ++ text) place
+refused_names_none text error (Some fault) faulty some place =
+    tool_names_none text (λ argument is_argument. argument_not_refused text argument fault is_argument faulty) place.kind place.path
+refused_names_none text error None memory some place = absurd (some memory)

@@ -1,6 +1,6 @@
 -- What a text that is no version is refused for is never that memory ran out.
 use Rattle.std.proofs.Common.{◌≡◌, ℕ, ◌+◌, ◌*◌, ◌-◌, Bool, true, false, List, [], ◌∷◌, Result, Ok, Err, IfErr, if◌then◌else◌, rules}
-use Rattle.semver.specs.Parse.{◌>>=◌, Parts, digits_from, dot_of, is_memory, starts_zero, IsRefused, memory_error, scan, tail_build, tail_end, tail_pre, version_parts}
+use Rattle.semver.specs.Parse.{◌>>=◌, Parts, digits_from, dot_of, is_memory, IsRefused, memory_error, scan, tail_build, tail_end, tail_pre, version_parts}
 use Rattle.semver.specs.declared.error.Error.{Error}
 use Rattle.semver.specs.declared.error.Position.{Position}
 use Rattle.semver.specs.declared.error.Position.TheVariants as place
