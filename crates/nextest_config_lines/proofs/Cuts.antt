@@ -1,5 +1,6 @@
 -- The cuts of a text.
-use Rattle.std.proofs.Common.{◌≡◌, ℕ, ◌<◌, ◌≤◌, List, [], ◌∷◌, ◌++◌, ◌==◌, None, Some, IsSome, false, length, map, refl, subst, arith}
+use Rattle.std.proofs.Common.{◌≡◌, ℕ, ◌<◌, ◌≤◌, List, [], ◌∷◌, ◌++◌, ◌==◌, None, Some, IsSome, false, length, map, refl, sym, ◌∙◌, arith}
+use Rattle.std.proofs.lemmas.Option.{same_Some}
 use Rattle.toml.proofs.OnLiterals.{toml_on_literals}
 use Rattle.toml.specs.Data.{Members, no_members}
 use Rattle.toml.specs.Parse.{parse_document}
@@ -28,24 +29,16 @@ nothing_found [] some = cc some
 nothing_found (key text ∷ rest) some = cc some
 nothing_found (index place ∷ rest) some = cc some
 
+-- a document in which the path leads to no value
+pub leads_not : (text front : List ℕ) (path : List PathStep) (members : Members) → parse_document front ≡ Some members → (IsSome (found_in members path) → ⊥) → LeadsIn text path front → ⊥
+leads_not text front path members reads nowhere leads = nowhere (rw (same_Some leads.read.members members (sym leads.read.reads ∙ reads)) at leads.leads)
+
 -- so a path leads to a value in no empty front
 pub leads_in_some : (text other : List ℕ) (path : List PathStep) → LeadsIn text path other → 0 < length other
-leads_in_some text [] path leads =
-    let none : leads.read.members ≡ no_members = cc (leads.read.reads, empty_document) in
-    absurd (nothing_found path (subst (λ (m : Members). IsSome (found_in m path)) none leads.leads))
+leads_in_some text [] path leads = absurd (leads_not text [] path no_members empty_document (nothing_found path) leads)
 leads_in_some text (byte ∷ rest) path leads = omega arith
 
 -- a path that isn't empty has no line where it leads to no value
 pub no_line_of_path : (text : List ℕ) (path : List Step) → false ≡ (length path == 0) → ((front : List ℕ) → LeadsIn text (map step_of path) front → ⊥) → HasNoLine text (map step_of path)
 no_line_of_path text [] some none = absurd (cc some)
 no_line_of_path text (step ∷ path) some none = (λ empty. cc empty, none)
-
--- a document in which the path leads to no value
-pub leads_not : (text front : List ℕ) (path : List PathStep) (members : Members) → parse_document front ≡ Some members → (IsSome (found_in members path) → ⊥) → LeadsIn text path front → ⊥
-leads_not text front path members reads nowhere leads =
-    let same : leads.read.members ≡ members = cc (leads.read.reads, reads) in
-    nowhere (subst (λ (m : Members). IsSome (found_in m path)) same leads.leads)
-
--- a text that is no document is no cut that reads
-pub reads_not : (text front : List ℕ) → parse_document front ≡ None → IsReadFront text front → ⊥
-reads_not text front unread read = cc (unread, read.reads)

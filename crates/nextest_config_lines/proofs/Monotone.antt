@@ -1,14 +1,14 @@
 -- What a document holds, it still holds behind more statements.
 use Rattle.std.proofs.Common.{◌≡◌, ◌⊎◌, ℕ, zero, suc, ◌==◌, List, [], ◌∷◌, length, Option, Some, None, IsSome, IfSome, is_eq, cond, option_and_then, option_map, Ordering, Less, Equal, Greater, nat_cmp, refl, sym, subst, inl, inr}
-use Rattle.std.proofs.lemmas.Bool.{cases_Bool}
+use Rattle.std.proofs.lemmas.Bool.{cases_Bool, cond_both}
 use Rattle.std.proofs.lemmas.Cmp.{nat_list_cmp_total}
-use Rattle.std.proofs.lemmas.Option.{none-some, same_Some}
+use Rattle.std.proofs.lemmas.Option.{none-some, option_and_then_some, same_Some}
 use Rattle.std.specs.Cmp.Lexicographic.{slice_cmp}
 use Rattle.std.specs.Ordering.{match_ordering}
 use Rattle.toml_parser.specs.Lexical.{skip_blank}
 use Rattle.toml.specs.Data.{array, Data, get_item, get_member, item, Items, no_items, no_members, push_item, same_key, table}
 use Rattle.toml.specs.Parse.{line, lines}
-use Rattle.toml.specs.Tables.{along_dots, along_header, array_table, at_key, close, close_node, define, Definition, Document, dot_node, dotted, Edit, Expression, get_node, header_node, implicit, insert, key_value, new_node, no_nodes, Node, node, Nodes, open_array, open_table, put, redefine, replace, std_table, value}
+use Rattle.toml.specs.Tables.{along_dots, along_header, array_table, at_found, at_key, by_dot, by_header, close, close_node, define, Definition, Document, dot_node, dotted, Edit, Expression, get_node, header_node, implicit, insert, key_value, new_node, no_nodes, Node, node, Nodes, open_array, open_table, put, redefine, replace, std_table, value}
 use Rattle.nextest_config_lines.specs.Line.{found_below, found_in}
 use Rattle.nextest_config_lines.specs.Step.{index, key, PathStep}
 use Rattle.nextest_config_lines.proofs.Extension.Lexical.{ended}
@@ -83,43 +83,36 @@ later_either Greater r s d e rest here = rest
 kept_node : (m : List ℕ) (x y : Node) (a b : Nodes) → DataKept (close_node x) (close_node y) → Kept a b → Kept (node m x a) (node m y b)
 kept_node m x y a b here rest k = later_either (slice_cmp nat_cmp k m) _ _ _ _ (rest k) here
 
+-- one of three, by how two keys compare
+by_order : {A : Type 0} (P : A → Type 0) (o : Ordering) (x y z : A) → (o ≡ Less → P x) → (o ≡ Equal → P y) → (o ≡ Greater → P z) → P (match_ordering o x y z)
+by_order P Less x y z less tie more = less refl
+by_order P Equal x y z less tie more = tie refl
+by_order P Greater x y z less tie more = more refl
+
 -- where a key holds nothing while its table is read, a key that compares as equal holds no value
 none_closed : (k l : List ℕ) (ns : Nodes) → slice_cmp nat_cmp l k ≡ Equal → get_node k ns ≡ None → get_member l (close ns) ≡ None
 none_closed k l no_nodes tie none = refl
-none_closed k l (node m x ns) tie none = rw (nat_list_cmp_total.congr l k m tie) (by_order (slice_cmp nat_cmp k m) (λ rest. none_closed k l ns tie rest) none)
-  where
-    by_order : (o : Ordering) → (get_node k ns ≡ None → get_member l (close ns) ≡ None) → cond (is_eq o) (Some x) (get_node k ns) ≡ None → match_ordering o (get_member l (close ns)) (Some (close_node x)) (get_member l (close ns)) ≡ None
-    by_order Less rest none = rest none
-    by_order Equal rest none = absurd (none-some x (sym none))
-    by_order Greater rest none = rest none
+none_closed k l (node m x ns) tie none = rw (nat_list_cmp_total.congr l k m tie) (by_order (λ o. o ≡ None) (slice_cmp nat_cmp k m) _ _ _
+    (λ is. none_closed k l ns tie (rw is at none)) (λ is. absurd (none-some x (sym (rw is at none)))) (λ is. none_closed k l ns tie (rw is at none)))
 
 -- a key that was not there, in front
 kept_front : (k : List ℕ) (z : Node) (ns : Nodes) → get_node k ns ≡ None → Kept ns (node k z ns)
-kept_front k z ns none l = by_order (slice_cmp nat_cmp l k) refl
-  where
-    by_order : (o : Ordering) → slice_cmp nat_cmp l k ≡ o → Later (get_member l (close ns)) (match_ordering o (get_member l (close ns)) (Some (close_node z)) (get_member l (close ns)))
-    by_order Less is = later_same (get_member l (close ns))
-    by_order Equal is = rw (none_closed k l ns is none) (later_none (Some (close_node z)))
-    by_order Greater is = later_same (get_member l (close ns))
+kept_front k z ns none l = by_order (Later (get_member l (close ns))) (slice_cmp nat_cmp l k) _ _ _
+    (λ _. later_same _) (λ is. rw (none_closed k l ns is none) (later_none (Some (close_node z)))) (λ _. later_same _)
 
 -- and at its place
 kept_inserted : (k : List ℕ) (z : Node) (ns : Nodes) → get_node k ns ≡ None → Kept ns (insert k z ns)
 kept_inserted k z no_nodes none = λ l. later_none (get_member l (close (node k z no_nodes)))
-kept_inserted k z (node m y ns) none = by_order (slice_cmp nat_cmp k m) (λ rest. kept_inserted k z ns rest) none
-  where
-    by_order : (o : Ordering) → (get_node k ns ≡ None → Kept ns (insert k z ns)) → cond (is_eq o) (Some y) (get_node k ns) ≡ None → Kept (node m y ns) (match_ordering o (node k z (node m y ns)) (node m z ns) (node m y (insert k z ns)))
-    by_order Less rest _ = kept_front k z (node m y ns) none
-    by_order Equal rest none = absurd (none-some y (sym none))
-    by_order Greater rest none = kept_node m y y ns (insert k z ns) (later_same (Some (close_node y))) (rest none)
+kept_inserted k z (node m y ns) none = by_order (Kept (node m y ns)) (slice_cmp nat_cmp k m) _ _ _
+    (λ _. kept_front k z (node m y ns) none) (λ is. absurd (none-some y (sym (rw is at none))))
+    (λ is. kept_node m y y ns (insert k z ns) (later_same (Some (close_node y))) (kept_inserted k z ns (rw is at none)))
 
 -- a key that holds more than it did
 kept_replaced : (k : List ℕ) (w z : Node) (ns : Nodes) → get_node k ns ≡ Some w → DataKept (close_node w) (close_node z) → Kept ns (replace k z ns)
 kept_replaced k w z no_nodes is kept = absurd (none-some w is)
-kept_replaced k w z (node m y ns) is kept =
-    elim (cases_Bool (same_key k m)) [
-      | inl here ↦ rw here (kept_node m y z ns ns (subst (λ v. DataKept (close_node v) (close_node z)) (sym (same_Some y w (rw here at is))) kept) (λ l. later_same (get_member l (close ns))))
-      | inr there ↦ rw there (kept_node m y y ns (replace k z ns) (later_same (Some (close_node y))) (kept_replaced k w z ns (rw there at is) kept))
-    ]
+kept_replaced k w z (node m y ns) is kept = cond_both (same_key k m) _ _ (Kept (node m y ns))
+    (λ here. kept_node m y z ns ns (rw (← same_Some y w (rw here at is)) at kept) (λ l. later_same _))
+    (λ there. kept_node m y y ns (replace k z ns) (later_same (Some (close_node y))) (kept_replaced k w z ns (rw there at is) kept))
 
 -- ---- edits
 
@@ -139,8 +132,7 @@ if_mapped (Some x) f Q holds on = on x holds
 header_node_keeps : (edit : Edit) → EditKeeps edit → NodeEditKeeps (header_node edit)
 header_node_keeps edit keeps (value d) = tt
 header_node_keeps edit keeps (open_table o inner) = if_mapped (edit inner) (open_table o) _ (keeps inner) (λ new kept. table_kept inner new kept)
-header_node_keeps edit keeps (open_array done last) =
-    if_mapped (edit last) (open_array done) _ (keeps last) (λ new kept. array_kept _ _ (last_kept done (table (close last)) (table (close new)) (table_kept last new kept)))
+header_node_keeps edit keeps (open_array done last) = if_mapped (edit last) (open_array done) _ (keeps last) (λ new kept. array_kept _ _ (last_kept done _ _ (table_kept last new kept)))
 
 -- so does a dotted key
 dot_node_keeps : (edit : Edit) → EditKeeps edit → NodeEditKeeps (dot_node edit)
@@ -154,48 +146,34 @@ redefine_keeps std_table (open_table implicit inner) = later_same (Some (table (
 redefine_keeps array_table (open_array done last) = array_kept _ _ (item_kept (push_item done (table (close last))) (table no_members))
 redefine_keeps what other = tt
 
--- what is made at a key that was not there
-made_kept : (k : List ℕ) (make : Nodes → Node) (ns : Nodes) (o : Option Nodes) → get_node k ns ≡ None → IfSome (option_map (λ new. insert k (make new) ns) o) (Kept ns)
-made_kept k make ns None none = tt
-made_kept k make ns (Some new) none = kept_inserted k (make new) ns none
+-- an edit at a key, which makes what was not there or changes what was, keeps what all tables hold
+at_node_keeps : {A : Type 0} (k : List ℕ) (ns : Nodes) (make : A → Node) (made : Option A) (change : Node → Option Node) (edited : Option Node → Option Nodes) → NodeEditKeeps change
+    → edited None ≡ option_map (λ new. insert k (make new) ns) made → ((x : Node) → edited (Some x) ≡ option_map (λ new. replace k new ns) (change x))
+    → (o : Option Node) → get_node k ns ≡ o → IfSome (edited o) (Kept ns)
+at_node_keeps k ns make None change edited keeps fresh found None none = rw fresh tt
+at_node_keeps k ns make (Some new) change edited keeps fresh found None none = rw fresh (kept_inserted k (make new) ns none)
+at_node_keeps k ns make made change edited keeps fresh found (Some x) is = rw (found x) (if_mapped (change x) (λ y. replace k y ns) _ (keeps x) (λ y kept. kept_replaced k x y ns is kept))
 
--- what is changed at a key that was
-changed_kept : (k : List ℕ) (change : Node → Option Node) (ns : Nodes) (x : Node) → NodeEditKeeps change → get_node k ns ≡ Some x → IfSome (option_map (λ new. replace k new ns) (change x)) (Kept ns)
-changed_kept k change ns x keeps found = if_mapped (change x) (λ y. replace k y ns) _ (keeps x) (λ y kept. kept_replaced k x y ns found kept)
-
--- nothing, or something
-cases_option : {A : Type 0} (o : Option A) → (o ≡ None) ⊎ ((x : A) × (o ≡ Some x))
-cases_option None = inl refl
-cases_option (Some x) = inr (x, refl)
-
--- an edit at the end of a header keeps what all tables hold
+-- so does one at the end of a header
 header_keeps : (path : List (List ℕ)) (edit : Edit) → EditKeeps edit → EditKeeps (along_header path edit)
 unfolding along_header
 header_keeps [] edit keeps ns = keeps ns
 header_keeps (k ∷ path) edit keeps ns =
-    elim (cases_option (get_node k ns)) [
-      | inl none ↦ rw none (made_kept k (open_table implicit) ns (along_header path edit no_nodes) none)
-      | inr found ↦ rw (found.1) (changed_kept k (header_node (along_header path edit)) ns found.0 (header_node_keeps (along_header path edit) (header_keeps path edit keeps)) found.1)
-    ]
+    let next = along_header path edit in
+    at_node_keeps k ns (open_table implicit) (next no_nodes) (header_node next) (by_header k next ns) (header_node_keeps next (header_keeps path edit keeps)) refl (λ x. refl) _ refl
 
--- so does one at the end of a dotted key
+-- at the end of a dotted key
 dots_keep : (path : List (List ℕ)) (edit : Edit) → EditKeeps edit → EditKeeps (along_dots path edit)
 unfolding along_dots
 dots_keep [] edit keeps ns = keeps ns
 dots_keep (k ∷ path) edit keeps ns =
-    elim (cases_option (get_node k ns)) [
-      | inl none ↦ rw none (made_kept k (open_table dotted) ns (along_dots path edit no_nodes) none)
-      | inr found ↦ rw (found.1) (changed_kept k (dot_node (along_dots path edit)) ns found.0 (dot_node_keeps (along_dots path edit) (dots_keep path edit keeps)) found.1)
-    ]
+    let next = along_dots path edit in
+    at_node_keeps k ns (open_table dotted) (next no_nodes) (dot_node next) (by_dot k next ns) (dot_node_keeps next (dots_keep path edit keeps)) refl (λ x. refl) _ refl
 
--- a definition keeps what its table holds
+-- and a definition
 at_key_keeps : (k : List ℕ) (what : Definition) → EditKeeps (at_key k what)
 unfolding at_key
-at_key_keeps k what ns =
-    elim (cases_option (get_node k ns)) [
-      | inl none ↦ rw none (kept_inserted k (new_node what) ns none)
-      | inr found ↦ rw (found.1) (changed_kept k (redefine what) ns found.0 (redefine_keeps what) found.1)
-    ]
+at_key_keeps k what ns = at_node_keeps k ns (λ new. new) (Some (new_node what)) (redefine what) (at_found k what ns) (redefine_keeps what) refl (λ x. refl) _ refl
 
 -- ---- statements
 
@@ -226,13 +204,8 @@ unfolding lines
 first_statement n document last text is =
     elim (cases_Bool (length (skip_blank text) == 0)) [
       | inl none ↦ inl (same_Some document last (rw none at is))
-      | inr some ↦ elim (cases_option (line (skip_blank text))) [
-        | inl bad ↦ absurd (none-some last (rw (some, bad) at is))
-        | inr read ↦ elim (cases_option (define document read.0.0)) [
-          | inl refused ↦ absurd (none-some last (rw (some, read.1, refused) at is))
-          | inr defined ↦ inr (record { e = read.0.0; after = read.0.1; read = read.1; next = defined.0; defined = defined.1; later = rw (some, read.1, defined.1) at is })
-        ]
-      ]
+      | inr some ↦ option_and_then_some _ (line (skip_blank text)) last (rw some at is) (λ e read on. option_and_then_some _ (define document e.0) last on
+          (λ next defined later. inr (record { e = e.0; after = e.1; read = read; next = next; defined = defined; later = later })))
     ]
 
 -- all statements of a text keep what the document held before them
@@ -241,7 +214,7 @@ unfolding lines
 lines_keep zero document last text is = absurd (none-some last is)
 lines_keep (suc n) document last text is =
     elim (first_statement n document last text is) [
-      | inl same ↦ subst (λ (d : Document). Kept document.0 d.0) same (λ k. later_same (get_member k (close document.0)))
+      | inl same ↦ rw same (λ k. later_same _)
       | inr first ↦
           let kept : Kept document.0 first.next.0 = rw first.defined at (define_keeps document first.e) in
           λ k path leads. lines_keep n first.next last first.after first.later k path (kept k path leads)
@@ -254,7 +227,7 @@ lines_more_keep zero m document between last s more is on = absurd (none-some be
 lines_more_keep (suc n) zero document between last s more is on = absurd (none-some last on)
 lines_more_keep (suc n) (suc m) document between last s more is on =
     elim (first_statement n document between (ended s []) is) [
-      | inl same ↦ subst (λ (d : Document). Kept d.0 last.0) same (lines_keep (suc m) document last (ended s more) on)
+      | inl same ↦ rw (← same) (lines_keep (suc m) document last (ended s more) on)
       | inr first ↦
           let (rest, after_is, read_on) = statement_on s more first.e first.after first.read in
           lines_more_keep n m first.next between last rest more (rw after_is at first.later) (rw (some_start (skip_blank (ended s more)) first.e (ended rest more) read_on, read_on, first.defined) at on)

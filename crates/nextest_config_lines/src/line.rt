@@ -102,10 +102,16 @@ fn line_end_between(contents: &str, floor: usize, high: usize) -> Option<usize>
         (IsLineEndBetween contents.now floor high) }
 {
     let middle = floor + (high - floor) / 2;
-    match last_line_end(contents, floor, middle + 1) {
-        Some(place) => Some(place),
-        None => first_line_end(contents, middle, high),
+    if let Some(place) = last_line_end(contents, floor, middle + 1) {
+        return Some(place);
     }
+    let bytes = contents.as_bytes();
+    for place in middle + 1..high {
+        if bytes[place - 1] == b'\n' {
+            return Some(place);
+        }
+    }
+    None
 }
 
 // The last place between two others where a line ends.
@@ -122,24 +128,6 @@ fn last_line_end(contents: &str, floor: usize, high: usize) -> Option<usize>
         if bytes[place - 1] == b'\n' {
             return Some(place);
         }
-    }
-    None
-}
-
-// The first place between two others where a line ends.
-fn first_line_end(contents: &str, floor: usize, high: usize) -> Option<usize>
-    requires some { floor < high }
-    requires within { high ≤ length contents.now }
-    ensures { MatchOption result (NoLineEnds contents.now floor high)
-        (IsLineEndBetween contents.now floor high) }
-{
-    let bytes = contents.as_bytes();
-    let mut place = floor + 1;
-    while place < high {
-        if bytes[place - 1] == b'\n' {
-            return Some(place);
-        }
-        place += 1;
     }
     None
 }

@@ -1,7 +1,5 @@
-use Rattle.std.proofs.Common.{◌≡◌, None, arith, inl, map, rules, take}
-use Rattle.toml.specs.Parse.{parse_document}
-use Rattle.nextest_config_lines.specs.Step.{step_of}
-use Rattle.nextest_config_lines.proofs.Search.{boundary_there, no_members_of, none_reads_down, place_within, read_at}
+use Rattle.std.proofs.Common.{◌≡◌, arith, inl, rules, take}
+use Rattle.nextest_config_lines.proofs.Search.{boundary_there, none_reads_down, place_within, read_at}
 use Rattle.nextest_config_lines.proofs.line.last_that_reads.Goals as goal
 
 pub range-requires-clause-end_boundary : goal.range-requires-clause-end_boundary
@@ -17,18 +15,16 @@ pub fronts-preserved : goal.fronts-preserved
 fronts-preserved c =
     let so = c.fronts.invariant in
     let front : c.range.result.now ≡ take c.fronts.place c.args.contents.now = search rules in
-    let bad : parse_document (take c.fronts.place c.args.contents.now) ≡ None = no_members_of _ (map step_of c.args.path.now) (rw (c.in_default.is, front) at c.in_ok-leads.ensures) in
     let before = c.in-Some-last_line_end.ensures in
     record {
       is_end = inl before.between.line_end;
       behind = before.between.behind;
       up_to = omega (arith, before.between.before, so.up_to);
-      none = none_reads_down _ _ _ _ before.is_last (place_within _ _ so.is_end) bad so.none;
+      none = none_reads_down _ _ _ _ _ before.is_last (place_within _ _ so.is_end) (rw (c.in_default.is, front) at c.in_ok-leads.ensures) so.none;
     }
 
 pub returns-in-None : goal.returns-in-None
 returns-in-None c =
     let so = c.fronts.invariant in
     let front : c.range.result.now ≡ take c.fronts.place c.args.contents.now = search rules in
-    let bad : parse_document (take c.fronts.place c.args.contents.now) ≡ None = no_members_of _ (map step_of c.args.path.now) (rw (c.in_default.is, front) at c.in_ok-leads.ensures) in
-    none_reads_down _ _ _ _ c.in-None.ensures (place_within _ _ so.is_end) bad so.none
+    none_reads_down _ _ _ _ _ c.in-None.ensures (place_within _ _ so.is_end) (rw (c.in_default.is, front) at c.in_ok-leads.ensures) so.none
