@@ -1,10 +1,10 @@
 -- The cuts of a text.
-use Rattle.std.proofs.Common.{◌≡◌, ℕ, ◌<◌, ◌≤◌, List, [], ◌∷◌, ◌++◌, ◌==◌, None, Some, IsSome, false, length, map, refl, sym, ◌∙◌, arith}
+use Rattle.std.proofs.Common.{◌≡◌, ℕ, ◌<◌, ◌≤◌, List, [], ◌∷◌, ◌++◌, ◌==◌, Some, IsSome, false, length, map, refl, sym, ◌∙◌, arith}
 use Rattle.std.proofs.lemmas.Option.{same_Some}
 use Rattle.toml.proofs.OnLiterals.{toml_on_literals}
 use Rattle.toml.specs.Data.{Members, no_members}
 use Rattle.toml.specs.Parse.{parse_document}
-use Rattle.nextest_config_lines.specs.Line.{found_in, IsReadFront, HasNoLine, LeadsIn}
+use Rattle.nextest_config_lines.specs.Line.{found_in, HasNoLine, LeadsIn}
 use Rattle.nextest_config_lines.specs.Step.{PathStep, index, key, step_of}
 use Rattle.nextest_config_lines.specs.declared.step.Step.{Step}
 

@@ -1,11 +1,11 @@
 -- Where a path leads to a value in a cut that is read, it leads to one in each longer cut that is read.
-use Rattle.std.proofs.Common.{◌≡◌, ℕ, suc, ◌≤◌, ◌==◌, ◌&&◌, List, [], ◌∷◌, ◌++◌, length, Option, Some, None, IsSome, option_map, refl, sym, ap, ◌∙◌, subst, inl, inr, arith, append_assoc, append-nil, length-append}
+use Rattle.std.proofs.Common.{◌≡◌, ℕ, ◌≤◌, ◌==◌, ◌&&◌, List, [], ◌∷◌, ◌++◌, length, Some, IsSome, refl, sym, ap, ◌∙◌, inl, inr, arith, append_assoc, append-nil, length-append}
 use Rattle.std.proofs.lemmas.Bool.{cases_Bool}
 use Rattle.std.proofs.lemmas.List.{nil_from_length}
 use Rattle.std.proofs.NetLemmas.Options.{map_some}
 use Rattle.toml.specs.Data.{Members}
-use Rattle.toml.specs.Parse.{lines, parse_document, skip_bom}
-use Rattle.toml.specs.Tables.{close, Document, no_nodes}
+use Rattle.toml.specs.Parse.{parse_document, skip_bom}
+use Rattle.toml.specs.Tables.{no_nodes}
 use Rattle.nextest_config_lines.specs.Line.{found_in, IsReadFront, LeadsIn}
 use Rattle.nextest_config_lines.specs.Step.{PathStep}
 use Rattle.nextest_config_lines.proofs.Cuts.{front_of_front}

@@ -1,5 +1,5 @@
 -- What a document holds, it still holds behind more statements.
-use Rattle.std.proofs.Common.{◌≡◌, ◌⊎◌, ℕ, zero, suc, ◌==◌, List, [], ◌∷◌, length, Option, Some, None, IsSome, IfSome, is_eq, cond, option_and_then, option_map, Ordering, Less, Equal, Greater, nat_cmp, refl, sym, subst, inl, inr}
+use Rattle.std.proofs.Common.{◌≡◌, ◌⊎◌, ℕ, zero, suc, ◌==◌, List, [], ◌∷◌, length, Option, Some, None, IsSome, IfSome, option_and_then, option_map, Ordering, Less, Equal, Greater, nat_cmp, refl, sym, inl, inr}
 use Rattle.std.proofs.lemmas.Bool.{cases_Bool, cond_both}
 use Rattle.std.proofs.lemmas.Cmp.{nat_list_cmp_total}
 use Rattle.std.proofs.lemmas.Option.{none-some, option_and_then_some, same_Some}

@@ -1,4 +1,4 @@
-use Rattle.std.proofs.Common.{IsOk, map, refl, rules, take}
+use Rattle.std.proofs.Common.{IsOk, map, rules, take}
 use Rattle.std.proofs.lemmas.List.{map_more, take_all}
 use Rattle.std.proofs.Output.{has_written_append, has_written_of_eq}
 use Rattle.nextest_config_lines.specs.Step.{step_of}
