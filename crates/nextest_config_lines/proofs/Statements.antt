@@ -21,7 +21,7 @@ pub statement_on : (s more : List ℕ) (e : Expression) (after : List ℕ) → l
 statement_on s more e after read =
     elim (skip_ended more true false s) [
       | none is ↦ absurd (none-some (e, after) (rw (is, line_nil) at read))
-      | left start is is_on ↦ elim (line_ended more start) [
+      | left c start is is_on ↦ elim (line_ended more (c ∷ start)) [
         | stops bad ↦ absurd (none-some (e, after) (rw (is, bad) at read))
         | goes value rest seen seen_on ↦
             let same : (value, ended rest []) ≡ (e, after) = same_Some (value, ended rest []) (e, after) (rw (is, seen) at read) in

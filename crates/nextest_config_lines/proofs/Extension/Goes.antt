@@ -1,9 +1,8 @@
 -- A reader of a text that ends in a line feed goes on as it was, whatever follows.
-use Rattle.std.proofs.Common.{◌≡◌, ℕ, Bool, true, false, cond, ◌==◌, List, [], ◌∷◌, drop, Option, Some, None, option_map, option_and_then, refl, ap, inl, inr}
-use Rattle.std.proofs.lemmas.Bool.{cases_Bool}
-use Rattle.toml_parser.specs.Lexical.{first, line_feed, Read}
+use Rattle.std.proofs.Common.{◌≡◌, ℕ, Bool, true, false, cond, ◌==◌, List, [], ◌∷◌, Option, Some, None, option_map, option_and_then, refl, ap}
+use Rattle.toml_parser.specs.Lexical.{line_feed, Read}
 use Rattle.toml.specs.Parse.{after_byte, after_element, read_map}
-use Rattle.nextest_config_lines.proofs.Extension.Lexical.{ended, left, none, skip_ended}
+use Rattle.nextest_config_lines.proofs.Extension.Lexical.{both_if, ended, left, none, skip_ended}
 
 -- what is read of a text that ends in a line feed, beside what is read with b behind it: nothing of the first, or the same value of both, and both leave that line feed
 pub data Goes {A : Type 0} (b : List ℕ) (alone followed : Read A) : Type 0 where
@@ -13,7 +12,7 @@ pub data Goes {A : Type 0} (b : List ℕ) (alone followed : Read A) : Type 0 whe
 module _ {A : Type 0} {b : List ℕ} where
   -- one of two readers, by one test
   pub goes_if : {x x' y y' : Read A} (p : Bool) → (p ≡ true → Goes b x x') → (p ≡ false → Goes b y y') → Goes b (cond p x y) (cond p x' y')
-  goes_if p held failed = elim (cases_Bool p) [ inl is ↦ rw is (held is) | inr other ↦ rw other (failed other) ]
+  goes_if p held failed = both_if (Goes b) p _ _ _ _ held failed
 
   -- one reader after another
   pub goes_then : {X : Type 0} {alone followed : Read X} (next later : X × List ℕ → Read A)
@@ -41,34 +40,17 @@ module _ {A : Type 0} {b : List ℕ} where
   pub goes_byte : (byte : ℕ) → (line_feed == byte) ≡ false → (value : A) (f : List ℕ → List ℕ) → ((s x : List ℕ) → f (ended s x) ≡ ended (f s) x) → (s : List ℕ)
       → Goes b (option_map (λ rest. (value, f rest)) (after_byte byte (ended s []))) (option_map (λ rest. (value, f rest)) (after_byte byte (ended s b)))
   goes_byte byte other value f on [] = stops (rw other refl)
-  goes_byte byte other value f on (c ∷ s) =
-      elim (cases_Bool (c == byte)) [
-        | inl is ↦ rw is (goes value (f s) (rw (on s []) refl) (rw (on s b) refl))
-        | inr differs ↦ rw differs (stops refl)
-      ]
-
-  -- the byte that closes a list, or another reader
-  pub goes_close : {x y : Read A} (byte : ℕ) → (line_feed == byte) ≡ false → (value : A) (s : List ℕ) → Goes b x y
-      → Goes b (cond (first (ended s []) == byte) (Some (value, drop 1 (ended s []))) x) (cond (first (ended s b) == byte) (Some (value, drop 1 (ended s b))) y)
-  goes_close byte other value [] on = rw other on
-  goes_close byte other value (c ∷ s) on = goes_if (c == byte) (λ _. goes value s refl refl) (λ _. on)
+  goes_byte byte other value f on (c ∷ s) = both_if (λ x y. Goes b (option_map (λ rest. (value, f rest)) x) (option_map (λ rest. (value, f rest)) y)) (c == byte) _ _ _ _
+      (λ _. goes value (f s) (rw (on s []) refl) (rw (on s b) refl)) (λ _. stops refl)
 
   module _ (next later : List ℕ → Read A) (on : (s : List ℕ) → Goes b (next (ended s [])) (later (ended s b))) where
     -- a reader behind an element of a list
-    pub goes_after : (closing : ℕ) → (line_feed == closing) ≡ false → (0 == closing) ≡ false → (s : List ℕ)
+    pub goes_after : (closing : ℕ) → (0 == closing) ≡ false → (s : List ℕ)
         → Goes b (option_and_then next (after_element closing (ended s []))) (option_and_then later (after_element closing (ended s b)))
     unfolding after_element
-    goes_after closing other some s =
+    goes_after closing some s =
+        let either_way = both_if (λ (x y : Option (List ℕ)). Goes b (option_and_then next x) (option_and_then later y)) in
         elim (skip_ended b true false s) [
           | none is ↦ stops (rw (is, some) refl)
-          | left rest is is_on ↦ rw (is, is_on) (element rest)
+          | left c t is is_on ↦ rw (is, is_on) (either_way (c == 44) _ _ _ _ (λ _. on t) (λ _. either_way (c == closing) _ _ _ _ (λ _. on (c ∷ t)) (λ _. stops refl)))
         ]
-      where
-        element : (t : List ℕ) → Goes b (option_and_then next (cond (first (ended t []) == 44) (Some (drop 1 (ended t []))) (cond (first (ended t []) == closing) (Some (ended t [])) None)))
-            (option_and_then later (cond (first (ended t b) == 44) (Some (drop 1 (ended t b))) (cond (first (ended t b) == closing) (Some (ended t b)) None)))
-        element [] = rw other (stops refl)
-        element (c ∷ t) =
-            elim (cases_Bool (c == 44)) [
-              | inl is_comma ↦ rw is_comma (on t)
-              | inr no_comma ↦ rw no_comma (elim (cases_Bool (c == closing)) [ inl closes ↦ rw closes (on (c ∷ t)) | inr neither ↦ rw neither (stops refl) ])
-            ]

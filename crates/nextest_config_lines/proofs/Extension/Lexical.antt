@@ -1,6 +1,5 @@
 -- What the grammar reads of a text that ends in a line feed, it reads of the text whatever follows: runs and blanks.
-use Rattle.std.proofs.Common.{◌≡◌, ℕ, ◌≤◌, Bool, false, cond, List, [], ◌∷◌, ◌++◌, length, take, drop, is_some, unwrap_or, refl, ap, inl, inr}
-use Rattle.std.proofs.lemmas.Bool.{cases_Bool}
+use Rattle.std.proofs.Common.{◌≡◌, ℕ, ◌≤◌, Bool, true, false, cond, List, [], ◌∷◌, ◌++◌, length, take, drop, is_some, unwrap_or, refl, ap}
 use Rattle.std.proofs.lemmas.List.{drop-append-le, take-append-le}
 use Rattle.std.proofs.lemmas.List.Sums.{prefix_len-le-length}
 use Rattle.std.specs.List.{prefix_len}
@@ -34,11 +33,12 @@ skip_ws_ended s b = ap (λ parts. parts.1) (split_ended is_ws refl s b)
 -- of a text, and the same with more behind it, what is left: nothing of the first, or both end as they did
 pub data Left (b alone followed : List ℕ) : Type 0 where
   none : alone ≡ [] → Left b alone followed
-  left : (rest : List ℕ) → alone ≡ ended rest [] → followed ≡ ended rest b → Left b alone followed
+  left : (c : ℕ) (rest : List ℕ) → alone ≡ ended (c ∷ rest) [] → followed ≡ ended (c ∷ rest) b → Left b alone followed
 
--- one of two, by one test
-pub left_if : {b x x' y y' : List ℕ} (p : Bool) → Left b x x' → Left b y y' → Left b (cond p x y) (cond p x' y')
-left_if p held failed = elim (cases_Bool p) [ inl is ↦ rw is held | inr other ↦ rw other failed ]
+-- one of two on both sides, by one test
+pub both_if : {X Y : Type 0} (P : X → Y → Type 0) (p : Bool) (x : X) (x' : Y) (y : X) (y' : Y) → (p ≡ true → P x x') → (p ≡ false → P y y') → P (cond p x y) (cond p x' y')
+both_if P true x x' y y' held failed = held refl
+both_if P false x x' y y' held failed = failed refl
 
 -- behind blanks and comments at the front
 pub skip_ended : (b : List ℕ) (comments inside : Bool) (s : List ℕ) → Left b (skip_from comments inside (ended s [])) (skip_from comments inside (ended s b))
@@ -46,4 +46,4 @@ unfolding skip_from
 skip_ended b comments inside [] = none refl
 skip_ended b comments inside (c ∷ s) =
     let turn = skip_turn comments inside c (first (ended s [])) in
-    rw (first_ended s b) (left_if (is_some turn) (skip_ended b comments (unwrap_or turn false) s) (left (c ∷ s) refl refl))
+    rw (first_ended s b) (both_if (Left b) (is_some turn) _ _ _ _ (λ _. skip_ended b comments (unwrap_or turn false) s) (λ _. left c s refl refl))

@@ -1,8 +1,9 @@
 -- Strings and keys of a text that ends in a line feed are read as they were, whatever follows.
 use Rattle.std.proofs.Common.{◌≡◌, ◌⊎◌, ℕ, zero, suc, ◌<◌, ◌≤◌, Bool, true, false, ◌&&◌, ◌||◌, ◌==◌, nat_le, List, [], ◌∷◌, ◌++◌, length, take, drop, Option, Some, None, refl, ap, inl, inr, arith, le-leb, eqb-true, nat_lt, length-append, cond}
-use Rattle.std.proofs.lemmas.Bool.{cases_Bool, cases_lt, false≢true}
+use Rattle.std.proofs.lemmas.Bool.{and_right, cases_Bool, cases_lt, false≢true}
 use Rattle.std.proofs.lemmas.Bool.Decides.{nat_tests}
-use Rattle.std.proofs.lemmas.List.{drop-append-le, take-append-le}
+use Rattle.std.proofs.lemmas.List.{drop-append-le, take_all, take-append-le}
+use Rattle.std.proofs.lemmas.List.Folds.{list_all-append}
 use Rattle.std.proofs.lemmas.List.Sums.{prefix_len-le-length}
 use Rattle.std.specs.List.{list_all, prefix_len}
 use Rattle.std.specs.Char.{is_digit}
@@ -11,7 +12,7 @@ use Rattle.std.specs.Prelude.{encode_utf8}
 use Rattle.toml_parser.specs.Lexical.{first, is_bare, line_feed, Read, skip_ws, starts_newline}
 use Rattle.toml_parser.specs.Strings.{after_piece, at_delims, body, escape, escape_char, hex_escape, hex_len, is_plain, is_scalar, key, Key, key_after, one_line, quoted, simple_escape, simple_key, special, starts_string, trim_newline}
 use Rattle.toml.specs.Parse.{read_map}
-use Rattle.nextest_config_lines.proofs.Extension.Lexical.{ended, left, Left, left_if, none, run_ended, skip_ended, skip_ws_ended, split_ended}
+use Rattle.nextest_config_lines.proofs.Extension.Lexical.{both_if, ended, left, none, run_ended, skip_ended, skip_ws_ended, split_ended}
 use Rattle.nextest_config_lines.proofs.Extension.Goes.{Goes, goes, goes_found, goes_if, goes_map, goes_then, stops}
 
 -- a line's end is seen as before
@@ -22,21 +23,12 @@ starts_newline_ended (c ∷ d ∷ s) b = refl
 
 -- bytes that all pass, and no line feed among them
 no_feed_within : (p : ℕ → Bool) (n : ℕ) (s : List ℕ) → p line_feed ≡ false → length s < n → list_all p (take n (ended s [])) ≡ false
-no_feed_within p zero s stop past = absurd (omega (arith, past))
-no_feed_within p (suc n) [] stop past = rw stop refl
-no_feed_within p (suc n) (c ∷ s) stop past =
-    let more = no_feed_within p n s stop (omega (arith, past)) in
-    elim (cases_Bool (p c)) [ inl passes ↦ rw passes more | inr other ↦ rw other refl ]
+no_feed_within p n s stop past =
+    rw (take_all n (ended s []) (omega (arith, past, length-append s (line_feed ∷ []))), list_all-append p s (line_feed ∷ []), stop) (and_right (list_all p s) false refl)
 
 -- the text is no shorter with something behind it
 pub longer : (s b : List ℕ) → length (ended s []) ≤ length (ended s b)
 longer s b = omega (arith, length-append s (line_feed ∷ []), length-append s (line_feed ∷ b))
-
--- a line's end at the front of a string
-trim_ended : (b s : List ℕ) → Left b (trim_newline (ended s [])) (trim_newline (ended s b))
-trim_ended b [] = none refl
-trim_ended b (c ∷ []) = left_if (c == 10) (left [] refl refl) (left_if (starts_newline (c ∷ 10 ∷ [])) (none refl) (left (c ∷ []) refl refl))
-trim_ended b (c ∷ d ∷ s) = left_if (c == 10) (left (d ∷ s) refl refl) (left_if (starts_newline (c ∷ d ∷ [])) (left s refl refl) (left (c ∷ d ∷ s) refl refl))
 
 module _ (b : List ℕ) where
   -- the digits of an escape
@@ -44,13 +36,11 @@ module _ (b : List ℕ) where
   unfolding hex_escape
   hex_ended n s =
       elim (cases_lt (length s) n) [
-        | inl past ↦ stops (rw (no_feed_within (λ c. is_digit c 16) n s refl past) (elim (cases_Bool (nat_le n (length (ended s [])))) [ inl h ↦ rw h refl | inr h ↦ rw h refl ]))
+        | inl past ↦ stops (rw (no_feed_within (λ c. is_digit c 16) n s refl past, and_right (nat_le n (length (ended s []))) false refl) refl)
         | inr within ↦
             let fits : (x : List ℕ) → nat_le n (length (ended s x)) ≡ true = λ x. le-leb n (length (ended s x)) (omega (arith, within, length-append s (line_feed ∷ x))) in
-            let front : (x : List ℕ) → take n (ended s x) ≡ take n s = λ x. take-append-le n s (line_feed ∷ x) within in
-            let back : (x : List ℕ) → drop n (ended s x) ≡ ended (drop n s) x = λ x. drop-append-le n s (line_feed ∷ x) within in
-            rw (fits [], fits b, front [], front b, back [], back b)
-            (goes_if (list_all (λ c. is_digit c 16) (take n s) && is_scalar (digits_value 16 (take n s))) (λ _. goes (digits_value 16 (take n s)) (drop n s) refl refl) (λ _. stops refl))
+            rw (fits [], fits b) (simp (take-append-le, drop-append-le)
+            (goes_if (list_all (λ c. is_digit c 16) (take n s) && is_scalar (digits_value 16 (take n s))) (λ _. goes (digits_value 16 (take n s)) (drop n s) refl refl) (λ _. stops refl)))
       ]
 
   -- what stands for a character behind a backslash
@@ -65,19 +55,23 @@ module _ (b : List ℕ) where
   abbrev GoesOrEnds : Read (Option (List ℕ)) → Read (Option (List ℕ)) → Type 0
   GoesOrEnds alone followed = Goes b alone followed ⊎ ((bytes : List ℕ) × (alone ≡ Some (Some bytes, [])))
 
-  piece_if : {x x' y y' : Read (Option (List ℕ))} (p : Bool) → GoesOrEnds x x' → GoesOrEnds y y' → GoesOrEnds (cond p x y) (cond p x' y')
-  piece_if p held failed = elim (cases_Bool p) [ inl is ↦ rw is held | inr other ↦ rw other failed ]
-
   -- what follows a backslash, which may be the white space up to the end of the text
   escape_ended : (multi : Bool) (s : List ℕ) → GoesOrEnds (read_map Some (escape multi (ended s []))) (read_map Some (escape multi (ended s b)))
   unfolding escape
   escape_ended multi s =
       rw (skip_ws_ended s [], skip_ws_ended s b, starts_newline_ended (skip_ws s) b) (elim (cases_Bool (multi && starts_newline (ended (skip_ws s) []))) [
-        | inl cut ↦ rw cut (elim (skip_ended b false false s) [ none is ↦ inr ([], rw is refl) | left rest is on ↦ inl (goes (Some []) rest (rw is refl) (rw on refl)) ])
+        | inl cut ↦ rw cut (elim (skip_ended b false false s) [ none is ↦ inr ([], rw is refl) | left c rest is on ↦ inl (goes (Some []) (c ∷ rest) (rw is refl) (rw on refl)) ])
         | inr other ↦ rw other (inl (goes_map Some (goes_map encode_utf8 (escape_char_ended s))))
       ])
 
-  module _ (delim : ℕ) (multi : Bool) (some : (0 == delim) ≡ false) (no_feed : (line_feed == delim) ≡ false) where
+  module _ (delim : ℕ) (multi : Bool) (begins : (delim == 34 || delim == 39) ≡ true) where
+    -- what no delimiter is
+    some : (0 == delim) ≡ false
+    some = grind (arith, nat_tests)
+
+    no_feed : (line_feed == delim) ≡ false
+    no_feed = grind (arith, nat_tests)
+
     -- delimiters of a string of several lines
     delims_ended : (c : ℕ) (s : List ℕ) → Goes b (at_delims delim (ended (c ∷ s) [])) (at_delims delim (ended (c ∷ s) b))
     delims_ended c s =
@@ -91,9 +85,9 @@ module _ (b : List ℕ) where
     -- a byte that doesn't stand for itself
     special_ended : (c : ℕ) (s : List ℕ) → GoesOrEnds (special delim multi (ended (c ∷ s) [])) (special delim multi (ended (c ∷ s) b))
     unfolding special
-    special_ended c s = rw (starts_newline_ended (c ∷ s) b) (piece_if (c == delim)
-        (inl (goes_if multi (λ _. delims_ended c s) (λ _. goes None s refl refl)))
-        (piece_if (c == 92) (escape_ended multi s) (inl (goes_if (multi && starts_newline (ended (c ∷ s) [])) (λ _. goes (Some (c ∷ [])) s refl refl) (λ _. stops refl)))))
+    special_ended c s = rw (starts_newline_ended (c ∷ s) b) (both_if GoesOrEnds (c == delim) _ _ _ _
+        (λ _. inl (goes_if multi (λ _. delims_ended c s) (λ _. goes None s refl refl)))
+        (λ _. both_if GoesOrEnds (c == 92) _ _ _ _ (λ _. escape_ended multi s) (λ _. inl (goes_if (multi && starts_newline (ended (c ∷ s) [])) (λ _. goes (Some (c ∷ [])) s refl refl) (λ _. stops refl)))))
 
     -- no string ends at the end of the text
     body_nil : (n : ℕ) → body delim multi n [] ≡ None
@@ -126,34 +120,29 @@ module _ (b : List ℕ) where
           | inr out ↦ stops (rw (out.1, body_nil n) refl)
         ])
 
+    -- and behind a newline in front of it, which is left out
+    trimmed_ended : (n m : ℕ) (s : List ℕ) → n ≤ m → Goes b (body delim multi n (trim_newline (ended s []))) (body delim multi m (trim_newline (ended s b)))
+    trimmed_ended n m [] enough = stops (body_nil n)
+    trimmed_ended n m (c ∷ []) enough = let either_way = both_if (λ (x y : List ℕ). Goes b (body delim multi n x) (body delim multi m y)) in
+        either_way (c == 10) _ _ _ _ (λ _. body_ended n m [] enough) (λ _. either_way (starts_newline (c ∷ 10 ∷ [])) _ _ _ _ (λ _. stops (body_nil n)) (λ _. body_ended n m (c ∷ []) enough))
+    trimmed_ended n m (c ∷ d ∷ s) enough = let either_way = both_if (λ (x y : List ℕ). Goes b (body delim multi n x) (body delim multi m y)) in
+        either_way (c == 10) _ _ _ _ (λ _. body_ended n m (d ∷ s) enough) (λ _. either_way (starts_newline (c ∷ d ∷ [])) _ _ _ _ (λ _. body_ended n m s enough) (λ _. body_ended n m (c ∷ d ∷ s) enough))
+
   -- ---- whole strings
 
   -- a string of one line
   pub one_line_ended : (s : List ℕ) → starts_string (ended s []) ≡ true → Goes b (one_line (ended s [])) (one_line (ended s b))
   unfolding one_line
   one_line_ended [] begins = absurd (false≢true begins)
-  one_line_ended (c ∷ s) begins = body_ended c false (grind (arith, nat_tests)) (grind (arith, nat_tests)) (length (ended (c ∷ s) [])) (length (ended (c ∷ s) b)) s (longer (c ∷ s) b)
-
-  -- a string of several lines
-  several_ended : (c n m : ℕ) (s : List ℕ) → (c == 34 || c == 39) ≡ true → n ≤ m → Goes b (body c true n (trim_newline (ended s []))) (body c true m (trim_newline (ended s b)))
-  several_ended c n m s begins enough =
-      let some : (0 == c) ≡ false = grind (arith, nat_tests) in
-      let no_feed : (line_feed == c) ≡ false = grind (arith, nat_tests) in
-      elim (trim_ended b s) [
-        | none is ↦ stops (rw is (body_nil c true some no_feed n))
-        | left rest is on ↦ rw (is, on) (body_ended c true some no_feed n m rest enough)
-      ]
+  one_line_ended (c ∷ s) begins = body_ended c false begins _ _ s (longer (c ∷ s) b)
 
   -- a string of any kind
   pub quoted_ended : (s : List ℕ) → starts_string (ended s []) ≡ true → Goes b (quoted (ended s [])) (quoted (ended s b))
   unfolding quoted
   quoted_ended [] begins = absurd (false≢true begins)
-  quoted_ended (c ∷ []) begins = let no_feed : (line_feed == c) ≡ false = grind (arith, nat_tests) in rw no_feed (one_line_ended (c ∷ []) begins)
-  quoted_ended (c ∷ d ∷ []) begins =
-      let no_feed : (line_feed == c) ≡ false = grind (arith, nat_tests) in
-      rw no_feed (elim (cases_Bool (d == c)) [ inl h ↦ rw h (one_line_ended (c ∷ d ∷ []) begins) | inr h ↦ rw h (one_line_ended (c ∷ d ∷ []) begins) ])
-  quoted_ended (c ∷ d ∷ e ∷ s) begins =
-      goes_if (d == c && e == c) (λ _. several_ended c (length (ended (c ∷ d ∷ e ∷ s) [])) (length (ended (c ∷ d ∷ e ∷ s) b)) s begins (longer (c ∷ d ∷ e ∷ s) b)) (λ _. one_line_ended (c ∷ d ∷ e ∷ s) begins)
+  quoted_ended (c ∷ []) begins = rw (no_feed c true begins) (one_line_ended (c ∷ []) begins)
+  quoted_ended (c ∷ d ∷ []) begins = rw (no_feed c true begins, and_right (d == c) false refl) (one_line_ended (c ∷ d ∷ []) begins)
+  quoted_ended (c ∷ d ∷ e ∷ s) begins = goes_if (d == c && e == c) (λ _. trimmed_ended c true begins _ _ s (longer (c ∷ d ∷ e ∷ s) b)) (λ _. one_line_ended (c ∷ d ∷ e ∷ s) begins)
 
   -- ---- keys
 

@@ -1,11 +1,12 @@
 -- Values of a text that ends in a line feed are read as they were, whatever follows.
-use Rattle.std.proofs.Common.{◌≡◌, ℕ, zero, suc, ◌+◌, ◌<◌, ◌≤◌, true, false, ◌&&◌, ◌||◌, ◌==◌, List, [], ◌∷◌, length, take, drop, None, refl, inl, inr, arith, length-drop}
-use Rattle.std.proofs.lemmas.Bool.{cases_Bool, cases_lt, false≢true}
-use Rattle.std.proofs.lemmas.List.{drop-append-le, get_or_past, take-append-le}
+use Rattle.std.proofs.Common.{◌≡◌, ℕ, zero, suc, ◌+◌, ◌<◌, ◌≤◌, true, false, ◌&&◌, ◌||◌, ◌==◌, List, [], ◌∷◌, length, take, drop, None, refl, inl, inr, arith, length-drop, eqb-true}
+use Rattle.std.proofs.lemmas.Bool.{and_parts, cases_Bool}
+use Rattle.std.proofs.lemmas.List.{drop-append-le, take-append-le}
 use Rattle.std.proofs.lemmas.List.Sums.{prefix_len-le-length}
 use Rattle.std.specs.Char.{is_ascii_digit}
 use Rattle.std.specs.List.{prefix_len}
 use Rattle.std.specs.Prelude.{slice_index}
+use Rattle.toml_parser.proofs.LexicalLemmas.{within_from_byte}
 use Rattle.toml_parser.specs.Lexical.{is_word, line_feed, Read}
 use Rattle.toml_parser.specs.Numbers.{unquoted, word_len, word_value}
 use Rattle.toml_parser.specs.Strings.{key_after, simple_key}
@@ -13,7 +14,7 @@ use Rattle.toml.specs.Data.{array, Data, Items, no_items, push_item, string, tab
 use Rattle.toml.specs.Parse.{atom, items, key_equals, keyval, members, scalar_data, val}
 use Rattle.toml.specs.Tables.{close, no_nodes, Nodes, put}
 use Rattle.nextest_config_lines.proofs.Extension.Lexical.{ended, left, none, run_ended, skip_ended, skip_ws_ended}
-use Rattle.nextest_config_lines.proofs.Extension.Goes.{Goes, goes_after, goes_byte, goes_close, goes_found, goes_if, goes_map, goes_some, goes_then, stops}
+use Rattle.nextest_config_lines.proofs.Extension.Goes.{Goes, goes, goes_after, goes_byte, goes_found, goes_if, goes_map, goes_some, goes_then, stops}
 use Rattle.nextest_config_lines.proofs.Extension.Strings.{key_ended, longer, quoted_ended}
 
 -- ---- words
@@ -26,14 +27,6 @@ joins_ended zero (c ∷ d ∷ s) b within = refl
 joins_ended (suc n) [] b within = absurd (omega (arith, within))
 joins_ended (suc n) (c ∷ s) b within = let next : suc n + 1 ≡ suc (n + 1) = omega arith in rw next (joins_ended n s b (omega (arith, within)))
 
--- and then within the text
-joins_within : (s : List ℕ) (n : ℕ) → (slice_index s n == 32 && is_ascii_digit (slice_index s (n + 1))) ≡ true → n < length s
-joins_within s n joins =
-    elim (cases_lt n (length s)) [
-      | inl within ↦ within
-      | inr past ↦ absurd (false≢true (rw (get_or_past s n 0 past) at joins))
-    ]
-
 -- a word ends before the text's last line feed
 word_ended : (s b : List ℕ) → (word_len (ended s b) ≡ word_len s) × (word_len s ≤ length s)
 unfolding word_len
@@ -42,7 +35,7 @@ word_ended s b =
     let within : n ≤ length s = prefix_len-le-length is_word s in
     rw (run_ended is_word refl s b, joins_ended n s b within) (elim (cases_Bool (slice_index s n == 32 && is_ascii_digit (slice_index s (n + 1)))) [
       | inl joins ↦
-          let some : n < length s = joins_within s n joins in
+          let some : n < length s = within_from_byte s n (omega (arith, eqb-true (slice_index s n) 32 (and_parts _ _ joins).0)) in
           rw (joins, drop-append-le (n + 1) s (line_feed ∷ b) (omega (arith, some)), run_ended is_word refl (drop (n + 1) s) b)
           (refl, omega (arith, some, prefix_len-le-length is_word (drop (n + 1) s), length-drop (n + 1) s))
       | inr alone ↦ rw alone (refl, within)
@@ -55,9 +48,7 @@ module _ (b : List ℕ) where
   unquoted_ended s =
       let n = word_len s in
       let within : n ≤ length s = (word_ended s b).1 in
-      let front : (x : List ℕ) → take n (ended s x) ≡ take n s = λ x. take-append-le n s (line_feed ∷ x) within in
-      let back : (x : List ℕ) → drop n (ended s x) ≡ ended (drop n s) x = λ x. drop-append-le n s (line_feed ∷ x) within in
-      rw ((word_ended s []).0, (word_ended s b).0, front [], front b, back [], back b) (goes_if (n == 0) (λ _. stops refl) (λ _. goes_found (word_value (take n s)) (drop n s)))
+      rw ((word_ended s []).0, (word_ended s b).0) (simp (take-append-le, drop-append-le) (goes_if (n == 0) (λ _. stops refl) (λ _. goes_found (word_value (take n s)) (drop n s))))
 
   -- ---- values
 
@@ -85,8 +76,8 @@ module _ (b : List ℕ) where
     items_ended empty (suc n) (suc m) found s enough =
         elim (skip_ended b true false s) [
           | none is ↦ stops (rw (is, empty) refl)
-          | left start is is_on ↦ rw (is, is_on)
-              (goes_close 93 refl found start (goes_then _ _ (on start) (λ item rest. goes_after _ _ (λ t. items_ended empty n m (push_item found item) t (omega (arith, enough))) 93 refl refl rest)))
+          | left c start is is_on ↦ rw (is, is_on) (goes_if (c == 93) (λ _. goes found start refl refl) (λ _. goes_then _ _ (on (c ∷ start))
+              (λ item rest. goes_after _ _ (λ t. items_ended empty n m (push_item found item) t (omega (arith, enough))) 93 refl rest)))
         ]
 
     -- an empty text has no pair
@@ -102,8 +93,8 @@ module _ (b : List ℕ) where
     members_ended (suc n) (suc m) found s enough =
         elim (skip_ended b true false s) [
           | none is ↦ stops (rw (is, keyval_nil) refl)
-          | left start is is_on ↦ rw (is, is_on) (goes_close 125 refl (close found) start (goes_then _ _ (keyval_ended start)
-              (λ e rest. goes_some (put e.0 e.1 found) _ _ (λ more. goes_after _ _ (λ t. members_ended n m more t (omega (arith, enough))) 125 refl refl rest))))
+          | left c start is is_on ↦ rw (is, is_on) (goes_if (c == 125) (λ _. goes (close found) start refl refl) (λ _. goes_then _ _ (keyval_ended (c ∷ start))
+              (λ e rest. goes_some (put e.0 e.1 found) _ _ (λ more. goes_after _ _ (λ t. members_ended n m more t (omega (arith, enough))) 125 refl rest))))
         ]
 
   -- an empty text has no value
