@@ -7,8 +7,8 @@ use Rattle.nextest_config_sources.specs.NextestVersion.Source.{Source}
 use Rattle.nextest_config.specs.NextestVersion.Verdict.{Verdict}
 use Rattle.nextest_config.specs.NextestVersion.{alone, AreRead, IsNoGraver, IsSelected, IsSelectedFor, SourceAsk}
 use Rattle.nextest_config_values.proofs.Elements.{all_joined, all_left, all_right}
-use Rattle.nextest_config.proofs.OneVerdict.{all_read_once, stands_in}
-use Rattle.nextest_config.proofs.Verdicts.{none_graver}
+use Rattle.nextest_config.proofs.OneVerdict.{all_read_once}
+use Rattle.nextest_config.proofs.Verdicts.{none_graver, stands_in}
 
 -- what the sources around one ask, and what it asks
 record IsAround (before : List Source) (source : Source) (after : List Source) (asked : List SourceAsk) : Type 0 where

@@ -1,6 +1,6 @@
 -- What the changes of a board leave in each slot.
 use Rattle.std.proofs.Common.{◌≡◌, ◌≢◌, ◌↔◌, ◌⊎◌, ℕ, zero, suc, Bool, List, [], ◌∷◌, ◌++◌, length, get_or, map, replicate, set, Option, Some, None, refl, sym, ap, subst, ◌∙◌, inl, inr, ⊎_elim, arith}
-use Rattle.std.proofs.lemmas.Bool.{cases_order}
+use Rattle.std.proofs.lemmas.Bool.{cases_eq}
 use Rattle.std.proofs.lemmas.List.{get_or-set_other, get_or-set_same, length-replicate, length-set}
 use Rattle.std.specs.List.{AllByRecursion, AllZip}
 use Rattle.semver.specs.Parse.{Parts}
@@ -11,6 +11,7 @@ use Rattle.nextest_config.specs.NextestVersion.Verdict.{Verdict}
 use Rattle.nextest_config.specs.NextestVersion.{alone, AreRead, IsSelected, IsSelectedFor, SourceAsk}
 use Rattle.nextest_config_sources.specs.NextestVersion.Source.{Source}
 use Rattle.nextest_config.proofs.OneVerdict.{all_read_once}
+use Rattle.nextest_config.proofs.Reorderings.{zip_set}
 
 -- what the slot holds
 abbrev held_in : BoardState → ℕ → Option SourceAsk
@@ -58,7 +59,7 @@ module _ (command : Command) (commands : List Command) (old between : BoardState
       inr ((other, others), same ∙ there)
 
   since_first : HoldsSince (command ∷ commands) slot (held_in old slot) new
-  since_first = ⊎_elim of_its_slot (⊎_elim (λ below. of_another (λ is. absurd (omega (arith, below, is)))) (λ above. of_another (λ is. absurd (omega (arith, above, is))))) (cases_order (slot_in command) slot)
+  since_first = ⊎_elim of_its_slot of_another (cases_eq (slot_in command) slot)
 
 holds_since : (commands : List Command) (old new : BoardState) → ChangesInTurn commands old new → (slot : ℕ) → HoldsSince commands slot (held_in old slot) (held_in new slot)
 holds_since [] old new same slot = inr (tt, ap (λ (board : BoardState). held_in board slot) (sym same))
@@ -101,20 +102,12 @@ counts_last n commands last board changes = counts_since commands last (empty_bo
 abbrev AllHold : List (Option Source) → List (Option SourceAsk) → Type 0
 AllHold = AllZip HoldsSource
 
-set_both : (sources : List (Option Source)) (slots : List (Option SourceAsk)) (k : ℕ) (source : Option Source) (held : Option SourceAsk) → AllHold sources slots → HoldsSource source held
-    → AllHold (set sources k source) (set slots k held)
-set_both [] [] k source held all one = all
-set_both [] (y ∷ slots) k source held all one = absurd all
-set_both (x ∷ sources) [] k source held all one = absurd all
-set_both (x ∷ sources) (y ∷ slots) zero source held all one = (one, all.1)
-set_both (x ∷ sources) (y ∷ slots) (suc k) source held all one = (all.0, set_both sources slots k source held all.1 one)
-
 hold_after : (commands : List Command) (sources : List (Option Source)) (old new : BoardState) → ChangesInTurn commands old new → AllHold sources old.slots → AllHold (sources_after commands sources) new.slots
 hold_after [] sources old new same all = subst (λ (board : BoardState). AllHold sources board.slots) same all
 hold_after (command ∷ commands) sources old new (between, change, rest) all =
     let (held, changed, leaves) = changed_so command old between change in
     let next : List (Option Source) = set sources (slot_in command) (source_left command) in
-    let set_so : AllHold next (set old.slots (slot_in command) held) = set_both sources old.slots (slot_in command) (source_left command) held all leaves in
+    let set_so : AllHold next (set old.slots (slot_in command) held) = zip_set HoldsSource sources old.slots (slot_in command) (source_left command) held leaves all in
     hold_after commands next between new rest (subst (λ (slots : List (Option SourceAsk)). AllHold next slots) (sym changed.slots) set_so)
 
 none_hold : (n : ℕ) → AllHold (replicate n None) (replicate n None)

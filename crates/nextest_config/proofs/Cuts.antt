@@ -1,17 +1,13 @@
 -- A list that is cut into parts, each of which is read.
 use Rattle.std.proofs.Common.{◌≡◌, ◌↔◌, ◌⊎◌, ◌+◌, ℕ, List, [], ◌∷◌, ◌++◌, length, length-append, map, refl, sym, ap, ◌∙◌, inl, inr, ⊎_elim, subst, append_assoc, arith}
-use mathlib.Core.Logic.Iff as iff
 use Rattle.std.proofs.lemmas.List.Concat.{flat_map-append}
 use Rattle.std.specs.List.{AllByRecursion, AllZip}
 use Rattle.nextest_config_lists.specs.Merge.{in_a_row, IsCut, total}
 use Rattle.nextest_config.specs.NextestVersion.{AreRead, Configuration, IsFirstRefused, IsFirstRefusedAmong, IsJoinOf, IsReadAs, join_configurations, neutral_seen, Reads, Refusal, seen_configuration, SeenConfiguration, SourceAsk, StandsFor}
-use Rattle.nextest_config_sources.specs.NextestVersion.ExperimentalLaws.{same_truth}
 use Rattle.nextest_config_sources.specs.NextestVersion.Source.{Source}
-use Rattle.nextest_config_sources.specs.declared.nextest_version.experimental.ConfigExperimental.{ConfigExperimental}
 use Rattle.nextest_config_lists.proofs.Lists.{zip_joined}
-use Rattle.nextest_config_values.proofs.Elements.{all_weaker}
-use Rattle.nextest_config.proofs.OneConfiguration.{one_kept}
-use Rattle.nextest_config.proofs.OneVerdict.{all_plain, all_read_once, IsPlainAsked}
+use Rattle.nextest_config.proofs.OneConfiguration.{seen_once}
+use Rattle.nextest_config.proofs.OneVerdict.{all_read_once}
 use Rattle.nextest_config.proofs.Standing.{all_seen, seen_of, stands_in_a_row, StandsSeen}
 
 -- ---- which lists read
@@ -113,17 +109,6 @@ refused_by_parts sources parts position refusal cut = (
 )
 
 -- ---- what stands for it
-
--- one thing is seen of what stands for sources
-seen_once : (sources : List Source) (asked : List SourceAsk) (s t : SeenConfiguration) → AreRead sources asked → StandsSeen asked s → StandsSeen asked t → s ≡ t
-seen_once sources asked s t read h k =
-    let plain = all_plain sources asked read in
-    let required = one_kept (λ ask. ask.versions.required) asked s.roles.required t.roles.required (all_weaker IsPlainAsked _ (λ a p. p.of_required) asked plain) h.required k.required in
-    let recommended = one_kept (λ ask. ask.versions.recommended) asked s.roles.recommended t.roles.recommended (all_weaker IsPlainAsked _ (λ a p. p.of_recommended) asked plain) h.recommended k.recommended in
-    let enables : (feature : ConfigExperimental) → s.experimental.enables feature ≡ t.experimental.enables feature = λ feature. same_truth _ _ (iff.trans (h.enabled feature) (iff.symm (k.enabled feature))) in
-    let unknown = h.unknown ∙ sym k.unknown in
-    let arrays = h.arrays ∙ sym k.arrays in
-    λ i. record { roles = record { required = required i; recommended = recommended i }; experimental = record { enables = λ feature. enables feature i; unknown = unknown i; arrays = arrays i } }
 
 -- what stands for the parts in a row is the join of what stands for each
 join_of_parts : (parts : List (List Source)) (configurations : List Configuration) (whole : Configuration) → AllZip StandsFor parts configurations → StandsFor (in_a_row parts) whole → IsJoinOf configurations whole

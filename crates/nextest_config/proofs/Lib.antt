@@ -9,7 +9,6 @@ pub mod OneVerdict
 pub mod OneRefusal
 pub mod OneConfiguration
 pub mod AddedSource
-pub mod Joins
 pub mod Orders
 pub mod Slots
 pub mod Commands

@@ -3,12 +3,14 @@ use Rattle.std.proofs.Common.{◌≡◌, List, Option, Some, None, IfSome, refl,
 use mathlib.Core.Logic.Iff as iff
 use Rattle.std.specs.List.{AllByRecursion}
 use Rattle.semver.specs.Parse.{Parts}
-use Rattle.nextest_config.specs.NextestVersion.ExperimentalConfig.{Experimental}
 use Rattle.nextest_config_sources.specs.NextestVersion.Source.{Source}
 use Rattle.nextest_config_sources.specs.NextestVersion.{Ask, features_in_one_order, IsBelow, Place}
-use Rattle.nextest_config.specs.NextestVersion.{AsksNoGreater, AsksNone, AsksOther, Configuration, IsGreatest, Kept, Roles, SourceAsk, StandsFor, StandsForAsks, StandsIn}
+use Rattle.nextest_config_sources.specs.NextestVersion.ExperimentalLaws.{same_truth}
+use Rattle.nextest_config_sources.specs.declared.nextest_version.experimental.ConfigExperimental.{ConfigExperimental}
+use Rattle.nextest_config.specs.NextestVersion.{AreRead, AsksNoGreater, AsksNone, AsksOther, Configuration, IsGreatest, Kept, seen_configuration, SeenConfiguration, SourceAsk, StandsFor, StandsForAsks, StandsIn}
 use Rattle.nextest_config_values.proofs.Elements.{all_middle, all_weaker, one_last}
 use Rattle.nextest_config.proofs.OneVerdict.{IsPlainAsked, IsPlainVersion, all_plain, all_read_once, same_version}
+use Rattle.nextest_config.proofs.Standing.{seen_of, StandsSeen}
 
 module _ (role : Ask → Option Parts) where
   -- what holds of all holds of the last that asks the kept version
@@ -41,13 +43,20 @@ module _ (role : Ask → Option Parts) where
   one_kept asked (Some kept) None plain h k = absurd (none_kept asked kept h k)
   one_kept asked (Some kept) (Some other) plain h k = ap Some (one_greatest asked kept other plain h k)
 
+-- one thing is seen of what stands for sources
+pub seen_once : (sources : List Source) (asked : List SourceAsk) (s t : SeenConfiguration) → AreRead sources asked → StandsSeen asked s → StandsSeen asked t → s ≡ t
+seen_once sources asked s t read h k =
+    let plain = all_plain sources asked read in
+    let required = one_kept (λ ask. ask.versions.required) asked _ _ (all_weaker IsPlainAsked _ (λ a p. p.of_required) asked plain) h.required k.required in
+    let recommended = one_kept (λ ask. ask.versions.recommended) asked _ _ (all_weaker IsPlainAsked _ (λ a p. p.of_recommended) asked plain) h.recommended k.recommended in
+    let enables : (feature : ConfigExperimental) → s.experimental.enables feature ≡ t.experimental.enables feature = λ feature. same_truth _ _ (iff.trans (h.enabled feature) (iff.symm (k.enabled feature))) in
+    let unknown = h.unknown ∙ sym k.unknown in
+    let arrays = h.arrays ∙ sym k.arrays in
+    λ i. record { roles = record { required = required i; recommended = recommended i }; experimental = record { enables = λ feature. enables feature i; unknown = unknown i; arrays = arrays i } }
+
 pub configuration_once : (sources : List Source) (c d : Configuration) → StandsFor sources c → StandsFor sources d → c ≡ d
 configuration_once sources c d (asked, read, h) (more, more_read, k) =
-    let plain = all_plain sources asked read in
     let other : StandsForAsks asked d = subst (λ xs. StandsForAsks xs d) (all_read_once sources more asked more_read read) k in
-    let required = one_kept (λ ask. ask.versions.required) asked _ _ (all_weaker IsPlainAsked _ (λ a p. p.of_required) asked plain) h.required other.required in
-    let recommended = one_kept (λ ask. ask.versions.recommended) asked _ _ (all_weaker IsPlainAsked _ (λ a p. p.of_recommended) asked plain) h.recommended other.recommended in
+    let seen = seen_once sources asked (seen_configuration c) (seen_configuration d) read (seen_of asked c h) (seen_of asked d other) in
     let known = features_in_one_order c.experimental.known d.experimental.known h.known.in_order other.known.in_order (λ f. iff.trans (h.known.of_some f) (iff.symm (other.known.of_some f))) in
-    let roles : c.roles ≡ d.roles = ap₂ (λ (r m : Option Kept). record { required = r; recommended = m }) required recommended in
-    let experimental : c.experimental ≡ d.experimental = λ i. record { known = known i; unknown = (h.unknown ∙ sym other.unknown) i; arrays = (h.arrays ∙ sym other.arrays) i } in
-    ap₂ (λ (r : Roles) (e : Experimental). record { roles = r; experimental = e }) roles experimental
+    λ i. record { roles = (seen i).roles; experimental = record { known = known i; unknown = (seen i).experimental.unknown; arrays = (seen i).experimental.arrays } }

@@ -5,7 +5,7 @@ use Rattle.nextest_config.specs.NextestVersion.{AreRead, IsFirstRefused, IsReadA
 use Rattle.nextest_config.specs.NextestVersion.VersionOnlyLaws.{one_error, read_not_refused}
 use Rattle.nextest_config_lists.proofs.Lists.{zip_middle}
 
-none_refused : (before : List Source) (source : Source) (after : List Source) (asked : List SourceAsk) (refusal : Refusal) → AreRead (before ++ (source ∷ after)) asked → IsRefused source refusal → ⊥
+pub none_refused : (before : List Source) (source : Source) (after : List Source) (asked : List SourceAsk) (refusal : Refusal) → AreRead (before ++ (source ∷ after)) asked → IsRefused source refusal → ⊥
 none_refused before source after asked refusal read refused =
     let found = zip_middle IsReadAs before source after asked read in
     read_not_refused source found.0.ask refusal found.1.read refused

@@ -1,5 +1,5 @@
 -- A list of sources has one selected verdict.
-use Rattle.std.proofs.Common.{◌≡◌, ℕ, ◌<◌, ◌≤◌, Bool, List, [], ◌∷◌, map, Option, Some, None, IfSome, ◌⊎◌, refl, sym, ap, ◌∙◌, inl, inr, subst, arith}
+use Rattle.std.proofs.Common.{rules, ◌≡◌, ℕ, ◌<◌, ◌≤◌, Bool, List, [], ◌∷◌, map, Option, Some, None, IfSome, ◌⊎◌, refl, sym, ap, ◌∙◌, inl, inr, subst, arith}
 use Rattle.std.specs.List.{AllByRecursion}
 use Rattle.semver.specs.Parse.{Parts}
 use Rattle.toml.specs.Data.{Data, Members, as_str, as_table, get_member}
@@ -9,11 +9,12 @@ use Rattle.nextest_config.specs.NextestVersion.Verdict.{Verdict}
 use Rattle.nextest_config_sources.specs.NextestVersion.{Ask, AsksVersions, IsBelow, in_order, IsEnoughByNumbers, Numbers, plain, recommended_key, required_key, TextAsks, version_key, version_reading, version_table, Versions, versions, versions_reading}
 use Rattle.nextest_config.specs.NextestVersion.{alone, AreRead, asked_from, error, gravity, IsGravest, IsNoGraver, IsNoGreaterOfItsKind, IsOtherOfItsKind, IsSatisfied, IsSelected, IsSelectedFor, judged, Kept, named_version, NamesNoGreater, satisfied, SourceAsk, unmet, warn}
 use Rattle.nextest_config.specs.NextestVersion.VersionOnlyLaws.{read_once}
-use Rattle.nextest_config_values.proofs.Elements.{all_middle, one_last}
+use Rattle.nextest_config_values.proofs.Elements.{one_last}
+use Rattle.nextest_config_lists.proofs.Lists.{all_mapped}
 use Rattle.nextest_config_sources.specs.declared.nextest_version.edition.Edition.{Edition}
 use Rattle.nextest_config_sources.specs.declared.nextest_version.source.ConfigSourceKind.{ConfigSourceKind}
 use Rattle.nextest_config_sources.proofs.Enough.{not_below_by_numbers}
-use Rattle.nextest_config.proofs.Verdicts.{image_at, unmet_alone}
+use Rattle.nextest_config.proofs.Verdicts.{stands_in, unmet_alone}
 
 -- ---- sources ask one thing
 
@@ -87,9 +88,7 @@ judged_plain current overridden a None None h r_is m_is = tt
 selected_plain : (asked : List SourceAsk) (current : Parts) (overridden : Bool) (v : Verdict) → AllByRecursion IsPlainAsked asked → IsSelected (map (alone current overridden) asked) v → NamesPlain v
 selected_plain asked current overridden v h (inl all) = rw all.1 tt
 selected_plain asked current overridden v h (inr gravest) =
-    let found = image_at (alone current overridden) asked gravest.before v gravest.after gravest.whole in
-    let here : IsPlainAsked found.x = all_middle IsPlainAsked found.before found.x found.after (subst (AllByRecursion IsPlainAsked) found.whole h) in
-    subst NamesPlain found.image (judged_plain current overridden found.x _ _ here refl refl)
+    stands_in NamesPlain _ v gravest (all_mapped IsPlainAsked NamesPlain (alone current overridden) (λ a is. judged_plain current overridden a _ _ is refl refl) asked h)
 
 -- ---- versions with numbers alone that aren't below each other are one
 
@@ -113,20 +112,11 @@ same_version v w p q above below =
     p.1 ∙ ap plain (same_numbers p.0 q.0 ((not_below_by_numbers (plain p.0) q.0).0 m_enough) ((not_below_by_numbers (plain q.0) p.0).0 n_enough)) ∙ sym q.1
 
 same_named : (v w : Verdict) → gravity v ≡ gravity w → NamesPlain v → NamesPlain w → NamesNoGreater v w → NamesNoGreater w v → named_version v ≡ named_version w
-same_named satisfied satisfied e p q h k = refl
 same_named (warn s) (warn t) e p q h k = ap Some (same_version s.asked t.asked p q h k)
 same_named (error s) (error t) e p q h k = ap Some (same_version s.asked t.asked p q h k)
-same_named satisfied (warn t) e p q h k = absurd (omega (arith, e))
-same_named satisfied (error t) e p q h k = absurd (omega (arith, e))
-same_named (warn s) satisfied e p q h k = absurd (omega (arith, e))
-same_named (warn s) (error t) e p q h k = absurd (omega (arith, e))
-same_named (error s) satisfied e p q h k = absurd (omega (arith, e))
-same_named (error s) (warn t) e p q h k = absurd (omega (arith, e))
+same_named v w e p q h k = search (rules, arith)
 
 -- ---- one verdict is selected
-
-pub stands_in : (P : Verdict → Type 0) (verdicts : List Verdict) (v : Verdict) → IsGravest verdicts v → AllByRecursion P verdicts → P v
-stands_in P verdicts v gravest all = all_middle P gravest.before v gravest.after (subst (AllByRecursion P) gravest.whole all)
 
 one_gravest : (verdicts : List Verdict) (v w : Verdict) → NamesPlain v → NamesPlain w → IsGravest verdicts v → IsGravest verdicts w → v ≡ w
 one_gravest verdicts v w p q h k =

@@ -1,10 +1,11 @@
 -- The derived orders: of features that are joined, and of severities.
-use Rattle.std.proofs.Common.{◌≡◌, ◌↔◌, true, Contains, IsTrue, List, refl, subst, nat_cmp}
+use Rattle.std.proofs.Common.{◌≡◌, ◌↔◌, ◌++◌, true, Contains, IsTrue, List, refl, subst, nat_cmp}
 use Rattle.std.proofs.lemmas.Map.Views.{tells_apart}
 use Rattle.std.specs.Ordering.{eq_by_cmp}
 use Rattle.std.specs.Set.{IsUnion}
 use Rattle.nextest_config_sources.specs.NextestVersion.{feature_cmp, one_at_a_place}
-use Rattle.nextest_config.specs.NextestVersion.{has_feature, rank}
+use Rattle.nextest_config.specs.NextestVersion.ExperimentalConfig.{Experimental}
+use Rattle.nextest_config.specs.NextestVersion.{has_feature, join_features, rank, seen_features}
 use Rattle.nextest_config.specs.contracts.nextest_version.verdict.SeverityOrd.TheImpl as severity_ord
 use Rattle.nextest_config.specs.declared.nextest_version.verdict.Severity.{Severity}
 use Rattle.nextest_config.specs.declared.nextest_version.verdict.Severity.TheVariants.{Satisfied, Warn, Error}
@@ -13,9 +14,12 @@ use Rattle.nextest_config_sources.specs.declared.nextest_version.experimental.Co
 use Rattle.nextest_config_sources.proofs.Members.{member_iff}
 use Rattle.nextest_config_sources.proofs.Orders.{by_place, derived_cmp}
 
--- the union of two sets of features, as each feature is seen
-pub known_joined : (xs ys zs : List ConfigExperimental) → IsUnion (eq_by_cmp derived_cmp) xs ys zs → IsUnion (eq_by_cmp feature_cmp) xs ys zs
-known_joined xs ys zs union = subst (λ cmp. IsUnion (eq_by_cmp cmp) xs ys zs) (λ i x y. by_place x y i) union
+-- where the known features are those of either side, and the rest stands in a row, the features are joined
+pub seen_joined : (x y z : Experimental) → IsUnion (eq_by_cmp derived_cmp) x.known y.known z.known → z.unknown ≡ x.unknown ++ y.unknown → z.arrays ≡ x.arrays ++ y.arrays
+    → seen_features z ≡ join_features (seen_features x) (seen_features y)
+seen_joined x y z union unknown arrays =
+    let known = subst (λ cmp. IsUnion (eq_by_cmp cmp) x.known y.known z.known) (λ i u v. by_place u v i) union in
+    λ i. record { enables = λ feature. known feature i; unknown = unknown i; arrays = arrays i }
 
 same_to_itself : (x : ConfigExperimental) → eq_by_cmp feature_cmp x x ≡ true
 same_to_itself = elim [ SetupScripts ↦ refl | WrapperScripts ↦ refl | Benchmarks ↦ refl ]

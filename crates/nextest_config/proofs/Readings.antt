@@ -4,8 +4,7 @@ use Rattle.std.proofs.lemmas.List.{length-map, map-append}
 use Rattle.nextest_config_sources.specs.NextestVersion.Source.{Source}
 use Rattle.nextest_config_lists.specs.Merge.{IsFirstWrong, IsRefusalOfOne, IsRefusalOfPieces}
 use Rattle.nextest_config_sources.specs.NextestVersion.{IsWrong, RefusesSource, Wrong, wrong_of}
-use Rattle.nextest_config.specs.NextestVersion.{AreRead, Configuration, IsErrorOf, IsErrorOfList, IsFirstRefused, IsKindOf, IsReadAs, IsRefusalOf, IsRefusedSo, kind_of, Reads, Refusal, refusal_at, refusal_of, StandsForOne}
-use Rattle.nextest_config.specs.NextestVersion.VersionOnlyLaws.{read_not_refused}
+use Rattle.nextest_config.specs.NextestVersion.{AreRead, Configuration, IsErrorOf, IsErrorOfList, IsFirstRefused, IsKindOf, IsRefusalOf, IsRefusedSo, kind_of, Reads, Refusal, refusal_at, refusal_of, StandsForOne}
 use Rattle.nextest_config_lists.specs.declared.merge.PieceRefusal.{PieceRefusal}
 use Rattle.nextest_config_lists.specs.declared.merge.PieceRefusal.TheVariants as pieces
 use Rattle.nextest_config.specs.declared.nextest_version.error.ConfigParseError.{ConfigParseError}
@@ -13,12 +12,11 @@ use Rattle.nextest_config_sources.specs.declared.nextest_version.error_kind.Conf
 use Rattle.nextest_config_sources.specs.declared.nextest_version.error_kind.ConfigParseErrorKind.TheVariants as kinds
 use Rattle.nextest_config_sources.proofs.Refusals.{told_twice}
 use Rattle.nextest_config.proofs.Standing.{reads_all}
-use Rattle.nextest_config_lists.proofs.Lists.{zip_middle}
+use Rattle.nextest_config.proofs.OneRefusal.{none_refused}
 
 pub reads_not_refused : (sources : List Source) (position : ℕ) (refusal : Refusal) → Reads sources → IsFirstRefused sources position refusal → ⊥
 reads_not_refused sources position refusal reads first =
-    let found = zip_middle IsReadAs first.before first.source first.after reads.0 (subst (λ (s : List Source). AreRead s reads.0) first.whole reads.1) in
-    read_not_refused first.source found.0.ask refusal found.1.read first.refused
+    none_refused first.before first.source first.after reads.0 refusal (subst (λ (s : List Source). AreRead s reads.0) first.whole reads.1) first.refused
 
 -- what is wrong with a source is its refusal
 pub refusal_of_one : (source : Source) (kind : ConfigParseErrorKind) (r : PieceRefusal ConfigParseError) → RefusesSource (IsWrong source.edition source.place.kind source.contents) kind → IsKindOf source.place kind r → IsRefusalOfOne refusal_of IsErrorOf source r

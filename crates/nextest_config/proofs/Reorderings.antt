@@ -1,7 +1,7 @@
 -- A list that is read in another order.
 use Rattle.std.proofs.Common.{◌≡◌, ◌<◌, ℕ, zero, suc, Bool, true, false, List, [], ◌∷◌, ◌++◌, length, get_or, set, flat_map, Option, Some, None, option_map, if◌then◌else◌, refl, sym, ap, subst, append_assoc, arith}
-use Rattle.std.proofs.lemmas.List.Elements.{All-from_recursion, recursion_from_All}
 use Rattle.std.proofs.lemmas.List.Sorted.{All-permutation, Contains-permutation, IsPermutation-append_comm, IsPermutation-append_left, IsPermutation-append_right, IsPermutation-keeps, IsPermutation-refl, IsPermutation-swap, IsPermutation-sym, IsPermutation-trans}
+use Rattle.std.proofs.lemmas.List.Elements.{All-from_recursion, recursion_from_All}
 use Rattle.std.proofs.lemmas.Option.{same_Some}
 use Rattle.std.proofs.lemmas.Slice.Zip.{AllZip-long}
 use Rattle.std.specs.List.{AllByRecursion, AllZip, swap}
@@ -61,7 +61,7 @@ module _ {X Y : Type 0} (R : X → Y → Type 0) where
   zip_at (x ∷ xs) (y ∷ ys) zero d e within h = h.0
   zip_at (x ∷ xs) (y ∷ ys) (suc i) d e within h = zip_at xs ys i d e (omega (arith, within)) h.1
 
-  zip_set : (xs : List X) (ys : List Y) (i : ℕ) (x : X) (y : Y) → R x y → AllZip R xs ys → AllZip R (set xs i x) (set ys i y)
+  pub zip_set : (xs : List X) (ys : List Y) (i : ℕ) (x : X) (y : Y) → R x y → AllZip R xs ys → AllZip R (set xs i x) (set ys i y)
   zip_set [] [] i x y r h = h
   zip_set [] (v ∷ ys) i x y r h = absurd h
   zip_set (u ∷ xs) [] i x y r h = absurd h

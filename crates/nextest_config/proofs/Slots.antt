@@ -1,5 +1,5 @@
 -- The slots of a board, and the verdict of the sources that they hold.
-use Rattle.std.proofs.Common.{◌≡◌, ℕ, zero, suc, ◌+◌, List, [], ◌∷◌, ◌++◌, length, get_or, set, replicate, map, Bool, true, false, Option, Some, None, option_map, Result, Ok, Err, IfOk, refl, sym, ap, ap₂, subst, ◌∙◌, arith}
+use Rattle.std.proofs.Common.{◌≡◌, ℕ, zero, suc, ◌+◌, List, [], ◌∷◌, ◌++◌, length, get_or, set, replicate, map, Bool, true, false, Option, Some, None, option_map, refl, sym, ap, ap₂, subst, ◌∙◌, arith}
 use Rattle.std.proofs.Math.Numerals.{add-one}
 use Rattle.std.proofs.lemmas.List.{append_assoc, get_or_at, length_push}
 use Rattle.semver.specs.Identifiers.{parts_of}
@@ -9,13 +9,12 @@ use Rattle.nextest_config.specs.Board.RolePair.{asked_in, later_asked, later_pai
 use Rattle.nextest_config.specs.Board.Slots.{AreHeld, asked_at, board_list, BoardState, IsFrom, IsHeld, kept_in, roles_in, slot_of, slots_of}
 use Rattle.nextest_config_lists.specs.Merge.{total}
 use Rattle.nextest_config.specs.NextestVersion.Verdict.{Verdict}
-use Rattle.nextest_config_sources.specs.NextestVersion.{is_below, Numbers, place_of, plain, Versions, versions, versions_of}
-use Rattle.nextest_config.specs.NextestVersion.{alone, asked_from, IsSelected, join_kept, join_roles, Kept, no_roles, Roles, roles_from, SourceAsk, StandsIn, unmet, verdict, verdict_of}
+use Rattle.nextest_config_sources.specs.NextestVersion.{is_below, place_of, plain, Versions, versions, versions_of}
+use Rattle.nextest_config.specs.NextestVersion.{alone, asked_from, IsSelected, join_kept, join_roles, Kept, no_roles, Roles, roles_from, SourceAsk, StandsIn, unmet, verdict}
 use Rattle.nextest_config.specs.declared.board.role_pair.AskedAt.{AskedAt}
 use Rattle.nextest_config.specs.declared.board.role_pair.RolePair.{RolePair}
 use Rattle.nextest_config_sources.specs.declared.nextest_version.nextest_version_deserialize.NextestVersionDeserialize.{NextestVersionDeserialize}
 use Rattle.nextest_config_sources.specs.declared.nextest_version.source.ConfigSource.{ConfigSource}
-use Rattle.nextest_config.specs.declared.nextest_version.verdict.NextestVersionEval.{NextestVersionEval}
 use Rattle.nextest_config.proofs.OneVerdict.{AsksPlain, IsPlainVersion}
 use Rattle.nextest_config.proofs.Selection.{selects_by}
 use Rattle.nextest_config.proofs.Standing.{stands_alone, stands_in_both}
@@ -63,12 +62,9 @@ pub from_in : (slot : ℕ) (asked : Option Version) → IsFrom slot (option_map 
 from_in slot None = tt
 from_in slot (Some version) = refl
 
-by_numbers : (version : Parts) (numbers : Numbers) → version ≡ plain numbers → plain (version.0, version.1, version.2) ≡ version
-by_numbers version numbers is = rw is refl
-
 same_version : (slot : ℕ) (asked : Option Version) → IsPlainVersion (option_map parts_of asked) → option_map version_at (option_map (asked_in slot) asked) ≡ option_map parts_of asked
 same_version slot None plain = refl
-same_version slot (Some version) (numbers, is) = ap Some (by_numbers (parts_of version) numbers is)
+same_version slot (Some version) (numbers, is) = ap Some (ap (λ (v : Parts). plain (v.0, v.1, v.2)) is ∙ sym is)
 
 -- the slot keeps the versions that are asked
 pub same_versions : (slot : ℕ) (asked : NextestVersionDeserialize) → AsksPlain (versions_of asked) → versions (option_map version_at (pair_in slot asked).required) (option_map version_at (pair_in slot asked).recommended) ≡ versions_of asked
@@ -152,8 +148,3 @@ pub selected_as : (before after : List (Option SourceAsk)) (v w : Verdict) (curr
     → IsSelected (map (alone current overridden) (board_list after)) w
 selected_as before after v w current overridden same told selected =
     subst (λ (slots : List (Option SourceAsk)). IsSelected (map (alone current overridden) (board_list slots)) w) same (subst (λ (u : Verdict). IsSelected (map (alone current overridden) (board_list before)) u) told selected)
-
--- a verdict that tells the selected one
-pub told_as : {E : Type 0} (answer : Result NextestVersionEval E) (verdicts : List Verdict) (v : Verdict) → IfOk answer (λ eval. verdict_of eval ≡ v) → IsSelected verdicts v → IfOk answer (λ eval. IsSelected verdicts (verdict_of eval))
-told_as (Ok eval) verdicts v told selected = subst (λ (u : Verdict). IsSelected verdicts u) (sym told) selected
-told_as (Err e) verdicts v told selected = tt

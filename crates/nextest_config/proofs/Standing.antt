@@ -23,30 +23,22 @@ use Rattle.nextest_config.proofs.Orders.{has_feature_iff}
 -- ---- one role
 
 module _ (role : Ask → Option Parts) where
-  greatest_stays : (xs ys : List SourceAsk) (kept : Kept) → IsGreatest role xs kept → AllByRecursion (AsksOther role kept.version) ys → AllByRecursion (AsksNoGreater role kept.version) ys
-      → IsGreatest role (xs ++ ys) kept
-  greatest_stays xs ys kept h others no_greater = record {
-    before = h.before;
+  -- the greatest of a list stays it among asks in front of which none is greater, and behind which none is as great
+  stays : (front xs back : List SourceAsk) (kept : Kept) → AllByRecursion (AsksNoGreater role kept.version) front → IsGreatest role xs kept → AllByRecursion (AsksOther role kept.version) back
+      → AllByRecursion (AsksNoGreater role kept.version) back → IsGreatest role (front ++ (xs ++ back)) kept
+  stays front xs back kept below h others also_below = record {
+    before = front ++ h.before;
     last = h.last;
-    after = h.after ++ ys;
-    whole = ap (λ zs. zs ++ ys) h.whole ∙ append_assoc h.before (h.last ∷ h.after) ys;
+    after = h.after ++ back;
+    whole = ap (λ zs. front ++ (zs ++ back)) h.whole ∙ ap (λ zs. front ++ zs) (append_assoc h.before (h.last ∷ h.after) back) ∙ sym (append_assoc front h.before (h.last ∷ (h.after ++ back)));
     version = h.version;
     place = h.place;
-    others_later = all_joined (AsksOther role kept.version) h.after ys h.others_later others;
-    none_greater = all_joined (AsksNoGreater role kept.version) xs ys h.none_greater no_greater;
+    others_later = all_joined (AsksOther role kept.version) h.after back h.others_later others;
+    none_greater = all_joined (AsksNoGreater role kept.version) front (xs ++ back) below (all_joined (AsksNoGreater role kept.version) xs back h.none_greater also_below);
   }
 
-  greatest_takes_over : (xs ys : List SourceAsk) (kept : Kept) → AllByRecursion (AsksNoGreater role kept.version) xs → IsGreatest role ys kept → IsGreatest role (xs ++ ys) kept
-  greatest_takes_over xs ys kept no_greater h = record {
-    before = xs ++ h.before;
-    last = h.last;
-    after = h.after;
-    whole = ap (λ zs. xs ++ zs) h.whole ∙ sym (append_assoc xs h.before (h.last ∷ h.after));
-    version = h.version;
-    place = h.place;
-    others_later = h.others_later;
-    none_greater = all_joined (AsksNoGreater role kept.version) xs ys no_greater h.none_greater;
-  }
+  takes_over : (xs ys : List SourceAsk) (kept : Kept) → AllByRecursion (AsksNoGreater role kept.version) xs → IsGreatest role ys kept → IsGreatest role (xs ++ ys) kept
+  takes_over xs ys kept below h = subst (λ zs. IsGreatest role (xs ++ zs) kept) (append-nil ys) (stays xs ys [] kept below h tt tt)
 
   -- where none is asked, none greater is
   none_greater_than : (v : Parts) (xs : List SourceAsk) → AllByRecursion (AsksNone role) xs → AllByRecursion (AsksNoGreater role v) xs
@@ -54,21 +46,21 @@ module _ (role : Ask → Option Parts) where
 
   pub stands_in_both : (xs ys : List SourceAsk) (earlier later : Option Kept) → StandsIn role xs earlier → StandsIn role ys later → StandsIn role (xs ++ ys) (join_kept earlier later)
   stands_in_both xs ys None None h k = all_joined (AsksNone role) xs ys h k
-  stands_in_both xs ys None (Some later) h k = greatest_takes_over xs ys later (none_greater_than later.version xs h) k
+  stands_in_both xs ys None (Some later) h k = takes_over xs ys later (none_greater_than later.version xs h) k
   stands_in_both xs ys (Some earlier) None h k =
-      greatest_stays xs ys earlier h (all_weaker (AsksNone role) (AsksOther role earlier.version) (λ x none is. cc (none, is)) ys k) (none_greater_than earlier.version ys k)
+      stays [] xs ys earlier tt h (all_weaker (AsksNone role) (AsksOther role earlier.version) (λ x none is. cc (none, is)) ys k) (none_greater_than earlier.version ys k)
   stands_in_both xs ys (Some earlier) (Some later) h k = elim (cases_Bool (is_below later.version earlier.version)) [
     | inl below ↦
         let other = all_weaker (AsksNoGreater role later.version) (AsksOther role earlier.version)
         (λ x none is. subst (λ found. IfSome found (λ greater. ¬ IsBelow later.version greater)) is none below) ys k.none_greater in
         let no_greater = all_weaker (AsksNoGreater role later.version) (AsksNoGreater role earlier.version)
         (λ x none. IfSome_then (role x.ask) none (λ u not_above above. not_above (below_trans later.version earlier.version u below above))) ys k.none_greater in
-        rw below (greatest_stays xs ys earlier h other no_greater)
+        rw below (stays [] xs ys earlier tt h other no_greater)
     | inr above ↦
         let not_below : ¬ IsBelow later.version earlier.version = λ e. false≢true (sym above ∙ e) in
         let no_greater = all_weaker (AsksNoGreater role earlier.version) (AsksNoGreater role later.version)
         (λ x none. IfSome_then (role x.ask) none (λ u. not_below_trans later.version earlier.version u not_below)) xs h.none_greater in
-        rw above (greatest_takes_over xs ys later no_greater k)
+        rw above (takes_over xs ys later no_greater k)
   ]
 
   pub stands_alone : (a : SourceAsk) (found : Option Parts) → role a.ask ≡ found → StandsIn role (a ∷ []) (asked_from a.place found)

@@ -1,33 +1,16 @@
 -- Laws of verdicts: whence they come, and what a greater current version is told.
-use Rattle.std.proofs.Common.{◌≡◌, ◌≢◌, ◌↔◌, ◌≤◌, Bool, List, [], ◌∷◌, ◌++◌, map, Option, Some, None, refl, sym, ap, ◌∙◌, inl, inr, subst, arith}
+use Rattle.std.proofs.Common.{rules, ◌≡◌, ◌≢◌, ◌↔◌, ◌≤◌, Bool, drop, get_or, List, [], ◌∷◌, ◌++◌, map, Option, Some, None, refl, sym, ap, ◌∙◌, inl, inr, subst, arith}
 use Rattle.std.proofs.lemmas.Bool.{cases_Bool, false≢true}
-use Rattle.std.proofs.lemmas.List.{map-append}
 use Rattle.std.specs.List.{AllByRecursion}
 use Rattle.semver.specs.Parse.{Parts}
 use Rattle.nextest_config.specs.NextestVersion.Verdict.{Verdict}
 use Rattle.nextest_config_sources.specs.NextestVersion.{is_below, IsBelow, Place}
-use Rattle.nextest_config.specs.NextestVersion.{alone, asked_from, error, gravity, IsFromSource, IsNoGraver, IsSatisfied, IsSelected, judged, Kept, named_place, Roles, roles_from, satisfied, Shortfall, SourceAsk, unmet, verdict, warn}
+use Rattle.nextest_config.specs.NextestVersion.{alone, asked_from, error, gravity, IsFromSource, IsGravest, IsNoGraver, IsSatisfied, IsSelected, judged, Kept, named_place, Roles, roles_from, satisfied, Shortfall, SourceAsk, unmet, verdict, warn}
 use Rattle.nextest_config_values.proofs.Elements.{all_middle, all_weaker}
 use Rattle.nextest_config_sources.specs.NextestVersion.PrecedenceLaws.{not_below_trans}
 use Rattle.nextest_config.proofs.Selection.{enough_met, not_short, unmet_is}
 
 -- ---- whence a verdict comes
-
-pub record HasImage {X Y : Type 0} (f : X → Y) (xs : List X) (y : Y) : Type 0 where
-  pub before : List X
-  pub x : X
-  pub after : List X
-  pub whole : xs ≡ before ++ (x ∷ after)
-  pub image : f x ≡ y
-
-pub image_at : {X Y : Type 0} (f : X → Y) (xs : List X) (before : List Y) (y : Y) (after : List Y) → map f xs ≡ before ++ (y ∷ after) → HasImage f xs y
-image_at f [] [] y after e = cc e
-image_at f [] (b ∷ before) y after e = cc e
-image_at f (x ∷ xs) [] y after e = record { before = []; x = x; after = xs; whole = refl; image = cc e }
-image_at f (x ∷ xs) (b ∷ before) y after e =
-    let rest : map f xs ≡ before ++ (y ∷ after) = cc e in
-    let found = image_at f xs before y after rest in
-    record { before = x ∷ found.before; x = found.x; after = found.after; whole = ap (λ ys. x ∷ ys) found.whole; image = found.image }
 
 -- an unmet version of a source is the one that it asks, at its place
 pub unmet_alone : (place : Place) (asked : Option Parts) (current : Parts) (kept : Kept) → unmet (asked_from place asked) current ≡ Some kept → (asked ≡ Some kept.version) × (kept.place ≡ place)
@@ -43,26 +26,36 @@ names_its_place current overridden a (Some kept) m r_is m_is told = ap Some (unm
 names_its_place current overridden a None (Some kept) r_is m_is told = ap Some (unmet_alone a.place a.ask.versions.recommended current kept m_is).1
 names_its_place current overridden a None None r_is m_is told = absurd (told refl)
 
+-- a verdict among those of the sources alone, unless it is satisfied
+comes_from : (current : Parts) (overridden : Bool) (asked : List SourceAsk) (before : List Verdict) (v : Verdict) (after : List Verdict) → map (alone current overridden) asked ≡ before ++ (v ∷ after) → v ≢ satisfied
+    → IsFromSource current overridden asked v
+comes_from current overridden [] [] v after e told = cc e
+comes_from current overridden [] (b ∷ before) v after e told = cc e
+comes_from current overridden (a ∷ asked) [] v after e told =
+    let is : alone current overridden a ≡ v = ap (λ verdicts. get_or verdicts 0 v) e in
+    record { before = []; source = a; after = asked; whole = refl; given = is; named = subst (λ w. named_place w ≡ Some a.place) is (names_its_place current overridden a _ _ refl refl (λ met. told (sym is ∙ met))) }
+comes_from current overridden (a ∷ asked) (b ∷ before) v after e told =
+    let rest = comes_from current overridden asked before v after (ap (drop 1) e) told in
+    record { before = a ∷ rest.before; source = rest.source; after = rest.after; whole = ap (λ xs. a ∷ xs) rest.whole; given = rest.given; named = rest.named }
+
 -- a selected verdict that isn't satisfied is that of a source alone, whose place it names
 pub from_source : (asked : List SourceAsk) (current : Parts) (overridden : Bool) (v : Verdict) → IsSelected (map (alone current overridden) asked) v → v ≢ satisfied
     → IsFromSource current overridden asked v
 from_source asked current overridden v (inl all) told = absurd (told all.1)
-from_source asked current overridden v (inr gravest) told =
-    let found = image_at (alone current overridden) asked gravest.before v gravest.after gravest.whole in
-    let own = names_its_place current overridden found.x _ _ refl refl (λ e. told (sym found.image ∙ e)) in
-    let named : named_place v ≡ Some found.x.place = subst (λ (w : Verdict). named_place w ≡ Some found.x.place) found.image own in
-    record { before = found.before; source = found.x; after = found.after; whole = found.whole; given = found.image; named = named }
+from_source asked current overridden v (inr gravest) told = comes_from current overridden asked gravest.before v gravest.after gravest.whole told
 
 no_gravity : (v : Verdict) → gravity v ≤ 0 → v ≡ satisfied
-no_gravity satisfied h = refl
-no_gravity (warn s) h = absurd (omega (arith, h))
-no_gravity (error s) h = absurd (omega (arith, h))
+no_gravity v h = search (rules, arith)
+
+-- what holds of all verdicts holds of the gravest
+pub stands_in : (P : Verdict → Type 0) (verdicts : List Verdict) (v : Verdict) → IsGravest verdicts v → AllByRecursion P verdicts → P v
+stands_in P verdicts v gravest all = all_middle P gravest.before v gravest.after (subst (AllByRecursion P) gravest.whole all)
 
 pub satisfied_where_all : (verdicts : List Verdict) (v : Verdict) → IsSelected verdicts v → (v ≡ satisfied) ↔ AllByRecursion IsSatisfied verdicts
 satisfied_where_all verdicts v (inl all) = (λ e. all.0, λ h. all.1)
 satisfied_where_all verdicts v (inr gravest) = (
   λ e. all_weaker (IsNoGraver v) IsSatisfied (λ w h. no_gravity w (subst (λ (u : Verdict). gravity w ≤ gravity u) e h)) verdicts gravest.gravest,
-  λ h. all_middle IsSatisfied gravest.before v gravest.after (subst (AllByRecursion IsSatisfied) gravest.whole h),
+  stands_in IsSatisfied verdicts v gravest,
 )
 
 -- ---- a recommended version that isn't greater than the required one
@@ -86,13 +79,10 @@ still_met None lesser greater above met = refl
 still_met (Some kept) lesser greater above met = enough_met kept greater (not_below_trans greater lesser kept.version above (not_short kept lesser met))
 
 at_most_error : (v : Verdict) → gravity v ≤ 2
-at_most_error satisfied = omega arith
-at_most_error (warn s) = omega arith
-at_most_error (error s) = omega arith
+at_most_error v = search (rules, arith)
 
 at_most_warning : (m : Option Kept) (current : Parts) (overridden : Bool) → gravity (judged None m current overridden) ≤ 1
-at_most_warning None current overridden = omega arith
-at_most_warning (Some kept) current overridden = omega arith
+at_most_warning m current overridden = search (rules, arith)
 
 no_graver_by : (roles : Roles) (lesser greater : Parts) (overridden : Bool) (r m : Option Kept) → ¬ IsBelow greater lesser → unmet roles.required lesser ≡ r → unmet roles.recommended lesser ≡ m
     → IsNoGraver (judged r m lesser overridden) (verdict roles greater overridden)
@@ -109,14 +99,14 @@ pub none_graver : (verdicts : List Verdict) (v : Verdict) → IsSelected verdict
 none_graver verdicts v (inl all) = all_weaker IsSatisfied (IsNoGraver v) (λ w is. rw is (omega arith)) verdicts all.0
 none_graver verdicts v (inr gravest) = gravest.gravest
 
+-- what holds of all images holds of others
+all_images : {X Y : Type 0} (P : Y → Type 0) (f g : X → Y) → ((x : X) → P (f x) → P (g x)) → (xs : List X) → AllByRecursion P (map f xs) → AllByRecursion P (map g xs)
+all_images P f g step [] h = tt
+all_images P f g step (x ∷ xs) h = (step x h.0, all_images P f g step xs h.1)
+
 pub no_graver_selected : (asked : List SourceAsk) (lesser greater : Parts) (overridden : Bool) (v w : Verdict) → ¬ IsBelow greater lesser
     → IsSelected (map (alone lesser overridden) asked) v → IsSelected (map (alone greater overridden) asked) w → IsNoGraver v w
 no_graver_selected asked lesser greater overridden v w above h (inl all) = rw all.1 (omega arith)
 no_graver_selected asked lesser greater overridden v w above h (inr gravest) =
-    let tells : SourceAsk → Verdict = alone lesser overridden in
-    let found = image_at (alone greater overridden) asked gravest.before w gravest.after gravest.whole in
-    let all : AllByRecursion (IsNoGraver v) (map tells found.before ++ (tells found.x ∷ map tells found.after)) =
-    subst (AllByRecursion (IsNoGraver v)) (ap (map tells) found.whole ∙ map-append tells found.before (found.x ∷ found.after)) (none_graver (map tells asked) v h) in
-    let here : gravity (tells found.x) ≤ gravity v = all_middle (IsNoGraver v) (map tells found.before) (tells found.x) (map tells found.after) all in
-    let step : gravity (alone greater overridden found.x) ≤ gravity (tells found.x) = no_graver_greater (roles_from found.x.place found.x.ask.versions) lesser greater overridden above in
-    subst (λ (u : Verdict). gravity u ≤ gravity v) found.image (omega (arith, here, step))
+    stands_in (IsNoGraver v) (map (alone greater overridden) asked) w gravest (all_images (IsNoGraver v) (alone lesser overridden) (alone greater overridden)
+    (λ a here. omega (arith, here, no_graver_greater (roles_from a.place a.ask.versions) lesser greater overridden above)) asked (none_graver (map (alone lesser overridden) asked) v h))

@@ -1,11 +1,11 @@
 -- What is chosen of the sources of a board.
 use Rattle.std.specs.Prelude.{ℕ, Option, None, option_map}
-use Rattle.std.proofs.Common.{refl, ap₂}
+use Rattle.std.proofs.Common.{refl}
 use Rattle.semver.specs.Parse.{Parts}
 use Rattle.semver.specs.declared.Version.{Version}
 use Rattle.nextest_config_lists.specs.Merge.{IsMonoid}
 use Rattle.nextest_config_sources.specs.NextestVersion.VersionText.{plain}
-use Rattle.nextest_config.specs.NextestVersion.Later.{later_joins, later_of}
+use Rattle.nextest_config.specs.NextestVersion.Later.{later_joins, later_of, parts_join}
 use Rattle.nextest_config.specs.declared.board.role_pair.AskedAt.{AskedAt}
 use Rattle.nextest_config.specs.declared.board.role_pair.RolePair.{RolePair}
 use Rattle.nextest_config_sources.specs.declared.nextest_version.nextest_version_deserialize.NextestVersionDeserialize.{NextestVersionDeserialize}
@@ -42,17 +42,7 @@ later_pair earlier later = record {
 abbrev pub no_pair : RolePair
 no_pair = record { required = None; recommended = None }
 
-asked_join : IsMonoid later_asked None
-asked_join = later_joins version_at
-
-abbrev both : Option AskedAt → Option AskedAt → RolePair
-both required recommended = record { required = required; recommended = recommended }
-
 pub pairs_join : IsMonoid later_pair no_pair
-pairs_join = record {
-  associative = λ a b c. ap₂ both (asked_join.associative a.required b.required c.required)
-      (asked_join.associative a.recommended b.recommended c.recommended);
-  neutral_first = λ pair. refl;
-  neutral_last = λ pair. ap₂ both (asked_join.neutral_last pair.required)
-      (asked_join.neutral_last pair.recommended);
-}
+pairs_join = parts_join (λ (pair : RolePair). (pair.required, pair.recommended))
+    (λ asked. record { required = asked.0; recommended = asked.1 }) later_asked later_asked None
+    None (λ asked. refl) (λ pair. refl) (later_joins version_at) (later_joins version_at)

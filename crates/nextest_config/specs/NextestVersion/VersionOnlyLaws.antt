@@ -1,32 +1,25 @@
 -- The laws of the join of configurations, and of what is read of one source.
-use Rattle.std.proofs.Common.{◌≡◌, List, [], ◌∷◌, ◌++◌, Option, Some, None, sym, ap, ap₂, subst, ◌∙◌}
+use Rattle.std.proofs.Common.{◌≡◌, refl, List, [], ◌∷◌, ◌++◌, Option, Some, None, sym, ap, ap₂, subst, ◌∙◌}
 use mathlib.Core.Logic.Iff as iff
 use Rattle.semver.specs.Parse.{Parts}
 use Rattle.nextest_config_lists.specs.Merge.{IsMonoid, IsReadingOne}
 use Rattle.nextest_config.specs.NextestVersion.Error.{Refusal}
 use Rattle.nextest_config_sources.specs.NextestVersion.ErrorKind.{Wrong}
-use Rattle.nextest_config.specs.NextestVersion.ExperimentalConfig.{Experimental, SeenFeatures}
+use Rattle.nextest_config.specs.NextestVersion.ExperimentalConfig.{Experimental, join_features, no_features_seen}
 use Rattle.nextest_config.specs.NextestVersion.ExperimentalConfigLaws.{features_join}
 use Rattle.nextest_config_sources.specs.NextestVersion.ExperimentalLaws.{features_in_one_order}
-use Rattle.nextest_config.specs.NextestVersion.KeptVersions.{asked_from, Kept, Roles}
+use Rattle.nextest_config.specs.NextestVersion.KeptVersions.{asked_from, join_roles, Kept, no_roles, Roles}
 use Rattle.nextest_config.specs.NextestVersion.KeptVersionsLaws.{roles_join}
+use Rattle.nextest_config.specs.NextestVersion.Later.{parts_join}
 use Rattle.nextest_config_sources.specs.NextestVersion.Source.{Place, Source}
 use Rattle.nextest_config.specs.NextestVersion.VersionOnly.{Configuration, IsErrorOf, IsRead, IsReadAs, IsRefused, join_configurations, neutral_seen, seen_configuration, SeenConfiguration, SourceAsk, StandsForAsks, StandsForOne, StandsIn}
 use Rattle.nextest_config_sources.specs.NextestVersion.VersionOnlyDeserialize.{Ask}
 use Rattle.nextest_config_sources.specs.NextestVersion.VersionOnlyDeserializeLaws.{one_wrong, text_asks_once, text_not_wrong}
 
-abbrev both : Roles → SeenFeatures → SeenConfiguration
-both roles experimental = record { roles = roles; experimental = experimental }
-
 pub configurations_join : IsMonoid join_configurations neutral_seen
-configurations_join = record {
-  associative = λ a b c. ap₂ both (roles_join.associative a.roles b.roles c.roles)
-      (features_join.associative a.experimental b.experimental c.experimental);
-  neutral_first = λ a.
-      ap₂ both (roles_join.neutral_first a.roles) (features_join.neutral_first a.experimental);
-  neutral_last = λ a. ap₂ both (roles_join.neutral_last a.roles)
-      (features_join.neutral_last a.experimental);
-}
+configurations_join = parts_join (λ (seen : SeenConfiguration). (seen.roles, seen.experimental))
+    (λ seen. record { roles = seen.0; experimental = seen.1 }) join_roles join_features no_roles
+    no_features_seen (λ seen. refl) (λ seen. refl) roles_join features_join
 
 -- ---- one source
 

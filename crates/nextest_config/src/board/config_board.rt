@@ -45,6 +45,7 @@ impl Model for ConfigBoard {
 
 impl ConfigBoard {
     /// A board with so many empty slots.
+    #[tactic(auto, using(crate::proofs::Slots::none_held, crate::proofs::Slots::no_slots))]
     pub fn new(alloc: Global, n: usize) -> Result<Self, AllocError>
         ensures { IfOk result
             (λ board. board ≡ record { slots = replicate n None; selections = 0 }) }
@@ -163,6 +164,7 @@ fn empty_slots(alloc: Global, n: usize) -> Result<Vec<Option<ConfigSource>>, All
 }
 
 // A copy of the source, and what is chosen from of it in this slot.
+#[tactic(auto, using(crate::proofs::OneVerdict::text_plain, crate::proofs::Slots::from_in, crate::proofs::Slots::same_versions,))]
 fn read_slot(
     alloc: Global,
     slot: usize,

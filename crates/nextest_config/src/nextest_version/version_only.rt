@@ -142,6 +142,7 @@ impl VersionOnlyConfig {
     }
 
     // The configuration of one source with these contents.
+    #[tactic(auto, using(crate::proofs::Readings::refusal_of_one))]
     pub(super) fn of_source(
         alloc: Global,
         edition: Edition,

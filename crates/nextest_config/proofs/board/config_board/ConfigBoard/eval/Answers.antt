@@ -1,10 +1,11 @@
-use Rattle.std.proofs.Common.{◌≡◌, ◌∙◌, List, sym, ap, ap₂, map, option_map}
+use Rattle.std.proofs.Common.{◌≡◌, ◌∙◌, List, sym, subst, ap, ap₂, map, option_map}
+use Rattle.std.proofs.lemmas.Result.{IfOk-weaker}
 use Rattle.semver.specs.Identifiers.{parts_of}
 use Rattle.semver.specs.Parse.{Parts}
 use Rattle.nextest_config.specs.Board.Slots.{board_list, BoardState, roles_in, slots_of}
 use Rattle.nextest_config.specs.NextestVersion.Verdict.{Verdict}
-use Rattle.nextest_config.specs.NextestVersion.{alone, IsSelected, judged, kept_from, verdict}
-use Rattle.nextest_config.proofs.Slots.{board_selects, selected_as, told_as}
+use Rattle.nextest_config.specs.NextestVersion.{alone, IsSelected, judged, kept_from, verdict, verdict_of}
+use Rattle.nextest_config.proofs.Slots.{board_selects, selected_as}
 use Rattle.nextest_config.proofs.Verdicts.{satisfied_where_all}
 use Rattle.nextest_config.proofs.board.config_board.ConfigBoard.eval.Goals as goal
 
@@ -20,6 +21,6 @@ returns c =
     let verdicts : List Verdict = map (alone current c.args.override_version_check) (board_list c.args.self.now.slots) in
     let selected : IsSelected verdicts v = selected_as (slots_of c.self.inside.sources.items c.self.inside.tree) c.args.self.now.slots (verdict (roles_in c.self.inside.sources.items c.whole-chosen.result) current c.args.override_version_check) v current c.args.override_version_check seen (sym told) all in
     record {
-      selected = told_as c.judged.result verdicts v c.judged.ensures.value selected;
+      selected = IfOk-weaker c.judged.result _ _ (λ eval (told : verdict_of eval ≡ v). subst (IsSelected verdicts) (sym told) selected) c.judged.ensures.value;
       satisfied = λ each. c.judged.ensures.satisfied ((satisfied_where_all verdicts v selected).1 each);
     }

@@ -1,8 +1,8 @@
 use Rattle.std.proofs.Common.{◌++◌, map, ap, ◌∙◌}
 use Rattle.std.proofs.lemmas.List.{map-append}
 use Rattle.nextest_config_sources.specs.NextestVersion.{place_of}
-use Rattle.nextest_config.specs.NextestVersion.{unknown_of}
-use Rattle.nextest_config.proofs.Joins.{seen_joined}
+use Rattle.nextest_config.specs.NextestVersion.{experimental_of, unknown_of}
+use Rattle.nextest_config.proofs.Orders.{seen_joined}
 use Rattle.nextest_config_sources.proofs.Orders.{copies_equal}
 use Rattle.nextest_config.proofs.nextest_version.experimental_config.ExperimentalConfigMerge.merge.Goals as goal
 
@@ -13,5 +13,4 @@ returns-clause-joined c =
     let entries = ap (map unknown_of) c.in_ok-append.ensures.items ∙ map-append unknown_of earlier.unknown.items later.unknown.items in
     let both = c.in_ok-append-2.ensures.items ∙ ap (λ sources. sources ++ later.array_sources.items) c.reserve.ensures.items in
     let arrays = ap (map place_of) both ∙ map-append place_of earlier.array_sources.items later.array_sources.items in
-    seen_joined earlier.known.keys later.known.keys c.in_ok-known.known.keys (map unknown_of earlier.unknown.items) (map unknown_of later.unknown.items) _
-    (map place_of earlier.array_sources.items) (map place_of later.array_sources.items) _ (c.in_ok-known.ensures.4 copies_equal) entries arrays
+    seen_joined (experimental_of earlier) (experimental_of later) (record { known = c.in_ok-known.known.keys; unknown = _; arrays = _ }) (c.in_ok-known.ensures.4 copies_equal) entries arrays
