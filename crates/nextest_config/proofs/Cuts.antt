@@ -1,10 +1,11 @@
 -- A list that is cut into parts, each of which is read.
-use Rattle.std.proofs.Common.{◌≡◌, ◌↔◌, ◌⊎◌, ◌+◌, ℕ, List, [], ◌∷◌, ◌++◌, length, length-append, map, refl, sym, ap, ◌∙◌, inl, inr, ⊎_elim, subst, append_assoc, arith}
+use Rattle.std.proofs.Common.{◌≡◌, ◌↔◌, ◌⊎◌, ◌+◌, ℕ, List, [], ◌∷◌, ◌++◌, length, length-append, map, refl, sym, ap, ◌∙◌, inl, inr, ⊎_elim, subst, arith}
 use Rattle.std.proofs.lemmas.List.Concat.{flat_map-append}
 use Rattle.std.specs.List.{AllByRecursion, AllZip}
 use Rattle.nextest_config_lists.specs.Merge.{in_a_row, IsCut, total}
-use Rattle.nextest_config.specs.NextestVersion.{AreRead, Configuration, IsFirstRefused, IsFirstRefusedAmong, IsJoinOf, IsReadAs, join_configurations, neutral_seen, Reads, Refusal, seen_configuration, SeenConfiguration, SourceAsk, StandsFor}
+use Rattle.nextest_config.specs.NextestVersion.{AreRead, Configuration, IsFirstRefused, IsFirstRefusedAmong, IsJoinOf, IsReadAs, IsRefused, join_configurations, neutral_seen, Reads, Refusal, seen_configuration, SeenConfiguration, SourceAsk, StandsFor}
 use Rattle.nextest_config_sources.specs.NextestVersion.Source.{Source}
+use Rattle.nextest_config_lists.proofs.Halves.{wrong_in_first, wrong_in_second}
 use Rattle.nextest_config_lists.proofs.Lists.{zip_joined}
 use Rattle.nextest_config.proofs.OneConfiguration.{seen_once}
 use Rattle.nextest_config.proofs.OneVerdict.{all_read_once}
@@ -64,11 +65,7 @@ one_part_before part parts position refusal reads first = record {
 }
 
 refused_in : (parts : List (List Source)) (position : ℕ) (refusal : Refusal) → IsFirstRefused (in_a_row parts) position refusal → IsFirstRefusedAmong parts position refusal
-refused_in [] position refusal first = absurd (none_there first.before first.source first.after first.whole)
-  where
-    none_there : (before : List Source) (source : Source) (after : List Source) → [] ≡ before ++ (source ∷ after) → ⊥
-    none_there [] source after whole = cc whole
-    none_there (x ∷ before) source after whole = cc whole
+refused_in [] position refusal first = absurd (omega (arith, ap length first.whole, length-append first.before (first.source ∷ first.after)))
 refused_in (part ∷ parts) position refusal first =
     ⊎_elim (λ (rest, is). record {
       before = [];
@@ -87,19 +84,12 @@ refused_in (part ∷ parts) position refusal first =
 
 refused_in_whole : (parts : List (List Source)) (position : ℕ) (refusal : Refusal) → IsFirstRefusedAmong parts position refusal → IsFirstRefused (in_a_row parts) position refusal
 refused_in_whole parts position refusal among =
-    let first = among.refused in
     let front = in_a_row among.before in
     let back = in_a_row among.after in
-    record {
-      before = front ++ first.before;
-      source = first.source;
-      after = first.after ++ back;
-      whole = ap in_a_row among.whole ∙ flat_map-append (λ list. list) among.before (among.part ∷ among.after) ∙ ap (λ xs. front ++ (xs ++ back)) first.whole
-          ∙ ap (λ xs. front ++ xs) (append_assoc first.before (first.source ∷ first.after) back) ∙ sym (append_assoc front first.before (first.source ∷ (first.after ++ back)));
-      place = length-append front first.before ∙ ap (λ n. length front + n) first.place ∙ among.place;
-      read = reads_both front first.before (reads_whole among.before among.read) first.read;
-      refused = first.refused;
-    }
+    let here = wrong_in_first IsReadAs IsRefused among.part back among.within refusal among.refused in
+    let there = wrong_in_second IsReadAs IsRefused front (among.part ++ back) among.within refusal (reads_whole among.before among.read) here in
+    let whole : in_a_row parts ≡ front ++ (among.part ++ back) = ap in_a_row among.whole ∙ flat_map-append (λ list. list) among.before (among.part ∷ among.after) in
+    subst (λ n. IsFirstRefused (in_a_row parts) n refusal) among.place (subst (λ xs. IsFirstRefused xs (length front + among.within) refusal) (sym whole) there)
 
 pub refused_by_parts : (sources : List Source) (parts : List (List Source)) (position : ℕ) (refusal : Refusal) → IsCut sources parts
     → IsFirstRefused sources position refusal ↔ IsFirstRefusedAmong parts position refusal

@@ -8,7 +8,6 @@ pub mod Verdicts
 pub mod OneVerdict
 pub mod OneRefusal
 pub mod OneConfiguration
-pub mod AddedSource
 pub mod Orders
 pub mod Slots
 pub mod Commands

@@ -1,5 +1,5 @@
 -- One configuration stands for a list of sources.
-use Rattle.std.proofs.Common.{◌≡◌, List, Option, Some, None, IfSome, refl, sym, ap, ◌∙◌, subst, ap₂}
+use Rattle.std.proofs.Common.{rules, ◌≡◌, List, Option, Some, IfSome, sym, ap, ◌∙◌, subst, ap₂}
 use mathlib.Core.Logic.Iff as iff
 use Rattle.std.specs.List.{AllByRecursion}
 use Rattle.semver.specs.Parse.{Parts}
@@ -38,10 +38,7 @@ module _ (role : Ask → Option Parts) where
       ap₂ (λ (version : Parts) (place : Place). record { version = version; place = place }) version (sym h.place ∙ ap (λ (a : SourceAsk). a.place) last ∙ k.place)
 
   pub one_kept : (asked : List SourceAsk) (kept other : Option Kept) → AllByRecursion (λ a. IsPlainVersion (role a.ask)) asked → StandsIn role asked kept → StandsIn role asked other → kept ≡ other
-  one_kept asked None None plain h k = refl
-  one_kept asked None (Some other) plain h k = absurd (none_kept asked other k h)
-  one_kept asked (Some kept) None plain h k = absurd (none_kept asked kept h k)
-  one_kept asked (Some kept) (Some other) plain h k = ap Some (one_greatest asked kept other plain h k)
+  one_kept asked kept other plain h k = search (rules, none_kept, one_greatest)
 
 -- one thing is seen of what stands for sources
 pub seen_once : (sources : List Source) (asked : List SourceAsk) (s t : SeenConfiguration) → AreRead sources asked → StandsSeen asked s → StandsSeen asked t → s ≡ t

@@ -1,5 +1,5 @@
--- A list of sources has one selected verdict.
-use Rattle.std.proofs.Common.{rules, ◌≡◌, ℕ, ◌<◌, ◌≤◌, Bool, List, [], ◌∷◌, map, Option, Some, None, IfSome, ◌⊎◌, refl, sym, ap, ◌∙◌, inl, inr, subst, arith}
+-- A list of sources has one selected verdict, and none less grave where a source is added.
+use Rattle.std.proofs.Common.{rules, ◌≡◌, ℕ, ◌<◌, ◌≤◌, Bool, List, [], ◌∷◌, ◌++◌, map, Option, Some, None, IfSome, ◌⊎◌, refl, sym, ap, ◌∙◌, inl, inr, subst, arith}
 use Rattle.std.specs.List.{AllByRecursion}
 use Rattle.semver.specs.Parse.{Parts}
 use Rattle.toml.specs.Data.{Data, Members, as_str, as_table, get_member}
@@ -7,14 +7,14 @@ use Rattle.nextest_config_values.specs.Read.{either, optional}
 use Rattle.nextest_config_sources.specs.NextestVersion.Source.{Source}
 use Rattle.nextest_config.specs.NextestVersion.Verdict.{Verdict}
 use Rattle.nextest_config_sources.specs.NextestVersion.{Ask, AsksVersions, IsBelow, in_order, IsEnoughByNumbers, Numbers, plain, recommended_key, required_key, TextAsks, version_key, version_reading, version_table, Versions, versions, versions_reading}
-use Rattle.nextest_config.specs.NextestVersion.{alone, AreRead, asked_from, error, gravity, IsGravest, IsNoGraver, IsNoGreaterOfItsKind, IsOtherOfItsKind, IsSatisfied, IsSelected, IsSelectedFor, judged, Kept, named_version, NamesNoGreater, satisfied, SourceAsk, unmet, warn}
+use Rattle.nextest_config.specs.NextestVersion.{alone, AreRead, asked_from, gravity, IsGravest, IsNoGraver, IsNoGreaterOfItsKind, IsOtherOfItsKind, IsSatisfied, IsSelected, IsSelectedFor, judged, Kept, named_version, NamesNoGreater, SourceAsk, unmet}
 use Rattle.nextest_config.specs.NextestVersion.VersionOnlyLaws.{read_once}
 use Rattle.nextest_config_values.proofs.Elements.{one_last}
 use Rattle.nextest_config_lists.proofs.Lists.{all_mapped}
 use Rattle.nextest_config_sources.specs.declared.nextest_version.edition.Edition.{Edition}
 use Rattle.nextest_config_sources.specs.declared.nextest_version.source.ConfigSourceKind.{ConfigSourceKind}
 use Rattle.nextest_config_sources.proofs.Enough.{not_below_by_numbers}
-use Rattle.nextest_config.proofs.Verdicts.{stands_in, unmet_alone}
+use Rattle.nextest_config.proofs.Verdicts.{all_unmapped, no_graver_than_all, none_graver, stands_in, unmet_alone}
 
 -- ---- sources ask one thing
 
@@ -41,15 +41,13 @@ either_all Holds means other says else_says (Some k) = says k
 either_all Holds means other says else_says None = else_says
 
 version_plain : (value : Data) (version : Parts) → version_reading.means value version → IsPlainVersion (Some version)
-version_plain value = either_all (λ version. IsPlainVersion (Some version)) _ _ (λ text version h. (h.0, h.2)) (λ version h. absurd h) (as_str value)
+version_plain value version h = search rules
 
 role_plain : (key : List ℕ) (table : Members) (asked : Option Parts) → (optional key version_reading).means table asked → IsPlainVersion asked
 role_plain key table = either_all IsPlainVersion _ _ (λ value asked h. rw h.2 (version_plain value h.0 h.1)) (λ asked h. rw h tt) (get_member key table)
 
 in_order_are : (required recommended : Option Parts) (asked : Versions) → (in_order required recommended).means tt asked → asked ≡ versions required recommended
-in_order_are (Some required) (Some recommended) asked h = h.1
-in_order_are (Some required) None asked h = h
-in_order_are None recommended asked h = h
+in_order_are required recommended asked h = search rules
 
 table_plain : (table : Members) (asked : Versions) → version_table.means table asked → AsksPlain asked
 table_plain table asked (required, of_required, (recommended, of_recommended, h)) =
@@ -81,9 +79,7 @@ NamesPlain v = IsPlainVersion (named_version v)
 
 judged_plain : (current : Parts) (overridden : Bool) (a : SourceAsk) (r m : Option Kept) → IsPlainAsked a → unmet (asked_from a.place a.ask.versions.required) current ≡ r → unmet (asked_from a.place a.ask.versions.recommended) current ≡ m
     → NamesPlain (judged r m current overridden)
-judged_plain current overridden a (Some kept) m h r_is m_is = subst IsPlainVersion (unmet_alone a.place a.ask.versions.required current kept r_is).0 h.of_required
-judged_plain current overridden a None (Some kept) h r_is m_is = subst IsPlainVersion (unmet_alone a.place a.ask.versions.recommended current kept m_is).0 h.of_recommended
-judged_plain current overridden a None None h r_is m_is = tt
+judged_plain current overridden a r m h r_is m_is = search (rules, unmet_alone)
 
 selected_plain : (asked : List SourceAsk) (current : Parts) (overridden : Bool) (v : Verdict) → AllByRecursion IsPlainAsked asked → IsSelected (map (alone current overridden) asked) v → NamesPlain v
 selected_plain asked current overridden v h (inl all) = rw all.1 tt
@@ -93,10 +89,7 @@ selected_plain asked current overridden v h (inr gravest) =
 -- ---- versions with numbers alone that aren't below each other are one
 
 neither_greater : (x y : ℕ) (P Q : Type 0) → (y < x) ⊎ ((x ≡ y) × P) → (x < y) ⊎ ((y ≡ x) × Q) → (x ≡ y) × (P × Q)
-neither_greater x y P Q (inl a) (inl b) = absurd (omega (arith, a, b))
-neither_greater x y P Q (inl a) (inr b) = absurd (omega (arith, a, b.0))
-neither_greater x y P Q (inr a) (inl b) = absurd (omega (arith, a.0, b))
-neither_greater x y P Q (inr a) (inr b) = (a.0, (a.1, b.1))
+neither_greater x y P Q h k = search (rules, arith)
 
 same_numbers : (m n : Numbers) → IsEnoughByNumbers (plain m) n → IsEnoughByNumbers (plain n) m → m ≡ n
 same_numbers m n h k =
@@ -112,9 +105,7 @@ same_version v w p q above below =
     p.1 ∙ ap plain (same_numbers p.0 q.0 ((not_below_by_numbers (plain p.0) q.0).0 m_enough) ((not_below_by_numbers (plain q.0) p.0).0 n_enough)) ∙ sym q.1
 
 same_named : (v w : Verdict) → gravity v ≡ gravity w → NamesPlain v → NamesPlain w → NamesNoGreater v w → NamesNoGreater w v → named_version v ≡ named_version w
-same_named (warn s) (warn t) e p q h k = ap Some (same_version s.asked t.asked p q h k)
-same_named (error s) (error t) e p q h k = ap Some (same_version s.asked t.asked p q h k)
-same_named v w e p q h k = search (rules, arith)
+same_named v w e p q h k = search (rules, arith, same_version)
 
 -- ---- one verdict is selected
 
@@ -138,3 +129,24 @@ verdict_once sources current overridden v w h k =
     let plain_asks = all_plain sources h.0 h.1 in
     let other : IsSelected (map (alone current overridden) h.0) w = subst (λ (asked : List SourceAsk). IsSelected (map (alone current overridden) asked) w) same k.2 in
     one_selected (map (alone current overridden) h.0) v w (selected_plain h.0 current overridden v plain_asks h.2) (selected_plain h.0 current overridden w plain_asks other) h.2 other
+
+-- ---- a source that is added never lowers the severity
+
+-- what the other sources ask, of which something holds where it holds of what all ask
+without : (P : SourceAsk → Type 0) (before : List Source) (source : Source) (after : List Source) (asked : List SourceAsk) → AreRead (before ++ (source ∷ after)) asked → AllByRecursion P asked
+    → (others : List SourceAsk) × AreRead (before ++ after) others × AllByRecursion P others
+without P [] source after [] h all = absurd h
+without P [] source after (a ∷ asked) h all = (asked, h.1, all.1)
+without P (s ∷ before) source after [] h all = absurd h
+without P (s ∷ before) source after (a ∷ asked) h all =
+    let (others, read, rest) = without P before source after asked h.1 all.1 in
+    (a ∷ others, (h.0, read), (all.0, rest))
+
+pub no_less_grave : (before after : List Source) (added : Source) (current : Parts) (overridden : Bool) (v w : Verdict) → IsSelectedFor (before ++ after) current overridden v
+    → IsSelectedFor (before ++ (added ∷ after)) current overridden w → IsNoGraver w v
+no_less_grave before after added current overridden v w (asked, read, selected) (more, more_read, more_selected) =
+    let tells : SourceAsk → Verdict = alone current overridden in
+    let AsGrave : SourceAsk → Type 0 = λ a. IsNoGraver w (tells a) in
+    let (others, other_read, all) = without AsGrave before added after more more_read (all_unmapped (IsNoGraver w) tells more (none_graver (map tells more) w more_selected)) in
+    let same : others ≡ asked = all_read_once (before ++ after) others asked other_read read in
+    no_graver_than_all (map tells asked) v w selected (all_mapped AsGrave (IsNoGraver w) tells (λ a h. h) asked (subst (AllByRecursion AsGrave) same all))

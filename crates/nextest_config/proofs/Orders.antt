@@ -1,5 +1,5 @@
 -- The derived orders: of features that are joined, and of severities.
-use Rattle.std.proofs.Common.{◌≡◌, ◌↔◌, ◌++◌, true, Contains, IsTrue, List, refl, subst, nat_cmp}
+use Rattle.std.proofs.Common.{rules, ◌≡◌, ◌↔◌, ◌++◌, true, Contains, IsTrue, List, subst, nat_cmp}
 use Rattle.std.proofs.lemmas.Map.Views.{tells_apart}
 use Rattle.std.specs.Ordering.{eq_by_cmp}
 use Rattle.std.specs.Set.{IsUnion}
@@ -8,9 +8,7 @@ use Rattle.nextest_config.specs.NextestVersion.ExperimentalConfig.{Experimental}
 use Rattle.nextest_config.specs.NextestVersion.{has_feature, join_features, rank, seen_features}
 use Rattle.nextest_config.specs.contracts.nextest_version.verdict.SeverityOrd.TheImpl as severity_ord
 use Rattle.nextest_config.specs.declared.nextest_version.verdict.Severity.{Severity}
-use Rattle.nextest_config.specs.declared.nextest_version.verdict.Severity.TheVariants.{Satisfied, Warn, Error}
 use Rattle.nextest_config_sources.specs.declared.nextest_version.experimental.ConfigExperimental.{ConfigExperimental}
-use Rattle.nextest_config_sources.specs.declared.nextest_version.experimental.ConfigExperimental.TheVariants.{SetupScripts, WrapperScripts, Benchmarks}
 use Rattle.nextest_config_sources.proofs.Members.{member_iff}
 use Rattle.nextest_config_sources.proofs.Orders.{by_place, derived_cmp}
 
@@ -22,7 +20,7 @@ seen_joined x y z union unknown arrays =
     λ i. record { enables = λ feature. known feature i; unknown = unknown i; arrays = arrays i }
 
 same_to_itself : (x : ConfigExperimental) → eq_by_cmp feature_cmp x x ≡ true
-same_to_itself = elim [ SetupScripts ↦ refl | WrapperScripts ↦ refl | Benchmarks ↦ refl ]
+same_to_itself x = search rules
 
 pub has_feature_iff : (feature : ConfigExperimental) (known : List ConfigExperimental) → IsTrue (has_feature known feature) ↔ Contains known feature
 has_feature_iff = member_iff (eq_by_cmp feature_cmp) same_to_itself (tells_apart one_at_a_place)
@@ -30,8 +28,4 @@ has_feature_iff = member_iff (eq_by_cmp feature_cmp) same_to_itself (tells_apart
 -- ---- severities
 
 pub by_rank : (a b : Severity) → (severity_ord.ghosts).cmp a b ≡ nat_cmp (rank a) (rank b)
-by_rank = elim [
-  | Satisfied ↦ elim [ Satisfied ↦ refl | Warn ↦ refl | Error ↦ refl ]
-  | Warn ↦ elim [ Satisfied ↦ refl | Warn ↦ refl | Error ↦ refl ]
-  | Error ↦ elim [ Satisfied ↦ refl | Warn ↦ refl | Error ↦ refl ]
-]
+by_rank a b = search rules

@@ -1,5 +1,5 @@
 -- A list reads or is refused, and not both; and the refusal of a list, from those of its sources.
-use Rattle.std.proofs.Common.{◌≡◌, ℕ, List, ◌∷◌, map, Option, Some, None, Result, Ok, Err, IfErr, refl, ap, subst, ◌∙◌}
+use Rattle.std.proofs.Common.{rules, ◌≡◌, ℕ, List, ◌∷◌, map, Option, Some, None, Result, Ok, Err, IfErr, refl, ap, subst, ◌∙◌}
 use Rattle.std.proofs.lemmas.List.{length-map, map-append}
 use Rattle.nextest_config_sources.specs.NextestVersion.Source.{Source}
 use Rattle.nextest_config_lists.specs.Merge.{IsFirstWrong, IsRefusalOfOne, IsRefusalOfPieces}
@@ -24,8 +24,7 @@ refusal_of_one source kind r is_wrong refused =
     told_twice (wrong_of kind) is_wrong refused (λ memory of_memory. rw (of_memory memory) tt) (λ wrong wrong_so so. by_refusal wrong wrong_so r so)
   where
     by_refusal : (wrong : Wrong) → IsWrong source.edition source.place.kind source.contents wrong → (refusal : PieceRefusal ConfigParseError) → IsRefusedSo (refusal_at source.place wrong) refusal → IsRefusalOfOne refusal_of IsErrorOf source refusal
-    by_refusal wrong wrong_so (pieces.Refused position error) (first, told) = (first, rw told (record { named = refl; wrong = wrong_so }))
-    by_refusal wrong wrong_so pieces.Memory so = tt
+    by_refusal wrong wrong_so refusal so = search rules
 
 -- the first source that is refused of those that are read one by one is the first of their list
 module _ {X Y : Type 0} (source_of : X → Source) (configuration_of : Y → Configuration) where
@@ -48,8 +47,7 @@ module _ {X Y : Type 0} (source_of : X → Source) (configuration_of : Y → Con
 
   pub refusal_of_list : (xs : List X) (r : PieceRefusal ConfigParseError) → IsRefusalOfPieces refusal_of (λ x y. StandsForOne (source_of x) (configuration_of y)) (λ x error. IsErrorOf (source_of x) error) xs r
       → IsRefusalOf (map source_of xs) r
-  refusal_of_list xs (pieces.Refused position error) first = first_refused xs position (refusal_of error) first
-  refusal_of_list xs pieces.Memory first = tt
+  refusal_of_list xs r first = search (rules, first_refused)
 
 -- a list that reads is refused only where memory runs out
 pub only_memory : {X : Type 0} (sources : List Source) (result : Result X (PieceRefusal ConfigParseError)) → Reads sources → IfErr result (IsRefusalOf sources) → IfErr result (λ refusal. refusal ≡ pieces.Memory)

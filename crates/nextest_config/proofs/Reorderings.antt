@@ -1,15 +1,13 @@
 -- A list that is read in another order.
-use Rattle.std.proofs.Common.{◌≡◌, ◌<◌, ℕ, zero, suc, Bool, true, false, List, [], ◌∷◌, ◌++◌, length, get_or, set, flat_map, Option, Some, None, option_map, if◌then◌else◌, refl, sym, ap, subst, append_assoc, arith}
+use Rattle.std.proofs.Common.{rules, ◌≡◌, ◌<◌, ℕ, zero, suc, Bool, List, [], ◌∷◌, ◌++◌, length, get_or, set, flat_map, Option, Some, None, option_map, refl, sym, ap, subst, append_assoc, arith}
 use Rattle.std.proofs.lemmas.List.Sorted.{All-permutation, Contains-permutation, IsPermutation-append_comm, IsPermutation-append_left, IsPermutation-append_right, IsPermutation-keeps, IsPermutation-refl, IsPermutation-swap, IsPermutation-sym, IsPermutation-trans}
 use Rattle.std.proofs.lemmas.List.Elements.{All-from_recursion, recursion_from_All}
-use Rattle.std.proofs.lemmas.Option.{same_Some}
 use Rattle.std.proofs.lemmas.Slice.Zip.{AllZip-long}
 use Rattle.std.specs.List.{AllByRecursion, AllZip, swap}
 use Rattle.semver.specs.Parse.{Parts}
 use Rattle.nextest_config_lists.specs.Merge.{IsReordering}
 use Rattle.nextest_config_sources.specs.NextestVersion.{Ask, features_in_one_order, Place}
-use Rattle.nextest_config.specs.NextestVersion.{Agree, array_of, AsksNoGreater, AsksNone, Configuration, entry_of, error, IsEnabledBySome, IsReadAs, judged, Kept, kept_version, Reads, SaysTheSame, SourceAsk, StandsFor, StandsForAsks, StandsIn, Unknown, unmet, warn}
-use Rattle.nextest_config_sources.specs.NextestVersion.Precedence.{is_enough}
+use Rattle.nextest_config.specs.NextestVersion.{Agree, array_of, AsksNoGreater, AsksNone, Configuration, entry_of, IsEnabledBySome, IsReadAs, judged, Kept, kept_version, Reads, SaysTheSame, SourceAsk, StandsFor, StandsForAsks, StandsIn, Unknown, unmet}
 use Rattle.nextest_config_sources.specs.NextestVersion.Source.{Source}
 use Rattle.nextest_config_sources.specs.declared.nextest_version.experimental.ConfigExperimental.{ConfigExperimental}
 use Rattle.nextest_config_values.proofs.Elements.{all_weaker}
@@ -97,28 +95,11 @@ reads_reordered sources reordered order (asked, read) =
 abbrev AreAlike : Option Kept → Option Kept → Type 0
 AreAlike kept other = option_map kept_version kept ≡ option_map kept_version other
 
-unless : (enough : Bool) (kept other : Kept) → kept.version ≡ other.version → AreAlike (if enough then None else Some kept) (if enough then None else Some other)
-unless true kept other same = refl
-unless false kept other same = ap Some same
-
 unmet_alike : (kept other : Option Kept) (current : Parts) → AreAlike kept other → AreAlike (unmet kept current) (unmet other current)
-unmet_alike None None current same = refl
-unmet_alike None (Some other) current same = cc same
-unmet_alike (Some kept) None current same = cc same
-unmet_alike (Some kept) (Some other) current same =
-    let version = same_Some kept.version other.version same in
-    subst (λ (v : Parts). AreAlike (unmet (Some kept) current) (if is_enough current v then None else Some other)) version (unless (is_enough current kept.version) kept other version)
+unmet_alike kept other current same = search rules
 
 judged_alike : (r m s n : Option Kept) (current : Parts) (overridden : Bool) → AreAlike r s → AreAlike m n → SaysTheSame (judged r m current overridden) (judged s n current overridden)
-judged_alike (Some r) m (Some s) n current overridden same other =
-    (s.place, ap (λ (v : Parts). error (record { asked = v; current = current; place = s.place; overridden = overridden })) (sym (same_Some r.version s.version same)))
-judged_alike (Some r) m None n current overridden same other = cc same
-judged_alike None m (Some s) n current overridden same other = cc same
-judged_alike None (Some m) None (Some n) current overridden same other =
-    (n.place, ap (λ (v : Parts). warn (record { asked = v; current = current; place = n.place; overridden = overridden })) (sym (same_Some m.version n.version other)))
-judged_alike None (Some m) None None current overridden same other = cc other
-judged_alike None None None (Some n) current overridden same other = cc other
-judged_alike None None None None current overridden same other = refl
+judged_alike r m s n current overridden same other = search rules
 
 -- ---- what stands for both
 

@@ -1,12 +1,12 @@
 -- The verdict of what stands for a list is selected from the verdicts of its asks.
-use Rattle.std.proofs.Common.{◌≡◌, ◌≢◌, ℕ, ◌<◌, ◌≤◌, Bool, true, List, ◌∷◌, ◌++◌, map, Option, Some, None, IfSome, refl, sym, ap, ◌∙◌, inl, inr, subst, arith}
+use Rattle.std.proofs.Common.{rules, ◌≡◌, ◌≢◌, ℕ, ◌<◌, ◌≤◌, Bool, true, List, ◌∷◌, ◌++◌, map, Option, Some, None, IfSome, refl, sym, ap, ◌∙◌, inl, inr, subst, arith}
 use Rattle.std.proofs.lemmas.Bool.{cases_Bool}
 use Rattle.std.proofs.lemmas.List.{map-append}
 use Rattle.std.specs.List.{AllByRecursion}
 use Rattle.semver.specs.Parse.{Parts}
 use Rattle.nextest_config.specs.NextestVersion.Verdict.{Verdict}
 use Rattle.nextest_config_sources.specs.NextestVersion.{Ask, is_below, IsBelow, Place}
-use Rattle.nextest_config.specs.NextestVersion.{alone, asked_from, AsksNoGreater, AsksNone, AsksOther, Configuration, error, gravity, IsGravest, IsGreatest, IsNoGraver, IsNoGreaterOfItsKind, IsOtherOfItsKind, IsSatisfied, IsSelected, judged, Kept, named_version, Roles, satisfied, SelectsAmong, SelectsFor, short_of, Shortfall, SourceAsk, StandsFor, StandsForAsks, StandsIn, unmet, warn}
+use Rattle.nextest_config.specs.NextestVersion.{alone, asked_from, AsksNoGreater, AsksNone, AsksOther, Configuration, error, gravity, IsGravest, IsGreatest, IsNoGraver, IsNoGreaterOfItsKind, IsOtherOfItsKind, IsSatisfied, IsSelected, judged, Kept, named_version, Roles, satisfied, SelectsFor, short_of, Shortfall, SourceAsk, StandsFor, StandsIn, unmet, warn}
 use Rattle.nextest_config_sources.specs.NextestVersion.Source.{Source}
 use Rattle.nextest_config_lists.proofs.Lists.{all_mapped, map_agrees}
 use Rattle.nextest_config_values.proofs.Elements.{all_always, all_both, all_weaker}
@@ -20,56 +20,44 @@ tier tell None current overridden lower = lower
 
 judged-tiers : (required recommended : Option Kept) (current : Parts) (overridden : Bool)
     → judged required recommended current overridden ≡ tier error required current overridden (tier warn recommended current overridden satisfied)
-judged-tiers (Some r) m current overridden = refl
-judged-tiers None (Some m) current overridden = refl
-judged-tiers None None current overridden = refl
+judged-tiers required recommended current overridden = search rules
 
-record IsTier (tell : Shortfall → Verdict) (severity : ℕ) : Type 0 where
-  grave : (s : Shortfall) → gravity (tell s) ≡ severity
-  names : (s : Shortfall) → named_version (tell s) ≡ Some s.asked
+-- what the tier tells of a place that asks this
+abbrev told : (Shortfall → Verdict) → Parts → Bool → Place → Option Parts → Verdict → Verdict
+told tell current overridden place asked lower = tier tell (unmet (asked_from place asked) current) current overridden lower
 
-error_tier : IsTier error 2
-error_tier = record { grave = λ s. refl; names = λ s. refl }
-
-warn_tier : IsTier warn 1
-warn_tier = record { grave = λ s. refl; names = λ s. refl }
-
-module _ (tell : Shortfall → Verdict) (severity : ℕ) (is_tier : IsTier tell severity) (current : Parts) (overridden : Bool) where
-  -- what the tier tells of a place that asks this
-  abbrev told : Place → Option Parts → Verdict → Verdict
-  told place asked lower = tier tell (unmet (asked_from place asked) current) current overridden lower
-
+module _ (tell : Shortfall → Verdict) (severity : ℕ) (grave : (s : Shortfall) → gravity (tell s) ≡ severity) (names : (s : Shortfall) → named_version (tell s) ≡ Some s.asked) (current : Parts) (overridden : Bool) where
   record IsInTier (asked : Option Parts) (v : Verdict) : Type 0 where
     no_graver : gravity v ≤ severity
     names_asked : gravity v ≡ severity → named_version v ≡ asked
 
-  in_tier : (place : Place) (asked : Option Parts) (lower : Verdict) → gravity lower < severity → IsInTier asked (told place asked lower)
+  in_tier : (place : Place) (asked : Option Parts) (lower : Verdict) → gravity lower < severity → IsInTier asked (told tell current overridden place asked lower)
   in_tier place None lower below = record { no_graver = omega arith; names_asked = λ e. absurd (omega arith) }
   in_tier place (Some v) lower below = elim (cases_Bool (is_below current v)) [
     | inl short ↦
         let s : Shortfall = short_of (record { version = v; place = place }) current overridden in
-        rw short (record { no_graver = omega (arith, is_tier.grave s); names_asked = λ e. is_tier.names s })
+        rw short (record { no_graver = omega (arith, grave s); names_asked = λ e. names s })
     | inr enough ↦ rw enough (record { no_graver = omega arith; names_asked = λ e. absurd (omega arith) })
   ]
 
   no_greater_named : (kept : Kept) (asked : Option Parts) (v : Verdict) → IsInTier asked v → IfSome asked (λ w. ¬ IsBelow kept.version w)
       → IsNoGreaterOfItsKind (tell (short_of kept current overridden)) v
   no_greater_named kept asked v inside no_greater as_grave =
-      let same = inside.names_asked (as_grave ∙ is_tier.grave (short_of kept current overridden)) in
-      rw (is_tier.names (short_of kept current overridden), same) no_greater
+      let same = inside.names_asked (as_grave ∙ grave (short_of kept current overridden)) in
+      rw (names (short_of kept current overridden), same) no_greater
 
   other_named : (kept : Kept) (asked : Option Parts) (v : Verdict) → IsInTier asked v → asked ≢ Some kept.version
       → IsOtherOfItsKind (tell (short_of kept current overridden)) v
   other_named kept asked v inside other as_grave e =
       let s : Shortfall = short_of kept current overridden in
-      other (sym (inside.names_asked (as_grave ∙ is_tier.grave s)) ∙ e ∙ is_tier.names s)
+      other (sym (inside.names_asked (as_grave ∙ grave s)) ∙ e ∙ names s)
 
   -- an unmet version that is the greatest asked is told by the gravest
   gravest_in_tier : (role : Ask → Option Parts) (lower : SourceAsk → Verdict) (asked : List SourceAsk) (kept : Kept)
       → ((a : SourceAsk) → gravity (lower a) < severity) → IsGreatest role asked kept → is_below current kept.version ≡ true
-      → IsGravest (map (λ a. told a.place (role a.ask) (lower a)) asked) (tell (short_of kept current overridden))
+      → IsGravest (map (λ a. told tell current overridden a.place (role a.ask) (lower a)) asked) (tell (short_of kept current overridden))
   gravest_in_tier role lower asked kept below h short =
-      let tells : SourceAsk → Verdict = λ a. told a.place (role a.ask) (lower a) in
+      let tells : SourceAsk → Verdict = λ a. told tell current overridden a.place (role a.ask) (lower a) in
       let inside : (a : SourceAsk) → IsInTier (role a.ask) (tells a) = λ a. in_tier a.place (role a.ask) (lower a) (below a) in
       let last_told : tells h.last ≡ tell (short_of kept current overridden) = rw (h.version, h.place, short) in
       record {
@@ -77,7 +65,7 @@ module _ (tell : Shortfall → Verdict) (severity : ℕ) (is_tier : IsTier tell 
         after = map tells h.after;
         whole = ap (map tells) h.whole ∙ map-append tells h.before (h.last ∷ h.after) ∙ ap (λ v. map tells h.before ++ (v ∷ map tells h.after)) last_told;
         gravest = all_mapped (AsksNoGreater role kept.version) (IsNoGraver (tell (short_of kept current overridden))) tells
-            (λ a _. omega (arith, is_tier.grave (short_of kept current overridden), (inside a).no_graver)) asked h.none_greater;
+            (λ a _. omega (arith, grave (short_of kept current overridden), (inside a).no_graver)) asked h.none_greater;
         no_greater = all_mapped (AsksNoGreater role kept.version) (IsNoGreaterOfItsKind (tell (short_of kept current overridden))) tells
             (λ a none. no_greater_named kept (role a.ask) (tells a) (inside a) none) asked h.none_greater;
         last = all_mapped (AsksOther role kept.version) (IsOtherOfItsKind (tell (short_of kept current overridden))) tells
@@ -90,10 +78,7 @@ pub not_short : (kept : Kept) (current : Parts) → unmet (Some kept) current �
 not_short kept current met short = cc (rw short at met)
 
 pub enough_met : (kept : Kept) (current : Parts) → ¬ IsBelow current kept.version → unmet (Some kept) current ≡ None
-enough_met kept current enough = elim (cases_Bool (is_below current kept.version)) [
-  | inl short ↦ absurd (enough short)
-  | inr above ↦ rw above refl
-]
+enough_met kept current enough = search rules
 
 no_greater_met : (kept : Kept) (current : Parts) (place : Place) (more : Option Parts) → ¬ IsBelow current kept.version → IfSome more (λ greater. ¬ IsBelow kept.version greater)
     → unmet (asked_from place more) current ≡ None
@@ -119,40 +104,33 @@ abbrev recommended : Ask → Option Parts
 recommended ask = ask.versions.recommended
 
 alone-met : (current : Parts) (overridden : Bool) (a : SourceAsk) → IsMetAlone required current a
-    → alone current overridden a ≡ told warn 1 warn_tier current overridden a.place a.ask.versions.recommended satisfied
-alone-met current overridden a met = rw (judged-tiers, met) refl
+    → alone current overridden a ≡ told warn current overridden a.place a.ask.versions.recommended satisfied
+alone-met current overridden a met = search rules
 
 pub unmet_is : (o : Option Kept) (current : Parts) (kept : Kept) → unmet o current ≡ Some kept → (o ≡ Some kept) × (is_below current kept.version ≡ true)
-unmet_is None current kept e = cc e
-unmet_is (Some k) current kept e = elim (cases_Bool (is_below current k.version)) [
-  | inl short ↦
-      let same : k ≡ kept = cc (rw short at e) in
-      (rw same refl, subst (λ (j : Kept). is_below current j.version ≡ true) same short)
-  | inr enough ↦ cc (rw enough at e)
-]
+unmet_is o current kept e = search rules
 
 below_error : (o : Option Kept) (current : Parts) (overridden : Bool) → gravity (tier warn o current overridden satisfied) < 2
-below_error (Some kept) current overridden = omega arith
-below_error None current overridden = omega arith
+below_error o current overridden = search (rules, arith)
 
 -- an unmet required version
 selects_error : (asked : List SourceAsk) (kept : Kept) (current : Parts) (overridden : Bool) → IsGreatest required asked kept → is_below current kept.version ≡ true
     → IsGravest (map (alone current overridden) asked) (error (short_of kept current overridden))
 selects_error asked kept current overridden greatest short =
     let lower : SourceAsk → Verdict = λ a. tier warn (unmet (asked_from a.place a.ask.versions.recommended) current) current overridden satisfied in
-    let tells : SourceAsk → Verdict = λ a. told error 2 error_tier current overridden a.place a.ask.versions.required (lower a) in
+    let tells : SourceAsk → Verdict = λ a. told error current overridden a.place a.ask.versions.required (lower a) in
     let same : map (alone current overridden) asked ≡ map tells asked =
     map_agrees (alone current overridden) tells asked (all_always (λ a. judged-tiers (unmet (asked_from a.place a.ask.versions.required) current) _ current overridden) asked) in
-    rw same (gravest_in_tier error 2 error_tier current overridden required lower asked kept (λ a. below_error _ current overridden) greatest short)
+    rw same (gravest_in_tier error 2 (λ s. refl) (λ s. refl) current overridden required lower asked kept (λ a. below_error _ current overridden) greatest short)
 
 -- an unmet recommended version, where the required one is met
 selects_warning : (asked : List SourceAsk) (kept : Kept) (current : Parts) (overridden : Bool) → IsGreatest recommended asked kept → is_below current kept.version ≡ true
     → AllByRecursion (IsMetAlone required current) asked → IsGravest (map (alone current overridden) asked) (warn (short_of kept current overridden))
 selects_warning asked kept current overridden greatest short met =
-    let tells : SourceAsk → Verdict = λ a. told warn 1 warn_tier current overridden a.place a.ask.versions.recommended satisfied in
+    let tells : SourceAsk → Verdict = λ a. told warn current overridden a.place a.ask.versions.recommended satisfied in
     let same : map (alone current overridden) asked ≡ map tells asked =
     map_agrees (alone current overridden) tells asked (all_weaker (IsMetAlone required current) _ (alone-met current overridden) asked met) in
-    rw same (gravest_in_tier warn 1 warn_tier current overridden recommended (λ a. satisfied) asked kept (λ a. omega arith) greatest short)
+    rw same (gravest_in_tier warn 1 (λ s. refl) (λ s. refl) current overridden recommended (λ a. satisfied) asked kept (λ a. omega arith) greatest short)
 
 selects_satisfied : (asked : List SourceAsk) (current : Parts) (overridden : Bool) → AllByRecursion (IsMetAlone required current) asked → AllByRecursion (IsMetAlone recommended current) asked
     → AllByRecursion IsSatisfied (map (alone current overridden) asked)
@@ -173,9 +151,5 @@ selects_by asked roles current overridden None None h k r_is m_is =
     let met = met_alone required asked roles.required current h r_is in
     inl (selects_satisfied asked current overridden met (met_alone recommended asked roles.recommended current k m_is), refl)
 
-pub selects : (asked : List SourceAsk) (c : Configuration) → StandsForAsks asked c → SelectsAmong asked c.roles
-selects asked c stands current overridden =
-    selects_by asked c.roles current overridden (unmet c.roles.required current) (unmet c.roles.recommended current) stands.required stands.recommended refl refl
-
 pub selects_for : (sources : List Source) (c : Configuration) → StandsFor sources c → SelectsFor sources c.roles
-selects_for sources c (asked, read, stands) = (asked, read, selects asked c stands)
+selects_for sources c (asked, read, stands) = (asked, read, λ current overridden. selects_by asked c.roles current overridden _ _ stands.required stands.recommended refl refl)

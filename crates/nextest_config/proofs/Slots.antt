@@ -1,5 +1,5 @@
 -- The slots of a board, and the verdict of the sources that they hold.
-use Rattle.std.proofs.Common.{◌≡◌, ℕ, zero, suc, ◌+◌, List, [], ◌∷◌, ◌++◌, length, get_or, set, replicate, map, Bool, true, false, Option, Some, None, option_map, refl, sym, ap, ap₂, subst, ◌∙◌, arith}
+use Rattle.std.proofs.Common.{rules, ◌≡◌, ℕ, zero, suc, ◌+◌, List, [], ◌∷◌, ◌++◌, length, get_or, set, replicate, map, Bool, Option, Some, None, option_map, refl, sym, ap, ap₂, subst, ◌∙◌, arith}
 use Rattle.std.proofs.Math.Numerals.{add-one}
 use Rattle.std.proofs.lemmas.List.{append_assoc, get_or_at, length_push}
 use Rattle.semver.specs.Identifiers.{parts_of}
@@ -9,7 +9,7 @@ use Rattle.nextest_config.specs.Board.RolePair.{asked_in, later_asked, later_pai
 use Rattle.nextest_config.specs.Board.Slots.{AreHeld, asked_at, board_list, BoardState, IsFrom, IsHeld, kept_in, roles_in, slot_of, slots_of}
 use Rattle.nextest_config_lists.specs.Merge.{total}
 use Rattle.nextest_config.specs.NextestVersion.Verdict.{Verdict}
-use Rattle.nextest_config_sources.specs.NextestVersion.{is_below, place_of, plain, Versions, versions, versions_of}
+use Rattle.nextest_config_sources.specs.NextestVersion.{place_of, plain, Versions, versions, versions_of}
 use Rattle.nextest_config.specs.NextestVersion.{alone, asked_from, IsSelected, join_kept, join_roles, Kept, no_roles, Roles, roles_from, SourceAsk, StandsIn, unmet, verdict}
 use Rattle.nextest_config.specs.declared.board.role_pair.AskedAt.{AskedAt}
 use Rattle.nextest_config.specs.declared.board.role_pair.RolePair.{RolePair}
@@ -59,8 +59,7 @@ no_slots (suc n) = ap (λ slots. None ∷ slots) (no_slots n)
 -- ---- a source that is put into a slot
 
 pub from_in : (slot : ℕ) (asked : Option Version) → IsFrom slot (option_map (asked_in slot) asked)
-from_in slot None = tt
-from_in slot (Some version) = refl
+from_in slot asked = search rules
 
 same_version : (slot : ℕ) (asked : Option Version) → IsPlainVersion (option_map parts_of asked) → option_map version_at (option_map (asked_in slot) asked) ≡ option_map parts_of asked
 same_version slot None plain = refl
@@ -82,19 +81,8 @@ module _ (whole : List (Option ConfigSource)) where
   kept_is None kept is = sym is
   kept_is (Some asked) kept (one, is, version, found) = found ∙ sym is
 
-  both_asked : (a b : AskedAt) (x y : Kept) (below : Bool) → is_below (version_at b) (version_at a) ≡ below → x.version ≡ version_at a → y.version ≡ version_at b
-      → kept_in whole (Some a) ≡ Some x → kept_in whole (Some b) ≡ Some y → IsKept (later_asked (Some a) (Some b)) (join_kept (Some x) (Some y))
-  both_asked a b x y true below of_a of_b in_a in_b =
-      let other : is_below y.version x.version ≡ true = ap₂ is_below of_b of_a ∙ below in
-      rw (below, other) (x, refl, of_a, in_a)
-  both_asked a b x y false below of_a of_b in_a in_b =
-      let other : is_below y.version x.version ≡ false = ap₂ is_below of_b of_a ∙ below in
-      rw (below, other) (y, refl, of_b, in_b)
-
   joined : (a b : Option AskedAt) (k l : Option Kept) → IsKept a k → IsKept b l → IsKept (later_asked a b) (join_kept k l)
-  joined None b k l none more = rw none more
-  joined (Some a) None k l (x, is, of_a, in_a) none = rw (is, none) (x, refl, of_a, in_a)
-  joined (Some a) (Some b) k l (x, is, of_a, in_a) (y, also, of_b, in_b) = rw (is, also) (both_asked a b x y (is_below (version_at b) (version_at a)) refl of_a of_b in_a in_b)
+  joined a b k l h m = search rules
 
   from_slot : (source : ConfigSource) (slot : ℕ) (asked : Option AskedAt) → get_or whole slot None ≡ Some source → IsFrom slot asked → IsKept asked (asked_from (place_of source) (option_map version_at asked))
   from_slot source slot None here is = refl

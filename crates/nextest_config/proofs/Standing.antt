@@ -1,4 +1,4 @@
--- What stands for two lists in a row is the join of what stands for each; one more source is a case of it.
+-- What stands for two lists in a row is the join of what stands for each.
 use Rattle.std.proofs.Common.{◌≡◌, ◌↔◌, List, [], ◌∷◌, ◌++◌, flat_map, map, Contains, Option, Some, None, IfSome, IsTrue, refl, sym, ap, ap₂, ◌∙◌, inl, inr, ⊎_elim, subst, append_assoc}
 use mathlib.Core.Logic.Iff as iff
 use Rattle.std.proofs.lemmas.Bool.{cases_Bool, false≢true, or_cases, or_left, or_right}
@@ -9,15 +9,14 @@ use Rattle.std.proofs.lemmas.Option.{IfSome_then}
 use Rattle.std.specs.List.{AllByRecursion, AllZip}
 use Rattle.semver.specs.Parse.{Parts}
 use Rattle.nextest_config_lists.specs.Merge.{HavePieces, IsJoinOfPieces, total}
-use Rattle.nextest_config.specs.NextestVersion.ExperimentalConfig.{SeenFeatures}
-use Rattle.nextest_config_sources.specs.NextestVersion.{Ask, feature_cmp, FeaturesInOrder, is_below, IsBelow, Place}
-use Rattle.nextest_config.specs.NextestVersion.{Adds, AreEnabled, AreRead, array_of, asked_from, AsksNoGreater, AsksNone, AsksOther, Configuration, configuration_from, entry_of, IsEnabledBySome, IsGreatest, IsReadAs, IsSeenAs, join_configurations, join_kept, Kept, neutral, neutral_seen, Reads, Roles, seen_configuration, SeenConfiguration, SourceAsk, StandsFor, StandsForAsks, StandsForOne, StandsIn, Unknown}
+use Rattle.nextest_config_sources.specs.NextestVersion.{Ask, FeaturesInOrder, is_below, IsBelow, Place}
+use Rattle.nextest_config.specs.NextestVersion.{Adds, AreRead, array_of, asked_from, AsksNoGreater, AsksNone, AsksOther, Configuration, configuration_from, entry_of, IsEnabledBySome, IsGreatest, IsReadAs, IsSeenAs, join_configurations, join_kept, Kept, neutral, neutral_seen, Reads, seen_configuration, SeenConfiguration, SourceAsk, StandsFor, StandsForAsks, StandsForOne, StandsIn, Unknown}
 use Rattle.nextest_config_sources.specs.NextestVersion.PrecedenceLaws.{below_trans, not_below_itself, not_below_trans}
 use Rattle.nextest_config_sources.specs.NextestVersion.Source.{Source}
-use Rattle.nextest_config_lists.proofs.Lists.{zip_joined, zip_push}
+use Rattle.nextest_config_lists.proofs.Lists.{zip_joined}
 use Rattle.nextest_config_values.proofs.Elements.{all_joined, all_weaker}
 use Rattle.nextest_config_sources.specs.declared.nextest_version.experimental.ConfigExperimental.{ConfigExperimental}
-use Rattle.nextest_config_sources.proofs.Members.{contains_cases, contains_first, contains_none, none_in_order}
+use Rattle.nextest_config_sources.proofs.Members.{contains_cases, contains_first, contains_none}
 use Rattle.nextest_config.proofs.Orders.{has_feature_iff}
 
 -- ---- one role
@@ -87,17 +86,16 @@ seen_of asked c h = record {
 }
 
 stands_as : (asked : List SourceAsk) (seen : SeenConfiguration) (c : Configuration) → StandsSeen asked seen → IsSeenAs seen c → StandsForAsks asked c
-stands_as asked seen c h is = record {
-  required = subst (λ (roles : Roles). StandsIn (λ ask. ask.versions.required) asked roles.required) (sym is.roles) h.required;
-  recommended = subst (λ (roles : Roles). StandsIn (λ ask. ask.versions.recommended) asked roles.recommended) (sym is.roles) h.recommended;
-  known = record {
-    of_some = λ feature. iff.trans (iff.symm (has_feature_iff feature c.experimental.known))
-        (subst (λ (features : SeenFeatures). IsTrue (features.enables feature) ↔ IsEnabledBySome asked feature) (sym is.experimental.same) (h.enabled feature));
-    in_order = is.experimental.in_order;
-  };
-  unknown = ap (λ (features : SeenFeatures). features.unknown) is.experimental.same ∙ h.unknown;
-  arrays = ap (λ (features : SeenFeatures). features.arrays) is.experimental.same ∙ h.arrays;
-}
+stands_as asked seen c h is =
+    let same : seen_configuration c ≡ seen = λ i. record { roles = is.roles i; experimental = is.experimental.same i } in
+    let k : StandsSeen asked (seen_configuration c) = subst (StandsSeen asked) (sym same) h in
+    record {
+      required = k.required;
+      recommended = k.recommended;
+      known = record { of_some = λ feature. iff.trans (iff.symm (has_feature_iff feature c.experimental.known)) (k.enabled feature); in_order = is.experimental.in_order };
+      unknown = k.unknown;
+      arrays = k.arrays;
+    }
 
 seen_none : StandsSeen [] neutral_seen
 seen_none = record { required = tt; recommended = tt; enabled = λ feature. (λ never. absurd (false≢true never), λ (one, there, known). absurd (contains_none there)); unknown = refl; arrays = refl }
@@ -133,20 +131,13 @@ seen_both xs ys a b h k = record {
 
 -- ---- the configuration
 
-pub stands_joined : (xs ys : List SourceAsk) (a b c : Configuration) → StandsForAsks xs a → StandsForAsks ys b → IsSeenAs (join_configurations (seen_configuration a) (seen_configuration b)) c → StandsForAsks (xs ++ ys) c
-stands_joined xs ys a b c h k is = stands_as (xs ++ ys) (join_configurations (seen_configuration a) (seen_configuration b)) c (seen_both xs ys (seen_configuration a) (seen_configuration b) (seen_of xs a h) (seen_of ys b k)) is
-
-pub stands_more : (sources : List Source) (source : Source) (old new : Configuration) → StandsFor sources old → Adds source old new → StandsFor (sources ++ (source ∷ [])) new
-stands_more sources source old new (asked, read, stands) adds =
+-- what a source adds to nothing stands for it
+pub stands_added : (source : Source) (none new : Configuration) → none ≡ neutral → Adds source none new → StandsForOne source new
+stands_added source none new is adds =
     let a : SourceAsk = record { place = source.place; ask = adds.ask } in
-    let both = seen_both asked (a ∷ []) (seen_configuration old) (seen_configuration (configuration_from a.place a.ask)) (seen_of asked old stands) (seen_alone a) in
-    (asked ++ (a ∷ []), zip_push IsReadAs sources asked source a read (record { place = refl; read = adds.read }), stands_as (asked ++ (a ∷ [])) _ new both adds.joined)
-
-pub stands_none : (c : Configuration) → c ≡ neutral → StandsFor [] c
-stands_none c e = ([], tt, rw e (record { required = tt; recommended = tt; known = none_enabled; unknown = refl; arrays = refl }))
-  where
-    none_enabled : AreEnabled [] []
-    none_enabled = record { of_some = λ feature. (λ h. absurd (contains_none h), λ (one, there, known). absurd (contains_none there)); in_order = none_in_order feature_cmp }
+    let seen : SeenConfiguration = seen_configuration (configuration_from a.place a.ask) in
+    let joined : IsSeenAs seen new = subst (λ (c : Configuration). IsSeenAs (join_configurations (seen_configuration c) seen) new) is adds.joined in
+    (a ∷ [], (record { place = refl; read = adds.read }, tt), stands_as (a ∷ []) seen new (seen_alone a) joined)
 
 -- ---- lists in a row
 

@@ -1,11 +1,12 @@
 -- Laws of verdicts: whence they come, and what a greater current version is told.
 use Rattle.std.proofs.Common.{rules, ◌≡◌, ◌≢◌, ◌↔◌, ◌≤◌, Bool, drop, get_or, List, [], ◌∷◌, ◌++◌, map, Option, Some, None, refl, sym, ap, ◌∙◌, inl, inr, subst, arith}
-use Rattle.std.proofs.lemmas.Bool.{cases_Bool, false≢true}
+use Rattle.std.proofs.lemmas.Bool.{false≢true}
 use Rattle.std.specs.List.{AllByRecursion}
 use Rattle.semver.specs.Parse.{Parts}
 use Rattle.nextest_config.specs.NextestVersion.Verdict.{Verdict}
-use Rattle.nextest_config_sources.specs.NextestVersion.{is_below, IsBelow, Place}
-use Rattle.nextest_config.specs.NextestVersion.{alone, asked_from, error, gravity, IsFromSource, IsGravest, IsNoGraver, IsSatisfied, IsSelected, judged, Kept, named_place, Roles, roles_from, satisfied, Shortfall, SourceAsk, unmet, verdict, warn}
+use Rattle.nextest_config_sources.specs.NextestVersion.{IsBelow, Place}
+use Rattle.nextest_config.specs.NextestVersion.{alone, asked_from, gravity, IsFromSource, IsGravest, IsNoGraver, IsSatisfied, IsSelected, judged, Kept, named_place, Roles, roles_from, satisfied, Shortfall, SourceAsk, unmet, verdict, warn}
+use Rattle.nextest_config_lists.proofs.Lists.{all_mapped}
 use Rattle.nextest_config_values.proofs.Elements.{all_middle, all_weaker}
 use Rattle.nextest_config_sources.specs.NextestVersion.PrecedenceLaws.{not_below_trans}
 use Rattle.nextest_config.proofs.Selection.{enough_met, not_short, unmet_is}
@@ -14,17 +15,11 @@ use Rattle.nextest_config.proofs.Selection.{enough_met, not_short, unmet_is}
 
 -- an unmet version of a source is the one that it asks, at its place
 pub unmet_alone : (place : Place) (asked : Option Parts) (current : Parts) (kept : Kept) → unmet (asked_from place asked) current ≡ Some kept → (asked ≡ Some kept.version) × (kept.place ≡ place)
-unmet_alone place None current kept e = cc e
-unmet_alone place (Some version) current kept e =
-    let same : Some (record { version = version; place = place }) ≡ Some kept = (unmet_is (asked_from place (Some version)) current kept e).0 in
-    let is : record { version = version; place = place } ≡ kept = cc same in
-    (ap (λ (k : Kept). Some k.version) is, sym (ap (λ (k : Kept). k.place) is))
+unmet_alone place asked current kept e = search (rules, unmet_is)
 
 names_its_place : (current : Parts) (overridden : Bool) (a : SourceAsk) (r m : Option Kept) → unmet (asked_from a.place a.ask.versions.required) current ≡ r → unmet (asked_from a.place a.ask.versions.recommended) current ≡ m
     → judged r m current overridden ≢ satisfied → named_place (judged r m current overridden) ≡ Some a.place
-names_its_place current overridden a (Some kept) m r_is m_is told = ap Some (unmet_alone a.place a.ask.versions.required current kept r_is).1
-names_its_place current overridden a None (Some kept) r_is m_is told = ap Some (unmet_alone a.place a.ask.versions.recommended current kept m_is).1
-names_its_place current overridden a None None r_is m_is told = absurd (told refl)
+names_its_place current overridden a r m r_is m_is told = search (rules, unmet_alone)
 
 -- a verdict among those of the sources alone, unless it is satisfied
 comes_from : (current : Parts) (overridden : Bool) (asked : List SourceAsk) (before : List Verdict) (v : Verdict) (after : List Verdict) → map (alone current overridden) asked ≡ before ++ (v ∷ after) → v ≢ satisfied
@@ -62,15 +57,9 @@ satisfied_where_all verdicts v (inr gravest) = (
 
 pub no_warning : (required recommended : Kept) (current : Parts) (overridden : Bool) (s : Shortfall) → ¬ IsBelow required.version recommended.version
     → verdict (record { required = Some required; recommended = Some recommended }) current overridden ≢ warn s
-no_warning required recommended current overridden s lower e = elim (cases_Bool (is_below current required.version)) [
-  | inl short ↦ cc (rw short at e)
-  | inr enough ↦
-      let met = not_below_trans current required.version recommended.version (λ below. false≢true (sym enough ∙ below)) lower in
-      elim (cases_Bool (is_below current recommended.version)) [
-        | inl short ↦ absurd (met short)
-        | inr also ↦ cc (rw (enough, also) at e)
-      ]
-]
+no_warning required recommended current overridden s lower e =
+    let step = not_below_trans current required.version recommended.version in
+    search (rules, step, false≢true)
 
 -- ---- a greater current version
 
@@ -86,11 +75,7 @@ at_most_warning m current overridden = search (rules, arith)
 
 no_graver_by : (roles : Roles) (lesser greater : Parts) (overridden : Bool) (r m : Option Kept) → ¬ IsBelow greater lesser → unmet roles.required lesser ≡ r → unmet roles.recommended lesser ≡ m
     → IsNoGraver (judged r m lesser overridden) (verdict roles greater overridden)
-no_graver_by roles lesser greater overridden (Some kept) m above r_is m_is = at_most_error (verdict roles greater overridden)
-no_graver_by roles lesser greater overridden None (Some kept) above r_is m_is =
-    rw (still_met roles.required lesser greater above r_is) (at_most_warning (unmet roles.recommended greater) greater overridden)
-no_graver_by roles lesser greater overridden None None above r_is m_is =
-    rw (still_met roles.required lesser greater above r_is, still_met roles.recommended lesser greater above m_is) (omega arith)
+no_graver_by roles lesser greater overridden r m above r_is m_is = search (rules, arith, at_most_error, at_most_warning, still_met)
 
 pub no_graver_greater : (roles : Roles) (lesser greater : Parts) (overridden : Bool) → ¬ IsBelow greater lesser → IsNoGraver (verdict roles lesser overridden) (verdict roles greater overridden)
 no_graver_greater roles lesser greater overridden above = no_graver_by roles lesser greater overridden _ _ above refl refl
@@ -99,14 +84,18 @@ pub none_graver : (verdicts : List Verdict) (v : Verdict) → IsSelected verdict
 none_graver verdicts v (inl all) = all_weaker IsSatisfied (IsNoGraver v) (λ w is. rw is (omega arith)) verdicts all.0
 none_graver verdicts v (inr gravest) = gravest.gravest
 
--- what holds of all images holds of others
-all_images : {X Y : Type 0} (P : Y → Type 0) (f g : X → Y) → ((x : X) → P (f x) → P (g x)) → (xs : List X) → AllByRecursion P (map f xs) → AllByRecursion P (map g xs)
-all_images P f g step [] h = tt
-all_images P f g step (x ∷ xs) h = (step x h.0, all_images P f g step xs h.1)
+-- what holds of all images
+pub all_unmapped : {X Y : Type 0} (P : Y → Type 0) (f : X → Y) (xs : List X) → AllByRecursion P (map f xs) → AllByRecursion (λ x. P (f x)) xs
+all_unmapped P f [] h = tt
+all_unmapped P f (x ∷ xs) h = (h.0, all_unmapped P f xs h.1)
+
+-- what is selected is as grave as some verdict of the list, or satisfied
+pub no_graver_than_all : (verdicts : List Verdict) (v w : Verdict) → IsSelected verdicts v → AllByRecursion (IsNoGraver w) verdicts → IsNoGraver w v
+no_graver_than_all verdicts v w h all = search (rules, arith, all_middle (IsNoGraver w))
 
 pub no_graver_selected : (asked : List SourceAsk) (lesser greater : Parts) (overridden : Bool) (v w : Verdict) → ¬ IsBelow greater lesser
     → IsSelected (map (alone lesser overridden) asked) v → IsSelected (map (alone greater overridden) asked) w → IsNoGraver v w
-no_graver_selected asked lesser greater overridden v w above h (inl all) = rw all.1 (omega arith)
-no_graver_selected asked lesser greater overridden v w above h (inr gravest) =
-    stands_in (IsNoGraver v) (map (alone greater overridden) asked) w gravest (all_images (IsNoGraver v) (alone lesser overridden) (alone greater overridden)
-    (λ a here. omega (arith, here, no_graver_greater (roles_from a.place a.ask.versions) lesser greater overridden above)) asked (none_graver (map (alone lesser overridden) asked) v h))
+no_graver_selected asked lesser greater overridden v w above h k =
+    let all = all_unmapped (IsNoGraver v) (alone lesser overridden) asked (none_graver (map (alone lesser overridden) asked) v h) in
+    no_graver_than_all (map (alone greater overridden) asked) w v k (all_mapped (λ a. IsNoGraver v (alone lesser overridden a)) (IsNoGraver v) (alone greater overridden)
+    (λ a here. omega (arith, here, no_graver_greater (roles_from a.place a.ask.versions) lesser greater overridden above)) asked all)

@@ -64,7 +64,6 @@ pub fn law_known_in_order()
 
 /// The join is associative, and what asks nothing changes nothing on either side: of the versions
 /// that are kept in a role, of both roles, of features and of configurations, built by hand or not.
-#[tactic(auto, using(crate::specs::NextestVersion::KeptVersionsLaws::kept_join, crate::specs::NextestVersion::KeptVersionsLaws::roles_join, crate::specs::NextestVersion::ExperimentalConfigLaws::features_join, crate::specs::NextestVersion::VersionOnlyLaws::configurations_join,))]
 pub fn law_join()
     ensures role { IsMonoid join_kept None }
     ensures roles { IsMonoid join_roles no_roles }
@@ -150,7 +149,6 @@ pub fn law_added_source()
 /// A board of n slots, however it was changed, has n slots; each holds the versions of the source
 /// that was put into it last, or none where it was left empty since or never changed; and the
 /// choices that are counted are those of the last change.
-#[tactic(auto, using(crate::proofs::Commands::stays_long, crate::proofs::Commands::holds_last, crate::proofs::Commands::counts_last,))]
 pub fn law_board_follows()
     ensures slots { (n : ℕ) (commands : List Command) (board : BoardState)
         → ChangesInTurn commands (empty_board n) board → length board.slots ≡ n }

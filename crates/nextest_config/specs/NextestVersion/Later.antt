@@ -58,9 +58,9 @@ later_joins version = record {
 -- ---- what is joined in two parts
 
 -- two parts, each with its own join, are joined part by part
-pairs_join : {A B : Type 0} (j : A → A → A) (k : B → B → B) (a : A) (b : B) → IsMonoid j a
+side_by_side : {A B : Type 0} (j : A → A → A) (k : B → B → B) (a : A) (b : B) → IsMonoid j a
     → IsMonoid k b → IsMonoid (λ (x y : A × B). (j x.0 y.0, k x.1 y.1)) (a, b)
-pairs_join {A} {B} j k a b first second =
+side_by_side {A} {B} j k a b first second =
     let pair : A → B → A × B = λ u v. (u, v) in
     record {
       associative = λ x y z. ap₂ pair (first.associative x.0 y.0 z.0)
@@ -76,7 +76,7 @@ pub parts_join : {A B R : Type 0} (parts : R → A × B) (whole : A × B → R) 
     → IsMonoid (λ x y. whole (j (parts x).0 (parts y).0, k (parts x).1 (parts y).1)) (whole (a, b))
 parts_join {A} {B} {R} parts whole j k a b back again first second =
     let join : A × B → A × B → A × B = λ x y. (j x.0 y.0, k x.1 y.1) in
-    let laws = pairs_join j k a b first second in
+    let laws = side_by_side j k a b first second in
     record {
       associative = λ x y z. ap whole (ap (λ p. join p (parts z)) (back (join (parts x) (parts y)))
           ∙ laws.associative (parts x) (parts y) (parts z)

@@ -140,6 +140,7 @@ impl ConfigBoard {
     }
 
     // Replaces what the slot holds.
+    #[tactic(auto, using(crate::proofs::Slots::held_set))]
     fn change(&mut self, slot: usize, source: Option<ConfigSource>, pair: RolePair)
         requires within { slot < length self.old.slots }
         requires held { IsHeld slot source pair }
@@ -164,7 +165,7 @@ fn empty_slots(alloc: Global, n: usize) -> Result<Vec<Option<ConfigSource>>, All
 }
 
 // A copy of the source, and what is chosen from of it in this slot.
-#[tactic(auto, using(crate::proofs::OneVerdict::text_plain, crate::proofs::Slots::from_in, crate::proofs::Slots::same_versions,))]
+#[tactic(auto, using(crate::proofs::OneVerdict::text_plain, crate::proofs::Slots::same_versions))]
 fn read_slot(
     alloc: Global,
     slot: usize,

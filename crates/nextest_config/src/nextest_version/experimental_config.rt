@@ -158,6 +158,7 @@ impl UnknownFeatures {
     ghost use Rattle.nextest_config_sources.specs.NextestVersion.Source.{place_of};
 
     // A copy of the names and of their source.
+    #[tactic(auto, using(nextest_config_lists::proofs::Lists::zip_same_images))]
     fn clone(&self, alloc: Global) -> Result<Self, AllocError>
         ensures { IfOk result (λ entry. unknown_of entry ≡ unknown_of self.now) }
     {

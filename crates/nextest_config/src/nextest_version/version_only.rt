@@ -142,7 +142,7 @@ impl VersionOnlyConfig {
     }
 
     // The configuration of one source with these contents.
-    #[tactic(auto, using(crate::proofs::Readings::refusal_of_one))]
+    #[tactic(auto, using(crate::proofs::Readings::refusal_of_one, crate::proofs::Standing::stands_added))]
     pub(super) fn of_source(
         alloc: Global,
         edition: Edition,

@@ -18,11 +18,6 @@ set-requires-clause-countable c =
     let few = halvings_digits (length c.self.inside.tree) c.args.slot 64 (omega (arith, board_long _ _ _ _ c.self.invariant c.self.view_is, c.self.inside.sources.ok.0, c.self.inside.sources.ok.1, c.self.inside.sources.small)) in
     omega arith
 
-pub invariant_of-self : goal.invariant_of-self
-invariant_of-self c =
-    let held = subst (λ (n : ℕ). IsHeld n c.args.source c.args.pair) (omega arith) c.requires.held in
-    rw c.set.ensures.replaced (held_set 0 c.args.slot c.self.inside.sources.items c.self.inside.tree c.args.source c.args.pair c.self.invariant held).0
-
 pub returns : goal.returns
 returns c =
     let seen = ap (λ (state : BoardState). state.slots) c.self.view_is in
