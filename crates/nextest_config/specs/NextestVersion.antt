@@ -2,6 +2,7 @@
 -- and what follows for a current version.
 pub mod File
 pub mod Later
+pub mod Parts
 pub mod KeptVersions
 pub mod KeptVersionsLaws
 pub mod Verdict

@@ -5,7 +5,8 @@ use Rattle.semver.specs.Parse.{Parts}
 use Rattle.semver.specs.declared.Version.{Version}
 use Rattle.nextest_config_lists.specs.Merge.{IsMonoid}
 use Rattle.nextest_config_sources.specs.NextestVersion.VersionText.{plain}
-use Rattle.nextest_config.specs.NextestVersion.Later.{later_joins, later_of, parts_join}
+use Rattle.nextest_config.specs.NextestVersion.Later.{later_joins, later_of}
+use Rattle.nextest_config.specs.NextestVersion.Parts.{parts_join}
 use Rattle.nextest_config.specs.declared.board.role_pair.AskedAt.{AskedAt}
 use Rattle.nextest_config.specs.declared.board.role_pair.RolePair.{RolePair}
 use Rattle.nextest_config_sources.specs.declared.nextest_version.nextest_version_deserialize.NextestVersionDeserialize.{NextestVersionDeserialize}

@@ -3,7 +3,8 @@ use Rattle.std.specs.Prelude.{None}
 use Rattle.std.proofs.Common.{refl}
 use Rattle.nextest_config_lists.specs.Merge.{IsMonoid}
 use Rattle.nextest_config.specs.NextestVersion.KeptVersions.{Roles, join_kept, join_roles, kept_version, no_roles}
-use Rattle.nextest_config.specs.NextestVersion.Later.{later_joins, parts_join}
+use Rattle.nextest_config.specs.NextestVersion.Later.{later_joins}
+use Rattle.nextest_config.specs.NextestVersion.Parts.{parts_join}
 
 pub kept_join : IsMonoid join_kept None
 kept_join = later_joins kept_version

@@ -10,7 +10,7 @@ use Rattle.nextest_config.specs.NextestVersion.ExperimentalConfigLaws.{features_
 use Rattle.nextest_config_sources.specs.NextestVersion.ExperimentalLaws.{features_in_one_order}
 use Rattle.nextest_config.specs.NextestVersion.KeptVersions.{asked_from, join_roles, Kept, no_roles, Roles}
 use Rattle.nextest_config.specs.NextestVersion.KeptVersionsLaws.{roles_join}
-use Rattle.nextest_config.specs.NextestVersion.Later.{parts_join}
+use Rattle.nextest_config.specs.NextestVersion.Parts.{parts_join}
 use Rattle.nextest_config_sources.specs.NextestVersion.Source.{Place, Source}
 use Rattle.nextest_config.specs.NextestVersion.VersionOnly.{Configuration, IsErrorOf, IsRead, IsReadAs, IsRefused, join_configurations, neutral_seen, seen_configuration, SeenConfiguration, SourceAsk, StandsForAsks, StandsForOne, StandsIn}
 use Rattle.nextest_config_sources.specs.NextestVersion.VersionOnlyDeserialize.{Ask}
