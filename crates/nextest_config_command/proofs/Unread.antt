@@ -1,5 +1,5 @@
 -- The first file that can't be read.
-use Rattle.std.proofs.Common.{◌≡◌, List, ◌∷◌, ◌++◌}
+use Rattle.std.proofs.Common.{◌≡◌, List, ◌∷◌, ◌++◌, rules}
 use Rattle.nextest_config_sources.specs.NextestVersion.{Place}
 use Rattle.nextest_config_command.specs.Files.{AreFilesRead, File, Holding, IsUnread, IsUnreadAmong}
 use Rattle.nextest_config_command.specs.declared.files.Unanswered.{Unanswered}
@@ -7,13 +7,5 @@ use Rattle.nextest_config_command.specs.declared.files.Unanswered.TheVariants as
 
 pub unread_among : (holds : Holding) (places before : List Place) (place : Place) (after : List Place) (files : List File) (unanswered : Unanswered)
     → places ≡ before ++ (place ∷ after) → AreFilesRead holds before files → IsUnread holds place unanswered → IsUnreadAmong holds places unanswered
-unread_among holds places before place after files (fails.Unread said) whole read unread = record {
-  before = before;
-  place = place;
-  after = after;
-  whole = whole;
-  files = files;
-  read = read;
-  unread = unread;
-}
+unread_among holds places before place after files (fails.Unread said) whole read unread = search rules
 unread_among holds places before place after files fails.Memory whole read unread = tt

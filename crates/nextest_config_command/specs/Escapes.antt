@@ -1,5 +1,5 @@
 -- Texts that stand within a line.
-use Rattle.std.specs.Prelude.{ℕ, ◌==◌, List, flat_map, codes, encode_utf8, if◌then◌else◌}
+use Rattle.std.specs.Prelude.{ℕ, ◌==◌, List, [], ◌∷◌, flat_map, codes, encode_utf8, if◌then◌else◌}
 use Rattle.std.specs.Str.{chars}
 use Rattle.nextest_config_values.specs.Characters.{carriage_return, colon, line_feed}
 use Rattle.nextest_config_command.specs.declared.escapes.Escapes.{Escapes}
@@ -12,32 +12,35 @@ percent = 37
 abbrev pub comma : ℕ
 comma = 44
 
--- a character of a line: what would end the line is escaped
-abbrev pub in_line : ℕ → List ℕ
-in_line c =
-    if c == carriage_return then codes "\\r"
-    else if c == line_feed then codes "\\n"
-    else encode_utf8 c
+-- characters that are escaped, each with the text that stands for it
+abbrev pub Rows : Type 0
+Rows = List (ℕ × List ℕ)
 
--- a character of a message, in GitHub's commands of a workflow
-abbrev pub in_message : ℕ → List ℕ
-in_message c =
-    if c == percent then codes "%25"
-    else if c == carriage_return then codes "%0D"
-    else if c == line_feed then codes "%0A"
-    else encode_utf8 c
+-- in a line: what would end it
+abbrev pub in_line : Rows
+in_line = (carriage_return, codes "\\r") ∷ (line_feed, codes "\\n") ∷ []
 
--- a character of a property there
-abbrev pub in_property : ℕ → List ℕ
-in_property c =
-    if c == colon then codes "%3A"
-    else if c == comma then codes "%2C"
-    else in_message c
+-- in a message, in GitHub's commands of a workflow
+abbrev pub in_message : Rows
+in_message =
+    (percent, codes "%25") ∷ (carriage_return, codes "%0D") ∷ (line_feed, codes "%0A") ∷ []
+
+-- in a property there
+abbrev pub in_property : Rows
+in_property = (colon, codes "%3A") ∷ (comma, codes "%2C") ∷ in_message
+
+abbrev pub rows_of : Escapes → Rows
+rows_of LineEnds = in_line
+rows_of Message = in_message
+rows_of Property = in_property
+
+-- what stands for a character by these rows
+abbrev pub by_rows : Rows → ℕ → List ℕ
+by_rows [] c = encode_utf8 c
+by_rows ((escaped, text) ∷ rows) c = if c == escaped then text else by_rows rows c
 
 abbrev pub escaped_character : Escapes → ℕ → List ℕ
-escaped_character LineEnds = in_line
-escaped_character Message = in_message
-escaped_character Property = in_property
+escaped_character escapes = by_rows (rows_of escapes)
 
 -- a text with what is escaped
 unfoldable pub escaped_text : Escapes → List ℕ → List ℕ

@@ -107,27 +107,31 @@ status_found strict founds = lint_status strict (has_error founds) (has_warning 
 
 -- ---- what is made of it
 
+-- the findings are told behind this text, and there was an error or a warning before it or not
+pub record AreToldBehind (format : Format) (founds : List AtPath) (before : List ℕ)
+    (error warning : Bool) (lint : Lint) : Type 0 where
+  pub text : string_bytes lint.text ≡ before ++ lint_text format founds
+  pub errors : lint.has_error ≡ (error || has_error founds)
+  pub warnings : lint.has_warning ≡ (warning || has_warning founds)
+
 -- the findings are told in this
-pub record AreTold (format : Format) (founds : List AtPath) (lint : Lint) : Type 0 where
-  pub text : string_bytes lint.text ≡ lint_text format founds
-  pub errors : lint.has_error ≡ has_error founds
-  pub warnings : lint.has_warning ≡ has_warning founds
+abbrev pub AreTold : Format → List AtPath → Lint → Type 0
+AreTold format founds lint = AreToldBehind format founds [] false false lint
 
 -- the findings are told behind what was told before
-pub record AreToldBehind (format : Format) (founds : List AtPath) (before now : Lint) : Type 0 where
-  pub text : string_bytes now.text ≡ string_bytes before.text ++ lint_text format founds
-  pub errors : now.has_error ≡ (before.has_error || has_error founds)
-  pub warnings : now.has_warning ≡ (before.has_warning || has_warning founds)
+abbrev pub AddsTold : Format → List AtPath → Lint → Lint → Type 0
+AddsTold format founds before now =
+    AreToldBehind format founds (string_bytes before.text) before.has_error before.has_warning now
 
 -- these findings of the file at a path
 abbrev pub TellsFindings : Format → List ℕ → List LocatedFinding → Lint → Lint → Type 0
 TellsFindings format path found before now =
-    AreToldBehind format (map (at_path path) found) before now
+    AddsTold format (map (at_path path) found) before now
 
 -- what is found in a file
 abbrev pub AddsFound : Edition → Format → File → Lint → Lint → Type 0
 AddsFound edition format file before now = (founds : List AtPath) × IsFoundIn edition file founds
-    × AreToldBehind format founds before now
+    × AddsTold format founds before now
 
 -- what is found in the files, told in a format
 abbrev pub IsLint : Edition → Format → List File → Lint → Type 0

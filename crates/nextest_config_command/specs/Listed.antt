@@ -48,13 +48,3 @@ IsListedAs edition files configuration = AreTexts files
 
 abbrev pub IsListed : Edition → List File → VersionOnlyConfig → Type 0
 IsListed edition files config = IsListedAs edition files (configuration_of config)
-
--- ---- one step
-
--- the configuration of these texts, under an edition
-abbrev pub IsRefusedUnder : Edition → List Given → Type 0
-IsRefusedUnder edition givens = IsRefusedBy (map (under edition) givens)
-
-abbrev pub IsReadUnder : Edition → List Given → VersionOnlyConfig → Type 0
-IsReadUnder edition givens config =
-    StandsAndSelects (map (under edition) givens) (configuration_of config)

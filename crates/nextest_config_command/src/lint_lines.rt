@@ -3,7 +3,7 @@
 ghost use Rattle.std.specs.Prelude.{◌≡◌, ◌++◌, ◌∷◌, [], IfOk, OnOk, map, string_bytes};
 ghost use Rattle.nextest_config_findings.specs.Finding.{severity_of};
 ghost use Rattle.nextest_config_command.specs.Files.{file_of};
-ghost use Rattle.nextest_config_command.specs.LintLines.{AddsFound, column_text, github_line, human_line, is_error, is_warning, IsLint, line_in, lint_status, severity_text, TellsFindings};
+ghost use Rattle.nextest_config_command.specs.LintLines.{AddsFound, column_text, is_error, is_warning, IsLint, line_in, lint_status, severity_text, TellsFindings};
 
 use crate::escapes::{Escaped, Escapes};
 use crate::files::SourceFile;
@@ -133,54 +133,20 @@ fn push_line(
         ++ line_in format path.now found.now.line found.now.column
         (severity_of found.now.finding.kind) said.now) }
 {
-    let severity = found.finding.severity();
+    let severity = severity_word(found.finding.severity());
     match format {
-        Format::Human => push_human(text, path, found, severity, said),
-        Format::Github => push_github(text, path, found, severity, said),
+        Format::Human => {
+            write!(text, "{}:{}", Escaped(Escapes::LineEnds, path), found.line)?;
+            push_column(text, ":", found.column)?;
+            writeln!(text, ": {severity}: {}", Escaped(Escapes::LineEnds, said))
+        }
+        Format::Github => {
+            let path = Escaped(Escapes::Property, path);
+            write!(text, "::{severity} file={path},line={}", found.line)?;
+            push_column(text, ",col=", found.column)?;
+            writeln!(text, "::{}", Escaped(Escapes::Message, said))
+        }
     }
-}
-
-// Pushes the line of a finding for people.
-fn push_human(
-    text: &mut String,
-    path: &str,
-    found: &LocatedFinding,
-    severity: Severity,
-    said: &str,
-) -> Result<(), AllocError>
-    ensures { OnOk result (string_bytes text.new ≡ string_bytes text.old
-        ++ human_line path.now found.now.line found.now.column severity said.now) }
-{
-    write!(text, "{}:{}", Escaped(Escapes::LineEnds, path), found.line)?;
-    push_column(text, ":", found.column)?;
-    writeln!(
-        text,
-        ": {}: {}",
-        severity_word(severity),
-        Escaped(Escapes::LineEnds, said)
-    )
-}
-
-// Pushes the line of a finding for GitHub.
-fn push_github(
-    text: &mut String,
-    path: &str,
-    found: &LocatedFinding,
-    severity: Severity,
-    said: &str,
-) -> Result<(), AllocError>
-    ensures { OnOk result (string_bytes text.new ≡ string_bytes text.old
-        ++ github_line path.now found.now.line found.now.column severity said.now) }
-{
-    write!(
-        text,
-        "::{} file={},line={}",
-        severity_word(severity),
-        Escaped(Escapes::Property, path),
-        found.line
-    )?;
-    push_column(text, ",col=", found.column)?;
-    writeln!(text, "::{}", Escaped(Escapes::Message, said))
 }
 
 // Pushes a column behind its mark, if there is one.

@@ -3,7 +3,7 @@
 ghost use Rattle.std.specs.Prelude.{◌≡◌, IfOk, MatchOption, Some, map};
 ghost use Rattle.nextest_config_sources.specs.NextestVersion.{given_of, place_of};
 ghost use Rattle.nextest_config_command.specs.Files.{file_of};
-ghost use Rattle.nextest_config_command.specs.Listed.{AreTexts, given_file, IsListed, IsReadUnder, IsRefusedList, IsRefusedUnder};
+ghost use Rattle.nextest_config_command.specs.Listed.{AreTexts, given_file, IsListed, IsRefusedList};
 
 use crate::files::SourceFile;
 use nextest_config::nextest_version::{Edition, ListRefusal, SourceText, VersionOnlyConfig};
@@ -20,23 +20,10 @@ pub(crate) fn listed(
         (λ config. MatchOption config (IsRefusedList edition (map file_of files.now))
         (IsListed edition (map file_of files.now))) }
 {
-    match texts(alloc, files)? {
-        Some(texts) => read_texts(alloc, edition, texts.as_slice()),
-        None => Ok(None),
-    }
-}
-
-// The configuration that stands for texts, if each of them is in its grammar.
-fn read_texts(
-    alloc: Global,
-    edition: Edition,
-    texts: &[SourceText],
-) -> Result<Option<VersionOnlyConfig>, AllocError>
-    ensures { IfOk result
-        (λ config. MatchOption config (IsRefusedUnder edition (map given_of texts.now))
-        (IsReadUnder edition (map given_of texts.now))) }
-{
-    match VersionOnlyConfig::from_list_with(alloc, edition, texts) {
+    let Some(texts) = texts(alloc, files)? else {
+        return Ok(None);
+    };
+    match VersionOnlyConfig::from_list_with(alloc, edition, texts.as_slice()) {
         Ok(config) => Ok(Some(config)),
         Err(ListRefusal::Refused { .. }) => Ok(None),
         Err(ListRefusal::Memory) => Err(AllocError),

@@ -1,12 +1,13 @@
-use Rattle.std.proofs.Common.{rules}
+use Rattle.std.proofs.Common.{◌≡◌, rules}
 use Rattle.semver.specs.Identifiers.{parts_of}
-use Rattle.nextest_config.specs.NextestVersion.{configuration_of}
-use Rattle.nextest_config_command.proofs.Checked.{selected_verdict}
+use Rattle.nextest_config.specs.NextestVersion.{configuration_of, verdict, verdict_of}
 use Rattle.nextest_config_command.proofs.answer.check_listed.Goals as goal
 
 pub returns : goal.returns
 returns c = λ listed.
-    let task = c.args.task.now in
-    let current = parts_of task.current in
-    c.in_ok-answer.ensures (configuration_of c.args.config.now) current task.override_version_check listed
-    (selected_verdict _ _ (configuration_of c.args.config.now) _ current task.override_version_check listed (search rules)) (search rules)
+    let configuration = configuration_of c.args.config.now in
+    let current = parts_of c.args.task.now.current in
+    let overridden = c.args.task.now.override_version_check in
+    let is : verdict_of c.in_ok-eval.eval ≡ verdict configuration.roles current overridden = search rules in
+    let selects = listed.1.1 in
+    c.in_ok-answer.ensures configuration current overridden listed (rw is (selects.0, selects.1, selects.2 current overridden)) (search rules)

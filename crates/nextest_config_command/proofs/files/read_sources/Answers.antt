@@ -1,10 +1,10 @@
 use Rattle.std.proofs.Common.{◌≡◌, ◌++◌, map, option_map, rules, vec_items}
 use Rattle.std.proofs.lemmas.Result.{err_from_is_err_and}
+use Rattle.std.proofs.lemmas.List.{map_more}
 use Rattle.nextest_config_lists.proofs.Lists.{map-around}
 use Rattle.nextest_config_sources.specs.NextestVersion.{place_of}
 use Rattle.nextest_config_command.specs.Files.{file_if, file_of, IsReadAt}
 use Rattle.nextest_config_command.proofs.InTurn.{one_more_in_turn}
-use Rattle.nextest_config_command.proofs.Mapped.{more_mapped}
 use Rattle.nextest_config_command.proofs.Unread.{unread_among}
 use Rattle.nextest_config_command.proofs.files.read_sources.Goals as goal
 
@@ -12,7 +12,7 @@ pub loop-source-preserved : goal.loop-source-preserved
 loop-source-preserved g c =
     let source = c.source-item.result in
     let more : map file_of c.push_file.new.read.items ≡ map file_of c.loop-source.read.items ++ file_if (place_of source) (option_map vec_items c.in_ok-contents.contents) = search rules in
-    rw (more_mapped place_of c.args.sources.now c.loop-source.source-index source c.loop-source-test.true c.source-item.is, more)
+    rw (map_more place_of c.args.sources.now c.loop-source.source-index source c.loop-source-test.true, ← c.source-item.is, more)
     (one_more_in_turn (IsReadAt (g.F.Files.holds c.args.files.now)) _ (place_of source) _ _ c.loop-source.invariant c.in_ok-contents.ensures.read)
 
 pub returns-in_err-contents-clause-unread : goal.returns-in_err-contents-clause-unread
