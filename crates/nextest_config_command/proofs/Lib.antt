@@ -1,5 +1,3 @@
 pub mod CutShort
 pub mod InTurn
-pub mod Statuses
 pub mod Told
-pub mod Unread

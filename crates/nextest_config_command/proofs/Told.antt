@@ -1,6 +1,6 @@
 -- Findings that are told behind others.
-use Rattle.std.proofs.Common.{◌≡◌, Bool, ◌||◌, List, [], ◌∷◌, ◌++◌, ℕ, append_assoc, append-nil, string_bytes, sym}
-use Rattle.std.proofs.Math.Bool.{or_assoc, or-false}
+use Rattle.std.proofs.Common.{Bool, List, [], ◌∷◌, ◌++◌, ℕ, append_assoc}
+use Rattle.std.proofs.Math.Bool.{or_assoc}
 use Rattle.std.proofs.lemmas.Grind.{flat_map-append}
 use Rattle.std.proofs.lemmas.List.Folds.{list_any-append}
 use Rattle.nextest_config_sources.specs.declared.nextest_version.edition.Edition.{Edition}
@@ -9,13 +9,6 @@ use Rattle.nextest_config_command.specs.LintLines.{AddsFound, AddsTold, AreToldB
 use Rattle.nextest_config_command.proofs.InTurn.{one_more_in_turn}
 use Rattle.nextest_config_command.specs.declared.lint_lines.Format.{Format}
 use Rattle.nextest_config_command.specs.declared.lint_lines.Lint.{Lint}
-
-pub adds_none : (format : Format) (lint : Lint) → AddsTold format [] lint lint
-adds_none format lint = record {
-  text = sym (append-nil (string_bytes lint.text));
-  errors = sym (or-false lint.has_error);
-  warnings = sym (or-false lint.has_warning);
-}
 
 pub told_both : (format : Format) (xs ys : List AtPath) (before : List ℕ) (error warning : Bool) (between now : Lint)
     → AreToldBehind format xs before error warning between → AddsTold format ys between now → AreToldBehind format (xs ++ ys) before error warning now
