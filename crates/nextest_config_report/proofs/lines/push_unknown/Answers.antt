@@ -1,14 +1,13 @@
-use Rattle.std.proofs.Common.{string_bytes, rules}
+use Rattle.std.proofs.Common.{rules, string_bytes}
+use Rattle.std.proofs.lemmas.List.{flat_map_more, map_push}
 use Rattle.std.proofs.lemmas.Iterator.Consumers.{YieldsList-end, YieldsList-from_first}
 use Rattle.nextest_config.specs.NextestVersion.{errors_left, told_by}
 use Rattle.nextest_config_report.specs.Lines.{unknown_line}
-use Rattle.nextest_config_report.proofs.LinesInRow.{one_more_line}
 use Rattle.nextest_config_report.proofs.lines.push_unknown.Goals as goal
 
 pub loop-source-preserved : goal.loop-source-preserved
 loop-source-preserved c =
-    one_more_line unknown_line told_by (string_bytes c.args.text.now) (string_bytes c.loop-source.text) (string_bytes c.writeln.new.self)
-    c.loop-source.yielded (c.in-Some.source, c.in-Some.names) c.loop-source.invariant (search rules)
+    rw (map_push told_by c.loop-source.yielded (c.in-Some.source, c.in-Some.names), ← flat_map_more unknown_line (string_bytes c.args.text.now), ← c.loop-source.invariant) (search rules)
 
 pub returns : goal.returns
 returns c =
