@@ -1,3 +1,2 @@
 pub mod CutShort
 pub mod InTurn
-pub mod Told
