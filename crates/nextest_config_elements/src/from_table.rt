@@ -11,7 +11,7 @@ use std::alloc::Global;
 use toml::{Table, Value};
 
 // A type that is read from a table.
-pub trait FromTable: Sized {
+pub(crate) trait FromTable: Sized {
     // What is seen of a Self.
     ghost Seen: { Type 0 };
 
@@ -27,7 +27,7 @@ pub trait FromTable: Sized {
 }
 
 // Reads a value that is to be a table; `expected` names what the setting takes.
-pub fn read_set<T: FromTable>(
+pub(crate) fn read_set<T: FromTable>(
     alloc: Global,
     value: &Value,
     at: &str,
