@@ -8,8 +8,11 @@ use Rattle.nextest_config_report.proofs.lines.push_arrays.Goals as goal
 
 pub loop-source-preserved : goal.loop-source-preserved
 loop-source-preserved c =
-    rw (map_push (λ source. place_of source.now) c.loop-source.yielded c.in-Some.source,
-        ← flat_map_more array_line (string_bytes c.args.text.now), ← c.loop-source.invariant)
+    rw (
+      map_push (λ source. place_of source.now) c.loop-source.yielded c.in-Some.source,
+      ← flat_map_more array_line (string_bytes c.args.text.now),
+      ← c.loop-source.invariant,
+    )
     c.in_ok-writeln.ensures.bytes
 
 pub returns : goal.returns

@@ -7,8 +7,11 @@ use Rattle.nextest_config_report.proofs.lines.push_unknown.Goals as goal
 
 pub loop-source-preserved : goal.loop-source-preserved
 loop-source-preserved c =
-    rw (map_push told_by c.loop-source.yielded (c.in-Some.source, c.in-Some.names),
-        ← flat_map_more unknown_line (string_bytes c.args.text.now), ← c.loop-source.invariant)
+    rw (
+      map_push told_by c.loop-source.yielded (c.in-Some.source, c.in-Some.names),
+      ← flat_map_more unknown_line (string_bytes c.args.text.now),
+      ← c.loop-source.invariant,
+    )
     (search rules)
 
 pub returns : goal.returns
