@@ -3,7 +3,7 @@
 ghost use Rattle.std.specs.Prelude.{◌≡◌, ◌↔◌, ℕ, ◌<◌, ◌≤◌, ◌^◌, ℤ, ◌<ℤ◌, IsTrue, List};
 ghost use Rattle.std.specs.Ordering.{MatchOrdering};
 ghost use Rattle.nextest_config_values.specs.Equality.{IsCopy, IsEquality, IsEqualityBy};
-ghost use Rattle.nextest_config_values.specs.Helpers.Paths.{relative_path_reading};
+ghost use Rattle.nextest_config_values.specs.Helpers.PathsLaws.{relative_path_reading};
 ghost use Rattle.nextest_config_values.specs.Once.{IsJudgedOnce};
 ghost use Rattle.nextest_config_values.specs.Read.{IsReading};
 ghost use Rattle.nextest_config_elements.specs.LeakTimeout.{leak_timeout_reading};

@@ -1,4 +1,5 @@
 pub mod Characters
+pub mod Decisions
 pub mod Duration
 pub mod Equality
 pub mod Helpers

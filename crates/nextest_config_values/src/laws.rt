@@ -65,7 +65,7 @@ pub fn law_same_normal_form()
 
 /// No text is spelled by two lists of items, wherever white space stands; none has two durations,
 /// two faults as one, or both.
-#[tactic(auto, using(crate::specs::Duration::Laws::one_spelling, crate::specs::Duration::Laws::durations_judged_once))]
+#[tactic(auto, using(crate::specs::Duration::Laws::one_spelling, crate::specs::Duration::Judged::durations_judged_once))]
 pub fn law_duration_once()
     ensures one_spelling { (text : List ℕ) (items others : List Item)
         → Spells items text → Spells others text → items ≡ others }

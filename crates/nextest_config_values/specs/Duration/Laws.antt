@@ -8,12 +8,7 @@ use Rattle.std.specs.Cmp.Lexicographic.{pointwise, same_text}
 use Rattle.std.specs.Duration.{FitsDuration}
 use Rattle.std.specs.List.{AllByRecursion}
 use Rattle.std.specs.Str.Parse.{digits_value}
-use Rattle.toml.specs.Data.{Data, as_str}
 use Rattle.nextest_config_values.specs.Duration.Grammar.{AreAll, BeginsWith, EndsWith, IsDuration, IsDurationFault, IsEndFault, IsFaultBehind, IsFront, IsItemText, IsLongestFront, IsNext, IsNextFault, IsRun, IsUncut, Item, Spells, is_in_word, length_in, offset, total, unit_length, units}
-use Rattle.nextest_config_values.specs.Once.{IsJudgedOnce}
-use Rattle.nextest_config_values.specs.Read.Fault.{wrong_value}
-use Rattle.nextest_config_values.specs.Read.FromToml.{Reading}
-use Rattle.nextest_config_values.specs.Read.Readings.{kind, one_that, wrong_kind}
 use Rattle.nextest_config_values.specs.declared.duration.DurationFault.{DurationFault}
 
 -- ---- characters
@@ -432,25 +427,3 @@ never_duration_and_fault text nanoseconds fault d (front, behind, items, longest
     no_fault_behind front behind items fault (omega (arith, long, all))
     (λ e. d.some (sym items_are ∙ e))
     (subst FitsDuration (sym (ap total items_are ∙ d.sum)) d.sum_fits) told
-
-pub durations_judged_once : IsJudgedOnce IsDuration IsDurationFault
-durations_judged_once = record {
-  one_meaning = one_duration;
-  one_fault = one_duration_fault;
-  never_both = never_duration_and_fault;
-}
-
--- ---- the reading
-
--- what a refusal expects
-abbrev pub duration_expected : List ℕ
-duration_expected = codes "a duration"
-
--- a text that is a duration
-abbrev pub duration_in : List ℕ → Reading Data ℕ
-duration_in held = one_that (IsDuration held) (one_duration held)
-    (λ value at. wrong_value value at duration_expected)
-
--- that many nanoseconds
-abbrev pub duration_reading : Reading Data ℕ
-duration_reading = kind as_str duration_in (wrong_kind duration_expected)

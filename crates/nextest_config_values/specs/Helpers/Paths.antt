@@ -1,8 +1,9 @@
 -- Relative paths, and the join of two paths.
 use Rattle.std.specs.Prelude.{◌≡◌, ℕ, ◌==◌, Bool, false, List, [], ◌∷◌, ◌++◌, reverse, codes, if◌then◌else◌, ◌⊎◌}
-use Rattle.std.proofs.Common.{sym, ◌∙◌}
+use Rattle.std.proofs.Common.{inl, inr, refl, sym, ◌∙◌}
 use Rattle.toml.specs.Data.{Data, as_str}
 use Rattle.nextest_config_values.specs.Characters.{slash}
+use Rattle.nextest_config_values.specs.Decisions.{IsDecided, IsFoundOrNone}
 use Rattle.nextest_config_values.specs.Read.Fault.{wrong_value}
 use Rattle.nextest_config_values.specs.Read.FromToml.{Reading}
 use Rattle.nextest_config_values.specs.Read.Plain.{text_expected}
@@ -27,15 +28,6 @@ pub record HasParentSegment (text : List ℕ) : Type 0 where
 -- the text doesn't begin with a slash, and no segment of it is `..`
 abbrev pub IsRelativePath : List ℕ → Type 0
 IsRelativePath text = ¬ (BeginsWithSlash text) × ¬ (HasParentSegment text)
-
--- a text that is a relative path, as it is written
-abbrev pub relative_path_in : List ℕ → Reading Data (List ℕ)
-relative_path_in held =
-    in_memory (one_that (λ path. (path ≡ held) × IsRelativePath held) (λ x y a b. a.0 ∙ sym b.0)
-    (λ value at. wrong_value value at (codes "a relative path with no parent components")))
-
-abbrev pub relative_path_reading : Reading Data (List ℕ)
-relative_path_reading = kind as_str relative_path_in (wrong_kind text_expected)
 
 -- ---- the join of two paths, by the rules of Unix
 

@@ -1,21 +1,23 @@
 -- The laws of identifiers and tool names.
 use Rattle.std.proofs.Common.{◌≡◌, ◌≢◌, ℕ, true, false, List, [], ◌∷◌, ◌++◌, drop, refl, sym, ap, ◌∙◌, subst, inl, inr, lit<, rules}
-use Rattle.std.specs.Prelude.{Bool}
+use Rattle.std.specs.Prelude.{Bool, ◌⊎◌, codes}
 use Rattle.std.specs.List.{AllByRecursion}
 use Rattle.toml.specs.Data.{Data, as_str}
 use Rattle.unicode_ident.proofs.IdentLemmas.{is_xid_continue-ascii, is_xid_start-ascii}
 use Rattle.unicode_ident.specs.Ident.{is_xid_start}
 use Rattle.nextest_config_values.specs.Helpers.Identifiers.{GoesOn, IsPlainFlaw, IsPlainIdentifier}
-use Rattle.nextest_config_values.specs.Identifier.ConfigIdentifier.{AreFlawed, HasNoColon, IsCutAtColon, IsIdentifierFlaw, IsIdentifierForm, IsMarkedPair, tool_mark}
+use Rattle.nextest_config_values.specs.Identifier.ConfigIdentifier.{AreFlawed, HasNoColon, IsCutAtColon, IsIdentifierFlaw, IsIdentifierForm, IsMarkedPair, IsUnmarked, tool_mark}
 use Rattle.nextest_config_values.specs.Identifier.Error.{Component, IdentifierFlaw, NameFault, OneComponent, ToolNameFlaw, Whole, flawed}
-use Rattle.nextest_config_values.specs.Identifier.Normal.{IsNormalFault, IsNormalText, normal_chars}
+use Rattle.nextest_config_values.specs.Identifier.Normal.{IsNormalFault, IsNormalText, normal_chars, normal_form}
 use Rattle.nextest_config_values.specs.Identifier.ToolName.{IsToolNameFlaw}
-use Rattle.nextest_config_values.specs.Once.{IsJudgedOnce}
+use Rattle.nextest_config_values.specs.Decisions.{both_decided, IsDecided, IsFoundOrNone, same_decided, true_decided}
+use Rattle.nextest_config_values.specs.Once.{IsJudged, IsJudgedOnce}
 use Rattle.nextest_config_values.specs.Read.Fault.{Reason, fault_at, identifier, tool_name}
 use Rattle.nextest_config_values.specs.Read.FromToml.{Reading}
 use Rattle.nextest_config_values.specs.Read.Plain.{text_expected}
 use Rattle.nextest_config_values.specs.Read.Readings.{kind, wrong_kind}
 use Rattle.nextest_config_values.specs.declared.helpers.identifiers.InvalidIdentifierKind.{InvalidIdentifierKind}
+use Rattle.nextest_config_values.specs.declared.helpers.identifiers.InvalidIdentifierKind.TheVariants as kinds
 use Rattle.nextest_config_values.specs.declared.identifier.error.ToolNameFlaw.TheVariants as of_names
 
 -- ---- characters
@@ -132,11 +134,126 @@ pub tool_name_not_flawed : (cs : List ℕ) (f : ToolNameFlaw) → IsPlainIdentif
 tool_name_not_flawed cs of_names.StartsWithToolPrefix h a = plain_no_at_sign cs _ h a.1
 tool_name_not_flawed cs f h a = search rules
 
+-- ---- each text is of the form, or flawed
+
+goes_on_decided : (cs : List ℕ) → IsDecided (AllByRecursion GoesOn cs)
+goes_on_decided [] = inl tt
+goes_on_decided (c ∷ cs) = both_decided (true_decided _) (goes_on_decided cs)
+
+pub plain_decided : (cs : List ℕ) → IsDecided (IsPlainIdentifier cs)
+plain_decided [] = inr (λ h. h)
+plain_decided (c ∷ cs) = both_decided (true_decided _) (goes_on_decided cs)
+
+plain_or_flawed : (cs : List ℕ)
+    → IsPlainIdentifier cs ⊎ ((kind : InvalidIdentifierKind) × IsPlainFlaw cs kind)
+plain_or_flawed [] = inr (kinds.Empty, refl)
+plain_or_flawed (c ∷ cs) = elim (plain_decided (c ∷ cs)) [
+  inl plain ↦ inl plain
+  | inr not_plain ↦ inr (kinds.InvalidXid, ((λ none. cc none), not_plain))
+]
+
+-- each text has a colon or none
+pub cut_or_none : (cs : List ℕ)
+    → ((before after : List ℕ) × IsCutAtColon cs before after) ⊎ HasNoColon cs
+cut_or_none [] = inr tt
+cut_or_none (c ∷ cs) = elim (same_decided c 58) [
+  inl is ↦ inl ([], cs, record { cut = ap (λ x. x ∷ cs) is; first = tt })
+  | inr not ↦ elim (cut_or_none cs) [
+    inl (before, after, found) ↦ inl (
+      c ∷ before,
+      after,
+      record { cut = ap (λ rest. c ∷ rest) found.cut; first = (not, found.first) },
+    )
+    | inr none ↦ inr (not, none)
+  ]
+]
+
+-- a text begins with the other, or doesn't
+begins_or_not : (mark cs : List ℕ) → IsFoundOrNone (λ rest. cs ≡ mark ++ rest)
+begins_or_not [] cs = inl (cs, refl)
+begins_or_not (m ∷ mark) [] = inr (λ rest whole. cc whole)
+begins_or_not (m ∷ mark) (c ∷ cs) = elim (same_decided c m) [
+  inl is ↦ elim (begins_or_not mark cs) [
+    inl (rest, whole) ↦ inl (rest, cc (is, whole))
+    | inr none ↦ inr (λ rest whole. none rest (cc whole))
+  ]
+  | inr not ↦ inr (λ rest whole. not (cc whole))
+]
+
+components_judged : (cs rest tool name : List ℕ) → cs ≡ tool_mark ++ rest
+    → IsCutAtColon rest tool name
+    → IsIdentifierForm cs ⊎ ((f : IdentifierFlaw) × IsIdentifierFlaw cs f)
+components_judged cs rest tool name marked cut = elim (plain_or_flawed tool) [
+  inl tool_plain ↦ elim (plain_or_flawed name) [
+    inl name_plain ↦ inl (inr (tool, name, record {
+      marked = marked ∙ ap (λ t. tool_mark ++ t) cut.cut;
+      tool_is_plain = tool_plain;
+      name_is_plain = name_plain;
+    }))
+    | inr (kind, wrong) ↦ inr (Component kind,
+        (rest, tool, name, marked, cut, inr (tool_plain, wrong)))
+  ]
+  | inr (kind, wrong) ↦ inr (Component kind, (rest, tool, name, marked, cut, inl wrong))
+]
+
+marked_judged : (cs rest : List ℕ) → cs ≡ tool_mark ++ rest
+    → IsIdentifierForm cs ⊎ ((f : IdentifierFlaw) × IsIdentifierFlaw cs f)
+marked_judged cs rest marked = elim (cut_or_none rest) [
+  inl (tool, name, cut) ↦ components_judged cs rest tool name marked cut
+  | inr none ↦ inr (OneComponent, (rest, marked, none))
+]
+
+unmarked_judged : (cs : List ℕ) → IsUnmarked cs
+    → IsIdentifierForm cs ⊎ ((f : IdentifierFlaw) × IsIdentifierFlaw cs f)
+unmarked_judged cs unmarked = elim (plain_or_flawed cs) [
+  inl plain ↦ inl (inl plain)
+  | inr (kind, wrong) ↦ inr (Whole kind, (unmarked, wrong))
+]
+
+pub identifier_judged : (cs : List ℕ)
+    → IsIdentifierForm cs ⊎ ((f : IdentifierFlaw) × IsIdentifierFlaw cs f)
+identifier_judged cs = elim (begins_or_not tool_mark cs) [
+  inl (rest, marked) ↦ marked_judged cs rest marked
+  | inr unmarked ↦ unmarked_judged cs unmarked
+]
+
+tool_name_flaw : (cs : List ℕ) → ¬ IsPlainIdentifier cs → IsFoundOrNone (λ rest. cs ≡ codes "@tool" ++ rest)
+    → (f : ToolNameFlaw) × IsToolNameFlaw cs f
+tool_name_flaw cs not_plain (inl marked) = (of_names.StartsWithToolPrefix, marked)
+tool_name_flaw [] not_plain (inr unmarked) = (of_names.Empty, refl)
+tool_name_flaw (c ∷ cs) not_plain (inr unmarked) =
+    (of_names.InvalidXid, ((λ none. cc none), (λ marked. unmarked marked.0 marked.1), not_plain))
+
+pub tool_name_judged : (cs : List ℕ)
+    → IsPlainIdentifier cs ⊎ ((f : ToolNameFlaw) × IsToolNameFlaw cs f)
+tool_name_judged cs = elim (plain_decided cs) [
+  inl plain ↦ inl plain
+  | inr not_plain ↦ inr (tool_name_flaw cs not_plain (begins_or_not (codes "@tool") cs))
+]
+
 -- ---- texts that are kept in their normal form
 
+pub named_fault : {X Flaw : Type 0} {means : X → Type 0} {is_fault : NameFault Flaw → Type 0}
+    (at : List ℕ) (reason : NameFault Flaw → Reason) → IsJudged means is_fault
+    → IsJudged means (λ fault. (told : NameFault Flaw) × is_fault told
+    × (fault ≡ fault_at at (reason told)))
+named_fault at reason (inl meant) = inl meant
+named_fault at reason (inr (told, wrong)) = inr (fault_at at (reason told), (told, wrong, refl))
+
 module _ {Flaw : Type 0} (IsInGrammar : List ℕ → Type 0) (IsFlaw : List ℕ → Flaw → Type 0)
+    (judged : (cs : List ℕ) → IsInGrammar cs ⊎ ((f : Flaw) × IsFlaw cs f))
     (one_flaw : (cs : List ℕ) (f g : Flaw) → IsFlaw cs f → IsFlaw cs g → f ≡ g)
     (not_flawed : (cs : List ℕ) (f : Flaw) → IsInGrammar cs → IsFlaw cs f → ⊥) where
+  form_or_flaw : (text : List ℕ)
+      → IsInGrammar (normal_chars text) ⊎ ((f : Flaw) × IsFlaw (normal_chars text) f)
+      → IsJudged (IsNormalText IsInGrammar text) (IsNormalFault IsFlaw text)
+  form_or_flaw text (inl form) = inl (normal_form text, (form, refl))
+  form_or_flaw text (inr (flaw, wrong)) = inr (flawed flaw (normal_form text), (wrong, refl))
+
+  pub judged_normal : (text : List ℕ)
+      → IsJudged (IsNormalText IsInGrammar text) (IsNormalFault IsFlaw text)
+  judged_normal text = form_or_flaw text (judged (normal_chars text))
+
   pub one_normal_fault : (text : List ℕ) (r s : NameFault Flaw) → IsNormalFault IsFlaw text r
       → IsNormalFault IsFlaw text s → r ≡ s
   one_normal_fault text (flawed f x) (flawed g y) a b =
@@ -148,6 +265,7 @@ module _ {Flaw : Type 0} (IsInGrammar : List ℕ → Type 0) (IsFlaw : List ℕ 
 
   pub names_judged_once : IsJudgedOnce (IsNormalText IsInGrammar) (IsNormalFault IsFlaw)
   names_judged_once = record {
+    judged = judged_normal;
     one_meaning = λ text m n a b. a.1 ∙ sym b.1;
     one_fault = one_normal_fault;
     never_both = no_normal_fault;
@@ -161,6 +279,7 @@ module _ {Flaw : Type 0} (IsInGrammar : List ℕ → Type 0) (IsFlaw : List ℕ 
         × (fault ≡ fault_at at (reason told));
     takes_memory = λ value. Unit {0};
     law = record {
+      judged = λ value at. named_fault at reason (judged_normal text);
       one_meaning = λ value x y a b. a.1 ∙ sym b.1;
       one_fault = λ value at f g a b. a.2
           ∙ ap (λ r. fault_at at (reason r)) (one_normal_fault text a.0 b.0 a.1 b.1) ∙ sym b.2;
@@ -174,20 +293,20 @@ module _ {Flaw : Type 0} (IsInGrammar : List ℕ → Type 0) (IsFlaw : List ℕ 
 pub identifiers_judged_once : IsJudgedOnce (IsNormalText IsIdentifierForm)
     (IsNormalFault IsIdentifierFlaw)
 identifiers_judged_once =
-    names_judged_once IsIdentifierForm IsIdentifierFlaw one_identifier_flaw identifier_not_flawed
+    names_judged_once IsIdentifierForm IsIdentifierFlaw identifier_judged one_identifier_flaw identifier_not_flawed
 
 pub tool_names_judged_once : IsJudgedOnce (IsNormalText IsPlainIdentifier)
     (IsNormalFault IsToolNameFlaw)
 tool_names_judged_once =
-    names_judged_once IsPlainIdentifier IsToolNameFlaw one_tool_name_flaw tool_name_not_flawed
+    names_judged_once IsPlainIdentifier IsToolNameFlaw tool_name_judged one_tool_name_flaw tool_name_not_flawed
 
 -- an identifier
 abbrev pub identifier_reading : Reading Data (List ℕ)
 identifier_reading =
-    name_reading IsIdentifierForm IsIdentifierFlaw one_identifier_flaw identifier_not_flawed
+    name_reading IsIdentifierForm IsIdentifierFlaw identifier_judged one_identifier_flaw identifier_not_flawed
     identifier
 
 -- a tool name
 abbrev pub tool_name_reading : Reading Data (List ℕ)
-tool_name_reading = name_reading IsPlainIdentifier IsToolNameFlaw one_tool_name_flaw
+tool_name_reading = name_reading IsPlainIdentifier IsToolNameFlaw tool_name_judged one_tool_name_flaw
     tool_name_not_flawed tool_name

@@ -1,12 +1,14 @@
 -- What a reader of TOML values is: what values mean, what is wrong with them, and how it refuses.
 use Rattle.std.specs.Prelude.{◌≡◌, ◌⊎◌, ℕ, List}
+use Rattle.nextest_config_values.specs.Once.{IsJudged}
 use Rattle.nextest_config_values.specs.Read.Fault.{Fault, Refuses}
 use Rattle.nextest_config_values.specs.declared.read.fault.ReadFault.{ReadFault}
 
--- no value has two results, two faults at one path, or a result and a fault; running out of memory
--- is no fault
+-- each value has one result and no fault, or no result and one fault at each path; running out of
+-- memory is no fault
 pub record IsReading {D X : Type 0} (means : D → X → Type 0) (faults : D → List ℕ → Fault → Type 0)
     : Type 0 where
+  pub judged : (value : D) (at : List ℕ) → IsJudged (means value) (faults value at)
   pub one_meaning : (value : D) (x y : X) → means value x → means value y → x ≡ y
   pub one_fault : (value : D) (at : List ℕ) (f g : Fault) → faults value at f → faults value at g
       → f ≡ g

@@ -1,6 +1,8 @@
 -- The readings of plain values.
-use Rattle.std.specs.Prelude.{◌≡◌, ℕ, ◌<◌, ◌^◌, ℤ, pos, Bool, List, codes}
+use Rattle.std.specs.Prelude.{◌≡◌, ℕ, ◌<◌, ◌^◌, ℤ, pos, negsuc, Bool, List, codes}
+use Rattle.std.proofs.Common.{inl, inr, refl, subst}
 use Rattle.toml.specs.Data.{Data, as_bool, as_integer, as_str}
+use Rattle.nextest_config_values.specs.Decisions.{below_decided, both_decided, IsDecided, IsFoundOrNone}
 use Rattle.nextest_config_values.specs.Read.Fault.{wrong_value}
 use Rattle.nextest_config_values.specs.Read.FromToml.{Reading}
 use Rattle.nextest_config_values.specs.Read.Readings.{in_memory, kind, one_that, only, wrong_kind}
@@ -27,24 +29,44 @@ pub one_number : (IsIn : ℕ → Type 0) (held : ℤ) (x y : ℕ) → MeansNumbe
     → MeansNumber IsIn held y → x ≡ y
 one_number IsIn held x y a b = cc (a.0, b.0)
 
--- an integer of the range
-abbrev pub in_range : (ℕ → Type 0) → List ℕ → ℤ → Reading Data ℕ
-in_range IsIn expected held = one_that (MeansNumber IsIn held) (one_number IsIn held)
-    (λ value at. wrong_value value at expected)
+in_or_out : (IsIn : ℕ → Type 0) (number : ℕ) → IsDecided (IsIn number)
+    → IsFoundOrNone (MeansNumber IsIn (pos number))
+in_or_out IsIn number (inl within) = inl (number, (refl, within))
+in_or_out IsIn number (inr outside) = inr (λ x meant. outside (subst IsIn (cc meant.0) meant.1))
 
-abbrev pub number_reading : (ℕ → Type 0) → List ℕ → Reading Data ℕ
-number_reading IsIn expected = kind as_integer (in_range IsIn expected) (wrong_kind expected)
+pub number_or_none : (IsIn : ℕ → Type 0) → ((number : ℕ) → IsDecided (IsIn number)) → (held : ℤ)
+    → IsFoundOrNone (MeansNumber IsIn held)
+number_or_none IsIn decided (pos number) = in_or_out IsIn number (decided number)
+number_or_none IsIn decided (negsuc below) = inr (λ x meant. cc meant.0)
+
+-- an integer of the range
+abbrev pub in_range : (IsIn : ℕ → Type 0) → ((number : ℕ) → IsDecided (IsIn number)) → List ℕ → ℤ
+    → Reading Data ℕ
+in_range IsIn decided expected held = one_that (MeansNumber IsIn held) (one_number IsIn held)
+    (number_or_none IsIn decided held) (λ value at. wrong_value value at expected)
+
+abbrev pub number_reading : (IsIn : ℕ → Type 0) → ((number : ℕ) → IsDecided (IsIn number)) → List ℕ
+    → Reading Data ℕ
+number_reading IsIn decided expected =
+    kind as_integer (in_range IsIn decided expected) (wrong_kind expected)
 
 -- the number fits a u32
 abbrev pub IsU32 : ℕ → Type 0
 IsU32 number = number < 2 ^ 32
 
+pub u32_decided : (number : ℕ) → IsDecided (IsU32 number)
+u32_decided number = below_decided number (2 ^ 32)
+
 abbrev pub u32_reading : Reading Data ℕ
-u32_reading = number_reading IsU32 (codes "u32")
+u32_reading = number_reading IsU32 u32_decided (codes "u32")
 
 -- a count is from 1 to the greatest usize
 abbrev pub IsCount : ℕ → Type 0
 IsCount number = (0 < number) × (number < 2 ^ 64)
 
+pub count_decided : (number : ℕ) → IsDecided (IsCount number)
+count_decided number =
+    both_decided (below_decided 0 number) (below_decided number (2 ^ 64))
+
 abbrev pub count_reading : Reading Data ℕ
-count_reading = number_reading IsCount (codes "a nonzero usize")
+count_reading = number_reading IsCount count_decided (codes "a nonzero usize")

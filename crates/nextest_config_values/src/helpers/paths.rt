@@ -2,7 +2,8 @@
 
 ghost use Rattle.std.specs.Prelude.{◌≡◌, ◌↔◌, IfErr, IfOk, IsTrue, string_bytes};
 ghost use Rattle.toml.specs.View.{view};
-ghost use Rattle.nextest_config_values.specs.Helpers.Paths.{IsRelativePath, joined_path, relative_path_reading};
+ghost use Rattle.nextest_config_values.specs.Helpers.Paths.{IsRelativePath, joined_path};
+ghost use Rattle.nextest_config_values.specs.Helpers.PathsLaws.{relative_path_reading};
 ghost use Rattle.nextest_config_values.specs.Read.{RefusesBy};
 
 use crate::read::{FromToml, ReadFault};

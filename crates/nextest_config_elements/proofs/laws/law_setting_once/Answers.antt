@@ -1,4 +1,4 @@
-use Rattle.nextest_config_values.specs.Helpers.Paths.{relative_path_reading}
+use Rattle.nextest_config_values.specs.Helpers.PathsLaws.{relative_path_reading}
 use Rattle.nextest_config_elements.specs.LeakTimeout.{leak_timeout_reading}
 use Rattle.nextest_config_elements.specs.MaxFail.{fail_fast_reading}
 use Rattle.nextest_config_elements.specs.RetryPolicy.{retry_policy_reading}

@@ -2,7 +2,8 @@ use Rattle.std.proofs.Common.{◌≡◌, ℕ, List, Some, refl, rules, string_by
 use Rattle.toml.specs.Data.{Data, as_str}
 use Rattle.toml.specs.View.{view}
 use Rattle.nextest_config_values.proofs.Faults.{refused_by}
-use Rattle.nextest_config_values.specs.Helpers.Paths.{IsRelativePath, relative_path_in}
+use Rattle.nextest_config_values.specs.Helpers.Paths.{IsRelativePath}
+use Rattle.nextest_config_values.specs.Helpers.PathsLaws.{relative_path_in}
 use Rattle.nextest_config_values.specs.Read.{text_reading}
 use Rattle.nextest_config_values.proofs.helpers.paths.deserialize_relative_path.Goals as goal
 

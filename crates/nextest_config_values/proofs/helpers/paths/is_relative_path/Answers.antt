@@ -3,8 +3,8 @@ use Rattle.std.proofs.lemmas.Iterator.{cases_from_all}
 use Rattle.std.proofs.lemmas.Str.{encode_ascii}
 use Rattle.std.proofs.lemmas.Iterator.Splits.{YieldsList-from_str_split}
 use Rattle.nextest_config_values.proofs.Elements.{decided_all}
-use Rattle.nextest_config_values.proofs.Paths.{segments, tells_no_parent}
 use Rattle.nextest_config_values.specs.Helpers.Paths.{BeginsWithSlash}
+use Rattle.nextest_config_values.specs.Helpers.PathsLaws.{segments, tells_no_parent}
 use Rattle.nextest_config_values.proofs.helpers.paths.is_relative_path.Goals as goal
 
 pub returns-then-not-starts_with : goal.returns-then-not-starts_with
