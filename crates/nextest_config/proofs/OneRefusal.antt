@@ -1,8 +1,8 @@
--- A list of sources has one first refused position, with one error.
-use Rattle.std.proofs.Common.{◌≡◌, ℕ, List, [], ◌∷◌, ◌++◌, length, refl, sym, ap, ◌∙◌, subst}
+-- A list of sources reads, or has one first refused position, with one error.
+use Rattle.std.proofs.Common.{◌≡◌, ◌⊎◌, ℕ, suc, List, [], ◌∷◌, ◌++◌, length, refl, sym, ap, ◌∙◌, subst, inl, inr}
 use Rattle.nextest_config_sources.specs.NextestVersion.Source.{Source}
 use Rattle.nextest_config.specs.NextestVersion.{AreRead, IsFirstRefused, IsReadAs, IsRefused, Reads, Refusal, SourceAsk}
-use Rattle.nextest_config.specs.NextestVersion.VersionOnlyLaws.{one_error, read_not_refused}
+use Rattle.nextest_config.specs.NextestVersion.VersionOnlyLaws.{one_error, read_not_refused, read_or_refused}
 use Rattle.nextest_config_lists.proofs.Lists.{zip_middle}
 
 pub none_refused : (before : List Source) (source : Source) (after : List Source) (asked : List SourceAsk) (refusal : Refusal) → AreRead (before ++ (source ∷ after)) asked → IsRefused source refusal → ⊥
@@ -35,3 +35,31 @@ refusal_once sources i k refusal other first also =
       sym first.place ∙ ap length found.0 ∙ also.place,
       one_error also.source refusal other (subst (λ (s : Source). IsRefused s refusal) found.1 first.refused) also.refused,
     )
+
+-- ---- one of both
+
+pub reads_not_refused : (sources : List Source) (position : ℕ) (refusal : Refusal) → Reads sources → IsFirstRefused sources position refusal → ⊥
+reads_not_refused sources position refusal (asked, read) first =
+    none_refused first.before first.source first.after asked refusal (subst (λ (all : List Source). AreRead all asked) first.whole read) first.refused
+
+refused_behind : (source : Source) (a : SourceAsk) (sources : List Source) (position : ℕ) (refusal : Refusal) → IsReadAs source a → IsFirstRefused sources position refusal
+    → IsFirstRefused (source ∷ sources) (suc position) refusal
+refused_behind source a sources position refusal read first = record {
+  before = source ∷ first.before;
+  source = first.source;
+  after = first.after;
+  whole = ap (λ rest. source ∷ rest) first.whole;
+  place = ap suc first.place;
+  read = (a ∷ first.read.0, (read, first.read.1));
+  refused = first.refused;
+}
+
+pub reads_or_refused : (sources : List Source) → Reads sources ⊎ ((position : ℕ) × (refusal : Refusal) × IsFirstRefused sources position refusal)
+reads_or_refused [] = inl ([], tt)
+reads_or_refused (source ∷ sources) = elim (read_or_refused source) [
+  | inl (a, read) ↦ elim (reads_or_refused sources) [
+    | inl (asked, all) ↦ inl (a ∷ asked, (read, all))
+    | inr (position, refusal, first) ↦ inr (suc position, refusal, refused_behind source a sources position refusal read first)
+  ]
+  | inr (refusal, refused) ↦ inr (0, refusal, record { before = []; source = source; after = sources; whole = refl; place = refl; read = ([], tt); refused = refused })
+]

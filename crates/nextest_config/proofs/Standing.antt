@@ -16,7 +16,7 @@ use Rattle.nextest_config_sources.specs.NextestVersion.Source.{Source}
 use Rattle.nextest_config_lists.proofs.Lists.{zip_joined}
 use Rattle.nextest_config_values.proofs.Elements.{all_joined, all_weaker}
 use Rattle.nextest_config_sources.specs.declared.nextest_version.experimental.ConfigExperimental.{ConfigExperimental}
-use Rattle.nextest_config_sources.proofs.Members.{contains_cases, contains_first, contains_none}
+use Rattle.nextest_config_sources.specs.NextestVersion.SetLaws.{contains_cases, contains_first, contains_none}
 use Rattle.nextest_config.proofs.Orders.{has_feature_iff}
 
 -- ---- one role

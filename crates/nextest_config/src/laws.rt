@@ -1,6 +1,6 @@
 //! Laws of the definitions, for every value. They call nothing.
 
-ghost use Rattle.std.specs.Prelude.{◌≡◌, ◌≢◌, ◌↔◌, ◌+◌, ◌<◌, ◌++◌, [], ◌∷◌, ℕ, List, Bool, true, false, get_or, length, map, None, replicate, Some};
+ghost use Rattle.std.specs.Prelude.{◌≡◌, ◌≢◌, ◌↔◌, ◌⊎◌, ◌+◌, ◌<◌, ◌++◌, [], ◌∷◌, ℕ, List, Bool, true, false, get_or, length, map, None, replicate, Some};
 ghost use Rattle.std.specs.List.{AllByRecursion, AllZip};
 ghost use Rattle.std.specs.Ordering.{nat_cmp};
 ghost use Rattle.semver.specs.Parse.{Parts};
@@ -18,7 +18,7 @@ ghost use Rattle.nextest_config.specs.declared.nextest_version.version_only.Vers
 
 use crate::nextest_version::Severity;
 pub use nextest_config_lists::laws::law_halvings;
-pub use nextest_config_sources::laws::{law_enough, law_version_once};
+pub use nextest_config_sources::laws::{law_enough, law_source_once, law_version_once};
 
 /// The rank of severities that the laws of verdicts speak of is the order of `Severity`.
 #[tactic(auto, using(crate::proofs::Orders::by_rank))]
@@ -35,9 +35,14 @@ pub fn law_override()
         → IsOverriding (verdict roles current false) (verdict roles current true) }
 {}
 
-/// No list of sources has two first refused positions, and no refused source two errors.
+/// A list of sources reads, or has one first refused position, with one error, and never both.
 pub fn law_refusal_once()
-    ensures { (sources : List Source) (i k : ℕ) (refusal other : Refusal)
+    ensures judged { (sources : List Source)
+        → Reads sources ⊎ ((position : ℕ) × (refusal : Refusal)
+        × IsFirstRefused sources position refusal) }
+    ensures never_both { (sources : List Source) (position : ℕ) (refusal : Refusal)
+        → Reads sources → IsFirstRefused sources position refusal → ⊥ }
+    ensures one_refusal { (sources : List Source) (i k : ℕ) (refusal other : Refusal)
         → IsFirstRefused sources i refusal → IsFirstRefused sources k other
         → (i ≡ k) × (refusal ≡ other) }
 {}

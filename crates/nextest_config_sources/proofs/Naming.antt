@@ -29,7 +29,8 @@ use Rattle.nextest_config_sources.specs.declared.nextest_version.experimental.Co
 use Rattle.nextest_config_sources.specs.declared.nextest_version.experimental.ConfigExperimental.TheVariants as features
 use Rattle.nextest_config_values.proofs.Elements.{all_joined}
 use Rattle.nextest_config_sources.proofs.Features.{among_all_features, goes_on}
-use Rattle.nextest_config_sources.proofs.Members.{AreThoseOf, among_images, contains_first, contains_later, contains_none, none_in_order, one_that_fails, one_that_holds}
+use Rattle.nextest_config_sources.proofs.Members.{AreThoseOf, none_in_order, one_that_fails, one_that_holds}
+use Rattle.nextest_config_sources.specs.NextestVersion.SetLaws.{among_images, contains_first, contains_later, contains_none}
 
 -- ---- one more name
 

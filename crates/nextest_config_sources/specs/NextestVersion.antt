@@ -9,6 +9,7 @@ pub mod NextestVersionDeserialize
 pub mod ErrorKind
 pub mod Experimental
 pub mod ExperimentalDeserialize
+pub mod SetLaws
 pub mod ExperimentalLaws
 pub mod ExperimentalSteps
 pub mod VersionOnlyDeserialize

@@ -1,20 +1,38 @@
 //! Laws of the definitions, for every value. They call nothing.
 
-ghost use Rattle.std.specs.Prelude.{◌≡◌, ◌↔◌, ℕ, List};
+ghost use Rattle.std.specs.Prelude.{◌≡◌, ◌↔◌};
 ghost use Rattle.semver.specs.Parse.{Parts};
-ghost use Rattle.nextest_config_sources.specs.NextestVersion.{given_of, IsEnough, IsEnoughByNumbers, IsVersionText, Numbers, place_of, plain};
+ghost use Rattle.nextest_config_sources.specs.NextestVersion.{given_of, IsEnough, IsEnoughByNumbers, features_reading, HasVersion, IsVersionFault, IsWrong, Numbers, place_of, plain, TextAsks, versions_reading};
 ghost use Rattle.nextest_config_sources.specs.NextestVersion.Source.{repository_given, tool_given};
+ghost use Rattle.nextest_config_sources.specs.declared.nextest_version.edition.Edition.{Edition};
+ghost use Rattle.nextest_config_sources.specs.declared.nextest_version.source.ConfigSourceKind.{ConfigSourceKind};
 ghost use Rattle.nextest_config_values.specs.Equality.{IsCopy, IsEquality, IsEqualityBy};
+ghost use Rattle.nextest_config_values.specs.Once.{IsJudgedOnce};
+ghost use Rattle.nextest_config_values.specs.Read.{IsReading};
 
 use crate::nextest_version::{
     ConfigExperimental, ConfigSource, ConfigSourceKind, Edition, RepositoryText, SourceText,
     ToolText,
 };
 
-/// No text has two versions.
+/// Each text has one version and breaks no rule, or has none and breaks one.
+#[tactic(auto, using(crate::specs::NextestVersion::VersionTextLaws::versions_judged_once))]
 pub fn law_version_once()
-    ensures { (text : List ℕ) (m n : Numbers)
-        → IsVersionText text m → IsVersionText text n → m ≡ n }
+    ensures { IsJudgedOnce HasVersion IsVersionFault }
+{}
+
+/// Each value of `nextest-version` and of `experimental` means one thing and has no fault, or means
+/// nothing and has one fault at each path.
+pub fn law_setting_once()
+    ensures versions { IsReading versions_reading.means versions_reading.faults }
+    ensures features { IsReading features_reading.means features_reading.faults }
+{}
+
+/// Under either edition each source asks one thing and nothing is wrong with it, or asks nothing and
+/// one thing is wrong with it.
+pub fn law_source_once()
+    ensures { (edition : Edition) (kind : ConfigSourceKind)
+        → IsJudgedOnce (TextAsks edition kind) (IsWrong edition kind) }
 {}
 
 /// A current version is enough for the version of a text where its numbers are greater in order, or

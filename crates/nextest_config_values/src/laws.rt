@@ -9,31 +9,37 @@ ghost use Rattle.nextest_config_values.specs.declared.duration.DurationFault.{Du
 ghost use Rattle.nextest_config_values.specs.Equality.{IsCopy, IsEquality, IsEqualityBy, IsEqualityOfTold};
 ghost use Rattle.nextest_config_values.specs.Identifier.{identifier_fault, IdentifierFlaw, IsIdentifier, IsIdentifierFault, IsToolName, IsToolNameFault, NameFault, normal_chars, SameAnswers, tool_name_fault, ToolNameFlaw};
 ghost use Rattle.nextest_config_values.specs.Once.{IsJudgedOnce};
-ghost use Rattle.nextest_config_values.specs.Read.{broken_rule, fault_of, reason_of};
+ghost use Rattle.nextest_config_values.specs.Read.{broken_rule, fault_of, IsReading, reason_of};
 ghost use Rattle.nextest_config_values.specs.ToolConfig.{Argument, argument_fault, argument_of, ArgumentFault, IsArgumentFault, IsToolArgument};
 ghost use Rattle.nextest_config_values.specs.declared.track_default.TrackDefault.{TrackDefault};
 
 use crate::duration::DurationFault;
 use crate::helpers::InvalidIdentifierKind;
 use crate::identifier::{ConfigIdentifier, InvalidIdentifier, InvalidToolName, ToolName};
-use crate::read::{FaultKind, NonZeroCount, ReadFault, Rule};
+use crate::read::{FaultKind, FromToml, NonZeroCount, ReadFault, Rule};
 use crate::tool_config::{ToolConfigFile, ToolConfigFileParseError};
 use crate::track_default::TrackDefault;
 use std::hash::Hash;
 
-/// No text has two identifiers, two faults as one, or both.
+/// To each reader a value means one thing and has no fault, or it means nothing and has one fault at
+/// each path.
+pub fn law_value_once<T: FromToml>()
+    ensures { IsReading T.reading.means T.reading.faults }
+{}
+
+/// A text is one identifier and has no fault as one, or it is none and has one fault.
 #[tactic(auto, using(crate::specs::Identifier::Laws::identifiers_judged_once))]
 pub fn law_identifier_once()
     ensures { IsJudgedOnce IsIdentifier IsIdentifierFault }
 {}
 
-/// No text has two tool names, two faults as one, or both.
+/// A text is one tool name and has no fault as one, or it is none and has one fault.
 #[tactic(auto, using(crate::specs::Identifier::Laws::tool_names_judged_once))]
 pub fn law_tool_name_once()
     ensures { IsJudgedOnce IsToolName IsToolNameFault }
 {}
 
-/// No text has two tool arguments, two faults as one, or both.
+/// A text is one tool argument and has no fault as one, or it is none and has one fault.
 #[tactic(auto, using(crate::proofs::Arguments::arguments_judged_once))]
 pub fn law_argument_once()
     ensures { IsJudgedOnce IsToolArgument IsArgumentFault }
@@ -63,8 +69,8 @@ pub fn law_same_normal_form()
         × SameAnswers (IsToolNameFault s) (IsToolNameFault t) }
 {}
 
-/// No text is spelled by two lists of items, wherever white space stands; none has two durations,
-/// two faults as one, or both.
+/// No text is spelled by two lists of items, wherever white space stands; a text is one duration and
+/// has no fault as one, or it is none and has one fault.
 #[tactic(auto, using(crate::specs::Duration::Laws::one_spelling, crate::specs::Duration::Judged::durations_judged_once))]
 pub fn law_duration_once()
     ensures one_spelling { (text : List ℕ) (items others : List Item)

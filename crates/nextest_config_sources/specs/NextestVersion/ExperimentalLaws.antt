@@ -1,8 +1,8 @@
 -- The setting `experimental`, with its laws.
 use mathlib.Core.Logic.Iff as iff
-use Rattle.std.specs.Prelude.{◌≡◌, ◌↔◌, ◌⊎◌, ◌<◌, ℕ, zero, suc, Bool, true, false, List, [], ◌∷◌, Contains, codes, Some, None, IsSome, IsTrue}
-use Rattle.std.proofs.Common.{sym, ap, ap₂, subst, ◌∙◌, inl, inr, refl, rules}
-use Rattle.std.proofs.lemmas.Bool.{cases_order}
+use Rattle.std.specs.Prelude.{◌≡◌, ◌≢◌, ◌↔◌, ◌⊎◌, ◌<◌, ℕ, zero, suc, Bool, true, false, List, [], ◌∷◌, Contains, codes, Option, Some, None, IsSome, IsTrue}
+use Rattle.std.proofs.Common.{Less, Equal, Greater, lit<, sym, ap, ap₂, subst, ◌∙◌, ⊎_elim, inl, inr, refl, rules, arith}
+use Rattle.std.proofs.lemmas.Bool.{cases_order, false≢true}
 use Rattle.std.proofs.lemmas.Cmp.{nat_list_cmp_total}
 use Rattle.std.proofs.lemmas.Map.Lookups.{CmpEqualImpliesEq, btree_set_from_contains, exact_bytes, exact_unsigned}
 use Rattle.std.proofs.lemmas.Map.Views.{btree_set_contains_iff}
@@ -10,13 +10,16 @@ use Rattle.std.specs.BTreeSet.{BTreeSet, contains}
 use Rattle.std.specs.Cmp.{IsTotalOrder, nat_cmp_total, on_total}
 use Rattle.std.specs.Cmp.Lexicographic.{slice_cmp}
 use Rattle.std.specs.List.Sorted.{IsStrictlySortedBy}
-use Rattle.std.specs.Ordering.{nat_cmp}
+use Rattle.std.specs.Ordering.{match_ordering, nat_cmp, ordering_reverse}
 use Rattle.std.specs.declared.cmp.Ordering.{Ordering}
-use Rattle.toml.specs.Data.{Data, Items, Members, as_array, as_str, as_table, get_item, get_member}
-use Rattle.nextest_config_values.specs.Read.Fault.{Fault}
-use Rattle.nextest_config_values.specs.Read.{held, in_memory, kind, made_of, Reading, then, wrong_kind}
-use Rattle.nextest_config_sources.specs.NextestVersion.Experimental.{FeaturesInOrder, TextsInOrder, all_features, feature_cmp, place_among}
-use Rattle.nextest_config_sources.specs.NextestVersion.ExperimentalDeserialize.{AreNamed, FeatureArrayFaults, Features, FeatureSetting, IsTextAt, MeansFeatureArray, in_form, switch, text_in}
+use Rattle.toml.specs.Data.{Data, Items, Members, item, member, no_items, no_members, as_array, as_str, as_table, get_item, get_member}
+use Rattle.nextest_config_values.specs.Decisions.{IsDecided, not_decided, same_text_decided}
+use Rattle.nextest_config_values.specs.Once.{IsJudged}
+use Rattle.nextest_config_values.specs.Read.Fault.{Fault, wrong_type}
+use Rattle.nextest_config_values.specs.Read.{held, in_memory, kind, made_of, Reading, text_expected, then, wrong_kind}
+use Rattle.nextest_config_sources.specs.NextestVersion.Experimental.{FeaturesInOrder, IsUnknown, TextsInOrder, all_features, feature_cmp, place_among, word_of}
+use Rattle.nextest_config_sources.specs.NextestVersion.ExperimentalDeserialize.{AreNamed, FeatureArrayFaults, Features, FeatureSetting, IsAmong, IsTextAt, MeansFeatureArray, in_form, item_path, switch, text_in}
+use Rattle.nextest_config_sources.specs.NextestVersion.SetLaws.{contains_cases, contains_first, contains_later, contains_none, set_of}
 use Rattle.nextest_config_sources.specs.declared.nextest_version.experimental.ConfigExperimental.{ConfigExperimental}
 use Rattle.nextest_config_sources.specs.declared.nextest_version.experimental.ConfigExperimental.TheVariants as features
 
@@ -25,18 +28,18 @@ use Rattle.nextest_config_sources.specs.declared.nextest_version.experimental.Co
 pub same_truth : (a b : Bool) → IsTrue a ↔ IsTrue b → a ≡ b
 same_truth a b h = search rules
 
-abbrev set_of : {X : Type 0} → List X → BTreeSet X
-set_of xs = record { keys = xs }
+abbrev as_set : {X : Type 0} → List X → BTreeSet X
+as_set xs = record { keys = xs }
 
 one_in_order : {X : Type 0} (cmp : X → X → Ordering) → IsTotalOrder cmp → CmpEqualImpliesEq cmp
     → (xs ys : List X) → IsStrictlySortedBy cmp xs → IsStrictlySortedBy cmp ys
     → ((x : X) → Contains xs x ↔ Contains ys x) → xs ≡ ys
 one_in_order {X} cmp total exact xs ys h k same =
     let has = btree_set_contains_iff total exact in
-    let tells : (x : X) → contains cmp (set_of xs) x ≡ contains cmp (set_of ys) x =
-    λ x. same_truth _ _ (iff.trans (has (set_of xs) x)
-    (iff.trans (same x) (iff.symm (has (set_of ys) x)))) in
-    btree_set_from_contains total (set_of xs) (set_of ys) h k tells exact
+    let tells : (x : X) → contains cmp (as_set xs) x ≡ contains cmp (as_set ys) x =
+    λ x. same_truth _ _ (iff.trans (has (as_set xs) x)
+    (iff.trans (same x) (iff.symm (has (as_set ys) x)))) in
+    btree_set_from_contains total (as_set xs) (as_set ys) h k tells exact
 
 abbrev feature_at : ℕ → ConfigExperimental
 feature_at zero = features.SetupScripts
@@ -70,7 +73,171 @@ named_once a b h k =
     (texts_in_one_order a.unknown b.unknown h.in_order.unknown_in_order k.in_order.unknown_in_order
     (λ text. iff.trans (h.of_unknown text) (iff.symm (k.of_unknown text))))
 
+-- ---- the names among texts, as sets in order
+
+same_word_decided : (feature : ConfigExperimental) (text : List ℕ)
+    → IsDecided (word_of feature ≢ text)
+same_word_decided feature text = not_decided (same_text_decided (word_of feature) text)
+
+unknown_by : (text : List ℕ) → IsDecided (word_of features.SetupScripts ≢ text)
+    → IsDecided (word_of features.WrapperScripts ≢ text)
+    → IsDecided (word_of features.Benchmarks ≢ text) → IsDecided (IsUnknown text)
+unknown_by text (inr word) wrapper benchmarks = inr (λ none. word (none features.SetupScripts))
+unknown_by text setup (inr word) benchmarks = inr (λ none. word (none features.WrapperScripts))
+unknown_by text setup wrapper (inr word) = inr (λ none. word (none features.Benchmarks))
+unknown_by text (inl setup) (inl wrapper) (inl benchmarks) =
+    inl (unknown_of text setup wrapper benchmarks)
+  where
+    unknown_of : (text : List ℕ) → word_of features.SetupScripts ≢ text
+        → word_of features.WrapperScripts ≢ text → word_of features.Benchmarks ≢ text
+        → IsUnknown text
+    unknown_of text setup wrapper benchmarks features.SetupScripts = setup
+    unknown_of text setup wrapper benchmarks features.WrapperScripts = wrapper
+    unknown_of text setup wrapper benchmarks features.Benchmarks = benchmarks
+
+unknown_decided : (text : List ℕ) → IsDecided (IsUnknown text)
+unknown_decided text = unknown_by text (same_word_decided features.SetupScripts text)
+    (same_word_decided features.WrapperScripts text) (same_word_decided features.Benchmarks text)
+
+is_a_feature : (feature : ConfigExperimental) → Contains all_features feature
+is_a_feature features.SetupScripts = (0, lit< tt, refl)
+is_a_feature features.WrapperScripts = (1, lit< tt, refl)
+is_a_feature features.Benchmarks = (2, lit< tt, refl)
+
+-- the features that are enabled and the unknown names among these texts
+named_among : {IsEnabled : ConfigExperimental → Type 0} {StandsThere : List ℕ → Type 0}
+    → ((feature : ConfigExperimental) → IsDecided (IsEnabled feature)) → (texts : List (List ℕ))
+    → ((text : List ℕ) → Contains texts text ↔ StandsThere text)
+    → (named : Features) × AreNamed IsEnabled StandsThere named
+named_among {IsEnabled} {StandsThere} enabled texts there =
+    let known = set_of feature_cmp (on_total place_among nat_cmp_total) one_at_a_place IsEnabled
+    enabled all_features in
+    let unknown = set_of (slice_cmp nat_cmp) nat_list_cmp_total exact_bytes IsUnknown
+    unknown_decided texts in (
+      record { known = known.0; unknown = unknown.0 },
+      record {
+        of_known = λ feature. (
+          λ stands. ((known.1.members feature).0 stands).1,
+          λ holds. (known.1.members feature).1 (is_a_feature feature, holds),
+        );
+        of_unknown = λ text. (
+          λ stands. let (among, none) = (unknown.1.members text).0 stands in
+              ((there text).0 among, none),
+          λ (stands, none). (unknown.1.members text).1 ((there text).1 stands, none),
+        );
+        in_order = record { known_in_order = known.1.in_order; unknown_in_order = unknown.1.in_order };
+      },
+    )
+
+contains_decided : (texts : List (List ℕ)) (text : List ℕ) → IsDecided (Contains texts text)
+contains_decided [] text = inr contains_none
+contains_decided (first ∷ rest) text = elim (same_text_decided first text) [
+  inl same ↦ inl (contains_first rest same)
+  | inr other ↦ elim (contains_decided rest text) [
+    inl later ↦ inl (contains_later first rest later)
+    | inr none ↦ inr (λ there. ⊎_elim other none (contains_cases first rest there))
+  ]
+]
+
+decided_by : {P Q : Type 0} → P ↔ Q → IsDecided P → IsDecided Q
+decided_by same (inl p) = inl (same.0 p)
+decided_by same (inr not_p) = inr (λ q. not_p (same.1 q))
+
 -- ---- the array form
+
+-- each item is a text, and these are the texts
+pub record AreTexts (items : Items) (texts : List (List ℕ)) : Type 0 where
+  pub of_texts : (index : ℕ) → IsSome (get_item index items) → IsTextAt items index
+  pub members : (text : List ℕ) → Contains texts text ↔ IsAmong items text
+
+-- the first item that is no text
+pub record HasNoText (items : Items) : Type 0 where
+  pub index : ℕ
+  pub value : Data
+  pub here : get_item index items ≡ Some value
+  pub earlier : (other : ℕ) → other < index → IsTextAt items other
+  pub no_text : as_str value ≡ None
+
+text_first : (value : Data) (items : Items) (text : List ℕ) (texts : List (List ℕ))
+    → as_str value ≡ Some text → AreTexts items texts → AreTexts (item value items) (text ∷ texts)
+text_first value items text texts is all = record {
+  of_texts = each_text;
+  members = λ other. (
+    λ there. ⊎_elim (λ same. (0, is ∙ ap Some same))
+        (λ later. let (index, among) = (all.members other).0 later in (suc index, among))
+        (contains_cases text texts there),
+    among_one_of other,
+  );
+}
+  where
+    each_text : (index : ℕ) → IsSome (get_item index (item value items))
+        → IsTextAt (item value items) index
+    each_text zero some = rw is refl
+    each_text (suc index) some = all.of_texts index some
+    among_one_of : (other : List ℕ) → IsAmong (item value items) other → Contains (text ∷ texts) other
+    among_one_of other (zero, there) = contains_first texts (cc (is, there))
+    among_one_of other (suc index, there) =
+        contains_later text texts ((all.members other).1 (index, there))
+
+no_text_later : (value : Data) (items : Items) (text : List ℕ) → as_str value ≡ Some text
+    → HasNoText items → HasNoText (item value items)
+no_text_later value items text is none = record {
+  index = suc none.index;
+  value = none.value;
+  here = none.here;
+  earlier = each_earlier;
+  no_text = none.no_text;
+}
+  where
+    each_earlier : (other : ℕ) → other < suc none.index → IsTextAt (item value items) other
+    each_earlier zero below = rw is refl
+    each_earlier (suc other) below = none.earlier other (omega arith)
+
+first_item : (value : Data) (items : Items) (text : Option (List ℕ)) → as_str value ≡ text
+    → ((texts : List (List ℕ)) × AreTexts items texts) ⊎ HasNoText items
+    → ((texts : List (List ℕ)) × AreTexts (item value items) texts) ⊎ HasNoText (item value items)
+first_item value items None is rest = inr (record {
+  index = 0;
+  value = value;
+  here = refl;
+  earlier = λ other below. absurd (omega arith);
+  no_text = is;
+})
+first_item value items (Some text) is (inl (texts, all)) =
+    inl (text ∷ texts, text_first value items text texts is all)
+first_item value items (Some text) is (inr none) = inr (no_text_later value items text is none)
+
+texts_or_not : (items : Items)
+    → ((texts : List (List ℕ)) × AreTexts items texts) ⊎ HasNoText items
+texts_or_not no_items = inl (
+  [],
+  record {
+    of_texts = λ index some. absurd (cc some);
+    members = λ text. (λ none. absurd (contains_none none), λ (index, there). absurd (cc there));
+  },
+)
+texts_or_not (item value items) = first_item value items (as_str value) refl (texts_or_not items)
+
+array_names : (items : Items) (texts : List (List ℕ)) → AreTexts items texts
+    → (named : Features) × MeansFeatureArray items named
+array_names items texts all =
+    let (named, of_names) = named_among
+    (λ feature. decided_by (all.members (word_of feature)) (contains_decided texts (word_of feature)))
+    texts all.members in
+    (named, record { of_texts = all.of_texts; of_names = of_names })
+
+array_by : (items : Items) (at : List ℕ)
+    → ((texts : List (List ℕ)) × AreTexts items texts) ⊎ HasNoText items
+    → IsJudged (MeansFeatureArray items) (FeatureArrayFaults items at)
+array_by items at (inl (texts, all)) = inl (array_names items texts all)
+array_by items at (inr none) = inr (
+  wrong_type none.value (item_path at none.index) text_expected,
+  (none.index, none.value, none.here, none.earlier, (none.no_text, refl)),
+)
+
+pub array_judged : (items : Items) (at : List ℕ)
+    → IsJudged (MeansFeatureArray items) (FeatureArrayFaults items at)
+array_judged items at = array_by items at (texts_or_not items)
 
 never_text : (items : Items) (index : ℕ) (value : Data) → get_item index items ≡ Some value
     → as_str value ≡ None → IsTextAt items index → ⊥
@@ -100,6 +267,7 @@ feature_array = record {
   faults = FeatureArrayFaults;
   takes_memory = λ items. Unit {0};
   law = record {
+    judged = array_judged;
     one_meaning = λ items a b h k. named_once a b h.of_names k.of_names;
     one_fault = one_array_fault;
     never_both = no_array_fault;
@@ -107,6 +275,65 @@ feature_array = record {
 }
 
 -- ---- the table form
+
+-- the keys of a table, in its order
+abbrev keys_in : Members → List (List ℕ)
+keys_in no_members = []
+keys_in (member key value table) = key ∷ keys_in table
+
+itself : (key : List ℕ) → slice_cmp nat_cmp key key ≡ Equal
+itself key = self_by (slice_cmp nat_cmp key key) (nat_list_cmp_total.antisymm key key)
+  where
+    self_by : (order : Ordering) → order ≡ ordering_reverse order → order ≡ Equal
+    self_by Less same = absurd (cc same)
+    self_by Equal same = refl
+    self_by Greater same = absurd (cc same)
+
+-- a key that compares otherwise is another one
+apart : (order : Ordering) (key other : List ℕ) → key ≡ other → slice_cmp nat_cmp other key ≡ order
+    → order ≢ Equal → ⊥
+apart order key other same is differs =
+    differs (sym is ∙ ap (λ k. slice_cmp nat_cmp k key) (sym same) ∙ itself key)
+
+key_by : (order : Ordering) (key other : List ℕ) (value : Data) (table : Members)
+    → slice_cmp nat_cmp other key ≡ order
+    → (Contains (keys_in table) other ↔ IsSome (get_member other table))
+    → Contains (key ∷ keys_in table) other
+    ↔ IsSome (match_ordering order (get_member other table) (Some value) (get_member other table))
+key_by Less key other value table is rest = (
+  λ there. (rest).0 (⊎_elim (λ same. absurd (apart Less key other same is (λ e. cc e))) (λ later. later)
+      (contains_cases key (keys_in table) there)),
+  λ some. contains_later key (keys_in table) (rest.1 some),
+)
+key_by Greater key other value table is rest = (
+  λ there. (rest).0 (⊎_elim (λ same. absurd (apart Greater key other same is (λ e. cc e))) (λ later. later)
+      (contains_cases key (keys_in table) there)),
+  λ some. contains_later key (keys_in table) (rest.1 some),
+)
+key_by Equal key other value table is rest =
+    (λ there. refl, λ some. contains_first (keys_in table) (sym (exact_bytes other key is)))
+
+keys_there : (table : Members) (text : List ℕ)
+    → Contains (keys_in table) text ↔ IsSome (get_member text table)
+keys_there no_members text = (λ none. absurd (contains_none none), λ none. absurd (cc none))
+keys_there (member key value table) text =
+    key_by (slice_cmp nat_cmp text key) key text value table refl (keys_there table text)
+
+switch_by : (feature : ConfigExperimental) (table : Members)
+    → IsJudged ((switch feature).means table) ((switch feature).faults table [])
+    → IsDecided ((switch feature).means table true)
+switch_by feature table (inl (true, on)) = inl on
+switch_by feature table (inl (false, off)) =
+    inr (λ on. false≢true ((switch feature).law.one_meaning table false true off on))
+switch_by feature table (inr (fault, wrong)) =
+    inr (λ on. (switch feature).law.never_both table [] true fault on wrong)
+
+pub table_named : (table : Members)
+    → (named : Features) × AreNamed (λ feature. (switch feature).means table true)
+    (λ text. IsSome (get_member text table)) named
+table_named table = named_among
+    (λ feature. switch_by feature table ((switch feature).law.judged table []))
+    (keys_in table) (keys_there table)
 
 -- a feature is enabled where its key is true; other keys are names whatever their values are
 abbrev pub table_names : Reading Members Features
@@ -116,6 +343,7 @@ table_names = record {
   faults = λ members at fault. ⊥;
   takes_memory = λ members. ⊥;
   law = record {
+    judged = λ members at. inl (table_named members);
     one_meaning = λ members. named_once;
     one_fault = λ members at f g a b. absurd a;
     never_both = λ members at named f a b. b;

@@ -3,8 +3,9 @@ use Rattle.std.specs.Prelude.{ℕ, List, codes, Option, Some, None, option_map}
 use Rattle.semver.specs.Identifiers.{parts_of}
 use Rattle.semver.specs.Parse.{Parts}
 use Rattle.toml.specs.Data.{Data, Members, as_str, as_table}
+use Rattle.nextest_config_values.specs.Decisions.{true_decided}
 use Rattle.nextest_config_values.specs.Read.{held, kind, made_of, only, optional, Reading, required_above_recommended, rule, then, wrong_kind}
-use Rattle.nextest_config_sources.specs.NextestVersion.Precedence.{IsBelow}
+use Rattle.nextest_config_sources.specs.NextestVersion.Precedence.{is_below, IsBelow}
 use Rattle.nextest_config_sources.specs.NextestVersion.VersionTextLaws.{version_reading, version_text}
 use Rattle.nextest_config_sources.specs.declared.nextest_version.nextest_version_deserialize.NextestVersionDeserialize.{NextestVersionDeserialize}
 
@@ -39,7 +40,8 @@ recommended_key = codes "recommended"
 -- these versions; where both stand, the required one isn't above the recommended one
 abbrev pub in_order : Option Parts → Option Parts → Reading (Unit {0}) Versions
 in_order (Some required) (Some recommended) =
-    rule (IsBelow recommended required) (required_above_recommended required recommended)
+    rule (IsBelow recommended required) (true_decided (is_below recommended required))
+    (required_above_recommended required recommended)
     (only (versions (Some required) (Some recommended)))
 in_order required recommended = only (versions required recommended)
 

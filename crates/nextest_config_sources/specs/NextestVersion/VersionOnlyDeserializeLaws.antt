@@ -1,18 +1,28 @@
--- A source asks one thing, or one thing is wrong with it, and never both.
-use Rattle.std.proofs.Common.{◌≡◌, ℕ, List, [], Option, Some, None, IsSome, sym, ap, ap₂, subst, ◌∙◌, inl, inr, rules}
+-- A source asks one thing, or one thing is wrong with it: one of both, and never both.
+use Rattle.std.proofs.Common.{◌≡◌, ◌⊎◌, ℕ, List, [], ◌∷◌, ◌++◌, map, Option, Some, None, IsSome, refl, sym, ap, ap₂, subst, ◌∙◌, ⊎_elim, inl, inr, rules}
 use mathlib.Core.Logic.Iff as iff
-use Rattle.toml.specs.Data.{Data, get_member, Members}
+use Rattle.std.proofs.lemmas.Cmp.{nat_list_cmp_total}
+use Rattle.std.proofs.lemmas.List.Elements.{Contains-append_cases, Contains-append_left, Contains-append_right}
+use Rattle.std.proofs.lemmas.Map.Lookups.{exact_bytes}
+use Rattle.std.specs.Cmp.Lexicographic.{slice_cmp}
+use Rattle.std.specs.Ordering.{nat_cmp}
+use Rattle.toml.specs.Data.{Data, get_member, Items, Members}
 use Rattle.toml.specs.Parse.{parse_document}
+use Rattle.nextest_config_values.specs.Decisions.{IsDecided}
+use Rattle.nextest_config_values.specs.Once.{IsJudged, IsJudgedOnce}
 use Rattle.nextest_config_values.specs.Read.{one_then, Reading, Then}
-use Rattle.nextest_config_sources.specs.NextestVersion.ErrorKind.{setting, tool_features, Wrong}
-use Rattle.nextest_config_sources.specs.NextestVersion.ExperimentalDeserialize.{Features, FeatureSetting, in_form}
+use Rattle.nextest_config_sources.specs.NextestVersion.ErrorKind.{not_toml, setting, tool_features, Wrong}
+use Rattle.nextest_config_sources.specs.NextestVersion.Experimental.{word_of}
+use Rattle.nextest_config_sources.specs.NextestVersion.ExperimentalDeserialize.{AreNames, Features, FeatureSetting, in_form, no_features}
 use Rattle.nextest_config_sources.specs.NextestVersion.ExperimentalLaws.{texts_in_one_order}
+use Rattle.nextest_config_sources.specs.NextestVersion.SetLaws.{among_images, set_of}
 use Rattle.nextest_config_sources.specs.NextestVersion.NextestVersionDeserialize.{Versions}
-use Rattle.nextest_config_sources.specs.NextestVersion.VersionOnlyDeserialize.{Ask, Asks, BreaksForm, BreaksToolRule, experimental_key, features_asked, IsWrong, IsWrongBehind, IsWrongDocument, IsWrongSetting, IsWrongTable, ObeysForm, ObeysToolRule, TextAsks, versions_asked}
+use Rattle.nextest_config_sources.specs.NextestVersion.VersionOnlyDeserialize.{array_in, Ask, Asks, AsksFeatures, AsksVersions, BreaksForm, BreaksToolRule, broken_form, experimental_key, features_asked, IsWrong, IsWrongBehind, IsWrongDocument, IsWrongSetting, IsWrongTable, nothing, ObeysForm, ObeysToolRule, TextAsks, versions_asked}
 use Rattle.nextest_config_sources.specs.declared.nextest_version.edition.Edition.{Edition}
 use Rattle.nextest_config_sources.specs.declared.nextest_version.edition.Edition.TheVariants.{ArrayAllowed, TableOnly}
 use Rattle.nextest_config_sources.specs.declared.nextest_version.source.ConfigSourceKind.{ConfigSourceKind}
-use Rattle.nextest_config_sources.specs.declared.nextest_version.source.ConfigSourceKind.TheVariants.{Tool}
+use Rattle.nextest_config_sources.specs.declared.nextest_version.source.ConfigSourceKind.TheVariants.{DiscoveredRepository, ExplicitRepository, Tool}
+use Rattle.nextest_config_sources.specs.declared.nextest_version.experimental.ConfigExperimental.{ConfigExperimental}
 
 -- ---- one ask
 
@@ -127,3 +137,130 @@ text_not_wrong edition kind None ask wrong read refused = refused
 text_not_wrong edition kind (Some text) ask wrong read refused =
     asks_not_wrong edition kind read.0 ask wrong read.2
     (subst (λ (d : Option Members). IsWrongDocument edition kind d wrong) read.1 refused)
+
+-- ---- one of both
+
+-- what a table asks, or what is wrong with it
+abbrev IsTableJudged : Edition → ConfigSourceKind → Members → Type 0
+IsTableJudged edition kind table = IsJudged (Asks edition kind table) (IsWrongTable edition kind table)
+
+names_of : (features : Features) → (names : List (List ℕ)) × AreNames features names
+names_of features =
+    let words = map word_of features.known in
+    let (names, is) = set_of (slice_cmp nat_cmp) nat_list_cmp_total exact_bytes (λ text. Unit {0})
+    (λ text. inl tt) (features.unknown ++ words) in (
+      names,
+      record {
+        of_both = λ text. (
+          λ there. ⊎_elim inl (λ word. inr ((among_images word_of features.known text).0 word))
+              (Contains-append_cases features.unknown words text ((is.members text).0 there).0),
+          λ stands. (is.members text).1 (
+            ⊎_elim (Contains-append_left features.unknown words text)
+                (λ word. Contains-append_right features.unknown words text
+                ((among_images word_of features.known text).1 word)) stands,
+            tt,
+          ),
+        );
+        in_order = is.in_order;
+      },
+    )
+
+none_decided : (features : Features) → IsDecided (features ≡ no_features)
+none_decided features = by_sets features.known features.unknown
+  where
+    by_sets : (known : List ConfigExperimental) (unknown : List (List ℕ))
+        → IsDecided (record { known = known; unknown = unknown } ≡ no_features)
+    by_sets [] [] = inl refl
+    by_sets (feature ∷ known) unknown = inr (λ same. cc (ap (λ (f : Features). f.known) same))
+    by_sets [] (name ∷ unknown) = inr (λ same. cc (ap (λ (f : Features). f.unknown) same))
+
+tool_rule_judged : (kind : ConfigSourceKind) (features : Features)
+    → ObeysToolRule kind features ⊎ ((wrong : Wrong) × BreaksToolRule kind features wrong)
+tool_rule_judged (Tool name) features = elim (none_decided features) [
+  inl none ↦ inl none
+  | inr some ↦ let (names, are) = names_of features in
+      inr (tool_features names, (some, (names, are, refl)))
+]
+tool_rule_judged ExplicitRepository features = inl tt
+tool_rule_judged DiscoveredRepository features = inl tt
+
+form_judged : (edition : Edition) (found : Option Data)
+    → ObeysForm edition found ⊎ ((wrong : Wrong) × BreaksForm edition found wrong)
+form_judged ArrayAllowed found = inl tt
+form_judged TableOnly found = by_array (array_in found)
+  where
+    by_array : (items : Option Items)
+        → (items ≡ None) ⊎ ((wrong : Wrong) × (IsSome items × (wrong ≡ broken_form)))
+    by_array None = inl refl
+    by_array (Some items) = inr (broken_form, (refl, refl))
+
+module _ (edition : Edition) (kind : ConfigSourceKind) (table : Members) where
+  named_judged : (versions : Versions) (named : FeatureSetting) → AsksVersions table versions
+      → ObeysForm edition (get_member experimental_key table) → AsksFeatures table named
+      → ObeysToolRule kind named.features
+      ⊎ ((wrong : Wrong) × BreaksToolRule kind named.features wrong)
+      → IsTableJudged edition kind table
+  named_judged versions named of_versions of_form of_features (inl of_tool) = inl (
+    record { versions = versions; features = named.features; array = named.array },
+    record { of_versions = of_versions; of_form = of_form; of_features = of_features; of_tool = of_tool },
+  )
+  named_judged versions named of_versions of_form of_features (inr (wrong, broken)) =
+      inr (wrong, inr (versions, of_versions, inr (of_form, inr (named, of_features, broken))))
+
+  features_judged : (versions : Versions) → AsksVersions table versions
+      → ObeysForm edition (get_member experimental_key table)
+      → IsJudged (AsksFeatures table) (features_asked.faults table [])
+      → IsTableJudged edition kind table
+  features_judged versions of_versions of_form (inl (named, of_features)) =
+      named_judged versions named of_versions of_form of_features
+      (tool_rule_judged kind named.features)
+  features_judged versions of_versions of_form (inr (fault, faulty)) =
+      inr (setting fault, inr (versions, of_versions, inr (of_form, inl (fault, faulty, refl))))
+
+  form_or_behind : (versions : Versions) → AsksVersions table versions
+      → ObeysForm edition (get_member experimental_key table)
+      ⊎ ((wrong : Wrong) × BreaksForm edition (get_member experimental_key table) wrong)
+      → IsTableJudged edition kind table
+  form_or_behind versions of_versions (inl of_form) =
+      features_judged versions of_versions of_form (features_asked.law.judged table [])
+  form_or_behind versions of_versions (inr (wrong, broken)) =
+      inr (wrong, inr (versions, of_versions, inl broken))
+
+  table_by : IsJudged (AsksVersions table) (versions_asked.faults table [])
+      → IsTableJudged edition kind table
+  table_by (inl (versions, of_versions)) =
+      form_or_behind versions of_versions (form_judged edition (get_member experimental_key table))
+  table_by (inr (fault, faulty)) = inr (setting fault, inl (fault, faulty, refl))
+
+  table_judged : IsTableJudged edition kind table
+  table_judged = table_by (versions_asked.law.judged table [])
+
+document_judged : (edition : Edition) (kind : ConfigSourceKind) (text : List ℕ)
+    (document : Option Members) → parse_document text ≡ document
+    → IsJudged (TextAsks edition kind (Some text)) (IsWrong edition kind (Some text))
+document_judged edition kind text None is =
+    inr (not_toml, subst (λ (d : Option Members). IsWrongDocument edition kind d not_toml) (sym is)
+    refl)
+document_judged edition kind text (Some table) is = elim (table_judged edition kind table) [
+  inl (ask, asks) ↦ inl (ask, (table, is, asks))
+  | inr (wrong, broken) ↦ inr (
+    wrong,
+    subst (λ (d : Option Members). IsWrongDocument edition kind d wrong) (sym is) broken,
+  )
+]
+
+-- each source asks something, or something is wrong with it
+pub source_judged : (edition : Edition) (kind : ConfigSourceKind) (contents : Option (List ℕ))
+    → IsJudged (TextAsks edition kind contents) (IsWrong edition kind contents)
+source_judged edition kind None = inl (nothing, refl)
+source_judged edition kind (Some text) =
+    document_judged edition kind text (parse_document text) refl
+
+pub sources_judged_once : (edition : Edition) (kind : ConfigSourceKind)
+    → IsJudgedOnce (TextAsks edition kind) (IsWrong edition kind)
+sources_judged_once edition kind = record {
+  judged = source_judged edition kind;
+  one_meaning = text_asks_once edition kind;
+  one_fault = one_wrong edition kind;
+  never_both = text_not_wrong edition kind;
+}

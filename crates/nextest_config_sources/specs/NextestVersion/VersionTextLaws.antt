@@ -1,5 +1,5 @@
 -- The laws of version texts, and version texts beside what `semver` reads.
-use Rattle.std.proofs.Common.{◌≡◌, ◌≢◌, ℕ, zero, suc, ◌+◌, ◌<◌, ◌^◌, List, [], ◌∷◌, ◌++◌, length, get_or, take, drop, Ok, IsErr, refl, sym, ap, ap₂, ◌∙◌, subst, inl, inr, arith, rules, append_assoc}
+use Rattle.std.proofs.Common.{◌≡◌, ◌≢◌, ◌⊎◌, ℕ, zero, suc, ◌+◌, ◌<◌, ◌^◌, List, [], ◌∷◌, ◌++◌, length, get_or, take, drop, Err, Ok, IsErr, Result, refl, sym, ap, ap₂, ◌∙◌, subst, inl, inr, arith, rules, append_assoc}
 use Rattle.std.proofs.lemmas.Bool.{false≢true}
 use Rattle.std.proofs.lemmas.Fmt.{decimal-digits_value, decimal_is_IsNumeral, decimal_digit, decimal_nonempty, first_decimal}
 use Rattle.std.proofs.lemmas.List.{append-nil, drop_more, take-append-drop}
@@ -10,7 +10,10 @@ use Rattle.std.specs.Str.Parse.{AllDigits, digits_value}
 use Rattle.semver.proofs.Grammar.{version_parts-sound, version_parts-complete}
 use Rattle.semver.specs.Identifiers.{marked, parts_text}
 use Rattle.semver.specs.Parse.{Parts, version_parts}
+use Rattle.semver.specs.declared.error.Error.{Error}
 use Rattle.toml.specs.Data.{Data, as_str}
+use Rattle.nextest_config_values.specs.Decisions.{same_decided}
+use Rattle.nextest_config_values.specs.Once.{IsJudged, IsJudgedOnce}
 use Rattle.nextest_config_values.specs.Read.{BrokenRule, build_metadata, custom, fault_at, held, kind, not_version, pre_release, Reading, text_expected, wrong_kind}
 use Rattle.nextest_config_sources.specs.NextestVersion.VersionText.{Numbers, plain, dot, hyphen, plus_sign, IsNumeral, IsThree, IsTwo, IsVersionText, IsPlain, HasFirstMark, HasVersion, IsVersionFault}
 use Rattle.nextest_config_values.proofs.Elements.{all_right, all_joined, all_middle}
@@ -286,7 +289,94 @@ one_rule text (not_version w) build_metadata h k =
     absurd (not_unmarked plus_sign text plus_is_mark k h.1)
 one_rule text r s h k = search rules
 
+-- ---- each text has a version, or breaks a rule
+
+-- one of the marks is the text's first, or it has none
+abbrev HasMarkOrNone : List ℕ → Type 0
+HasMarkOrNone text =
+    HasFirstMark hyphen text ⊎ (HasFirstMark plus_sign text ⊎ AllByRecursion IsPlain text)
+
+mark_here : (mark : ℕ) (b : ℕ) (text : List ℕ) → b ≡ mark → HasFirstMark mark (b ∷ text)
+mark_here mark b text is = record {
+  before = [];
+  after = text;
+  whole = ap (λ x. x ∷ text) is;
+  first = tt;
+}
+
+mark_later : (mark : ℕ) (b : ℕ) (text : List ℕ) → IsPlain b → HasFirstMark mark text
+    → HasFirstMark mark (b ∷ text)
+mark_later mark b text plain_byte h = record {
+  before = b ∷ h.before;
+  after = h.after;
+  whole = ap (λ rest. b ∷ rest) h.whole;
+  first = (plain_byte, h.first);
+}
+
+one_byte_more : (b : ℕ) (text : List ℕ) → IsPlain b → HasMarkOrNone text
+    → HasMarkOrNone (b ∷ text)
+one_byte_more b text plain_byte (inl h) = inl (mark_later hyphen b text plain_byte h)
+one_byte_more b text plain_byte (inr (inl h)) = inr (inl (mark_later plus_sign b text plain_byte h))
+one_byte_more b text plain_byte (inr (inr none)) = inr (inr (plain_byte, none))
+
+mark_or_none : (text : List ℕ) → HasMarkOrNone text
+mark_or_none [] = inr (inr tt)
+mark_or_none (b ∷ text) = elim (same_decided b hyphen) [
+  inl is ↦ inl (mark_here hyphen b text is)
+  | inr no_hyphen ↦ elim (same_decided b plus_sign) [
+    inl is ↦ inr (inl (mark_here plus_sign b text is))
+    | inr no_plus ↦ one_byte_more b text (no_hyphen, no_plus) (mark_or_none text)
+  ]
+]
+
+two_or_none : (text : List ℕ) → AllByRecursion IsPlain text → IsErr (version_parts text)
+    → (read : Result Parts Error) → version_parts (text ++ third) ≡ read
+    → IsJudged (HasVersion text) (IsVersionFault text)
+two_or_none text unmarked three (Ok p) read =
+    let (numbers, h, parts) = read_two text p unmarked read in inl (p, (numbers, inr h, parts))
+two_or_none text unmarked three (Err e) read =
+    inr (not_version text, (refl, unmarked, no_version text three (rw read refl)))
+
+three_or_less : (text : List ℕ) → AllByRecursion IsPlain text
+    → (read : Result Parts Error) → version_parts text ≡ read
+    → IsJudged (HasVersion text) (IsVersionFault text)
+three_or_less text unmarked (Ok p) read =
+    let (numbers, h, parts) = read_three text p unmarked read in inl (p, (numbers, inl h, parts))
+three_or_less text unmarked (Err e) read =
+    two_or_none text unmarked (rw read refl) (version_parts (text ++ third)) refl
+
+mark_judged : (text : List ℕ) → HasMarkOrNone text
+    → IsJudged (HasVersion text) (IsVersionFault text)
+mark_judged text (inl h) = inr (pre_release, h)
+mark_judged text (inr (inl h)) = inr (build_metadata, h)
+mark_judged text (inr (inr unmarked)) = three_or_less text unmarked (version_parts text) refl
+
+pub version_judged : (text : List ℕ) → IsJudged (HasVersion text) (IsVersionFault text)
+version_judged text = mark_judged text (mark_or_none text)
+
+one_version : (text : List ℕ) (x y : Parts) → HasVersion text x → HasVersion text y → x ≡ y
+one_version text x y a b = a.2 ∙ ap plain (version_once text a.0 b.0 a.1 b.1) ∙ sym b.2
+
+pub versions_judged_once : IsJudgedOnce HasVersion IsVersionFault
+versions_judged_once = record {
+  judged = version_judged;
+  one_meaning = one_version;
+  one_fault = one_rule;
+  never_both = λ text x rule a wrong. version_not_fault text a.0 rule a.1 wrong;
+}
+
 -- ---- what version texts mean
+
+fault_judged : (text at : List ℕ) → IsJudged (HasVersion text) (IsVersionFault text)
+    → IsJudged (HasVersion text) (λ fault. (rule : BrokenRule) × IsVersionFault text rule
+    × (fault ≡ fault_at at (custom rule)))
+fault_judged text at (inl version) = inl version
+fault_judged text at (inr (rule, wrong)) = inr (fault_at at (custom rule), (rule, wrong, refl))
+
+pub version_text_judged : (text at : List ℕ)
+    → IsJudged (HasVersion text) (λ fault. (rule : BrokenRule) × IsVersionFault text rule
+    × (fault ≡ fault_at at (custom rule)))
+version_text_judged text at = fault_judged text at (version_judged text)
 
 -- the version of a text, or the rule that the text breaks
 abbrev pub version_text : Reading (List ℕ) Parts
@@ -296,7 +386,8 @@ version_text = record {
       × (fault ≡ fault_at at (custom rule));
   takes_memory = λ text. Unit {0};
   law = record {
-    one_meaning = λ text x y a b. a.2 ∙ ap plain (version_once text a.0 b.0 a.1 b.1) ∙ sym b.2;
+    judged = version_text_judged;
+    one_meaning = versions_judged_once.one_meaning;
     one_fault = λ text at f g a b. a.2
         ∙ ap (λ rule. fault_at at (custom rule)) (one_rule text a.0 b.0 a.1 b.1) ∙ sym b.2;
     never_both = λ text at x f a b. version_not_fault text a.0 b.0 a.1 b.1;

@@ -1,4 +1,4 @@
-use Rattle.nextest_config_sources.proofs.Members.{one_more}
+use Rattle.nextest_config_sources.specs.NextestVersion.SetLaws.{one_more}
 use Rattle.nextest_config_sources.proofs.Orders.{derived_cmp, derived_exact}
 use Rattle.nextest_config_sources.proofs.nextest_version.experimental.add_feature.Goals as goal
 

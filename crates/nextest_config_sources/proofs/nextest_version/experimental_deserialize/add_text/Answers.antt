@@ -1,7 +1,8 @@
 use Rattle.std.proofs.Common.{map, refl, string_bytes, string_cmp, subst}
 use Rattle.std.proofs.lemmas.Map.Lookups.{exact_bytes}
 use Rattle.nextest_config_sources.specs.NextestVersion.{HasOneMore}
-use Rattle.nextest_config_sources.proofs.Members.{one_more_seen, seen_in_order}
+use Rattle.nextest_config_sources.proofs.Members.{seen_in_order}
+use Rattle.nextest_config_sources.specs.NextestVersion.SetLaws.{one_more_seen}
 use Rattle.nextest_config_sources.proofs.nextest_version.experimental_deserialize.add_text.Goals as goal
 
 pub returns-clause-added : goal.returns-clause-added
