@@ -1,20 +1,25 @@
--- A text has one fail limit, or one fault.
-use Rattle.std.proofs.Common.{◌≡◌, ◌∙◌, ℕ, ◌<◌, ◌^◌, ℤ, pos, List, [], refl, sym, ap, subst, inl, inr, arith, rules, Option, Some, None}
-use Rattle.std.specs.Prelude.{FitsSigned, IfErr, IfOk}
+-- Each text has one fail limit, or one fault.
+use Rattle.std.proofs.Common.{◌≡◌, ◌∙◌, ◌⊎◌, ℕ, ◌<◌, ◌≤◌, ◌^◌, ℤ, pos, neg_ℤ, negsuc, List, [], ◌∷◌, codes, lit<, zero, suc, refl, sym, ap, subst, inl, inr, arith, rules, Option, Some, None}
+use Rattle.std.specs.Prelude.{◌≤ℤ◌, ◌<ℤ◌, FitsSigned, IfErr, IfOk}
+use Rattle.std.specs.Str.{str_to_ascii_lowercase}
+use Rattle.std.proofs.lemmas.Bool.{cases_lt}
 use Rattle.std.specs.Int.{w64}
 use Rattle.std.specs.declared.result.Result.{Result}
 use Rattle.std.proofs.lemmas.Result.{IfErr-weaker, IfOk-weaker}
-use Rattle.nextest_config_values.specs.Identifier.{HasNoColon, IsCutAtColon, same_cut, uncut}
-use Rattle.nextest_config_values.specs.Once.{IsJudgedOnce}
+use Rattle.nextest_config_values.specs.Decisions.{IsFoundOrNone, same_text_decided}
+use Rattle.nextest_config_values.specs.Identifier.{cut_or_none, HasNoColon, IsCutAtColon, same_cut, uncut}
+use Rattle.nextest_config_values.specs.Once.{IsJudged, IsJudgedOnce}
+use Rattle.nextest_config_values.specs.Read.Word.{value_or_none}
 use Rattle.nextest_config_values.proofs.Faults.{fault_mapped}
-use Rattle.nextest_config_elements.specs.MaxFail.{bad_count, bad_mode, HasCount, IsAllText, IsBadCount, IsBadMode, IsCountFault, IsCountLimit, IsCountText, IsLimitFault, IsLimitText, IsNoMode, IsNotPositive, IsParted, limit_fault, LimitFault, MeansMode, IsNumberText, mode_word, number_parts, one_number, RefusesLimit}
+use Rattle.nextest_config_elements.specs.MaxFail.{bad_count, bad_mode, HasCount, IsAllText, IsBadCount, IsBadMode, IsCountFault, IsCountLimit, IsCountText, IsLimitFault, IsLimitText, IsNoMode, IsNotPositive, IsParted, limit_fault, LimitFault, MeansMode, IsNumberText, mode_word, not_positive, number_or_none, number_parts, one_number, RefusesLimit}
+use Rattle.nextest_config_elements.specs.MaxFail.FailFast.{mode_reads_back}
 use Rattle.nextest_config_elements.specs.declared.max_fail.CountFault.{CountFault}
-use Rattle.nextest_config_elements.specs.declared.max_fail.CountFault.TheVariants.{InvalidDigit, TooLarge, TooSmall}
+use Rattle.nextest_config_elements.specs.declared.max_fail.CountFault.TheVariants.{Empty, InvalidDigit, TooLarge, TooSmall}
 use Rattle.nextest_config_elements.specs.declared.max_fail.MaxFail.{MaxFail}
 use Rattle.nextest_config_elements.specs.declared.max_fail.MaxFail.TheVariants.{Count, All}
 use Rattle.nextest_config_elements.specs.declared.max_fail.MaxFailParseError.{MaxFailParseError}
 use Rattle.nextest_config_elements.specs.declared.max_fail.TerminateMode.{TerminateMode}
-use Rattle.nextest_config_elements.specs.declared.max_fail.TerminateMode.TheVariants.{Wait}
+use Rattle.nextest_config_elements.specs.declared.max_fail.TerminateMode.TheVariants.{Wait, Immediate}
 
 -- ---- parts
 
@@ -111,9 +116,6 @@ one_limit_fault text e f (inr a) (inr b) =
     let same = same_count text a.0 b.0 a.1 b.1 a.2 b.2 in
     one_bad_count b.0 e f (subst (λ count. IsBadCount count e) same.0 a.3) b.3
 
-pub limits_judged_once : IsJudgedOnce IsLimitText IsLimitFault
-limits_judged_once = record { one_meaning = one_limit; one_fault = one_limit_fault; never_both = limit_not_faulty }
-
 -- ---- the count of a text
 
 pub cut_count : (text count word : List ℕ) (mode : TerminateMode) → ¬ (IsAllText text) → IsCutAtColon text count word → mode_word mode ≡ word → HasCount text count mode
@@ -121,6 +123,60 @@ cut_count text count word mode not_all cut meant = record { not_all = not_all; w
 
 pub whole_count : (text : List ℕ) → ¬ (IsAllText text) → HasNoColon text → HasCount text text Wait
 whole_count text not_all none = record { not_all = not_all; word = None; parted = (none, refl); meant = refl }
+
+-- ---- each text has a limit, or a fault
+
+-- the count is a number from 1 to the greatest isize, or has a fault
+abbrev IsJudgedCount : List ℕ → Type 0
+IsJudgedCount count = ((max_fail : ℕ) × IsCountText count max_fail) ⊎ ((fault : LimitFault) × IsBadCount count fault)
+
+at_least : (number : ℕ) → 2 ^ 63 ≤ number → pos (2 ^ 63) ≤ℤ pos number
+at_least number large = search rules
+
+under : (number : ℕ) → 2 ^ 63 ≤ number → negsuc number <ℤ neg_ℤ (pos (2 ^ 63))
+under number small = search rules
+
+positive_judged : (count : List ℕ) (max_fail : ℕ) → IsNumberText count (pos max_fail) → 0 < max_fail → (max_fail < 2 ^ 63) ⊎ (2 ^ 63 ≤ max_fail) → IsJudgedCount count
+positive_judged count max_fail is positive (inl fits) = inl (max_fail, record { number = is; positive = positive; fits = fits })
+positive_judged count max_fail is positive (inr large) = inr (bad_count count TooLarge, (refl, (pos max_fail, is, at_least max_fail large)))
+
+negative_judged : (count : List ℕ) (below : ℕ) → IsNumberText count (negsuc below) → (below < 2 ^ 63) ⊎ (2 ^ 63 ≤ below) → IsJudgedCount count
+negative_judged count below is (inl fits) = inr (not_positive, (negsuc below, is, record { sfits = fits }, search rules))
+negative_judged count below is (inr small) = inr (bad_count count TooSmall, (refl, (negsuc below, is, under below small)))
+
+number_judged : (count : List ℕ) (number : ℤ) → IsNumberText count number → IsJudgedCount count
+number_judged count (pos zero) is = inr (not_positive, (pos 0, is, record { sfits = lit< tt }, search rules))
+number_judged count (pos (suc n)) is = positive_judged count (suc n) is (omega arith) (cases_lt (suc n) (2 ^ 63))
+number_judged count (negsuc below) is = negative_judged count below is (cases_lt below (2 ^ 63))
+
+no_number_judged : (count : List ℕ) → ((number : ℤ) → ¬ (IsNumberText count number)) → IsJudgedCount count
+no_number_judged [] none = inr (bad_count [] Empty, (refl, refl))
+no_number_judged (c ∷ cs) none = inr (bad_count (c ∷ cs) InvalidDigit, (refl, ((λ empty. cc empty), none)))
+
+count_judged : (count : List ℕ) → IsJudgedCount count
+count_judged count = elim (number_or_none count) [ inl (number, is) ↦ number_judged count number is | inr none ↦ no_number_judged count none ]
+
+-- the text has a limit, or a fault
+abbrev IsJudgedText : List ℕ → Type 0
+IsJudgedText text = IsJudged (IsLimitText text) (IsLimitFault text)
+
+counted : (text count : List ℕ) (mode : TerminateMode) → HasCount text count mode → IsJudgedCount count → IsJudgedText text
+counted text count mode has (inl (max_fail, is)) = inl (Count max_fail mode, (count, has, is))
+counted text count mode has (inr (fault, wrong)) = inr (fault, inr (count, mode, has, wrong))
+
+cut_judged : (text count word : List ℕ) → ¬ (IsAllText text) → IsCutAtColon text count word → IsFoundOrNone (λ mode. mode_word mode ≡ word) → IsJudgedText text
+cut_judged text count word not_all cut (inl (mode, meant)) = counted text count mode (cut_count text count word mode not_all cut meant) (count_judged count)
+cut_judged text count word not_all cut (inr none) = inr (bad_mode word, inl (not_all, count, word, cut, none, refl))
+
+parts_judged : (text : List ℕ) → ¬ (IsAllText text) → ((count word : List ℕ) × IsCutAtColon text count word) ⊎ HasNoColon text → IsJudgedText text
+parts_judged text not_all (inl (count, word, cut)) = cut_judged text count word not_all cut (value_or_none (Wait ∷ Immediate ∷ []) mode_word mode_reads_back word)
+parts_judged text not_all (inr none) = counted text text Wait (whole_count text not_all none) (count_judged text)
+
+limit_judged : (text : List ℕ) → IsJudgedText text
+limit_judged text = elim (same_text_decided (str_to_ascii_lowercase text) (codes "all")) [ inl all ↦ inl (All, all) | inr not_all ↦ parts_judged text not_all (cut_or_none text) ]
+
+pub limits_judged_once : IsJudgedOnce IsLimitText IsLimitFault
+limits_judged_once = record { judged = limit_judged; one_meaning = one_limit; one_fault = one_limit_fault; never_both = limit_not_faulty }
 
 -- ---- answers, passed on
 

@@ -1,29 +1,19 @@
 -- The keys of a table, in order, against the known ones.
-use Rattle.std.proofs.Common.{◌≡◌, ℕ, ◌++◌, List, [], ◌∷◌, Option, Some, IsSome, Equal, Global, Less, Ordering, String, nat_cmp, refl, rules, string_bytes, subst, sym}
+use Rattle.std.proofs.Common.{◌≡◌, ℕ, ◌++◌, List, [], ◌∷◌, IsSome, Global, Less, String, nat_cmp, refl, string_bytes, subst, sym}
 use Rattle.std.proofs.lemmas.Cmp.{nat_list_cmp_total}
 use Rattle.std.proofs.lemmas.Map.Keys.{sorted_head, sorted_tail}
-use Rattle.std.proofs.lemmas.Map.Lookups.{exact_bytes}
 use Rattle.std.specs.Cmp.{tied_itself}
 use Rattle.std.specs.Cmp.Lexicographic.{slice_cmp}
 use Rattle.std.specs.List.{AllByRecursion}
 use Rattle.std.specs.List.Sorted.{IsStrictlySortedBy}
 use Rattle.std.specs.Map.{keys_of}
-use Rattle.std.specs.Ordering.{match_ordering}
 use Rattle.std.specs.String.{string_cmp}
 use Rattle.toml.proofs.Views.{Entry}
-use Rattle.toml.specs.Data.{Data, get_member}
+use Rattle.toml.specs.Data.{get_member}
 use Rattle.toml.specs.View.{members_view, view}
 use Rattle.nextest_config_values.proofs.Elements.{all_weaker}
 use Rattle.nextest_config_elements.specs.UnknownKeys.{ComesBefore, HasOnlyKeys, IsFirstUnknownKey, IsOneOf}
-
--- what is found at a text, by where it stands against a key
-found_at : (o : Ordering) (text key : List ℕ) (value : Data) (rest : Option Data) (P : Type 0) → slice_cmp nat_cmp text key ≡ o
-    → (text ≡ key → P) → (IsSome rest → P) → IsSome (match_ordering o rest (Some value) rest) → P
-found_at Equal text key value rest P order here later some = here (exact_bytes text key order)
-found_at o text key value rest P order here later some = search rules
-
-found_later : (o : Ordering) (value : Data) (rest : Option Data) → IsSome rest → IsSome (match_ordering o rest (Some value) rest)
-found_later o value rest some = search rules
+use Rattle.nextest_config_elements.specs.UnknownKeysLaws.{found_at, found_later, not_itself}
 
 -- what holds of each key holds of each text that has a value
 of_found : (P : List ℕ → Type 0) (entries : List Entry) → AllByRecursion (λ key. P (string_bytes key)) (keys_of entries)
@@ -45,10 +35,7 @@ key_there (e ∷ entries) (x ∷ so_far) rest key whole =
     found_later (slice_cmp nat_cmp (string_bytes key) (string_bytes e.0)) (view e.1) (get_member (string_bytes key) (members_view entries))
     (key_there entries so_far rest key (cc whole))
 
--- no text comes before itself, nor before one that it comes behind
-not_itself : (text : List ℕ) → ¬ ComesBefore text text
-not_itself text before = let tied : slice_cmp nat_cmp text text ≡ Equal = tied_itself nat_list_cmp_total text in cc (before, tied)
-
+-- no text comes before one that it comes behind
 not_behind : (first text : List ℕ) → ComesBefore first text → ¬ ComesBefore text first
 not_behind first text behind before = not_itself text (nat_list_cmp_total.trans text first text before behind)
 

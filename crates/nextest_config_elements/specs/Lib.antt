@@ -1,6 +1,7 @@
 pub mod Durations
 pub mod FromTable
 pub mod GlobalTimeout
+pub mod IntegerLaws
 pub mod Junit
 pub mod LeakTimeout
 pub mod MaxFail
@@ -10,3 +11,4 @@ pub mod RetryPolicy
 pub mod SlowTimeout
 pub mod ThreadsRequired
 pub mod UnknownKeys
+pub mod UnknownKeysLaws

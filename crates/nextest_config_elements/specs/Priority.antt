@@ -1,10 +1,13 @@
 -- The setting `priority`: an integer from -100 to 100.
 use Rattle.std.specs.Prelude.{◌≡◌, ◌≤ℤ◌, ℕ, ℤ, pos, neg_ℤ, List, codes, FitsSigned, ◌⊎◌}
 use Rattle.std.specs.Int.{w8}
-use Rattle.std.proofs.Common.{sym, ◌∙◌, inl, inr, rules}
+use Rattle.std.proofs.Common.{refl, sym, ◌∙◌, inl, inr, rules}
 use Rattle.toml.specs.Data.{Data, as_integer}
+use Rattle.nextest_config_values.specs.Decisions.{both_decided, IsDecided}
+use Rattle.nextest_config_values.specs.Once.{IsJudged}
 use Rattle.nextest_config_values.specs.Read.Fault.{Fault, priority_outside}
 use Rattle.nextest_config_values.specs.Read.{custom, fault_at, kind, Reading, wrong_kind, wrong_value}
+use Rattle.nextest_config_elements.specs.IntegerLaws.{at_most_decided, fits_decided}
 
 -- from -100 to 100
 abbrev pub IsPriority : ℤ → Type 0
@@ -24,6 +27,10 @@ PriorityFaults held value at fault =
     ⊎ (FitsSigned w8 held × ¬ (IsPriority held)
     × (fault ≡ fault_at at (custom (priority_outside held))))
 
+priority_decided : (number : ℤ) → IsDecided (IsPriority number)
+priority_decided number = both_decided (at_most_decided (neg_ℤ (pos 100)) number)
+    (at_most_decided number (pos 100))
+
 pub one_priority_fault : (held : ℤ) (value : Data) (at : List ℕ) (f g : Fault)
     → PriorityFaults held value at f → PriorityFaults held value at g → f ≡ g
 one_priority_fault held value at f g a b = search rules
@@ -33,6 +40,16 @@ pub no_priority_fault : (held : ℤ) (value : Data) (at : List ℕ) (f : Fault) 
 no_priority_fault held value at f h (inl a) = a.0 (priority_fits held h)
 no_priority_fault held value at f h (inr a) = a.1 h
 
+pub priority_judged : (held : ℤ) (value : Data) (at : List ℕ)
+    → IsJudged (λ priority. (priority ≡ held) × IsPriority held) (PriorityFaults held value at)
+priority_judged held value at = elim (priority_decided held) [
+  | inl is ↦ inl (held, (refl, is))
+  | inr not ↦ elim (fits_decided w8 held) [
+    | inl fits ↦ inr (fault_at at (custom (priority_outside held)), inr (fits, not, refl))
+    | inr large ↦ inr (wrong_value value at priority_expected, inl (large, refl))
+  ]
+]
+
 -- an integer that is a priority
 abbrev pub priority_in : ℤ → Reading Data ℤ
 priority_in held = record {
@@ -40,6 +57,7 @@ priority_in held = record {
   faults = PriorityFaults held;
   takes_memory = λ value. ⊥;
   law = record {
+    judged = priority_judged held;
     one_meaning = λ value x y a b. a.0 ∙ sym b.0;
     one_fault = one_priority_fault held;
     never_both = λ value at x f a. no_priority_fault held value at f a.1;

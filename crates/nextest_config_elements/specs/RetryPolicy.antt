@@ -1,13 +1,15 @@
 -- The setting `retries`: how often a failed test is tried again, and when.
 use Rattle.std.specs.Prelude.{◌≡◌, ◌<◌, ℕ, ℤ, pos, negsuc, Bool, true, false, List, [], ◌∷◌, ◌++◌, codes, Option, Some, None, option_map}
-use Rattle.std.proofs.Common.{rules}
+use Rattle.std.proofs.Common.{ap, inl, inr, refl, rules}
 use Rattle.std.specs.Duration.{as_nanos}
 use Rattle.std.specs.Fmt.{decimal}
 use Rattle.toml.specs.Data.{Data, Members, as_integer}
+use Rattle.nextest_config_values.specs.Decisions.{below_decided, both_decided, IsDecided, same_decided, true_decided}
 use Rattle.nextest_config_values.specs.Duration.{duration_reading}
+use Rattle.nextest_config_values.specs.Read.Plain.{u32_decided}
 use Rattle.nextest_config_values.specs.Read.{behind, bool_reading, both, Check, count_zero, delay_zero, in_range, IsU32, jitter_without_delay, kind, made_of, max_delay_below_delay, max_delay_zero, only, optional, or_default, outside, Reading, required, rule, rule_check, then, u32_reading, value_of, word_reading, words_text}
 use Rattle.nextest_config_elements.specs.FromTable.{set_by_table}
-use Rattle.nextest_config_elements.specs.UnknownKeys.{keys_check}
+use Rattle.nextest_config_elements.specs.UnknownKeysLaws.{keys_check}
 use Rattle.nextest_config_elements.specs.declared.retry_policy.Backoff.{Backoff}
 use Rattle.nextest_config_elements.specs.declared.retry_policy.Backoff.TheVariants as backoffs
 use Rattle.nextest_config_elements.specs.declared.retry_policy.FlakyResult.{FlakyResult}
@@ -123,6 +125,9 @@ other_keys backoff =
 abbrev pub IsJitterAlone : ℕ → Bool → Type 0
 IsJitterAlone delay jitter = (jitter ≡ true) × (delay ≡ 0)
 
+pub jitter_decided : (delay : ℕ) (jitter : Bool) → IsDecided (IsJitterAlone delay jitter)
+jitter_decided delay jitter = both_decided (true_decided jitter) (same_decided delay 0)
+
 -- the keys in turn, no other key, and then the rule
 abbrev pub fixed_table : Reading Members RetryPolicyRecord
 fixed_table =
@@ -130,7 +135,7 @@ fixed_table =
     then (or_default delay_key 0 duration_reading) (λ delay.
     then (or_default jitter_key false bool_reading) (λ jitter.
     behind (other_keys backoffs.Fixed)
-    (rule (IsJitterAlone delay jitter) jitter_without_delay
+    (rule (IsJitterAlone delay jitter) (jitter_decided delay jitter) jitter_without_delay
     (only (fixed (record { count = count; delay = delay; jitter = jitter })))))))
 
 -- ---- an exponential backoff
@@ -139,13 +144,27 @@ fixed_table =
 abbrev pub IsMaxBelow : ℕ → Option ℕ → Type 0
 IsMaxBelow delay max_delay = (max : ℕ) × (max_delay ≡ Some max) × (max < delay)
 
+pub zero_max_decided : (max_delay : Option ℕ) → IsDecided (max_delay ≡ Some 0)
+zero_max_decided None = inr (λ same. cc same)
+zero_max_decided (Some max) = elim (same_decided max 0) [
+  | inl none ↦ inl (ap Some none)
+  | inr some ↦ inr (λ same. some (cc same))
+]
+
+pub max_below_decided : (delay : ℕ) (max_delay : Option ℕ) → IsDecided (IsMaxBelow delay max_delay)
+max_below_decided delay None = inr (λ found. cc found.1)
+max_below_decided delay (Some max) = elim (below_decided max delay) [
+  | inl below ↦ inl (max, refl, below)
+  | inr over ↦ inr (λ found. let same : max ≡ found.0 = cc found.1 in over (rw same found.2))
+]
+
 -- the rules of an exponential backoff, in turn
 abbrev pub exponential_rules : {D : Type 0} → ℕ → ℕ → Option ℕ → Check D
 exponential_rules count delay max_delay =
-    both (rule_check (count ≡ 0) count_zero)
-    (both (rule_check (delay ≡ 0) delay_zero)
-    (both (rule_check (max_delay ≡ Some 0) max_delay_zero)
-    (rule_check (IsMaxBelow delay max_delay) max_delay_below_delay)))
+    both (rule_check (count ≡ 0) (same_decided count 0) count_zero)
+    (both (rule_check (delay ≡ 0) (same_decided delay 0) delay_zero)
+    (both (rule_check (max_delay ≡ Some 0) (zero_max_decided max_delay) max_delay_zero)
+    (rule_check (IsMaxBelow delay max_delay) (max_below_decided delay max_delay) max_delay_below_delay)))
 
 -- the keys in turn, no other key, and then the rules
 abbrev pub exponential_table : Reading Members RetryPolicyRecord
@@ -184,7 +203,7 @@ retries_expected = codes "a table ({ backoff = \"fixed\", count = 5 }) or a numb
 
 -- an integer is a number of retries with no delay: it isn't negative, and fits a u32
 abbrev pub retry_number : ℤ → Reading Data RetryPolicyRecord
-retry_number (pos number) = made_of without_delay (in_range IsU32 (codes "a u32") (pos number))
+retry_number (pos number) = made_of without_delay (in_range IsU32 u32_decided (codes "a u32") (pos number))
 retry_number (negsuc number) = outside retries_expected
 
 -- an integer, or a table

@@ -2,14 +2,18 @@
 
 ghost use Rattle.std.specs.Prelude.{◌≡◌, ◌↔◌, ℕ, ◌<◌, ◌≤◌, ◌^◌, ℤ, ◌<ℤ◌, IsTrue, List};
 ghost use Rattle.std.specs.Ordering.{MatchOrdering};
+ghost use Rattle.nextest_config_values.specs.Duration.{duration_reading};
 ghost use Rattle.nextest_config_values.specs.Equality.{IsCopy, IsEquality, IsEqualityBy};
 ghost use Rattle.nextest_config_values.specs.Helpers.PathsLaws.{relative_path_reading};
 ghost use Rattle.nextest_config_values.specs.Once.{IsJudgedOnce};
 ghost use Rattle.nextest_config_values.specs.Read.{IsReading};
+ghost use Rattle.nextest_config_elements.specs.Junit.{junit_reading};
 ghost use Rattle.nextest_config_elements.specs.LeakTimeout.{leak_timeout_reading};
 ghost use Rattle.nextest_config_elements.specs.MaxFail.{fail_fast_reading, IsLimitFault, IsLimitText, IsReached, limit_fault, limit_text, LimitFault};
-ghost use Rattle.nextest_config_elements.specs.RetryPolicy.{retry_policy_reading};
+ghost use Rattle.nextest_config_elements.specs.Priority.{priority_reading};
+ghost use Rattle.nextest_config_elements.specs.RetryPolicy.{flaky_result_reading, retry_policy_reading};
 ghost use Rattle.nextest_config_elements.specs.SlowTimeout.{slow_timeout_reading};
+ghost use Rattle.nextest_config_elements.specs.ThreadsRequired.{threads_reading};
 ghost use Rattle.nextest_config_elements.specs.declared.max_fail.MaxFail.{MaxFail};
 ghost use Rattle.nextest_config_elements.specs.declared.max_fail.MaxFail.TheVariants.{All, Count};
 ghost use Rattle.nextest_config_elements.specs.declared.max_fail.TerminateMode.{TerminateMode};
@@ -24,7 +28,7 @@ use crate::retry_policy::{FlakyResult, RetryPolicy};
 use crate::slow_timeout::{SlowTimeout, SlowTimeoutResult};
 use crate::threads_required::ThreadsRequired;
 
-/// No text has two fail limits, two faults as one, or both.
+/// A text has one fail limit and no fault as one, or it has no limit and one fault.
 #[tactic(auto, using(crate::proofs::Limits::limits_judged_once))]
 pub fn law_limit_once()
     ensures { IsJudgedOnce IsLimitText IsLimitFault }
@@ -55,13 +59,18 @@ pub fn law_priority_order()
     ensures equality { (a b : ℤ) → IsTrue (⟦<TestPriority as PartialEq>⟧.eq a b) ↔ (a ≡ b) }
 {}
 
-/// No value of the settings that may set nothing, `slow-timeout`, `leak-timeout`, `retries` and
-/// `fail-fast`, and none of a relative path means two things, has two faults at one path, or both.
+/// As each of these settings, and as a relative path, a value means one thing and has no fault, or it
+/// means nothing and has one fault at each path.
 pub fn law_setting_once()
     ensures slow_timeout { IsReading slow_timeout_reading.means slow_timeout_reading.faults }
+    ensures global_timeout { IsReading duration_reading.means duration_reading.faults }
     ensures leak_timeout { IsReading leak_timeout_reading.means leak_timeout_reading.faults }
     ensures retries { IsReading retry_policy_reading.means retry_policy_reading.faults }
+    ensures flaky_result { IsReading flaky_result_reading.means flaky_result_reading.faults }
     ensures fail_fast { IsReading fail_fast_reading.means fail_fast_reading.faults }
+    ensures priority { IsReading priority_reading.means priority_reading.faults }
+    ensures threads_required { IsReading threads_reading.means threads_reading.faults }
+    ensures junit { IsReading junit_reading.means junit_reading.faults }
     ensures relative_path { IsReading relative_path_reading.means relative_path_reading.faults }
 {}
 

@@ -1,13 +1,18 @@
 -- The setting `fail-fast`: a boolean, or a table with a limit and a mode.
 use Rattle.std.specs.Prelude.{◌≡◌, ◌≢◌, ℕ, ℤ, pos, ◌≤ℤ◌, ◌<ℤ◌, List, [], ◌∷◌, codes, FitsSigned, ◌⊎◌, Option, Some}
-use Rattle.std.proofs.Common.{sym, ap, ◌∙◌, subst, rules}
+use Rattle.std.proofs.Common.{refl, sym, ap, ◌∙◌, inl, inr, subst, rules}
 use Rattle.std.specs.Int.{w64}
+use Rattle.std.proofs.lemmas.Int.{by_lt_z}
 use Rattle.toml.specs.Data.{Data, Members, as_bool, as_integer, as_str}
+use Rattle.nextest_config_values.specs.Decisions.{IsDecided, same_text_decided}
+use Rattle.nextest_config_values.specs.Once.{IsJudged}
+use Rattle.nextest_config_values.specs.Read.Plain.{count_decided}
 use Rattle.nextest_config_values.specs.Read.{in_range, IsCount, kind, made_of, only, or_default, Reading, required, then, value_of, word_reading, wrong_kind, wrong_value}
 use Rattle.nextest_config_elements.specs.FromTable.{set_by_table}
+use Rattle.nextest_config_elements.specs.IntegerLaws.{fits_decided, not_both}
 use Rattle.nextest_config_elements.specs.MaxFail.Limit.{fail_fast_limit, mode_word}
 use Rattle.nextest_config_elements.specs.MaxFail.NumberText.{IsNumberText}
-use Rattle.nextest_config_elements.specs.MaxFail.NumberTextLaws.{one_number}
+use Rattle.nextest_config_elements.specs.MaxFail.NumberTextLaws.{number_or_none, one_number}
 use Rattle.nextest_config_elements.specs.declared.max_fail.MaxFail.{MaxFail}
 use Rattle.nextest_config_elements.specs.declared.max_fail.MaxFail.TheVariants as limits
 use Rattle.nextest_config_elements.specs.declared.max_fail.fail_fast.MaxFailCount.{MaxFailCount}
@@ -45,15 +50,48 @@ IsExpected held expected =
     ⊎ (((number : ℤ) → ¬ (HasInteger held number))
     × (expected ≡ codes "the string \"all\" or a positive integer")))
 
-not_both : (number : ℤ) → pos 0 <ℤ number → number ≤ℤ pos 0 → ⊥
-not_both number a b = search rules
-
 one_sign : (held : List ℕ) (m n : ℤ) → HasInteger held m → HasInteger held n → pos 0 <ℤ m
     → n ≤ℤ pos 0 → ⊥
-one_sign held m n h k a b = not_both n (subst (λ x. pos 0 <ℤ x) (one_number held m n h.0 k.0) a) b
+one_sign held m n h k a b = not_both (pos 0) n (subst (λ x. pos 0 <ℤ x) (one_number held m n h.0 k.0) a) b
 
 pub one_expected : (held e f : List ℕ) → IsExpected held e → IsExpected held f → e ≡ f
 one_expected held e f a b = search (rules, one_sign)
+
+expected_by : (held : List ℕ) (number : ℤ) → HasInteger held number
+    → (expected : List ℕ) × IsExpected held expected
+expected_by held number has = by_lt_z (pos 0) number (λ positive. (
+  codes "the string \"all\" (numbers must be specified without quotes)",
+  inl (number, has, positive, refl),
+)) (λ other. (
+  codes "the string \"all\" (numbers must be positive and without quotes)",
+  inr (inl (number, has, other, refl)),
+))
+
+expected_without : (held : List ℕ) → ((number : ℤ) → ¬ (HasInteger held number))
+    → (expected : List ℕ) × IsExpected held expected
+expected_without held none = (codes "the string \"all\" or a positive integer", inr (inr (none, refl)))
+
+expected_fitting : (held : List ℕ) (number : ℤ) → IsNumberText held number
+    → IsDecided (FitsSigned w64 number) → (expected : List ℕ) × IsExpected held expected
+expected_fitting held number is (inl fits) = expected_by held number (is, fits)
+expected_fitting held number is (inr large) = expected_without held
+    (λ other has. large (subst (FitsSigned w64) (one_number held other number has.0 is) has.1))
+
+some_expected : (held : List ℕ) → (expected : List ℕ) × IsExpected held expected
+some_expected held = elim (number_or_none held) [
+  | inl (number, is) ↦ expected_fitting held number is (fits_decided w64 number)
+  | inr none ↦ expected_without held (λ number has. none number has.0)
+]
+
+pub max_fail_judged : (held : List ℕ) (value : Data) (at : List ℕ)
+    → IsJudged (λ count. (held ≡ codes "all") × (count ≡ All))
+    (λ fault. (held ≢ codes "all") × (expected : List ℕ) × IsExpected held expected
+    × (fault ≡ wrong_value value at expected))
+max_fail_judged held value at = elim (same_text_decided held (codes "all")) [
+  | inl all ↦ inl (All, (all, refl))
+  | inr other ↦ let told = some_expected held in
+      inr (wrong_value value at told.0, (other, told.0, told.1, refl))
+]
 
 -- a text: `all`, in these letters
 abbrev pub max_fail_in : List ℕ → Reading Data MaxFailCount
@@ -63,6 +101,7 @@ max_fail_in held = record {
       × IsExpected held expected × (fault ≡ wrong_value value at expected);
   takes_memory = λ value. ⊥;
   law = record {
+    judged = max_fail_judged held;
     one_meaning = λ value x y a b. a.1 ∙ sym b.1;
     one_fault = λ value at f g a b. a.3
         ∙ ap (wrong_value value at) (one_expected held a.1 b.1 a.2 b.2) ∙ sym b.3;
@@ -73,7 +112,7 @@ max_fail_in held = record {
 -- an integer that is a count, or a text
 abbrev pub max_fail_reading : Reading Data MaxFailCount
 max_fail_reading =
-    kind as_integer (λ number. made_of Count (in_range IsCount max_fail_expected number))
+    kind as_integer (λ number. made_of Count (in_range IsCount count_decided max_fail_expected number))
     (kind as_str max_fail_in (wrong_kind max_fail_expected))
 
 -- ---- `terminate`

@@ -1,8 +1,10 @@
--- A text is one number, the one that the standard library reads.
-use Rattle.std.proofs.Common.{◌≡◌, ℕ, false, eqb, ℤ, List, [], ◌∷◌, ◌++◌, refl, sym, ap, ◌∙◌, arith, inl, inr}
+-- A text is one number, the one that the standard library reads, or none.
+use Rattle.std.proofs.Common.{◌≡◌, ℕ, false, eqb, ℤ, List, [], ◌∷◌, ◌++◌, length, refl, sym, ap, ◌∙◌, arith, inl, inr}
 use Rattle.std.proofs.lemmas.Bool.{cases_Bool, eqb-true, ne_eqb}
 use Rattle.std.proofs.lemmas.Str.Parse.{digit_from_value}
-use Rattle.std.specs.Str.Parse.{IsNumeral, digits_value, signed_digits_value, starts_with_minus, without_leading_plus, without_leading_sign}
+use Rattle.std.specs.Char.{digit_value}
+use Rattle.std.specs.Str.Parse.{AllDigits, IsNumeral, digits_value, signed_digits_value, starts_with_minus, without_leading_plus, without_leading_sign}
+use Rattle.nextest_config_values.specs.Decisions.{below_decided, both_decided, IsDecided, IsFoundOrNone}
 use Rattle.nextest_config_elements.specs.MaxFail.NumberText.{IsNumberText, Sign, minus, plus, sign_text, signed_number, unsigned}
 
 -- digits begin with no sign
@@ -64,3 +66,20 @@ number_from_parts (c ∷ cs) h = elim (cases_Bool (eqb c 45)) [
 
 pub one_number : (text : List ℕ) (m n : ℤ) → IsNumberText text m → IsNumberText text n → m ≡ n
 one_number text m n a b = (number_parts text m a).1 ∙ sym (number_parts text n b).1
+
+-- ---- each text is a number, or none
+
+digits_decided : (digits : List ℕ) → IsDecided (AllDigits 10 digits)
+digits_decided [] = inl tt
+digits_decided (c ∷ cs) = both_decided (below_decided (digit_value c) 10) (digits_decided cs)
+
+numeral_decided : (digits : List ℕ) → IsDecided (IsNumeral 10 digits)
+numeral_decided digits = both_decided (below_decided 0 (length digits)) (digits_decided digits)
+
+from_numeral : (text : List ℕ) → IsDecided (IsNumeral 10 (without_leading_sign text))
+    → IsFoundOrNone (IsNumberText text)
+from_numeral text (inl numeral) = inl (signed_digits_value 10 text, number_from_parts text numeral)
+from_numeral text (inr none) = inr (λ number is. none (number_parts text number is).0)
+
+pub number_or_none : (text : List ℕ) → IsFoundOrNone (IsNumberText text)
+number_or_none text = from_numeral text (numeral_decided (without_leading_sign text))
