@@ -37,7 +37,7 @@ pub fn law_override()
 
 /// A list of sources reads, or has one first refused position, with one error, and never both.
 pub fn law_refusal_once()
-    ensures judged { (sources : List Source)
+    ensures read_or_refused { (sources : List Source)
         → Reads sources ⊎ ((position : ℕ) × (refusal : Refusal)
         × IsFirstRefused sources position refusal) }
     ensures never_both { (sources : List Source) (position : ℕ) (refusal : Refusal)

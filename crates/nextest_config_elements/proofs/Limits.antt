@@ -8,7 +8,7 @@ use Rattle.std.specs.declared.result.Result.{Result}
 use Rattle.std.proofs.lemmas.Result.{IfErr-weaker, IfOk-weaker}
 use Rattle.nextest_config_values.specs.Decisions.{IsFoundOrNone, same_text_decided}
 use Rattle.nextest_config_values.specs.Identifier.{cut_or_none, HasNoColon, IsCutAtColon, same_cut, uncut}
-use Rattle.nextest_config_values.specs.Once.{IsJudged, IsJudgedOnce}
+use Rattle.nextest_config_values.specs.Once.{HasMeaningOrFault, HasOneMeaningOrFault}
 use Rattle.nextest_config_values.specs.Read.Word.{value_or_none}
 use Rattle.nextest_config_values.proofs.Faults.{fault_mapped}
 use Rattle.nextest_config_elements.specs.MaxFail.{bad_count, bad_mode, HasCount, IsAllText, IsBadCount, IsBadMode, IsCountFault, IsCountLimit, IsCountText, IsLimitFault, IsLimitText, IsNoMode, IsNotPositive, IsParted, limit_fault, LimitFault, MeansMode, IsNumberText, mode_word, not_positive, number_or_none, number_parts, one_number, RefusesLimit}
@@ -127,8 +127,8 @@ whole_count text not_all none = record { not_all = not_all; word = None; parted 
 -- ---- each text has a limit, or a fault
 
 -- the count is a number from 1 to the greatest isize, or has a fault
-abbrev IsJudgedCount : List ℕ → Type 0
-IsJudgedCount count = ((max_fail : ℕ) × IsCountText count max_fail) ⊎ ((fault : LimitFault) × IsBadCount count fault)
+abbrev IsCountOrFault : List ℕ → Type 0
+IsCountOrFault count = ((max_fail : ℕ) × IsCountText count max_fail) ⊎ ((fault : LimitFault) × IsBadCount count fault)
 
 at_least : (number : ℕ) → 2 ^ 63 ≤ number → pos (2 ^ 63) ≤ℤ pos number
 at_least number large = search rules
@@ -136,47 +136,47 @@ at_least number large = search rules
 under : (number : ℕ) → 2 ^ 63 ≤ number → negsuc number <ℤ neg_ℤ (pos (2 ^ 63))
 under number small = search rules
 
-positive_judged : (count : List ℕ) (max_fail : ℕ) → IsNumberText count (pos max_fail) → 0 < max_fail → (max_fail < 2 ^ 63) ⊎ (2 ^ 63 ≤ max_fail) → IsJudgedCount count
-positive_judged count max_fail is positive (inl fits) = inl (max_fail, record { number = is; positive = positive; fits = fits })
-positive_judged count max_fail is positive (inr large) = inr (bad_count count TooLarge, (refl, (pos max_fail, is, at_least max_fail large)))
+positive_or_fault : (count : List ℕ) (max_fail : ℕ) → IsNumberText count (pos max_fail) → 0 < max_fail → (max_fail < 2 ^ 63) ⊎ (2 ^ 63 ≤ max_fail) → IsCountOrFault count
+positive_or_fault count max_fail is positive (inl fits) = inl (max_fail, record { number = is; positive = positive; fits = fits })
+positive_or_fault count max_fail is positive (inr large) = inr (bad_count count TooLarge, (refl, (pos max_fail, is, at_least max_fail large)))
 
-negative_judged : (count : List ℕ) (below : ℕ) → IsNumberText count (negsuc below) → (below < 2 ^ 63) ⊎ (2 ^ 63 ≤ below) → IsJudgedCount count
-negative_judged count below is (inl fits) = inr (not_positive, (negsuc below, is, record { sfits = fits }, search rules))
-negative_judged count below is (inr small) = inr (bad_count count TooSmall, (refl, (negsuc below, is, under below small)))
+negative_or_fault : (count : List ℕ) (below : ℕ) → IsNumberText count (negsuc below) → (below < 2 ^ 63) ⊎ (2 ^ 63 ≤ below) → IsCountOrFault count
+negative_or_fault count below is (inl fits) = inr (not_positive, (negsuc below, is, record { sfits = fits }, search rules))
+negative_or_fault count below is (inr small) = inr (bad_count count TooSmall, (refl, (negsuc below, is, under below small)))
 
-number_judged : (count : List ℕ) (number : ℤ) → IsNumberText count number → IsJudgedCount count
-number_judged count (pos zero) is = inr (not_positive, (pos 0, is, record { sfits = lit< tt }, search rules))
-number_judged count (pos (suc n)) is = positive_judged count (suc n) is (omega arith) (cases_lt (suc n) (2 ^ 63))
-number_judged count (negsuc below) is = negative_judged count below is (cases_lt below (2 ^ 63))
+number_or_fault : (count : List ℕ) (number : ℤ) → IsNumberText count number → IsCountOrFault count
+number_or_fault count (pos zero) is = inr (not_positive, (pos 0, is, record { sfits = lit< tt }, search rules))
+number_or_fault count (pos (suc n)) is = positive_or_fault count (suc n) is (omega arith) (cases_lt (suc n) (2 ^ 63))
+number_or_fault count (negsuc below) is = negative_or_fault count below is (cases_lt below (2 ^ 63))
 
-no_number_judged : (count : List ℕ) → ((number : ℤ) → ¬ (IsNumberText count number)) → IsJudgedCount count
-no_number_judged [] none = inr (bad_count [] Empty, (refl, refl))
-no_number_judged (c ∷ cs) none = inr (bad_count (c ∷ cs) InvalidDigit, (refl, ((λ empty. cc empty), none)))
+no_number_or_fault : (count : List ℕ) → ((number : ℤ) → ¬ (IsNumberText count number)) → IsCountOrFault count
+no_number_or_fault [] none = inr (bad_count [] Empty, (refl, refl))
+no_number_or_fault (c ∷ cs) none = inr (bad_count (c ∷ cs) InvalidDigit, (refl, ((λ empty. cc empty), none)))
 
-count_judged : (count : List ℕ) → IsJudgedCount count
-count_judged count = elim (number_or_none count) [ inl (number, is) ↦ number_judged count number is | inr none ↦ no_number_judged count none ]
+count_or_fault : (count : List ℕ) → IsCountOrFault count
+count_or_fault count = elim (number_or_none count) [ inl (number, is) ↦ number_or_fault count number is | inr none ↦ no_number_or_fault count none ]
 
 -- the text has a limit, or a fault
-abbrev IsJudgedText : List ℕ → Type 0
-IsJudgedText text = IsJudged (IsLimitText text) (IsLimitFault text)
+abbrev IsLimitOrFault : List ℕ → Type 0
+IsLimitOrFault text = HasMeaningOrFault (IsLimitText text) (IsLimitFault text)
 
-counted : (text count : List ℕ) (mode : TerminateMode) → HasCount text count mode → IsJudgedCount count → IsJudgedText text
+counted : (text count : List ℕ) (mode : TerminateMode) → HasCount text count mode → IsCountOrFault count → IsLimitOrFault text
 counted text count mode has (inl (max_fail, is)) = inl (Count max_fail mode, (count, has, is))
 counted text count mode has (inr (fault, wrong)) = inr (fault, inr (count, mode, has, wrong))
 
-cut_judged : (text count word : List ℕ) → ¬ (IsAllText text) → IsCutAtColon text count word → IsFoundOrNone (λ mode. mode_word mode ≡ word) → IsJudgedText text
-cut_judged text count word not_all cut (inl (mode, meant)) = counted text count mode (cut_count text count word mode not_all cut meant) (count_judged count)
-cut_judged text count word not_all cut (inr none) = inr (bad_mode word, inl (not_all, count, word, cut, none, refl))
+cut_or_fault : (text count word : List ℕ) → ¬ (IsAllText text) → IsCutAtColon text count word → IsFoundOrNone (λ mode. mode_word mode ≡ word) → IsLimitOrFault text
+cut_or_fault text count word not_all cut (inl (mode, meant)) = counted text count mode (cut_count text count word mode not_all cut meant) (count_or_fault count)
+cut_or_fault text count word not_all cut (inr none) = inr (bad_mode word, inl (not_all, count, word, cut, none, refl))
 
-parts_judged : (text : List ℕ) → ¬ (IsAllText text) → ((count word : List ℕ) × IsCutAtColon text count word) ⊎ HasNoColon text → IsJudgedText text
-parts_judged text not_all (inl (count, word, cut)) = cut_judged text count word not_all cut (value_or_none (Wait ∷ Immediate ∷ []) mode_word mode_reads_back word)
-parts_judged text not_all (inr none) = counted text text Wait (whole_count text not_all none) (count_judged text)
+parts_or_fault : (text : List ℕ) → ¬ (IsAllText text) → ((count word : List ℕ) × IsCutAtColon text count word) ⊎ HasNoColon text → IsLimitOrFault text
+parts_or_fault text not_all (inl (count, word, cut)) = cut_or_fault text count word not_all cut (value_or_none (Wait ∷ Immediate ∷ []) mode_word mode_reads_back word)
+parts_or_fault text not_all (inr none) = counted text text Wait (whole_count text not_all none) (count_or_fault text)
 
-limit_judged : (text : List ℕ) → IsJudgedText text
-limit_judged text = elim (same_text_decided (str_to_ascii_lowercase text) (codes "all")) [ inl all ↦ inl (All, all) | inr not_all ↦ parts_judged text not_all (cut_or_none text) ]
+limit_or_fault : (text : List ℕ) → IsLimitOrFault text
+limit_or_fault text = elim (same_text_decided (str_to_ascii_lowercase text) (codes "all")) [ inl all ↦ inl (All, all) | inr not_all ↦ parts_or_fault text not_all (cut_or_none text) ]
 
-pub limits_judged_once : IsJudgedOnce IsLimitText IsLimitFault
-limits_judged_once = record { judged = limit_judged; one_meaning = one_limit; one_fault = one_limit_fault; never_both = limit_not_faulty }
+pub one_limit_or_fault : HasOneMeaningOrFault IsLimitText IsLimitFault
+one_limit_or_fault = record { meaning_or_fault = limit_or_fault; one_meaning = one_limit; one_fault = one_limit_fault; never_both = limit_not_faulty }
 
 -- ---- answers, passed on
 

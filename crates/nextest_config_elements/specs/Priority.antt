@@ -4,7 +4,7 @@ use Rattle.std.specs.Int.{w8}
 use Rattle.std.proofs.Common.{refl, sym, ◌∙◌, inl, inr, rules}
 use Rattle.toml.specs.Data.{Data, as_integer}
 use Rattle.nextest_config_values.specs.Decisions.{both_decided, IsDecided}
-use Rattle.nextest_config_values.specs.Once.{IsJudged}
+use Rattle.nextest_config_values.specs.Once.{HasMeaningOrFault}
 use Rattle.nextest_config_values.specs.Read.Fault.{Fault, priority_outside}
 use Rattle.nextest_config_values.specs.Read.{custom, fault_at, kind, Reading, wrong_kind, wrong_value}
 use Rattle.nextest_config_elements.specs.IntegerLaws.{at_most_decided, fits_decided}
@@ -40,9 +40,9 @@ pub no_priority_fault : (held : ℤ) (value : Data) (at : List ℕ) (f : Fault) 
 no_priority_fault held value at f h (inl a) = a.0 (priority_fits held h)
 no_priority_fault held value at f h (inr a) = a.1 h
 
-pub priority_judged : (held : ℤ) (value : Data) (at : List ℕ)
-    → IsJudged (λ priority. (priority ≡ held) × IsPriority held) (PriorityFaults held value at)
-priority_judged held value at = elim (priority_decided held) [
+pub priority_or_fault : (held : ℤ) (value : Data) (at : List ℕ)
+    → HasMeaningOrFault (λ priority. (priority ≡ held) × IsPriority held) (PriorityFaults held value at)
+priority_or_fault held value at = elim (priority_decided held) [
   | inl is ↦ inl (held, (refl, is))
   | inr not ↦ elim (fits_decided w8 held) [
     | inl fits ↦ inr (fault_at at (custom (priority_outside held)), inr (fits, not, refl))
@@ -57,7 +57,7 @@ priority_in held = record {
   faults = PriorityFaults held;
   takes_memory = λ value. ⊥;
   law = record {
-    judged = priority_judged held;
+    meaning_or_fault = priority_or_fault held;
     one_meaning = λ value x y a b. a.0 ∙ sym b.0;
     one_fault = one_priority_fault held;
     never_both = λ value at x f a. no_priority_fault held value at f a.1;

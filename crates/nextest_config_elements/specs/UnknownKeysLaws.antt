@@ -129,11 +129,11 @@ first_or_none known no_members = inl (λ key unknown. cc unknown.0)
 first_or_none known (member key value others) = one_more known key value others
     (known_decided known key) (first_or_none known others)
 
-pub judged_keys : (known : List (List ℕ)) (expected : List ℕ) (members : Members) (at : List ℕ)
+pub only_or_first : (known : List (List ℕ)) (expected : List ℕ) (members : Members) (at : List ℕ)
     → HasOnlyKeys known members
     ⊎ ((f : Fault) × ((key : List ℕ) × IsFirstUnknownKey known members key
     × (f ≡ unknown_key key at expected)))
-judged_keys known expected members at = elim (first_or_none known members) [
+only_or_first known expected members at = elim (first_or_none known members) [
   | inl only ↦ inl only
   | inr (key, first) ↦ inr (unknown_key key at expected, (key, first, refl))
 ]
@@ -144,7 +144,7 @@ keys_check known expected = record {
   passes = HasOnlyKeys known;
   faults = λ members at fault. (key : List ℕ) × IsFirstUnknownKey known members key
       × (fault ≡ unknown_key key at expected);
-  judged = judged_keys known expected;
+  passes_or_faults = only_or_first known expected;
   one_fault = λ members at f g a b. a.2
       ∙ ap (λ key. unknown_key key at expected) (one_first a.0 b.0 a.1 b.1) ∙ sym b.2;
   never_both = λ members at f none a. none a.0 a.1.is_unknown;

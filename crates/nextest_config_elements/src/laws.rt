@@ -5,7 +5,7 @@ ghost use Rattle.std.specs.Ordering.{MatchOrdering};
 ghost use Rattle.nextest_config_values.specs.Duration.{duration_reading};
 ghost use Rattle.nextest_config_values.specs.Equality.{IsCopy, IsEquality, IsEqualityBy};
 ghost use Rattle.nextest_config_values.specs.Helpers.PathsLaws.{relative_path_reading};
-ghost use Rattle.nextest_config_values.specs.Once.{IsJudgedOnce};
+ghost use Rattle.nextest_config_values.specs.Once.{HasOneMeaningOrFault};
 ghost use Rattle.nextest_config_values.specs.Read.{IsReading};
 ghost use Rattle.nextest_config_elements.specs.Junit.{junit_reading};
 ghost use Rattle.nextest_config_elements.specs.LeakTimeout.{leak_timeout_reading};
@@ -29,9 +29,9 @@ use crate::slow_timeout::{SlowTimeout, SlowTimeoutResult};
 use crate::threads_required::ThreadsRequired;
 
 /// A text has one fail limit and no fault as one, or it has no limit and one fault.
-#[tactic(auto, using(crate::proofs::Limits::limits_judged_once))]
+#[tactic(auto, using(crate::proofs::Limits::one_limit_or_fault))]
 pub fn law_limit_once()
-    ensures { IsJudgedOnce IsLimitText IsLimitFault }
+    ensures { HasOneMeaningOrFault IsLimitText IsLimitFault }
 {}
 
 /// The printed text of a limit has that limit, where there is none and for a count from 1 to

@@ -7,7 +7,7 @@ ghost use Rattle.nextest_config_sources.specs.NextestVersion.Source.{repository_
 ghost use Rattle.nextest_config_sources.specs.declared.nextest_version.edition.Edition.{Edition};
 ghost use Rattle.nextest_config_sources.specs.declared.nextest_version.source.ConfigSourceKind.{ConfigSourceKind};
 ghost use Rattle.nextest_config_values.specs.Equality.{IsCopy, IsEquality, IsEqualityBy};
-ghost use Rattle.nextest_config_values.specs.Once.{IsJudgedOnce};
+ghost use Rattle.nextest_config_values.specs.Once.{HasOneMeaningOrFault};
 ghost use Rattle.nextest_config_values.specs.Read.{IsReading};
 
 use crate::nextest_version::{
@@ -16,9 +16,9 @@ use crate::nextest_version::{
 };
 
 /// Each text has one version and breaks no rule, or has none and breaks one.
-#[tactic(auto, using(crate::specs::NextestVersion::VersionTextLaws::versions_judged_once))]
+#[tactic(auto, using(crate::specs::NextestVersion::VersionTextLaws::one_version_or_fault))]
 pub fn law_version_once()
-    ensures { IsJudgedOnce HasVersion IsVersionFault }
+    ensures { HasOneMeaningOrFault HasVersion IsVersionFault }
 {}
 
 /// Each value of `nextest-version` and of `experimental` means one thing and has no fault, or means
@@ -32,7 +32,7 @@ pub fn law_setting_once()
 /// one thing is wrong with it.
 pub fn law_source_once()
     ensures { (edition : Edition) (kind : ConfigSourceKind)
-        → IsJudgedOnce (TextAsks edition kind) (IsWrong edition kind) }
+        → HasOneMeaningOrFault (TextAsks edition kind) (IsWrong edition kind) }
 {}
 
 /// A current version is enough for the version of a text where its numbers are greater in order, or

@@ -3,32 +3,32 @@ use Rattle.std.proofs.Common.{◌≡◌, ◌∙◌, ◌⊎◌, ℕ, List, [], �
 use Rattle.nextest_config_values.specs.Decisions.{IsDecided}
 use Rattle.nextest_config_values.specs.Helpers.Paths.{BeginsWithSlash}
 use Rattle.nextest_config_values.specs.Helpers.PathsLaws.{begins_decided}
-use Rattle.nextest_config_values.specs.Identifier.{cut_or_none, IsCutAtColon, IsToolName, IsToolNameFault, NameFault, same_cut, tool_names_judged_once, ToolNameFlaw, uncut}
-use Rattle.nextest_config_values.specs.Once.{IsJudged, IsJudgedOnce}
+use Rattle.nextest_config_values.specs.Identifier.{cut_or_none, IsCutAtColon, IsToolName, IsToolNameFault, NameFault, same_cut, one_tool_name_or_fault, ToolNameFlaw, uncut}
+use Rattle.nextest_config_values.specs.Once.{HasMeaningOrFault, HasOneMeaningOrFault}
 use Rattle.nextest_config_values.specs.Read.{FaultOrMemory, one_then}
 use Rattle.nextest_config_values.specs.declared.tool_config.ToolConfigFileParseError.{ToolConfigFileParseError}
 use Rattle.nextest_config_values.proofs.Faults.{fault_mapped}
 use Rattle.nextest_config_values.specs.ToolConfig.{Argument, ArgumentFault, IsArgumentFault, IsPartsFault, IsPathFault, IsToolArgument, RefusesArgument, RefusesTool, argument_fault, config_file_not_absolute, empty_config_file, invalid_format, invalid_tool_name}
 
-path_judged : (text path : List ℕ) → IsDecided (BeginsWithSlash path) → BeginsWithSlash path ⊎ ((f : ArgumentFault) × IsPathFault text path f)
-path_judged text path (inl slash) = inl slash
-path_judged text [] (inr none) = inr (empty_config_file text, inl (refl, refl))
-path_judged text (b ∷ path) (inr none) = inr (config_file_not_absolute (b ∷ path), inr ((λ empty. cc empty), none, refl))
+path_or_fault : (text path : List ℕ) → IsDecided (BeginsWithSlash path) → BeginsWithSlash path ⊎ ((f : ArgumentFault) × IsPathFault text path f)
+path_or_fault text path (inl slash) = inl slash
+path_or_fault text [] (inr none) = inr (empty_config_file text, inl (refl, refl))
+path_or_fault text (b ∷ path) (inr none) = inr (config_file_not_absolute (b ∷ path), inr ((λ empty. cc empty), none, refl))
 
-parts_judged : (text name path tool : List ℕ) → IsCutAtColon text name path → IsToolName name tool → BeginsWithSlash path ⊎ ((f : ArgumentFault) × IsPathFault text path f)
-    → IsJudged (IsToolArgument text) (IsArgumentFault text)
-parts_judged text name path tool cut named (inl slash) =
+parts_or_fault : (text name path tool : List ℕ) → IsCutAtColon text name path → IsToolName name tool → BeginsWithSlash path ⊎ ((f : ArgumentFault) × IsPathFault text path f)
+    → HasMeaningOrFault (IsToolArgument text) (IsArgumentFault text)
+parts_or_fault text name path tool cut named (inl slash) =
     inl (record { tool = tool; path = path }, record { name = name; cut = cut; tool = named; absolute = slash })
-parts_judged text name path tool cut named (inr (f, wrong)) = inr (f, inr (name, path, cut, inr (tool, named, wrong)))
+parts_or_fault text name path tool cut named (inr (f, wrong)) = inr (f, inr (name, path, cut, inr (tool, named, wrong)))
 
-cut_judged : (text name path : List ℕ) → IsCutAtColon text name path → IsJudged (IsToolName name) (IsToolNameFault name)
-    → IsJudged (IsToolArgument text) (IsArgumentFault text)
-cut_judged text name path cut (inl (tool, named)) = parts_judged text name path tool cut named (path_judged text path (begins_decided path))
-cut_judged text name path cut (inr (fault, wrong)) = inr (invalid_tool_name text fault, inr (name, path, cut, inl (fault, wrong, refl)))
+cut_or_fault : (text name path : List ℕ) → IsCutAtColon text name path → HasMeaningOrFault (IsToolName name) (IsToolNameFault name)
+    → HasMeaningOrFault (IsToolArgument text) (IsArgumentFault text)
+cut_or_fault text name path cut (inl (tool, named)) = parts_or_fault text name path tool cut named (path_or_fault text path (begins_decided path))
+cut_or_fault text name path cut (inr (fault, wrong)) = inr (invalid_tool_name text fault, inr (name, path, cut, inl (fault, wrong, refl)))
 
-argument_judged : (text : List ℕ) → IsJudged (IsToolArgument text) (IsArgumentFault text)
-argument_judged text = elim (cut_or_none text) [
-  | inl (name, path, cut) ↦ cut_judged text name path cut (tool_names_judged_once.judged name)
+argument_or_fault : (text : List ℕ) → HasMeaningOrFault (IsToolArgument text) (IsArgumentFault text)
+argument_or_fault text = elim (cut_or_none text) [
+  | inl (name, path, cut) ↦ cut_or_fault text name path cut (one_tool_name_or_fault.meaning_or_fault name)
   | inr none ↦ inr (invalid_format text, inl (none, refl))
 ]
 
@@ -40,8 +40,8 @@ one_argument text a b h k =
 
 one_parts_fault : (text name path : List ℕ) (e f : ArgumentFault) → IsPartsFault text name path e → IsPartsFault text name path f → e ≡ f
 one_parts_fault text name path = one_then
-    (λ e f a b. a.2 ∙ ap (invalid_tool_name text) (tool_names_judged_once.one_fault name a.0 b.0 a.1 b.1) ∙ sym b.2)
-    (λ tool e named a. tool_names_judged_once.never_both name tool a.0 named a.1)
+    (λ e f a b. a.2 ∙ ap (invalid_tool_name text) (one_tool_name_or_fault.one_fault name a.0 b.0 a.1 b.1) ∙ sym b.2)
+    (λ tool e named a. one_tool_name_or_fault.never_both name tool a.0 named a.1)
     (λ tool other a b. a.1 ∙ sym b.1)
     (λ tool e f a b. search rules)
 
@@ -53,7 +53,7 @@ one_argument_fault text e f (inr a) (inr b) =
     one_parts_fault text b.0 b.1 e f (rw (← same.0, ← same.1) a.3) b.3
 
 no_parts_fault : (text name tool path : List ℕ) (f : ArgumentFault) → IsToolName name tool → BeginsWithSlash path → IsPartsFault text name path f → ⊥
-no_parts_fault text name tool path f named slash (inl a) = tool_names_judged_once.never_both name tool a.0 named a.1
+no_parts_fault text name tool path f named slash (inl a) = one_tool_name_or_fault.never_both name tool a.0 named a.1
 no_parts_fault text name tool path f named slash (inr a) = search rules
 
 pub argument_not_refused : (text : List ℕ) (a : Argument) (f : ArgumentFault) → IsToolArgument text a → IsArgumentFault text f → ⊥
@@ -62,8 +62,8 @@ argument_not_refused text a f h (inr b) =
     let same = same_cut text h.name a.path b.0 b.1 h.cut b.2 in
     no_parts_fault text h.name a.tool a.path f h.tool h.absolute (rw (same.0, same.1) b.3)
 
-pub arguments_judged_once : IsJudgedOnce IsToolArgument IsArgumentFault
-arguments_judged_once = record { judged = argument_judged; one_meaning = one_argument; one_fault = one_argument_fault; never_both = argument_not_refused }
+pub one_argument_or_fault : HasOneMeaningOrFault IsToolArgument IsArgumentFault
+one_argument_or_fault = record { meaning_or_fault = argument_or_fault; one_meaning = one_argument; one_fault = one_argument_fault; never_both = argument_not_refused }
 
 -- ---- refusals
 

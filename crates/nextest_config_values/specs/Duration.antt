@@ -1,9 +1,9 @@
 -- Durations: their grammar, and its laws.
 pub mod Grammar
-pub mod Judged
 pub mod Laws
 pub mod Steps
+pub mod Fronts
 pub use Grammar.{AreAll, AreFittingDigits, BeginsWith, EndsWith, HasNumberThatFits, IsDuration, IsDurationFault, IsEndFault, IsFaultBehind, IsFront, IsItemText, IsLongestFront, IsNext, IsNextFault, IsRun, IsUncut, is_in_word, Item, length_in, offset, Spells, total, unit_length, units}
-pub use Judged.{duration_expected, duration_in, duration_reading}
 pub use Laws.{covers, never_duration_and_fault, nothing_stops, one_duration, one_duration_fault, one_next, one_spelling, Stops}
 pub use Steps.{IsCutBehind, IsFaultAt, IsReadItem, rows}
+pub use Fronts.{duration_expected, duration_in, duration_reading}

@@ -8,7 +8,7 @@ ghost use Rattle.nextest_config_values.specs.Duration.{IsDuration, IsDurationFau
 ghost use Rattle.nextest_config_values.specs.declared.duration.DurationFault.{DurationFault};
 ghost use Rattle.nextest_config_values.specs.Equality.{IsCopy, IsEquality, IsEqualityBy, IsEqualityOfTold};
 ghost use Rattle.nextest_config_values.specs.Identifier.{identifier_fault, IdentifierFlaw, IsIdentifier, IsIdentifierFault, IsToolName, IsToolNameFault, NameFault, normal_chars, SameAnswers, tool_name_fault, ToolNameFlaw};
-ghost use Rattle.nextest_config_values.specs.Once.{IsJudgedOnce};
+ghost use Rattle.nextest_config_values.specs.Once.{HasOneMeaningOrFault};
 ghost use Rattle.nextest_config_values.specs.Read.{broken_rule, fault_of, IsReading, reason_of};
 ghost use Rattle.nextest_config_values.specs.ToolConfig.{Argument, argument_fault, argument_of, ArgumentFault, IsArgumentFault, IsToolArgument};
 ghost use Rattle.nextest_config_values.specs.declared.track_default.TrackDefault.{TrackDefault};
@@ -28,21 +28,21 @@ pub fn law_value_once<T: FromToml>()
 {}
 
 /// A text is one identifier and has no fault as one, or it is none and has one fault.
-#[tactic(auto, using(crate::specs::Identifier::Laws::identifiers_judged_once))]
+#[tactic(auto, using(crate::specs::Identifier::Laws::one_identifier_or_fault))]
 pub fn law_identifier_once()
-    ensures { IsJudgedOnce IsIdentifier IsIdentifierFault }
+    ensures { HasOneMeaningOrFault IsIdentifier IsIdentifierFault }
 {}
 
 /// A text is one tool name and has no fault as one, or it is none and has one fault.
-#[tactic(auto, using(crate::specs::Identifier::Laws::tool_names_judged_once))]
+#[tactic(auto, using(crate::specs::Identifier::Laws::one_tool_name_or_fault))]
 pub fn law_tool_name_once()
-    ensures { IsJudgedOnce IsToolName IsToolNameFault }
+    ensures { HasOneMeaningOrFault IsToolName IsToolNameFault }
 {}
 
 /// A text is one tool argument and has no fault as one, or it is none and has one fault.
-#[tactic(auto, using(crate::proofs::Arguments::arguments_judged_once))]
+#[tactic(auto, using(crate::proofs::Arguments::one_argument_or_fault))]
 pub fn law_argument_once()
-    ensures { IsJudgedOnce IsToolArgument IsArgumentFault }
+    ensures { HasOneMeaningOrFault IsToolArgument IsArgumentFault }
 {}
 
 /// Identifiers and tool names are ordered, compared and hashed as their texts are.
@@ -71,11 +71,11 @@ pub fn law_same_normal_form()
 
 /// No text is spelled by two lists of items, wherever white space stands; a text is one duration and
 /// has no fault as one, or it is none and has one fault.
-#[tactic(auto, using(crate::specs::Duration::Laws::one_spelling, crate::specs::Duration::Judged::durations_judged_once))]
+#[tactic(auto, using(crate::specs::Duration::Laws::one_spelling, crate::specs::Duration::Fronts::one_duration_or_fault))]
 pub fn law_duration_once()
     ensures one_spelling { (text : List ℕ) (items others : List Item)
         → Spells items text → Spells others text → items ≡ others }
-    ensures once { IsJudgedOnce IsDuration IsDurationFault }
+    ensures once { HasOneMeaningOrFault IsDuration IsDurationFault }
 {}
 
 /// Values are equal exactly where they say the same. Of refusals that may hold one of a name this

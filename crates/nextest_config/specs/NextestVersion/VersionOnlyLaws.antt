@@ -14,8 +14,8 @@ use Rattle.nextest_config.specs.NextestVersion.Parts.{parts_join}
 use Rattle.nextest_config_sources.specs.NextestVersion.Source.{Place, Source}
 use Rattle.nextest_config.specs.NextestVersion.VersionOnly.{Configuration, IsErrorOf, IsRead, IsReadAs, IsRefused, join_configurations, neutral_seen, seen_configuration, SeenConfiguration, SourceAsk, StandsForAsks, StandsForOne, StandsIn}
 use Rattle.nextest_config_sources.specs.NextestVersion.VersionOnlyDeserialize.{Ask, IsWrong}
-use Rattle.nextest_config_sources.specs.NextestVersion.VersionOnlyDeserializeLaws.{one_wrong, source_judged, text_asks_once, text_not_wrong}
-use Rattle.nextest_config_values.specs.Once.{IsJudged}
+use Rattle.nextest_config_sources.specs.NextestVersion.VersionOnlyDeserializeLaws.{one_wrong, ask_or_error, text_asks_once, text_not_wrong}
+use Rattle.nextest_config_values.specs.Once.{HasMeaningOrFault}
 
 pub configurations_join : IsMonoid join_configurations neutral_seen
 configurations_join = parts_join (λ (seen : SeenConfiguration). (seen.roles, seen.experimental))
@@ -41,18 +41,18 @@ read_not_refused source ask refusal read refused =
     text_not_wrong source.edition source.place.kind source.contents ask refusal.wrong read
     refused.wrong
 
-as_judged : (source : Source)
-    → IsJudged (IsRead source) (IsWrong source.edition source.place.kind source.contents)
-    → IsJudged (IsReadAs source) (IsRefused source)
-as_judged source (inl (ask, read)) =
+as_read_or_refused : (source : Source)
+    → HasMeaningOrFault (IsRead source) (IsWrong source.edition source.place.kind source.contents)
+    → HasMeaningOrFault (IsReadAs source) (IsRefused source)
+as_read_or_refused source (inl (ask, read)) =
     inl (record { place = source.place; ask = ask }, record { place = refl; read = read })
-as_judged source (inr (wrong, broken)) =
+as_read_or_refused source (inr (wrong, broken)) =
     inr (record { place = source.place; wrong = wrong }, record { named = refl; wrong = broken })
 
 -- each source is in its grammar, or is refused
-pub read_or_refused : (source : Source) → IsJudged (IsReadAs source) (IsRefused source)
+pub read_or_refused : (source : Source) → HasMeaningOrFault (IsReadAs source) (IsRefused source)
 read_or_refused source =
-    as_judged source (source_judged source.edition source.place.kind source.contents)
+    as_read_or_refused source (ask_or_error source.edition source.place.kind source.contents)
 
 -- a list of one has its one element in the middle
 only_one : {X : Type 0} (a : X) (before : List X) (x : X) (after : List X)

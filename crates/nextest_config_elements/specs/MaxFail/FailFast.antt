@@ -5,7 +5,7 @@ use Rattle.std.specs.Int.{w64}
 use Rattle.std.proofs.lemmas.Int.{by_lt_z}
 use Rattle.toml.specs.Data.{Data, Members, as_bool, as_integer, as_str}
 use Rattle.nextest_config_values.specs.Decisions.{IsDecided, same_text_decided}
-use Rattle.nextest_config_values.specs.Once.{IsJudged}
+use Rattle.nextest_config_values.specs.Once.{HasMeaningOrFault}
 use Rattle.nextest_config_values.specs.Read.Plain.{count_decided}
 use Rattle.nextest_config_values.specs.Read.{in_range, IsCount, kind, made_of, only, or_default, Reading, required, then, value_of, word_reading, wrong_kind, wrong_value}
 use Rattle.nextest_config_elements.specs.FromTable.{set_by_table}
@@ -83,11 +83,11 @@ some_expected held = elim (number_or_none held) [
   | inr none ↦ expected_without held (λ number has. none number has.0)
 ]
 
-pub max_fail_judged : (held : List ℕ) (value : Data) (at : List ℕ)
-    → IsJudged (λ count. (held ≡ codes "all") × (count ≡ All))
+pub max_fail_or_fault : (held : List ℕ) (value : Data) (at : List ℕ)
+    → HasMeaningOrFault (λ count. (held ≡ codes "all") × (count ≡ All))
     (λ fault. (held ≢ codes "all") × (expected : List ℕ) × IsExpected held expected
     × (fault ≡ wrong_value value at expected))
-max_fail_judged held value at = elim (same_text_decided held (codes "all")) [
+max_fail_or_fault held value at = elim (same_text_decided held (codes "all")) [
   | inl all ↦ inl (All, (all, refl))
   | inr other ↦ let told = some_expected held in
       inr (wrong_value value at told.0, (other, told.0, told.1, refl))
@@ -101,7 +101,7 @@ max_fail_in held = record {
       × IsExpected held expected × (fault ≡ wrong_value value at expected);
   takes_memory = λ value. ⊥;
   law = record {
-    judged = max_fail_judged held;
+    meaning_or_fault = max_fail_or_fault held;
     one_meaning = λ value x y a b. a.1 ∙ sym b.1;
     one_fault = λ value at f g a b. a.3
         ∙ ap (wrong_value value at) (one_expected held a.1 b.1 a.2 b.2) ∙ sym b.3;

@@ -14,7 +14,7 @@ use Rattle.std.specs.Ordering.{match_ordering, nat_cmp, ordering_reverse}
 use Rattle.std.specs.declared.cmp.Ordering.{Ordering}
 use Rattle.toml.specs.Data.{Data, Items, Members, item, member, no_items, no_members, as_array, as_str, as_table, get_item, get_member}
 use Rattle.nextest_config_values.specs.Decisions.{IsDecided, not_decided, same_text_decided}
-use Rattle.nextest_config_values.specs.Once.{IsJudged}
+use Rattle.nextest_config_values.specs.Once.{HasMeaningOrFault}
 use Rattle.nextest_config_values.specs.Read.Fault.{Fault, wrong_type}
 use Rattle.nextest_config_values.specs.Read.{held, in_memory, kind, made_of, Reading, text_expected, then, wrong_kind}
 use Rattle.nextest_config_sources.specs.NextestVersion.Experimental.{FeaturesInOrder, IsUnknown, TextsInOrder, all_features, feature_cmp, place_among, word_of}
@@ -228,16 +228,16 @@ array_names items texts all =
 
 array_by : (items : Items) (at : List ℕ)
     → ((texts : List (List ℕ)) × AreTexts items texts) ⊎ HasNoText items
-    → IsJudged (MeansFeatureArray items) (FeatureArrayFaults items at)
+    → HasMeaningOrFault (MeansFeatureArray items) (FeatureArrayFaults items at)
 array_by items at (inl (texts, all)) = inl (array_names items texts all)
 array_by items at (inr none) = inr (
   wrong_type none.value (item_path at none.index) text_expected,
   (none.index, none.value, none.here, none.earlier, (none.no_text, refl)),
 )
 
-pub array_judged : (items : Items) (at : List ℕ)
-    → IsJudged (MeansFeatureArray items) (FeatureArrayFaults items at)
-array_judged items at = array_by items at (texts_or_not items)
+pub array_or_fault : (items : Items) (at : List ℕ)
+    → HasMeaningOrFault (MeansFeatureArray items) (FeatureArrayFaults items at)
+array_or_fault items at = array_by items at (texts_or_not items)
 
 never_text : (items : Items) (index : ℕ) (value : Data) → get_item index items ≡ Some value
     → as_str value ≡ None → IsTextAt items index → ⊥
@@ -267,7 +267,7 @@ feature_array = record {
   faults = FeatureArrayFaults;
   takes_memory = λ items. Unit {0};
   law = record {
-    judged = array_judged;
+    meaning_or_fault = array_or_fault;
     one_meaning = λ items a b h k. named_once a b h.of_names k.of_names;
     one_fault = one_array_fault;
     never_both = no_array_fault;
@@ -320,7 +320,7 @@ keys_there (member key value table) text =
     key_by (slice_cmp nat_cmp text key) key text value table refl (keys_there table text)
 
 switch_by : (feature : ConfigExperimental) (table : Members)
-    → IsJudged ((switch feature).means table) ((switch feature).faults table [])
+    → HasMeaningOrFault ((switch feature).means table) ((switch feature).faults table [])
     → IsDecided ((switch feature).means table true)
 switch_by feature table (inl (true, on)) = inl on
 switch_by feature table (inl (false, off)) =
@@ -332,7 +332,7 @@ pub table_named : (table : Members)
     → (named : Features) × AreNamed (λ feature. (switch feature).means table true)
     (λ text. IsSome (get_member text table)) named
 table_named table = named_among
-    (λ feature. switch_by feature table ((switch feature).law.judged table []))
+    (λ feature. switch_by feature table ((switch feature).law.meaning_or_fault table []))
     (keys_in table) (keys_there table)
 
 -- a feature is enabled where its key is true; other keys are names whatever their values are
@@ -343,7 +343,7 @@ table_names = record {
   faults = λ members at fault. ⊥;
   takes_memory = λ members. ⊥;
   law = record {
-    judged = λ members at. inl (table_named members);
+    meaning_or_fault = λ members at. inl (table_named members);
     one_meaning = λ members. named_once;
     one_fault = λ members at f g a b. absurd a;
     never_both = λ members at named f a b. b;

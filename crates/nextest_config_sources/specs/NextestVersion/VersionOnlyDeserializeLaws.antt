@@ -9,7 +9,7 @@ use Rattle.std.specs.Ordering.{nat_cmp}
 use Rattle.toml.specs.Data.{Data, get_member, Items, Members}
 use Rattle.toml.specs.Parse.{parse_document}
 use Rattle.nextest_config_values.specs.Decisions.{IsDecided}
-use Rattle.nextest_config_values.specs.Once.{IsJudged, IsJudgedOnce}
+use Rattle.nextest_config_values.specs.Once.{HasMeaningOrFault, HasOneMeaningOrFault}
 use Rattle.nextest_config_values.specs.Read.{one_then, Reading, Then}
 use Rattle.nextest_config_sources.specs.NextestVersion.ErrorKind.{not_toml, setting, tool_features, Wrong}
 use Rattle.nextest_config_sources.specs.NextestVersion.Experimental.{word_of}
@@ -141,8 +141,8 @@ text_not_wrong edition kind (Some text) ask wrong read refused =
 -- ---- one of both
 
 -- what a table asks, or what is wrong with it
-abbrev IsTableJudged : Edition → ConfigSourceKind → Members → Type 0
-IsTableJudged edition kind table = IsJudged (Asks edition kind table) (IsWrongTable edition kind table)
+abbrev IsAskOrWrong : Edition → ConfigSourceKind → Members → Type 0
+IsAskOrWrong edition kind table = HasMeaningOrFault (Asks edition kind table) (IsWrongTable edition kind table)
 
 names_of : (features : Features) → (names : List (List ℕ)) × AreNames features names
 names_of features =
@@ -174,20 +174,20 @@ none_decided features = by_sets features.known features.unknown
     by_sets (feature ∷ known) unknown = inr (λ same. cc (ap (λ (f : Features). f.known) same))
     by_sets [] (name ∷ unknown) = inr (λ same. cc (ap (λ (f : Features). f.unknown) same))
 
-tool_rule_judged : (kind : ConfigSourceKind) (features : Features)
+tool_rule_or_error : (kind : ConfigSourceKind) (features : Features)
     → ObeysToolRule kind features ⊎ ((wrong : Wrong) × BreaksToolRule kind features wrong)
-tool_rule_judged (Tool name) features = elim (none_decided features) [
+tool_rule_or_error (Tool name) features = elim (none_decided features) [
   inl none ↦ inl none
   | inr some ↦ let (names, are) = names_of features in
       inr (tool_features names, (some, (names, are, refl)))
 ]
-tool_rule_judged ExplicitRepository features = inl tt
-tool_rule_judged DiscoveredRepository features = inl tt
+tool_rule_or_error ExplicitRepository features = inl tt
+tool_rule_or_error DiscoveredRepository features = inl tt
 
-form_judged : (edition : Edition) (found : Option Data)
+form_or_error : (edition : Edition) (found : Option Data)
     → ObeysForm edition found ⊎ ((wrong : Wrong) × BreaksForm edition found wrong)
-form_judged ArrayAllowed found = inl tt
-form_judged TableOnly found = by_array (array_in found)
+form_or_error ArrayAllowed found = inl tt
+form_or_error TableOnly found = by_array (array_in found)
   where
     by_array : (items : Option Items)
         → (items ≡ None) ⊎ ((wrong : Wrong) × (IsSome items × (wrong ≡ broken_form)))
@@ -195,53 +195,53 @@ form_judged TableOnly found = by_array (array_in found)
     by_array (Some items) = inr (broken_form, (refl, refl))
 
 module _ (edition : Edition) (kind : ConfigSourceKind) (table : Members) where
-  named_judged : (versions : Versions) (named : FeatureSetting) → AsksVersions table versions
+  named_or_error : (versions : Versions) (named : FeatureSetting) → AsksVersions table versions
       → ObeysForm edition (get_member experimental_key table) → AsksFeatures table named
       → ObeysToolRule kind named.features
       ⊎ ((wrong : Wrong) × BreaksToolRule kind named.features wrong)
-      → IsTableJudged edition kind table
-  named_judged versions named of_versions of_form of_features (inl of_tool) = inl (
+      → IsAskOrWrong edition kind table
+  named_or_error versions named of_versions of_form of_features (inl of_tool) = inl (
     record { versions = versions; features = named.features; array = named.array },
     record { of_versions = of_versions; of_form = of_form; of_features = of_features; of_tool = of_tool },
   )
-  named_judged versions named of_versions of_form of_features (inr (wrong, broken)) =
+  named_or_error versions named of_versions of_form of_features (inr (wrong, broken)) =
       inr (wrong, inr (versions, of_versions, inr (of_form, inr (named, of_features, broken))))
 
-  features_judged : (versions : Versions) → AsksVersions table versions
+  features_or_error : (versions : Versions) → AsksVersions table versions
       → ObeysForm edition (get_member experimental_key table)
-      → IsJudged (AsksFeatures table) (features_asked.faults table [])
-      → IsTableJudged edition kind table
-  features_judged versions of_versions of_form (inl (named, of_features)) =
-      named_judged versions named of_versions of_form of_features
-      (tool_rule_judged kind named.features)
-  features_judged versions of_versions of_form (inr (fault, faulty)) =
+      → HasMeaningOrFault (AsksFeatures table) (features_asked.faults table [])
+      → IsAskOrWrong edition kind table
+  features_or_error versions of_versions of_form (inl (named, of_features)) =
+      named_or_error versions named of_versions of_form of_features
+      (tool_rule_or_error kind named.features)
+  features_or_error versions of_versions of_form (inr (fault, faulty)) =
       inr (setting fault, inr (versions, of_versions, inr (of_form, inl (fault, faulty, refl))))
 
   form_or_behind : (versions : Versions) → AsksVersions table versions
       → ObeysForm edition (get_member experimental_key table)
       ⊎ ((wrong : Wrong) × BreaksForm edition (get_member experimental_key table) wrong)
-      → IsTableJudged edition kind table
+      → IsAskOrWrong edition kind table
   form_or_behind versions of_versions (inl of_form) =
-      features_judged versions of_versions of_form (features_asked.law.judged table [])
+      features_or_error versions of_versions of_form (features_asked.law.meaning_or_fault table [])
   form_or_behind versions of_versions (inr (wrong, broken)) =
       inr (wrong, inr (versions, of_versions, inl broken))
 
-  table_by : IsJudged (AsksVersions table) (versions_asked.faults table [])
-      → IsTableJudged edition kind table
+  table_by : HasMeaningOrFault (AsksVersions table) (versions_asked.faults table [])
+      → IsAskOrWrong edition kind table
   table_by (inl (versions, of_versions)) =
-      form_or_behind versions of_versions (form_judged edition (get_member experimental_key table))
+      form_or_behind versions of_versions (form_or_error edition (get_member experimental_key table))
   table_by (inr (fault, faulty)) = inr (setting fault, inl (fault, faulty, refl))
 
-  table_judged : IsTableJudged edition kind table
-  table_judged = table_by (versions_asked.law.judged table [])
+  table_or_error : IsAskOrWrong edition kind table
+  table_or_error = table_by (versions_asked.law.meaning_or_fault table [])
 
-document_judged : (edition : Edition) (kind : ConfigSourceKind) (text : List ℕ)
+document_or_error : (edition : Edition) (kind : ConfigSourceKind) (text : List ℕ)
     (document : Option Members) → parse_document text ≡ document
-    → IsJudged (TextAsks edition kind (Some text)) (IsWrong edition kind (Some text))
-document_judged edition kind text None is =
+    → HasMeaningOrFault (TextAsks edition kind (Some text)) (IsWrong edition kind (Some text))
+document_or_error edition kind text None is =
     inr (not_toml, subst (λ (d : Option Members). IsWrongDocument edition kind d not_toml) (sym is)
     refl)
-document_judged edition kind text (Some table) is = elim (table_judged edition kind table) [
+document_or_error edition kind text (Some table) is = elim (table_or_error edition kind table) [
   inl (ask, asks) ↦ inl (ask, (table, is, asks))
   | inr (wrong, broken) ↦ inr (
     wrong,
@@ -250,16 +250,16 @@ document_judged edition kind text (Some table) is = elim (table_judged edition k
 ]
 
 -- each source asks something, or something is wrong with it
-pub source_judged : (edition : Edition) (kind : ConfigSourceKind) (contents : Option (List ℕ))
-    → IsJudged (TextAsks edition kind contents) (IsWrong edition kind contents)
-source_judged edition kind None = inl (nothing, refl)
-source_judged edition kind (Some text) =
-    document_judged edition kind text (parse_document text) refl
+pub ask_or_error : (edition : Edition) (kind : ConfigSourceKind) (contents : Option (List ℕ))
+    → HasMeaningOrFault (TextAsks edition kind contents) (IsWrong edition kind contents)
+ask_or_error edition kind None = inl (nothing, refl)
+ask_or_error edition kind (Some text) =
+    document_or_error edition kind text (parse_document text) refl
 
-pub sources_judged_once : (edition : Edition) (kind : ConfigSourceKind)
-    → IsJudgedOnce (TextAsks edition kind) (IsWrong edition kind)
-sources_judged_once edition kind = record {
-  judged = source_judged edition kind;
+pub one_ask_or_error : (edition : Edition) (kind : ConfigSourceKind)
+    → HasOneMeaningOrFault (TextAsks edition kind) (IsWrong edition kind)
+one_ask_or_error edition kind = record {
+  meaning_or_fault = ask_or_error edition kind;
   one_meaning = text_asks_once edition kind;
   one_fault = one_wrong edition kind;
   never_both = text_not_wrong edition kind;

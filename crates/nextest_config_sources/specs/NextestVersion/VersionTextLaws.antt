@@ -13,7 +13,7 @@ use Rattle.semver.specs.Parse.{Parts, version_parts}
 use Rattle.semver.specs.declared.error.Error.{Error}
 use Rattle.toml.specs.Data.{Data, as_str}
 use Rattle.nextest_config_values.specs.Decisions.{same_decided}
-use Rattle.nextest_config_values.specs.Once.{IsJudged, IsJudgedOnce}
+use Rattle.nextest_config_values.specs.Once.{HasMeaningOrFault, HasOneMeaningOrFault}
 use Rattle.nextest_config_values.specs.Read.{BrokenRule, build_metadata, custom, fault_at, held, kind, not_version, pre_release, Reading, text_expected, wrong_kind}
 use Rattle.nextest_config_sources.specs.NextestVersion.VersionText.{Numbers, plain, dot, hyphen, plus_sign, IsNumeral, IsThree, IsTwo, IsVersionText, IsPlain, HasFirstMark, HasVersion, IsVersionFault}
 use Rattle.nextest_config_values.proofs.Elements.{all_right, all_joined, all_middle}
@@ -331,7 +331,7 @@ mark_or_none (b ∷ text) = elim (same_decided b hyphen) [
 
 two_or_none : (text : List ℕ) → AllByRecursion IsPlain text → IsErr (version_parts text)
     → (read : Result Parts Error) → version_parts (text ++ third) ≡ read
-    → IsJudged (HasVersion text) (IsVersionFault text)
+    → HasMeaningOrFault (HasVersion text) (IsVersionFault text)
 two_or_none text unmarked three (Ok p) read =
     let (numbers, h, parts) = read_two text p unmarked read in inl (p, (numbers, inr h, parts))
 two_or_none text unmarked three (Err e) read =
@@ -339,27 +339,27 @@ two_or_none text unmarked three (Err e) read =
 
 three_or_less : (text : List ℕ) → AllByRecursion IsPlain text
     → (read : Result Parts Error) → version_parts text ≡ read
-    → IsJudged (HasVersion text) (IsVersionFault text)
+    → HasMeaningOrFault (HasVersion text) (IsVersionFault text)
 three_or_less text unmarked (Ok p) read =
     let (numbers, h, parts) = read_three text p unmarked read in inl (p, (numbers, inl h, parts))
 three_or_less text unmarked (Err e) read =
     two_or_none text unmarked (rw read refl) (version_parts (text ++ third)) refl
 
-mark_judged : (text : List ℕ) → HasMarkOrNone text
-    → IsJudged (HasVersion text) (IsVersionFault text)
-mark_judged text (inl h) = inr (pre_release, h)
-mark_judged text (inr (inl h)) = inr (build_metadata, h)
-mark_judged text (inr (inr unmarked)) = three_or_less text unmarked (version_parts text) refl
+mark_or_fault : (text : List ℕ) → HasMarkOrNone text
+    → HasMeaningOrFault (HasVersion text) (IsVersionFault text)
+mark_or_fault text (inl h) = inr (pre_release, h)
+mark_or_fault text (inr (inl h)) = inr (build_metadata, h)
+mark_or_fault text (inr (inr unmarked)) = three_or_less text unmarked (version_parts text) refl
 
-pub version_judged : (text : List ℕ) → IsJudged (HasVersion text) (IsVersionFault text)
-version_judged text = mark_judged text (mark_or_none text)
+pub version_or_fault : (text : List ℕ) → HasMeaningOrFault (HasVersion text) (IsVersionFault text)
+version_or_fault text = mark_or_fault text (mark_or_none text)
 
 one_version : (text : List ℕ) (x y : Parts) → HasVersion text x → HasVersion text y → x ≡ y
 one_version text x y a b = a.2 ∙ ap plain (version_once text a.0 b.0 a.1 b.1) ∙ sym b.2
 
-pub versions_judged_once : IsJudgedOnce HasVersion IsVersionFault
-versions_judged_once = record {
-  judged = version_judged;
+pub one_version_or_fault : HasOneMeaningOrFault HasVersion IsVersionFault
+one_version_or_fault = record {
+  meaning_or_fault = version_or_fault;
   one_meaning = one_version;
   one_fault = one_rule;
   never_both = λ text x rule a wrong. version_not_fault text a.0 rule a.1 wrong;
@@ -367,16 +367,16 @@ versions_judged_once = record {
 
 -- ---- what version texts mean
 
-fault_judged : (text at : List ℕ) → IsJudged (HasVersion text) (IsVersionFault text)
-    → IsJudged (HasVersion text) (λ fault. (rule : BrokenRule) × IsVersionFault text rule
+fault_or_fault : (text at : List ℕ) → HasMeaningOrFault (HasVersion text) (IsVersionFault text)
+    → HasMeaningOrFault (HasVersion text) (λ fault. (rule : BrokenRule) × IsVersionFault text rule
     × (fault ≡ fault_at at (custom rule)))
-fault_judged text at (inl version) = inl version
-fault_judged text at (inr (rule, wrong)) = inr (fault_at at (custom rule), (rule, wrong, refl))
+fault_or_fault text at (inl version) = inl version
+fault_or_fault text at (inr (rule, wrong)) = inr (fault_at at (custom rule), (rule, wrong, refl))
 
-pub version_text_judged : (text at : List ℕ)
-    → IsJudged (HasVersion text) (λ fault. (rule : BrokenRule) × IsVersionFault text rule
+pub version_text_or_fault : (text at : List ℕ)
+    → HasMeaningOrFault (HasVersion text) (λ fault. (rule : BrokenRule) × IsVersionFault text rule
     × (fault ≡ fault_at at (custom rule)))
-version_text_judged text at = fault_judged text at (version_judged text)
+version_text_or_fault text at = fault_or_fault text at (version_or_fault text)
 
 -- the version of a text, or the rule that the text breaks
 abbrev pub version_text : Reading (List ℕ) Parts
@@ -386,8 +386,8 @@ version_text = record {
       × (fault ≡ fault_at at (custom rule));
   takes_memory = λ text. Unit {0};
   law = record {
-    judged = version_text_judged;
-    one_meaning = versions_judged_once.one_meaning;
+    meaning_or_fault = version_text_or_fault;
+    one_meaning = one_version_or_fault.one_meaning;
     one_fault = λ text at f g a b. a.2
         ∙ ap (λ rule. fault_at at (custom rule)) (one_rule text a.0 b.0 a.1 b.1) ∙ sym b.2;
     never_both = λ text at x f a b. version_not_fault text a.0 b.0 a.1 b.1;

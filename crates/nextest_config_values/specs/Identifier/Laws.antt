@@ -11,7 +11,7 @@ use Rattle.nextest_config_values.specs.Identifier.Error.{Component, IdentifierFl
 use Rattle.nextest_config_values.specs.Identifier.Normal.{IsNormalFault, IsNormalText, normal_chars, normal_form}
 use Rattle.nextest_config_values.specs.Identifier.ToolName.{IsToolNameFlaw}
 use Rattle.nextest_config_values.specs.Decisions.{both_decided, IsDecided, IsFoundOrNone, same_decided, true_decided}
-use Rattle.nextest_config_values.specs.Once.{IsJudged, IsJudgedOnce}
+use Rattle.nextest_config_values.specs.Once.{HasMeaningOrFault, HasOneMeaningOrFault}
 use Rattle.nextest_config_values.specs.Read.Fault.{Reason, fault_at, identifier, tool_name}
 use Rattle.nextest_config_values.specs.Read.FromToml.{Reading}
 use Rattle.nextest_config_values.specs.Read.Plain.{text_expected}
@@ -180,10 +180,10 @@ begins_or_not (m ∷ mark) (c ∷ cs) = elim (same_decided c m) [
   | inr not ↦ inr (λ rest whole. not (cc whole))
 ]
 
-components_judged : (cs rest tool name : List ℕ) → cs ≡ tool_mark ++ rest
+components_or_flaw : (cs rest tool name : List ℕ) → cs ≡ tool_mark ++ rest
     → IsCutAtColon rest tool name
     → IsIdentifierForm cs ⊎ ((f : IdentifierFlaw) × IsIdentifierFlaw cs f)
-components_judged cs rest tool name marked cut = elim (plain_or_flawed tool) [
+components_or_flaw cs rest tool name marked cut = elim (plain_or_flawed tool) [
   inl tool_plain ↦ elim (plain_or_flawed name) [
     inl name_plain ↦ inl (inr (tool, name, record {
       marked = marked ∙ ap (λ t. tool_mark ++ t) cut.cut;
@@ -196,25 +196,25 @@ components_judged cs rest tool name marked cut = elim (plain_or_flawed tool) [
   | inr (kind, wrong) ↦ inr (Component kind, (rest, tool, name, marked, cut, inl wrong))
 ]
 
-marked_judged : (cs rest : List ℕ) → cs ≡ tool_mark ++ rest
+marked_or_flaw : (cs rest : List ℕ) → cs ≡ tool_mark ++ rest
     → IsIdentifierForm cs ⊎ ((f : IdentifierFlaw) × IsIdentifierFlaw cs f)
-marked_judged cs rest marked = elim (cut_or_none rest) [
-  inl (tool, name, cut) ↦ components_judged cs rest tool name marked cut
+marked_or_flaw cs rest marked = elim (cut_or_none rest) [
+  inl (tool, name, cut) ↦ components_or_flaw cs rest tool name marked cut
   | inr none ↦ inr (OneComponent, (rest, marked, none))
 ]
 
-unmarked_judged : (cs : List ℕ) → IsUnmarked cs
+unmarked_or_flaw : (cs : List ℕ) → IsUnmarked cs
     → IsIdentifierForm cs ⊎ ((f : IdentifierFlaw) × IsIdentifierFlaw cs f)
-unmarked_judged cs unmarked = elim (plain_or_flawed cs) [
+unmarked_or_flaw cs unmarked = elim (plain_or_flawed cs) [
   inl plain ↦ inl (inl plain)
   | inr (kind, wrong) ↦ inr (Whole kind, (unmarked, wrong))
 ]
 
-pub identifier_judged : (cs : List ℕ)
+pub identifier_or_flaw : (cs : List ℕ)
     → IsIdentifierForm cs ⊎ ((f : IdentifierFlaw) × IsIdentifierFlaw cs f)
-identifier_judged cs = elim (begins_or_not tool_mark cs) [
-  inl (rest, marked) ↦ marked_judged cs rest marked
-  | inr unmarked ↦ unmarked_judged cs unmarked
+identifier_or_flaw cs = elim (begins_or_not tool_mark cs) [
+  inl (rest, marked) ↦ marked_or_flaw cs rest marked
+  | inr unmarked ↦ unmarked_or_flaw cs unmarked
 ]
 
 tool_name_flaw : (cs : List ℕ) → ¬ IsPlainIdentifier cs → IsFoundOrNone (λ rest. cs ≡ codes "@tool" ++ rest)
@@ -224,9 +224,9 @@ tool_name_flaw [] not_plain (inr unmarked) = (of_names.Empty, refl)
 tool_name_flaw (c ∷ cs) not_plain (inr unmarked) =
     (of_names.InvalidXid, ((λ none. cc none), (λ marked. unmarked marked.0 marked.1), not_plain))
 
-pub tool_name_judged : (cs : List ℕ)
+pub tool_name_or_flaw : (cs : List ℕ)
     → IsPlainIdentifier cs ⊎ ((f : ToolNameFlaw) × IsToolNameFlaw cs f)
-tool_name_judged cs = elim (plain_decided cs) [
+tool_name_or_flaw cs = elim (plain_decided cs) [
   inl plain ↦ inl plain
   | inr not_plain ↦ inr (tool_name_flaw cs not_plain (begins_or_not (codes "@tool") cs))
 ]
@@ -234,25 +234,25 @@ tool_name_judged cs = elim (plain_decided cs) [
 -- ---- texts that are kept in their normal form
 
 pub named_fault : {X Flaw : Type 0} {means : X → Type 0} {is_fault : NameFault Flaw → Type 0}
-    (at : List ℕ) (reason : NameFault Flaw → Reason) → IsJudged means is_fault
-    → IsJudged means (λ fault. (told : NameFault Flaw) × is_fault told
+    (at : List ℕ) (reason : NameFault Flaw → Reason) → HasMeaningOrFault means is_fault
+    → HasMeaningOrFault means (λ fault. (told : NameFault Flaw) × is_fault told
     × (fault ≡ fault_at at (reason told)))
 named_fault at reason (inl meant) = inl meant
 named_fault at reason (inr (told, wrong)) = inr (fault_at at (reason told), (told, wrong, refl))
 
 module _ {Flaw : Type 0} (IsInGrammar : List ℕ → Type 0) (IsFlaw : List ℕ → Flaw → Type 0)
-    (judged : (cs : List ℕ) → IsInGrammar cs ⊎ ((f : Flaw) × IsFlaw cs f))
+    (grammar_or_flaw : (cs : List ℕ) → IsInGrammar cs ⊎ ((f : Flaw) × IsFlaw cs f))
     (one_flaw : (cs : List ℕ) (f g : Flaw) → IsFlaw cs f → IsFlaw cs g → f ≡ g)
     (not_flawed : (cs : List ℕ) (f : Flaw) → IsInGrammar cs → IsFlaw cs f → ⊥) where
   form_or_flaw : (text : List ℕ)
       → IsInGrammar (normal_chars text) ⊎ ((f : Flaw) × IsFlaw (normal_chars text) f)
-      → IsJudged (IsNormalText IsInGrammar text) (IsNormalFault IsFlaw text)
+      → HasMeaningOrFault (IsNormalText IsInGrammar text) (IsNormalFault IsFlaw text)
   form_or_flaw text (inl form) = inl (normal_form text, (form, refl))
   form_or_flaw text (inr (flaw, wrong)) = inr (flawed flaw (normal_form text), (wrong, refl))
 
-  pub judged_normal : (text : List ℕ)
-      → IsJudged (IsNormalText IsInGrammar text) (IsNormalFault IsFlaw text)
-  judged_normal text = form_or_flaw text (judged (normal_chars text))
+  pub normal_or_fault : (text : List ℕ)
+      → HasMeaningOrFault (IsNormalText IsInGrammar text) (IsNormalFault IsFlaw text)
+  normal_or_fault text = form_or_flaw text (grammar_or_flaw (normal_chars text))
 
   pub one_normal_fault : (text : List ℕ) (r s : NameFault Flaw) → IsNormalFault IsFlaw text r
       → IsNormalFault IsFlaw text s → r ≡ s
@@ -263,9 +263,9 @@ module _ {Flaw : Type 0} (IsInGrammar : List ℕ → Type 0) (IsFlaw : List ℕ 
       → IsNormalText IsInGrammar text kept → IsNormalFault IsFlaw text r → ⊥
   no_normal_fault text kept (flawed f x) h a = not_flawed (normal_chars text) f h.0 a.0
 
-  pub names_judged_once : IsJudgedOnce (IsNormalText IsInGrammar) (IsNormalFault IsFlaw)
-  names_judged_once = record {
-    judged = judged_normal;
+  pub one_name_or_fault : HasOneMeaningOrFault (IsNormalText IsInGrammar) (IsNormalFault IsFlaw)
+  one_name_or_fault = record {
+    meaning_or_fault = normal_or_fault;
     one_meaning = λ text m n a b. a.1 ∙ sym b.1;
     one_fault = one_normal_fault;
     never_both = no_normal_fault;
@@ -279,7 +279,7 @@ module _ {Flaw : Type 0} (IsInGrammar : List ℕ → Type 0) (IsFlaw : List ℕ 
         × (fault ≡ fault_at at (reason told));
     takes_memory = λ value. Unit {0};
     law = record {
-      judged = λ value at. named_fault at reason (judged_normal text);
+      meaning_or_fault = λ value at. named_fault at reason (normal_or_fault text);
       one_meaning = λ value x y a b. a.1 ∙ sym b.1;
       one_fault = λ value at f g a b. a.2
           ∙ ap (λ r. fault_at at (reason r)) (one_normal_fault text a.0 b.0 a.1 b.1) ∙ sym b.2;
@@ -290,23 +290,23 @@ module _ {Flaw : Type 0} (IsInGrammar : List ℕ → Type 0) (IsFlaw : List ℕ 
   abbrev pub name_reading : (NameFault Flaw → Reason) → Reading Data (List ℕ)
   name_reading reason = kind as_str (name_in reason) (wrong_kind text_expected)
 
-pub identifiers_judged_once : IsJudgedOnce (IsNormalText IsIdentifierForm)
+pub one_identifier_or_fault : HasOneMeaningOrFault (IsNormalText IsIdentifierForm)
     (IsNormalFault IsIdentifierFlaw)
-identifiers_judged_once =
-    names_judged_once IsIdentifierForm IsIdentifierFlaw identifier_judged one_identifier_flaw identifier_not_flawed
+one_identifier_or_fault =
+    one_name_or_fault IsIdentifierForm IsIdentifierFlaw identifier_or_flaw one_identifier_flaw identifier_not_flawed
 
-pub tool_names_judged_once : IsJudgedOnce (IsNormalText IsPlainIdentifier)
+pub one_tool_name_or_fault : HasOneMeaningOrFault (IsNormalText IsPlainIdentifier)
     (IsNormalFault IsToolNameFlaw)
-tool_names_judged_once =
-    names_judged_once IsPlainIdentifier IsToolNameFlaw tool_name_judged one_tool_name_flaw tool_name_not_flawed
+one_tool_name_or_fault =
+    one_name_or_fault IsPlainIdentifier IsToolNameFlaw tool_name_or_flaw one_tool_name_flaw tool_name_not_flawed
 
 -- an identifier
 abbrev pub identifier_reading : Reading Data (List ℕ)
 identifier_reading =
-    name_reading IsIdentifierForm IsIdentifierFlaw identifier_judged one_identifier_flaw identifier_not_flawed
+    name_reading IsIdentifierForm IsIdentifierFlaw identifier_or_flaw one_identifier_flaw identifier_not_flawed
     identifier
 
 -- a tool name
 abbrev pub tool_name_reading : Reading Data (List ℕ)
-tool_name_reading = name_reading IsPlainIdentifier IsToolNameFlaw tool_name_judged one_tool_name_flaw
+tool_name_reading = name_reading IsPlainIdentifier IsToolNameFlaw tool_name_or_flaw one_tool_name_flaw
     tool_name_not_flawed tool_name

@@ -1,6 +1,6 @@
 -- What a reader of TOML values is: what values mean, what is wrong with them, and how it refuses.
 use Rattle.std.specs.Prelude.{◌≡◌, ◌⊎◌, ℕ, List}
-use Rattle.nextest_config_values.specs.Once.{IsJudged}
+use Rattle.nextest_config_values.specs.Once.{HasMeaningOrFault}
 use Rattle.nextest_config_values.specs.Read.Fault.{Fault, Refuses}
 use Rattle.nextest_config_values.specs.declared.read.fault.ReadFault.{ReadFault}
 
@@ -8,7 +8,7 @@ use Rattle.nextest_config_values.specs.declared.read.fault.ReadFault.{ReadFault}
 -- memory is no fault
 pub record IsReading {D X : Type 0} (means : D → X → Type 0) (faults : D → List ℕ → Fault → Type 0)
     : Type 0 where
-  pub judged : (value : D) (at : List ℕ) → IsJudged (means value) (faults value at)
+  pub meaning_or_fault : (value : D) (at : List ℕ) → HasMeaningOrFault (means value) (faults value at)
   pub one_meaning : (value : D) (x y : X) → means value x → means value y → x ≡ y
   pub one_fault : (value : D) (at : List ℕ) (f g : Fault) → faults value at f → faults value at g
       → f ≡ g

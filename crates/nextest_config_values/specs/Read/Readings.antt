@@ -3,7 +3,7 @@ use Rattle.std.specs.Prelude.{◌≡◌, ◌⊎◌, ℕ, List, Option, Some, Non
 use Rattle.std.proofs.Common.{refl, sym, ap, ◌∙◌, subst, inl, inr, rules}
 use Rattle.toml.specs.Data.{Data}
 use Rattle.nextest_config_values.specs.Decisions.{IsDecided, IsFoundOrNone}
-use Rattle.nextest_config_values.specs.Once.{IsJudged}
+use Rattle.nextest_config_values.specs.Once.{HasMeaningOrFault}
 use Rattle.nextest_config_values.specs.Read.Fault.{BrokenRule, Fault, custom, fault_at, wrong_type, wrong_value}
 use Rattle.nextest_config_values.specs.Read.FromToml.{Reading}
 
@@ -14,7 +14,7 @@ only result = record {
   faults = λ value at fault. ⊥;
   takes_memory = λ value. ⊥;
   law = record {
-    judged = λ value at. inl (result, refl);
+    meaning_or_fault = λ value at. inl (result, refl);
     one_meaning = λ value x y a b. a ∙ sym b;
     one_fault = λ value at f g a b. absurd a;
     never_both = λ value at x f a b. b;
@@ -28,17 +28,17 @@ no_value fault_of = record {
   faults = λ value at fault. fault ≡ fault_of value at;
   takes_memory = λ value. ⊥;
   law = record {
-    judged = λ value at. inr (fault_of value at, refl);
+    meaning_or_fault = λ value at. inr (fault_of value at, refl);
     one_meaning = λ value x y a b. absurd a;
     one_fault = λ value at f g a b. a ∙ sym b;
     never_both = λ value at x f a b. a;
   };
 }
 
-pub judged_that : {X : Type 0} {Holds : X → Type 0} → IsFoundOrNone Holds → (fault : Fault)
-    → IsJudged Holds (λ f. ((x : X) → ¬ Holds x) × (f ≡ fault))
-judged_that (inl found) fault = inl found
-judged_that (inr none) fault = inr (fault, (none, refl))
+pub meaning_or_fault_that : {X : Type 0} {Holds : X → Type 0} → IsFoundOrNone Holds → (fault : Fault)
+    → HasMeaningOrFault Holds (λ f. ((x : X) → ¬ Holds x) × (f ≡ fault))
+meaning_or_fault_that (inl found) fault = inl found
+meaning_or_fault_that (inr none) fault = inr (fault, (none, refl))
 
 -- the one result of which this holds; where it holds of none, the value has this fault
 abbrev pub one_that : {D X : Type 0} → (Holds : X → Type 0)
@@ -49,7 +49,7 @@ one_that {D} {X} Holds one found fault_of = record {
   faults = λ value at fault. ((x : X) → ¬ Holds x) × (fault ≡ fault_of value at);
   takes_memory = λ value. ⊥;
   law = record {
-    judged = λ value at. judged_that found (fault_of value at);
+    meaning_or_fault = λ value at. meaning_or_fault_that found (fault_of value at);
     one_meaning = λ value. one;
     one_fault = λ value at f g a b. a.1 ∙ sym b.1;
     never_both = λ value at x f a b. b.0 x a;
@@ -73,10 +73,10 @@ in_memory reading = record {
   law = reading.law;
 }
 
-pub judged_made : {X Y F : Type 0} {means : X → Type 0} {is_fault : F → Type 0} (make : X → Y)
-    → IsJudged means is_fault → IsJudged (λ y. (x : X) × means x × (y ≡ make x)) is_fault
-judged_made make (inl (x, meant)) = inl (make x, (x, meant, refl))
-judged_made make (inr wrong) = inr wrong
+pub meaning_or_fault_made : {X Y F : Type 0} {means : X → Type 0} {is_fault : F → Type 0} (make : X → Y)
+    → HasMeaningOrFault means is_fault → HasMeaningOrFault (λ y. (x : X) × means x × (y ≡ make x)) is_fault
+meaning_or_fault_made make (inl (x, meant)) = inl (make x, (x, meant, refl))
+meaning_or_fault_made make (inr wrong) = inr wrong
 
 -- what is made of the results
 abbrev pub made_of : {D X Y : Type 0} → (X → Y) → Reading D X → Reading D Y
@@ -85,7 +85,7 @@ made_of {D} {X} make reading = record {
   faults = reading.faults;
   takes_memory = reading.takes_memory;
   law = record {
-    judged = λ value at. judged_made make (reading.law.judged value at);
+    meaning_or_fault = λ value at. meaning_or_fault_made make (reading.law.meaning_or_fault value at);
     one_meaning = λ value y z a b. a.2
         ∙ ap make (reading.law.one_meaning value a.0 b.0 a.1 b.1) ∙ sym b.2;
     one_fault = reading.law.one_fault;
@@ -100,7 +100,7 @@ held_at path reading held = record {
   faults = λ value at. reading.faults held (path at);
   takes_memory = λ value. reading.takes_memory held;
   law = record {
-    judged = λ value at. reading.law.judged held (path at);
+    meaning_or_fault = λ value at. reading.law.meaning_or_fault held (path at);
     one_meaning = λ value. reading.law.one_meaning held;
     one_fault = λ value at. reading.law.one_fault held (path at);
     never_both = λ value at. reading.law.never_both held (path at);
@@ -125,10 +125,10 @@ module _ {D K X : Type 0} (by : K → Reading D X) (other : Reading D X) (value 
   abbrev FaultsFound : Option K → List ℕ → Fault → Type 0
   FaultsFound found = either found (λ k. (by k).faults value) (other.faults value)
 
-  pub judged_found : (found : Option K) (at : List ℕ)
-      → IsJudged (MeansFound found) (FaultsFound found at)
-  judged_found (Some k) = (by k).law.judged value
-  judged_found None = other.law.judged value
+  pub meaning_or_fault_found : (found : Option K) (at : List ℕ)
+      → HasMeaningOrFault (MeansFound found) (FaultsFound found at)
+  meaning_or_fault_found (Some k) = (by k).law.meaning_or_fault value
+  meaning_or_fault_found None = other.law.meaning_or_fault value
 
   pub one_meaning_found : (found : Option K) (x y : X) → MeansFound found x → MeansFound found y
       → x ≡ y
@@ -153,7 +153,7 @@ kind accessor by other = record {
   takes_memory = λ value.
       either (accessor value) (λ k. (by k).takes_memory value) (other.takes_memory value);
   law = record {
-    judged = λ value. judged_found by other value (accessor value);
+    meaning_or_fault = λ value. meaning_or_fault_found by other value (accessor value);
     one_meaning = λ value. one_meaning_found by other value (accessor value);
     one_fault = λ value. one_fault_found by other value (accessor value);
     never_both = λ value. never_both_found by other value (accessor value);
@@ -181,19 +181,19 @@ module _ {D X Y : Type 0} (first : Reading D X) (later : X → Reading D Y) (val
   FaultsThen at = Then (first.faults value at) (first.means value)
       (λ x. (later x).faults value at)
 
-  judged_later : (at : List ℕ) (x : X) → first.means value x
-      → IsJudged ((later x).means value) ((later x).faults value at)
-      → IsJudged MeansThen (FaultsThen at)
-  judged_later at x meant (inl (y, also)) = inl (y, (x, meant, also))
-  judged_later at x meant (inr (fault, wrong)) = inr (fault, inr (x, meant, wrong))
+  from_later : (at : List ℕ) (x : X) → first.means value x
+      → HasMeaningOrFault ((later x).means value) ((later x).faults value at)
+      → HasMeaningOrFault MeansThen (FaultsThen at)
+  from_later at x meant (inl (y, also)) = inl (y, (x, meant, also))
+  from_later at x meant (inr (fault, wrong)) = inr (fault, inr (x, meant, wrong))
 
-  judged_first : (at : List ℕ) → IsJudged (first.means value) (first.faults value at)
-      → IsJudged MeansThen (FaultsThen at)
-  judged_first at (inl (x, meant)) = judged_later at x meant ((later x).law.judged value at)
-  judged_first at (inr (fault, wrong)) = inr (fault, inl wrong)
+  from_first : (at : List ℕ) → HasMeaningOrFault (first.means value) (first.faults value at)
+      → HasMeaningOrFault MeansThen (FaultsThen at)
+  from_first at (inl (x, meant)) = from_later at x meant ((later x).law.meaning_or_fault value at)
+  from_first at (inr (fault, wrong)) = inr (fault, inl wrong)
 
-  pub judged_then : (at : List ℕ) → IsJudged MeansThen (FaultsThen at)
-  judged_then at = judged_first at (first.law.judged value at)
+  pub meaning_or_fault_then : (at : List ℕ) → HasMeaningOrFault MeansThen (FaultsThen at)
+  meaning_or_fault_then at = from_first at (first.law.meaning_or_fault value at)
 
   pub one_meaning_then : (y z : Y) → MeansThen y → MeansThen z → y ≡ z
   one_meaning_then y z a b = (later a.0).law.one_meaning value y z a.2
@@ -220,7 +220,7 @@ then {D} {X} first later = record {
   takes_memory = λ value. first.takes_memory value
       ⊎ ((x : X) × first.means value x × (later x).takes_memory value);
   law = record {
-    judged = judged_then first later;
+    meaning_or_fault = meaning_or_fault_then first later;
     one_meaning = one_meaning_then first later;
     one_fault = one_fault_then first later;
     never_both = never_both_then first later;
@@ -233,7 +233,7 @@ then {D} {X} first later = record {
 pub record Check (D : Type 0) : Type 1 where
   pub passes : D → Type 0
   pub faults : D → List ℕ → Fault → Type 0
-  pub judged : (value : D) (at : List ℕ) → passes value ⊎ ((f : Fault) × faults value at f)
+  pub passes_or_faults : (value : D) (at : List ℕ) → passes value ⊎ ((f : Fault) × faults value at f)
   pub one_fault : (value : D) (at : List ℕ) (f g : Fault) → faults value at f → faults value at g
       → f ≡ g
   pub never_both : (value : D) (at : List ℕ) (f : Fault) → passes value → faults value at f → ⊥
@@ -249,9 +249,9 @@ module _ {D : Type 0} (check : Check D) (value : D) (at : List ℕ) {later : Fau
   passed_behind passed (inl a) = inl (passed, a)
   passed_behind passed (inr (f, wrong)) = inr (f, inr (passed, wrong))
 
-  pub judged_behind : {A : Type 0} → A ⊎ ((f : Fault) × later f)
+  pub passes_or_faults_behind : {A : Type 0} → A ⊎ ((f : Fault) × later f)
       → (check.passes value × A) ⊎ ((f : Fault) × FaultsBehind check value at later f)
-  judged_behind also = elim (check.judged value at) [
+  passes_or_faults_behind also = elim (check.passes_or_faults value at) [
     inl passed ↦ passed_behind passed also
     | inr (f, wrong) ↦ inr (f, inl wrong)
   ]
@@ -264,11 +264,11 @@ module _ {D : Type 0} (check : Check D) (value : D) (at : List ℕ) {later : Fau
       → check.passes value × A → FaultsBehind check value at later f → ⊥
   never_both_behind never f a b = search (rules, check.never_both, never)
 
-pub judged_passed : {X F : Type 0} {Passes : Type 0} {means : X → Type 0} {is_fault : F → Type 0}
+pub meaning_or_fault_passed : {X F : Type 0} {Passes : Type 0} {means : X → Type 0} {is_fault : F → Type 0}
     → (Passes × ((x : X) × means x)) ⊎ ((f : F) × is_fault f)
-    → IsJudged (λ x. Passes × means x) is_fault
-judged_passed (inl (passed, (x, meant))) = inl (x, (passed, meant))
-judged_passed (inr wrong) = inr wrong
+    → HasMeaningOrFault (λ x. Passes × means x) is_fault
+meaning_or_fault_passed (inl (passed, (x, meant))) = inl (x, (passed, meant))
+meaning_or_fault_passed (inr wrong) = inr wrong
 
 -- a check, and what comes behind it
 abbrev pub behind : {D X : Type 0} → Check D → Reading D X → Reading D X
@@ -277,18 +277,18 @@ behind check reading = record {
   faults = λ value at. FaultsBehind check value at (reading.faults value at);
   takes_memory = reading.takes_memory;
   law = record {
-    judged = λ value at.
-        judged_passed (judged_behind check value at (reading.law.judged value at));
+    meaning_or_fault = λ value at.
+        meaning_or_fault_passed (passes_or_faults_behind check value at (reading.law.meaning_or_fault value at));
     one_meaning = λ value x y a b. reading.law.one_meaning value x y a.1 b.1;
     one_fault = λ value at. one_fault_behind check value at (reading.law.one_fault value at);
     never_both = λ value at x. never_both_behind check value at (reading.law.never_both value at x);
   };
 }
 
-pub judged_rule : {IsBroken : Type 0} → IsDecided IsBroken → (fault : Fault)
+pub obeyed_or_broken : {IsBroken : Type 0} → IsDecided IsBroken → (fault : Fault)
     → (¬ IsBroken) ⊎ ((f : Fault) × (IsBroken × (f ≡ fault)))
-judged_rule (inl broken) fault = inr (fault, (broken, refl))
-judged_rule (inr obeyed) fault = inl obeyed
+obeyed_or_broken (inl broken) fault = inr (fault, (broken, refl))
+obeyed_or_broken (inr obeyed) fault = inl obeyed
 
 -- a rule that is broken is the fault
 abbrev pub rule_check : {D : Type 0} → (IsBroken : Type 0) → IsDecided IsBroken → BrokenRule
@@ -296,7 +296,7 @@ abbrev pub rule_check : {D : Type 0} → (IsBroken : Type 0) → IsDecided IsBro
 rule_check IsBroken decided broken = record {
   passes = λ value. ¬ IsBroken;
   faults = λ value at fault. IsBroken × (fault ≡ fault_at at (custom broken));
-  judged = λ value at. judged_rule decided (fault_at at (custom broken));
+  passes_or_faults = λ value at. obeyed_or_broken decided (fault_at at (custom broken));
   one_fault = λ value at f g a b. a.1 ∙ sym b.1;
   never_both = λ value at f a b. a b.0;
 }
@@ -311,7 +311,7 @@ abbrev pub both : {D : Type 0} → Check D → Check D → Check D
 both check other = record {
   passes = λ value. check.passes value × other.passes value;
   faults = λ value at. FaultsBehind check value at (other.faults value at);
-  judged = λ value at. judged_behind check value at (other.judged value at);
+  passes_or_faults = λ value at. passes_or_faults_behind check value at (other.passes_or_faults value at);
   one_fault = λ value at. one_fault_behind check value at (other.one_fault value at);
   never_both = λ value at. never_both_behind check value at (other.never_both value at);
 }
@@ -321,7 +321,7 @@ abbrev pub meaning : {D X : Type 0} → Reading D X → Check D
 meaning {D} {X} reading = record {
   passes = λ value. (x : X) × reading.means value x;
   faults = reading.faults;
-  judged = reading.law.judged;
+  passes_or_faults = reading.law.meaning_or_fault;
   one_fault = reading.law.one_fault;
   never_both = λ value at f a. reading.law.never_both value at a.0 f a.1;
 }

@@ -12,7 +12,7 @@ use Rattle.nextest_config_values.specs.Decisions.{below_decided, IsDecided, IsFo
 use Rattle.nextest_config_values.specs.Duration.Grammar.{AreAll, AreFittingDigits, BeginsWith, EndsWith, HasNumberThatFits, IsDuration, IsDurationFault, IsFront, IsItemText, IsLongestFront, IsNext, IsNextFault, IsRun, IsUncut, Item, is_in_word, offset, Spells, total, unit_length}
 use Rattle.nextest_config_values.specs.Duration.Steps.{IsFaultAt}
 use Rattle.nextest_config_values.specs.Duration.Laws.{covers, never_duration_and_fault, nothing_stops, one_duration, one_duration_fault, one_next, Stops}
-use Rattle.nextest_config_values.specs.Once.{IsJudged, IsJudgedOnce}
+use Rattle.nextest_config_values.specs.Once.{HasMeaningOrFault, HasOneMeaningOrFault}
 use Rattle.nextest_config_values.specs.Read.Fault.{wrong_value}
 use Rattle.nextest_config_values.specs.Read.FromToml.{Reading}
 use Rattle.nextest_config_values.specs.Read.Readings.{kind, one_that, wrong_kind}
@@ -238,11 +238,11 @@ longest_front text front behind items a stops =
 
 -- ---- a duration, or a fault
 
-sum_judged : (text front : List ℕ) (item : Item) (items : List Item)
+sum_or_fault : (text front : List ℕ) (item : Item) (items : List Item)
     → IsLongestFront (chars text) front [] (item ∷ items)
     → IsDecided (FitsDuration (total (item ∷ items)))
-    → IsJudged (IsDuration text) (IsDurationFault text)
-sum_judged text front item items longest (inl fits) =
+    → HasMeaningOrFault (IsDuration text) (IsDurationFault text)
+sum_or_fault text front item items longest (inl fits) =
     inl (total (item ∷ items), record {
       items = item ∷ items;
       some = λ none. cc none;
@@ -251,35 +251,35 @@ sum_judged text front item items longest (inl fits) =
       sum = refl;
       sum_fits = fits;
     })
-sum_judged text front item items longest (inr large) =
+sum_or_fault text front item items longest (inr large) =
     inr (faults.SumTooLarge, (front, [], item ∷ items, longest, ((λ none. cc none), large)))
 
-front_judged : (text front behind : List ℕ) (items : List Item)
+front_or_fault : (text front behind : List ℕ) (items : List Item)
     → IsLongestFront (chars text) front behind items
     → ((place : ℕ) → (fault : DurationFault) × IsFaultAt place behind fault)
-    → IsJudged (IsDuration text) (IsDurationFault text)
-front_judged text front [] [] longest ends = inr (faults.Empty, (front, [], [], longest, refl))
-front_judged text front [] (item ∷ items) longest ends =
-    sum_judged text front item items longest (below_decided (total (item ∷ items)) (2 ^ 64 * 1_000_000_000))
-front_judged text front (c ∷ cs) items longest ends =
+    → HasMeaningOrFault (IsDuration text) (IsDurationFault text)
+front_or_fault text front [] [] longest ends = inr (faults.Empty, (front, [], [], longest, refl))
+front_or_fault text front [] (item ∷ items) longest ends =
+    sum_or_fault text front item items longest (below_decided (total (item ∷ items)) (2 ^ 64 * 1_000_000_000))
+front_or_fault text front (c ∷ cs) items longest ends =
     let told = ends (offset front) in
     inr (told.0, (front, c ∷ cs, items, longest, told.1))
 
-passed_judged : (text : List ℕ) → IsPassed (chars text)
-    → IsJudged (IsDuration text) (IsDurationFault text)
-passed_judged text p =
+passed_or_fault : (text : List ℕ) → IsPassed (chars text)
+    → HasMeaningOrFault (IsDuration text) (IsDurationFault text)
+passed_or_fault text p =
     let told = p.ends 0 in
-    front_judged text p.front p.behind p.items
+    front_or_fault text p.front p.behind p.items
     (longest_front (chars text) p.front p.behind p.items p.is_front
     (fault_stops 0 p.behind told.0 p.no_space told.1)) p.ends
 
-pub duration_judged : (text : List ℕ) → IsJudged (IsDuration text) (IsDurationFault text)
-duration_judged text =
-    passed_judged text (passed_within (length (chars text)) (chars text) (omega arith))
+pub duration_or_fault : (text : List ℕ) → HasMeaningOrFault (IsDuration text) (IsDurationFault text)
+duration_or_fault text =
+    passed_or_fault text (passed_within (length (chars text)) (chars text) (omega arith))
 
-pub durations_judged_once : IsJudgedOnce IsDuration IsDurationFault
-durations_judged_once = record {
-  judged = duration_judged;
+pub one_duration_or_fault : HasOneMeaningOrFault IsDuration IsDurationFault
+one_duration_or_fault = record {
+  meaning_or_fault = duration_or_fault;
   one_meaning = one_duration;
   one_fault = one_duration_fault;
   never_both = never_duration_and_fault;
@@ -291,14 +291,14 @@ durations_judged_once = record {
 abbrev pub duration_expected : List ℕ
 duration_expected = codes "a duration"
 
-duration_found : (text : List ℕ) → IsJudged (IsDuration text) (IsDurationFault text)
+duration_found : (text : List ℕ) → HasMeaningOrFault (IsDuration text) (IsDurationFault text)
     → IsFoundOrNone (IsDuration text)
 duration_found text (inl found) = inl found
 duration_found text (inr (fault, wrong)) =
     inr (λ nanoseconds meant. never_duration_and_fault text nanoseconds fault meant wrong)
 
 pub duration_or_none : (text : List ℕ) → IsFoundOrNone (IsDuration text)
-duration_or_none text = duration_found text (duration_judged text)
+duration_or_none text = duration_found text (duration_or_fault text)
 
 -- a text that is a duration
 abbrev pub duration_in : List ℕ → Reading Data ℕ
