@@ -12,3 +12,6 @@ mod orders;
 mod places;
 mod real;
 mod runner;
+
+/// This crate, in impls of its library's traits for other crates' types.
+struct ThisCrate;

@@ -4,5 +4,7 @@ pub mod FoundLists
 pub mod Keys
 pub mod NoDuration
 pub mod Places
+pub mod Severities
+pub mod WarnedFiles
 pub mod WarnedReads
 pub mod Warnings

@@ -1,11 +1,13 @@
 -- All that is found in a file, each with its line.
-use Rattle.std.specs.Prelude.{◌≡◌, ◌≢◌, ◌⊎◌, ℕ, suc, ◌≤◌, ◌+◌, ◌||◌, ◌==◌, Bool, List, [], ◌∷◌, ◌++◌, IsUtf8, count_by, if◌then◌else◌, length, map, nat_lt, nat_le, Option, Some, None, take}
+use Rattle.std.specs.Prelude.{◌≡◌, ◌≢◌, ◌⊎◌, ℕ, suc, ◌+◌, ◌||◌, ◌==◌, Bool, List, [], ◌∷◌, ◌++◌, IsUtf8, count_by, if◌then◌else◌, map, nat_lt, nat_le, Option, Some, None, take}
 use Rattle.std.specs.List.{AllByRecursion, AllZip}
 use Rattle.std.specs.List.Sorted.{IsPermutation, IsSortedByKey, IsStableByKey}
 use Rattle.std.specs.Ordering.{nat_cmp}
 use Rattle.std.specs.Str.Lossy.{utf8_valid_len}
 use Rattle.toml.specs.Data.{Members}
+use Rattle.toml.specs.Errors.{IsMemory, IsWithin, span_start}
 use Rattle.toml.specs.Parse.{parse_document}
+use Rattle.toml.specs.declared.de.error.Error.{Error}
 use Rattle.nextest_config_values.specs.Characters.{line_feed}
 use Rattle.nextest_config_sources.specs.declared.nextest_version.edition.Edition.{Edition}
 use Rattle.nextest_config_sources.specs.declared.nextest_version.source.ConfigSourceKind.{ConfigSourceKind}
@@ -54,15 +56,23 @@ IsNotUtf8 contents located = map located_told located
     ≡ (line_behind (take (utf8_valid_len contents) contents), None, Some (found_at [] not_utf8)) ∷
     []
 
--- the file isn't a document, at a place in it, with a message
+-- the file isn't a document, at the line and the column of this place, with a message
+pub record IsNotTomlAt (contents : List ℕ) (place : ℕ) (located : List LocatedFinding) : Type 0
+  where
+    pub column : ℕ
+    pub column_is : IsColumn (take place contents) column
+    pub message : List ℕ
+    pub told : map located_told located
+        ≡ (line_behind (take place contents), Some column, Some (found_at [] (not_toml message)))
+        ∷ []
+
+-- the file isn't a document: where the span of an error of `toml` begins, which lies within the
+-- text
 pub record IsNotToml (contents : List ℕ) (located : List LocatedFinding) : Type 0 where
-  pub place : ℕ
-  pub within : place ≤ length contents
-  pub column : ℕ
-  pub column_is : IsColumn (take place contents) column
-  pub message : List ℕ
-  pub told : map located_told located
-      ≡ (line_behind (take place contents), Some column, Some (found_at [] (not_toml message))) ∷ []
+  pub error : Error
+  pub within : IsWithin contents error
+  pub of_text : ¬ IsMemory error
+  pub at_error : IsNotTomlAt contents (span_start error) located
 
 -- ---- the findings of a document
 

@@ -2,6 +2,7 @@
 use Rattle.std.specs.Prelude.{ℕ, List, [], ◌∷◌, ◌++◌, map, codes, Option, Some, None, string_bytes}
 use Rattle.nextest_config_values.specs.Read.{kind_text, quoted_text, quoted_texts}
 use Rattle.nextest_config_lines.specs.Step.{PathStep, printed_path, step_of}
+use Rattle.nextest_config_findings.specs.Found.{FoundKind, gravity, kind_told}
 use Rattle.nextest_config_findings.specs.declared.finding.Finding.{Finding}
 use Rattle.nextest_config_findings.specs.declared.finding.FindingKind.{FindingKind}
 use Rattle.nextest_config_findings.specs.declared.finding.FindingKind.TheVariants as kinds
@@ -10,15 +11,19 @@ use Rattle.nextest_config_findings.specs.declared.finding.Hint.TheVariants.{Near
 use Rattle.nextest_config_findings.specs.declared.finding.Severity.{Severity}
 use Rattle.nextest_config_findings.specs.declared.finding.Severity.TheVariants.{Error, Warning}
 
--- how grave a kind of finding is
+-- how grave what is told is; a refusal of memory, which tells nothing, is an error
+abbrev pub gravity_told : Option FoundKind → Severity
+gravity_told (Some kind) = gravity kind
+gravity_told None = Error
+
+-- a kind of finding is as grave as what it tells
 abbrev pub severity_of : FindingKind → Severity
-severity_of (kinds.Fault kind) = Error
-severity_of (kinds.ToolFeatures features) = Error
-severity_of (kinds.UnknownFeature name hint) = Warning
-severity_of (kinds.UnknownKey key hint) = Warning
-severity_of kinds.UnjudgedDuration = Warning
-severity_of kinds.NotUtf8 = Error
-severity_of (kinds.NotToml message) = Error
+severity_of kind = gravity_told (kind_told kind)
+
+-- severities by number
+abbrev pub rank : Severity → ℕ
+rank Warning = 0
+rank Error = 1
 
 -- ---- how they print
 

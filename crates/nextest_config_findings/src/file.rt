@@ -2,12 +2,12 @@
 
 ghost use Rattle.std.specs.Prelude.{◌≡◌, ◌<◌, ◌^◌, [], ◌∷◌, IfOk, None, OnOk, Some, map, option_map};
 ghost use Rattle.std.specs.List.{AllZip};
-ghost use Rattle.toml.specs.Errors.{IsMemory, IsWithin};
+ghost use Rattle.toml.specs.Errors.{IsMemory, IsWithin, span_start};
 ghost use Rattle.toml.specs.Parse.{parse_document};
 ghost use Rattle.toml.specs.View.{table_view};
 ghost use Rattle.nextest_config_lines.specs.Line.{line_behind};
 ghost use Rattle.nextest_config_lines.specs.Step.{step_of};
-ghost use Rattle.nextest_config_findings.specs.File.{AreInText, AreLocated, AreLocatedIn, column_after, IsColumn, IsFindingAtLine, IsLineOrFirst, IsNotToml, line_path, located_told};
+ghost use Rattle.nextest_config_findings.specs.File.{AreInText, AreLocated, AreLocatedIn, column_after, IsColumn, IsFindingAtLine, IsLineOrFirst, IsNotTomlAt, line_path, located_told};
 ghost use Rattle.nextest_config_findings.specs.Found.{Found, found_at, found_of, kind_told, not_utf8};
 
 use crate::document::findings;
@@ -132,7 +132,8 @@ fn located_in_text(
 fn not_toml(alloc: Global, text: &[u8], error: &Error) -> Result<Vec<LocatedFinding>, AllocError>
     requires { IsWithin text.now error.now }
     ensures memory { OnOk result (¬ IsMemory error.now) }
-    ensures told { IfOk result (λ located. IsNotToml text.now located.items) }
+    ensures told { IfOk result
+        (λ located. IsNotTomlAt text.now (span_start error.now) located.items) }
 {
     let Some(span) = error.span() else {
         return Err(AllocError);

@@ -2,15 +2,30 @@
 
 ghost use Rattle.std.specs.Prelude.{◌≡◌, ◌↔◌, ℕ, List, Some};
 ghost use Rattle.std.specs.List.{AllByRecursion};
-ghost use Rattle.toml.specs.Data.{get_member, Members};
+ghost use Rattle.std.specs.Ordering.{nat_cmp};
+ghost use Rattle.toml.specs.Data.{Members};
 ghost use Rattle.toml.specs.Parse.{parse_document};
-ghost use Rattle.nextest_config_sources.specs.NextestVersion.{Ask, experimental_key, TextAsks};
+ghost use Rattle.nextest_config_values.specs.Equality.{IsCopy, IsEquality};
+ghost use Rattle.nextest_config_sources.specs.NextestVersion.{Ask, TextAsks};
 ghost use Rattle.nextest_config_sources.specs.declared.nextest_version.edition.Edition.{Edition};
 ghost use Rattle.nextest_config_sources.specs.declared.nextest_version.source.ConfigSourceKind.{ConfigSourceKind};
 ghost use Rattle.nextest_config_findings.specs.Document.{AreFindings};
-ghost use Rattle.nextest_config_findings.specs.FindingsLaws.{IsJudgedWell, IsWarning, NamesNothingForTool};
+ghost use Rattle.nextest_config_findings.specs.File.{AreLocated};
+ghost use Rattle.nextest_config_findings.specs.Finding.{rank};
+ghost use Rattle.nextest_config_findings.specs.FindingsLaws.{IsFileWithoutError, IsLocatedWarning, IsWarning, IsWithoutError};
 ghost use Rattle.nextest_config_findings.specs.Found.{Found};
-ghost use Rattle.nextest_config_findings.specs.Judged.{from_table};
+ghost use Rattle.nextest_config_findings.specs.declared.file.LocatedFinding.{LocatedFinding};
+ghost use Rattle.nextest_config_findings.specs.declared.finding.Severity.{Severity};
+
+use crate::finding::Severity;
+
+/// Of severities a warning is below an error.
+#[tactic(auto, using(crate::proofs::Severities::by_rank))]
+pub fn law_severity_order()
+    ensures order { (a b : Severity) → ⟦<Severity as Ord>⟧.cmp a b ≡ nat_cmp (rank a) (rank b) }
+    ensures equality { IsEquality ⟦<Severity as PartialEq>⟧.eq }
+    ensures copies { IsCopy ⟦<Severity as Clone>⟧.is_clone }
+{}
 
 /// No document has two lists of findings under one edition, as a source of one kind.
 pub fn law_findings_once()
@@ -24,9 +39,15 @@ pub fn law_findings_once()
 pub fn law_no_error()
     ensures { (edition : Edition) (kind : ConfigSourceKind) (members : Members)
         (founds : List Found) → AreFindings edition kind members founds
-        → AllByRecursion IsWarning founds
-        ↔ (AllByRecursion (IsJudgedWell edition) (from_table members)
-        × NamesNothingForTool edition kind (get_member experimental_key members)) }
+        → AllByRecursion IsWarning founds ↔ IsWithoutError edition kind members }
+{}
+
+/// Each finding of a file is a warning exactly where the file is UTF-8 and a document, of which
+/// each finding is one.
+pub fn law_no_error_in_file()
+    ensures { (edition : Edition) (kind : ConfigSourceKind) (contents : List ℕ)
+        (located : List LocatedFinding) → AreLocated edition kind contents located
+        → AllByRecursion IsLocatedWarning located ↔ IsFileWithoutError edition kind contents }
 {}
 
 /// A text that is a document, of which only warnings are found, is read as a source: it asks

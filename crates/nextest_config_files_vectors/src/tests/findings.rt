@@ -1,10 +1,12 @@
 //! What is found in files, as it is printed, and how grave it is.
 
+use crate::tests::ThisCrate;
 use crate::tests::lines::steps;
 use crate::tests::runner::Test;
-use nextest_config_findings::{Finding, FindingKind, Hint};
+use nextest_config_findings::{Finding, FindingKind, Hint, Severity};
+use nextest_config_rows::compared::ordered;
 use nextest_config_rows::rows::{Runner, Subject, check, copied, done, shown, unknown};
-use nextest_config_rows::values::names;
+use nextest_config_rows::values::{FromRow, names};
 use nextest_config_values::read::{FaultKind, Rule};
 
 const ROWS: &str = r#"
@@ -36,6 +38,14 @@ profile /  / a | utf8 | Error: profile."".a: not UTF-8
 # at every size
 «a / »b | key x«x» | Warning: «a.»b: unknown key "x«x»"
 a«é» b | utf8 | Error: "a«é» b": not UTF-8
+"#;
+
+const SEVERITIES: &str = r#"
+# a warning is below an error
+Severity | Warning ~ Warning | Equal
+Severity | Warning ~ Error | Less
+Severity | Error ~ Warning | Greater
+Severity | Error ~ Error | Equal
 "#;
 
 pub(crate) struct Findings;
@@ -84,6 +94,32 @@ fn key(rt: &impl Runner, key: &str, hint: Option<Hint>) -> FindingKind {
         key: copied(rt, key),
         hint,
     }
+}
+
+impl FromRow<ThisCrate> for Severity {
+    fn from_row(rt: &impl Runner, text: &str) -> Self {
+        match text {
+            "Warning" => Severity::Warning,
+            "Error" => Severity::Error,
+            _ => unknown(rt, text),
+        }
+    }
+}
+
+struct Severities;
+
+impl Subject for Severities {
+    fn answer(rt: &impl Runner, call: &str, input: &str) -> String {
+        match call {
+            "Severity" => ordered::<Severity, _>(rt, input),
+            _ => unknown(rt, call),
+        }
+    }
+}
+
+#[test]
+fn how_grave_findings_are(rt: HostRuntime) {
+    check::<Severities>(&(Test(&rt), rt.alloc()), SEVERITIES);
 }
 
 #[test]

@@ -1,0 +1,22 @@
+-- How grave findings are.
+use Rattle.std.proofs.Common.{◌≡◌, List, map, nat_cmp, None, Option, Some, ap, option_map, rules}
+use Rattle.nextest_config_lines.specs.Step.{PathStep, step_of}
+use Rattle.nextest_config_findings.specs.Finding.{gravity_told, rank, severity_of}
+use Rattle.nextest_config_findings.specs.Found.{Found, found_at, FoundKind, found_of, gravity, kind_told}
+use Rattle.nextest_config_findings.specs.contracts.finding.SeverityOrd.TheImpl as severity_ord
+use Rattle.nextest_config_findings.specs.declared.finding.Finding.{Finding}
+use Rattle.nextest_config_findings.specs.declared.finding.Severity.{Severity}
+
+-- the derived order
+pub by_rank : (a b : Severity) → (severity_ord.ghosts).cmp a b ≡ nat_cmp (rank a) (rank b)
+by_rank a b = search rules
+
+-- ---- what a finding tells
+
+told_kind : (path : List PathStep) (told : Option FoundKind) (found : Found) → option_map (found_at path) told ≡ Some found → told ≡ Some found.kind
+told_kind path None found is = ap (option_map (λ (f : Found). f.kind)) is
+told_kind path (Some kind) found is = ap (option_map (λ (f : Found). f.kind)) is
+
+-- a finding is as grave as what it tells
+pub severity_told : (finding : Finding) (found : Found) → found_of finding ≡ Some found → severity_of finding.kind ≡ gravity found.kind
+severity_told finding found is = ap gravity_told (told_kind (map step_of finding.path.items) (kind_told finding.kind) found is)
