@@ -1,10 +1,11 @@
 -- The places of a configuration file: the keys that are known there, what a value means, and what
 -- is wrong with one.
-use Rattle.std.specs.Prelude.{◌≡◌, ℕ, Bool, true, false, List, codes, map, Option, Some, None, IsSome}
-use Rattle.std.proofs.Common.{sym, ◌∙◌, subst}
+use Rattle.std.specs.Prelude.{◌≡◌, ◌⊎◌, ℕ, Bool, true, false, List, codes, map, Option, Some, None, IsSome}
+use Rattle.std.proofs.Common.{inl, inr, refl, sym, ◌∙◌, subst}
 use Rattle.std.specs.Borrow.{Bor}
 use Rattle.toml.specs.Data.{Data, as_array, as_table}
 use Rattle.nextest_config_values.specs.Duration.{duration_reading}
+use Rattle.nextest_config_values.specs.Read.Fault.{Fault}
 use Rattle.nextest_config_values.specs.Read.{array_form, bool_reading, both, Check, custom, fault_at, meaning, wrong_type}
 use Rattle.nextest_config_sources.specs.NextestVersion.{features_reading, ObeysForm, versions_reading}
 use Rattle.nextest_config_sources.specs.declared.nextest_version.edition.Edition.{Edition}
@@ -57,6 +58,7 @@ abbrev pub unread_check : Check Data
 unread_check = record {
   passes = λ value. Unit {0};
   faults = λ value at fault. ⊥;
+  passes_or_faults = λ value at. inl tt;
   one_fault = λ value at f g a b. absurd a;
   never_both = λ value at f a b. b;
 }
@@ -64,11 +66,18 @@ unread_check = record {
 pub something_or_nothing : {K : Type 0} (found : Option K) → IsSome found → found ≡ None → ⊥
 something_or_nothing found some none = cc (subst IsSome none some)
 
+pub some_or_wrong : {K : Type 0} (found : Option K) (fault : Fault)
+    → IsSome found ⊎ ((f : Fault) × ((found ≡ None) × (f ≡ fault)))
+some_or_wrong (Some k) fault = inl refl
+some_or_wrong None fault = inr (fault, (refl, refl))
+
 -- the value is of the kind that this accessor tells
 abbrev pub kind_check : {K : Type 0} → (Data → Option K) → List ℕ → Check Data
 kind_check accessor expected = record {
   passes = λ value. IsSome (accessor value);
   faults = λ value at fault. (accessor value ≡ None) × (fault ≡ wrong_type value at expected);
+  passes_or_faults = λ value at.
+      some_or_wrong (accessor value) (wrong_type value at expected);
   one_fault = λ value at f g a b. a.1 ∙ sym b.1;
   never_both = λ value at f a b. something_or_nothing (accessor value) a b.0;
 }
@@ -89,12 +98,25 @@ pub obeyed_not_broken : (edition : Edition) (value : Data) → ObeysForm edition
 obeyed_not_broken ArrayAllowed value kept broken = broken
 obeyed_not_broken TableOnly value kept broken = something_or_nothing (as_array value) broken kept
 
+none_or_some : {K : Type 0} (found : Option K) (fault : Fault)
+    → (found ≡ None) ⊎ ((f : Fault) × (IsSome found × (f ≡ fault)))
+none_or_some None fault = inl refl
+none_or_some (Some k) fault = inr (fault, (refl, refl))
+
+pub obeyed_or_broken : (edition : Edition) (value : Data) (fault : Fault)
+    → ObeysForm edition (Some value)
+    ⊎ ((f : Fault) × (IsBrokenForm edition value × (f ≡ fault)))
+obeyed_or_broken ArrayAllowed value fault = inl tt
+obeyed_or_broken TableOnly value fault = none_or_some (as_array value) fault
+
 -- the value is in a form that the edition takes
 abbrev pub form_check : Edition → Check Data
 form_check edition = record {
   passes = λ value. ObeysForm edition (Some value);
   faults = λ value at fault. IsBrokenForm edition value
       × (fault ≡ fault_at at (custom array_form));
+  passes_or_faults = λ value at.
+      obeyed_or_broken edition value (fault_at at (custom array_form));
   one_fault = λ value at f g a b. a.1 ∙ sym b.1;
   never_both = λ value at f a b. obeyed_not_broken edition value a b.0;
 }

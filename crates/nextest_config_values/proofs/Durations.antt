@@ -12,7 +12,8 @@ use Rattle.std.specs.Str.Parse.{ParsesUnsigned, digits_value}
 use Rattle.std.specs.Result.{OkIff}
 use Rattle.nextest_config_values.proofs.Elements.{all_joined, all_weaker}
 use Rattle.nextest_config_values.proofs.Texts.{ascii_encoded}
-use Rattle.nextest_config_values.specs.Duration.{AreAll, AreFittingDigits, BeginsWith, covers, EndsWith, HasNumberThatFits, is_in_word, IsCutBehind, IsDuration, IsDurationFault, IsFaultAt, IsFaultBehind, IsFront, IsItemText, IsLongestFront, IsNext, IsNextFault, IsReadItem, IsRun, IsUncut, Item, nothing_stops, offset, one_next, Spells, Stops, total, unit_length}
+use Rattle.nextest_config_values.specs.Duration.Fronts.{fault_stops, longest_front, run_begins, white_no_end}
+use Rattle.nextest_config_values.specs.Duration.{AreAll, AreFittingDigits, BeginsWith, EndsWith, HasNumberThatFits, is_in_word, IsCutBehind, IsDuration, IsDurationFault, IsFaultAt, IsFaultBehind, IsFront, IsItemText, IsLongestFront, IsNext, IsNextFault, IsReadItem, IsRun, IsUncut, Item, nothing_stops, offset, one_next, Spells, Stops, total, unit_length}
 use Rattle.nextest_config_values.specs.declared.duration.DurationFault.{DurationFault}
 use Rattle.nextest_config_values.specs.declared.duration.DurationFault.TheVariants as faults
 
@@ -43,13 +44,6 @@ pub trimmed : (text rest : List ℕ) → IsUtf8 rest → rest ≡ trim_start tex
 unfolding trim_start
 trimmed text rest u e = rw (← chars_from_encodes (skip_leading_whitespace (chars text)) rest u (sym e)) (skipped (chars text))
 
-run_begins : (kind : ℕ → Bool) (cs : List ℕ) → (run behind : List ℕ) × (cs ≡ run ++ behind) × IsRun kind run behind
-run_begins kind [] = ([], [], refl, record { inside = tt; over = λ begins. begins })
-run_begins kind (c ∷ cs) = elim (cases_Bool (kind c)) [
-  | inl holds ↦ let inner = run_begins kind cs in (c ∷ inner.0, inner.1, ap (λ rest. c ∷ rest) inner.2, record { inside = (holds, inner.3.inside); over = inner.3.over })
-  | inr other ↦ ([], c ∷ cs, refl, record { inside = tt; over = search rules })
-]
-
 -- digits, white space and a word, each possibly empty
 module _ {text digits behind gap after word rest : List ℕ} where
   next_of : text ≡ digits ++ behind → IsRun is_ascii_digit digits behind → IsTrimmed behind gap after → after ≡ word ++ rest
@@ -62,27 +56,6 @@ module _ {text digits behind gap after word rest : List ℕ} where
         of_gap = subst (IsRun is_whitespace gap) cut trim.run;
         of_word = of_word;
       }
-
--- ---- the longest front
-
-no_such_item : (place : ℕ) (digits gap word : List ℕ) (fault : DurationFault) (number unit : ℕ) → IsNextFault place digits gap word fault
-    → digits ≢ [] → digits_value 10 digits ≡ number → unit_length word ≡ Some unit → number < 2 ^ 64 → ⊥
-no_such_item place digits gap word fault number unit told some is_number is_unit fits = search rules
-
--- where this fault stands, no item begins
-fault_stops : (place : ℕ) (text : List ℕ) (fault : DurationFault) → ¬ BeginsWith is_whitespace text → IsFaultAt place text fault → Stops HasNumberThatFits text
-fault_stops place text fault no_space (digits, gap, word, behind, next, told) = record {
-  no_space = no_space;
-  no_item = λ item other_digits other_gap other_word rest other_next some is_number is_unit fits.
-      let same = one_next text digits gap word behind other_digits other_gap other_word rest next other_next in
-      no_such_item place digits gap word fault item.number item.unit told (rw same.0 some) (rw same.0 is_number) (rw same.2 is_unit) fits;
-}
-
-pub longest_front : (text front behind : List ℕ) (items : List Item) → IsFront text front behind items → Stops HasNumberThatFits behind → IsLongestFront text front behind items
-longest_front text front behind items a stops = record {
-  is_front = a;
-  longest = λ other rest others b. (covers HasNumberThatFits items others front behind other rest a.spelled b.spelled (sym a.whole ∙ b.whole) a.uncut b.uncut stops b.fit).longer;
-}
 
 -- ---- the digits of a number
 
@@ -187,11 +160,6 @@ module _ (place : ℕ) {text digits behind trimmed_text word rest : List ℕ} (t
   }
 
 -- ---- the way through a text
-
-white_no_end : (cs : List ℕ) → AreAll is_whitespace cs → ¬ EndsWith is_in_word cs
-white_no_end [] h ends = ends
-white_no_end (c ∷ []) h ends = search rules
-white_no_end (c ∷ d ∷ cs) h ends = white_no_end (d ∷ cs) h.1 ends
 
 no_end_behind : (front : List ℕ) (c : ℕ) (cs : List ℕ) → AreAll is_whitespace (c ∷ cs) → ¬ EndsWith is_in_word (front ++ (c ∷ cs))
 no_end_behind [] c cs h ends = white_no_end (c ∷ cs) h ends
