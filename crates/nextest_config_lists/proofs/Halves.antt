@@ -1,8 +1,8 @@
 -- What is read of two lists, as what is read of both in a row.
-use Rattle.std.proofs.Common.{◌≡◌, ℕ, ◌+◌, ◌<◌, List, [], ◌∷◌, ◌++◌, length, length-append, map, refl, sym, ap, ap₂, ◌∙◌, subst, append_assoc, arith, get_or, Result, Ok, Err, IfErr}
-use Rattle.std.proofs.lemmas.List.{map-append}
+use Rattle.std.proofs.Common.{◌≡◌, ℕ, ◌+◌, ◌<◌, List, [], ◌∷◌, ◌++◌, length, length-append, take, drop, map, refl, sym, ap, ap₂, ◌∙◌, subst, append_assoc, arith, get_or, Result, Ok, Err, IfErr}
+use Rattle.std.proofs.lemmas.List.{drop_more, length-take, map-append, take-append-drop, take_more}
 use Rattle.std.specs.List.{AllZip}
-use Rattle.nextest_config_lists.specs.Merge.{behind, HavePieces, IsFirstWrong, IsJoinOfPieces, IsMonoid, IsReadingOne, IsRefusalOfPieces, total}
+use Rattle.nextest_config_lists.specs.Merge.{behind, HavePieces, IsFirstWrong, IsJoinOfPieces, IsMonoid, IsReadingOne, IsRefusalOfOne, IsRefusalOfPieces, total}
 use Rattle.nextest_config_lists.specs.declared.merge.PieceRefusal.{PieceRefusal}
 use Rattle.nextest_config_lists.specs.declared.merge.PieceRefusal.TheVariants as refusals
 use Rattle.nextest_config_lists.proofs.Lists.{zip_joined, zip_middle}
@@ -22,6 +22,12 @@ module _ {Source Piece Seen : Type 0} (join : Seen → Seen → Seen) (neutral :
   of_both xs ys first second joined (us, read, is) (vs, more_read, more) joins =
       let parts = total_joined join neutral laws (map seen us) (map seen vs) in
       (us ++ vs, zip_joined piece xs us ys vs read more_read, joins ∙ ap (join first) (laws.neutral_last second) ∙ ap₂ join is more ∙ sym parts ∙ ap (total join neutral) (sym (map-append seen us vs)))
+
+  -- the join of the sources so far with the piece of the next one
+  pub one_more : (sources : List Source) (i : ℕ) (source : Source) (a : Piece) (so_far joined : Seen) → i < length sources → source ≡ get_or sources i source
+      → IsJoinOfPieces join neutral seen piece (take i sources) so_far → piece source a → joined ≡ join so_far (seen a) → IsJoinOfPieces join neutral seen piece (take (i + 1) sources) joined
+  one_more sources i source a so_far joined within here read more joins =
+      rw (take_more sources i source within, ← here) (of_both (take i sources) (source ∷ []) so_far (seen a) joined read (of_one source a more) (joins ∙ ap (join so_far) (sym (laws.neutral_last (seen a)))))
 
 module _ {Source Piece Told : Type 0} (piece : Source → Piece → Type 0) (wrong : Source → Told → Type 0) where
   pub wrong_in_first : (xs ys : List Source) (position : ℕ) (error : Told) → IsFirstWrong piece wrong xs position error → IsFirstWrong piece wrong (xs ++ ys) position error
@@ -66,15 +72,23 @@ module _ {Source Piece Error Told : Type 0} (told : Error → Told) (piece : Sou
   refused_in_second xs ys (refusals.Refused position error) read first = wrong_in_second piece wrong xs ys position (told error) read first
   refused_in_second xs ys refusals.Memory read first = tt
 
+  -- the sources so far are read, and the next one is refused
+  pub refused_next : (sources : List Source) (i : ℕ) (source : Source) (r : PieceRefusal Error) → i < length sources → source ≡ get_or sources i source
+      → HavePieces piece (take i sources) → IsRefusalOfOne told wrong source r → IsRefusalOfPieces told piece wrong sources (behind i r)
+  refused_next sources i source (refusals.Refused position error) within here read refused = record {
+    before = take i sources;
+    source = source;
+    after = drop (i + 1) sources;
+    whole = sym (take-append-drop i sources) ∙ ap (λ rest. take i sources ++ rest) (rw (drop_more sources i source within, ← here) refl);
+    place = omega (arith, length-take i sources, refused.0);
+    read = read;
+    refused = refused.1;
+  }
+  refused_next sources i source refusals.Memory within here read refused = tt
+
   -- where every source has a piece, only memory can be wanting
   pub only_memory : {Seen : Type 0} (seen : Piece → Seen) → IsReadingOne seen piece wrong → (sources : List Source) {X : Type 0} (result : Result X (PieceRefusal Error)) → HavePieces piece sources → IfErr result (IsRefusalOfPieces told piece wrong sources)
       → IfErr result (λ refusal. refusal ≡ refusals.Memory)
   only_memory seen laws sources (Ok x) read first = tt
   only_memory seen laws sources (Err (refusals.Refused position error)) read first = absurd (none_wrong seen piece wrong laws sources position (told error) read first)
   only_memory seen laws sources (Err refusals.Memory) read first = refl
-
--- the one element of a list
-pub only_element : {X : Type 0} (xs : List X) (x : X) → x ≡ get_or xs 0 x → length xs ≡ 1 → xs ≡ x ∷ []
-only_element [] x here one = absurd (omega (arith, one))
-only_element (y ∷ []) x here one = ap (λ z. z ∷ []) (sym here)
-only_element (y ∷ z ∷ xs) x here one = absurd (omega (arith, one))

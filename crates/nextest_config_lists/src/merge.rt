@@ -134,6 +134,9 @@ pub trait ReadPiece: Merge {
     ghost size_in_range: { FitsInMemory Self.row };
 }
 
+// So few sources are read one after the other.
+const FEW: usize = 16;
+
 /// Reads the sources, each half for itself, and joins what was read.
 ///
 /// # Errors
@@ -152,14 +155,32 @@ pub fn read_halves<T: ReadPiece + Drop>(
     ensures refused { IfErr result (IsRefusalOfPieces
         T.told (T.piece context.now) (T.wrong context.now) sources.now) }
 {
-    match sources {
-        [] => Ok(T::neutral(alloc)),
-        [source] => T::read_one(alloc, context, source),
-        _ => {
-            let (first, second) = sources.split_at(sources.len() / 2);
-            read_both(alloc, context, first, second)
+    if sources.len() <= FEW {
+        return read_few(alloc, context, sources);
+    }
+    let (first, second) = sources.split_at(sources.len() / 2);
+    read_both(alloc, context, first, second)
+}
+
+// Reads the sources one after the other, and joins what was read.
+fn read_few<T: ReadPiece + Drop>(
+    alloc: Global,
+    context: &T::Context,
+    sources: &[T::Source],
+) -> Result<T, PieceRefusal<T::Error>>
+    ensures joined { IfOk result (λ it. IsJoinOfPieces
+        T.join T.Merge.neutral T.seen (T.piece context.now) sources.now (T.seen it)) }
+    ensures refused { IfErr result (IsRefusalOfPieces
+        T.told (T.piece context.now) (T.wrong context.now) sources.now) }
+{
+    let mut piece = T::neutral(alloc);
+    for (position, source) in sources.iter().enumerate() {
+        match T::read_one(alloc, context, source) {
+            Ok(mut later) => piece.merge(&mut later)?,
+            Err(refusal) => return Err(refusal.behind(position)),
         }
     }
+    Ok(piece)
 }
 
 // Reads both halves, and joins what was read.

@@ -1,10 +1,10 @@
 -- The search of a table of names, by bytes and by characters.
-use Rattle.std.proofs.Common.{◌≡◌, ℕ, true, List, [], ◌∷◌, map, nat_eq, refl, sym, ap, ◌∙◌, inl, inr}
+use Rattle.std.proofs.Common.{◌≡◌, ℕ, Bool, true, false, not, List, [], ◌∷◌, map, nat_eq, Some, None, slice_get, refl, sym, ap, ◌∙◌, inl, inr}
 use Rattle.std.specs.Prelude.{chars, encode_utf8_all}
 use Rattle.std.proofs.lemmas.Bool.{cases_Bool}
 use Rattle.std.proofs.lemmas.Str.{chars-encodes, encodes-chars}
 use Rattle.std.specs.Cmp.Lexicographic.{bytes_decides, other_text, pointwise, same_text}
-use Rattle.std.specs.List.{AllByRecursion}
+use Rattle.std.specs.List.{AllByRecursion, filter}
 use Rattle.std.specs.Str.{IsUtf8, all_scalars as scalars}
 use Rattle.nextest_config_values.specs.Duration.{length_in}
 
@@ -27,3 +27,36 @@ by_bytes (row ∷ table) word u s = elim (cases_Bool (pointwise nat_eq row.0 (ch
   | inl same ↦ rw (same_test row.0 word u s.0, same) refl
   | inr other ↦ rw (same_test row.0 word u s.0, other) (by_bytes table word u s.1)
 ]
+
+-- a word is sought among the rows that it may stand in
+by_rows : (may : List ℕ → Bool) (table : List (List ℕ × ℕ)) (word : List ℕ) → may word ≡ true → length_in (filter (λ row. may row.0) table) word ≡ length_in table word
+by_rows may [] word allowed = refl
+by_rows may (row ∷ table) word allowed = elim (cases_Bool (may row.0)) [
+  | inl kept ↦ rw kept (elim (cases_Bool (pointwise nat_eq row.0 word)) [
+    | inl same ↦ rw same refl
+    | inr other ↦ rw other (by_rows may table word allowed)
+  ])
+  | inr left ↦ elim (cases_Bool (pointwise nat_eq row.0 word)) [
+    | inl same ↦ absurd (cc (sym left, allowed, ap may (same_text row.0 word (sym same))))
+    | inr other ↦ rw (left, other) (by_rows may table word allowed)
+  ]
+]
+
+-- the first byte is of this kind
+abbrev pub first_is : (ℕ → Bool) → List ℕ → Bool
+first_is kind [] = false
+first_is kind (b ∷ word) = kind b
+
+module _ (kind : ℕ → Bool) (table : List (List ℕ × ℕ)) where
+  -- a word is sought among the rows that begin as it does
+  pub by_first : (word : List ℕ) (b : ℕ) → Some b ≡ slice_get word 0 → kind b ≡ true → length_in (filter (λ row. first_is kind row.0) table) word ≡ length_in table word
+  by_first [] b e is = absurd (cc e)
+  by_first (c ∷ word) b e is = by_rows (first_is kind) table (c ∷ word) (ap kind (cc e) ∙ is)
+
+  -- a word that is empty or begins otherwise stands in no row, where all rows begin so
+  pub by_no_first : (word : List ℕ) → ((b : ℕ) → Some b ≡ slice_get word 0 → kind b ≡ false) → filter (λ row. not (first_is kind row.0)) table ≡ [] → None ≡ length_in table word
+  by_no_first word other none = ap (λ rows. length_in rows word) (sym none) ∙ by_rows (λ name. not (first_is kind name)) table word (begins word other)
+    where
+      begins : (word : List ℕ) → ((b : ℕ) → Some b ≡ slice_get word 0 → kind b ≡ false) → not (first_is kind word) ≡ true
+      begins [] other = refl
+      begins (b ∷ word) other = rw (other b refl) refl

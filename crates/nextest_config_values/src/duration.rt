@@ -11,43 +11,57 @@ use std::time::Duration;
 use thiserror::Error;
 use toml::Value;
 
-// The words of the units, each with the length of its unit in nanoseconds. Letter case counts.
-const UNITS: [(&str, u64); 40] = [
-    ("nanos", 1),
-    ("nsec", 1),
-    ("ns", 1),
-    ("usec", 1_000),
-    ("us", 1_000),
-    ("µs", 1_000),
+// The words of the units by their first letters, each with the length of its unit in nanoseconds.
+// Letter case counts.
+const NANOSECONDS: [(&str, u64); 3] = [("nanos", 1), ("nsec", 1), ("ns", 1)];
+
+const MICROSECONDS: [(&str, u64); 3] = [("usec", 1_000), ("us", 1_000), ("µs", 1_000)];
+
+const MILLISECONDS_MINUTES_MONTHS: [(&str, u64); 11] = [
     ("millis", 1_000_000),
     ("msec", 1_000_000),
     ("ms", 1_000_000),
-    ("seconds", 1_000_000_000),
-    ("second", 1_000_000_000),
-    ("secs", 1_000_000_000),
-    ("sec", 1_000_000_000),
-    ("s", 1_000_000_000),
     ("minutes", 60_000_000_000),
     ("minute", 60_000_000_000),
     ("mins", 60_000_000_000),
     ("min", 60_000_000_000),
     ("m", 60_000_000_000),
+    ("months", 2_630_016_000_000_000),
+    ("month", 2_630_016_000_000_000),
+    ("M", 2_630_016_000_000_000),
+];
+
+const SECONDS: [(&str, u64); 5] = [
+    ("seconds", 1_000_000_000),
+    ("second", 1_000_000_000),
+    ("secs", 1_000_000_000),
+    ("sec", 1_000_000_000),
+    ("s", 1_000_000_000),
+];
+
+const HOURS: [(&str, u64); 5] = [
     ("hours", 3_600_000_000_000),
     ("hour", 3_600_000_000_000),
     ("hrs", 3_600_000_000_000),
     ("hr", 3_600_000_000_000),
     ("h", 3_600_000_000_000),
+];
+
+const DAYS: [(&str, u64); 3] = [
     ("days", 86_400_000_000_000),
     ("day", 86_400_000_000_000),
     ("d", 86_400_000_000_000),
+];
+
+const WEEKS: [(&str, u64); 5] = [
     ("weeks", 604_800_000_000_000),
     ("week", 604_800_000_000_000),
     ("wks", 604_800_000_000_000),
     ("wk", 604_800_000_000_000),
     ("w", 604_800_000_000_000),
-    ("months", 2_630_016_000_000_000),
-    ("month", 2_630_016_000_000_000),
-    ("M", 2_630_016_000_000_000),
+];
+
+const YEARS: [(&str, u64); 5] = [
     ("years", 31_557_600_000_000_000),
     ("year", 31_557_600_000_000_000),
     ("yrs", 31_557_600_000_000_000),
@@ -144,7 +158,19 @@ fn split_run<F: FnMut(char) -> bool + Drop>(text: &str, ends: F) -> (&str, &str)
 fn unit_length(word: &str) -> Option<u64>
     ensures { result ≡ unit_length (chars word.now) }
 {
-    find_unit(&UNITS, word)
+    let first = word.as_bytes().first()?;
+    match *first {
+        b'n' => find_unit(&NANOSECONDS, word),
+        // `µ` begins with this byte.
+        b'u' | 0xC2 => find_unit(&MICROSECONDS, word),
+        b'm' | b'M' => find_unit(&MILLISECONDS_MINUTES_MONTHS, word),
+        b's' => find_unit(&SECONDS, word),
+        b'h' => find_unit(&HOURS, word),
+        b'd' => find_unit(&DAYS, word),
+        b'w' => find_unit(&WEEKS, word),
+        b'y' => find_unit(&YEARS, word),
+        _ => None,
+    }
 }
 
 // What stands beside the first of these names that is the word.
@@ -152,7 +178,7 @@ fn find_unit(units: &[(&str, u64)], word: &str) -> Option<u64>
     ensures { result ≡ length_in (rows units.now) word.now }
 {
     for (name, length) in units {
-        if *name == word {
+        if name.as_bytes() == word.as_bytes() {
             return Some(*length);
         }
     }
