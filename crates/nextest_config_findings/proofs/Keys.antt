@@ -1,15 +1,21 @@
 -- The keys of tables, and the words that they may be meant for.
-use Rattle.std.proofs.Common.{◌≡◌, ℕ, ◌+◌, ◌<◌, true, false, List, [], ◌∷◌, Bor, Global, String, ap, drop, get_or, is_some, length, map, nat_eq, refl, string_bytes, sym, ◌∙◌}
+use Rattle.std.proofs.Common.{◌≡◌, ℕ, ◌+◌, ◌<◌, true, false, Equal, Greater, IsSome, Less, List, [], ◌∷◌, Option, Ordering, Some, Bor, Global, String, ap, drop, get_or, is_some, length, map, nat_cmp, nat_eq, refl, string_bytes, sym, ◌∙◌}
 use mathlib.Core.List.{map-map}
+use Rattle.std.proofs.lemmas.Cmp.{nat_list_cmp_total}
 use Rattle.std.proofs.lemmas.List.{drop_more}
-use Rattle.std.specs.Cmp.Lexicographic.{pointwise}
+use Rattle.std.specs.Cmp.{tied_itself}
+use Rattle.std.specs.Cmp.Lexicographic.{pointwise, slice_cmp}
+use Rattle.std.specs.List.{AllByRecursion}
 use Rattle.std.specs.Map.{keys_of}
 use Rattle.std.specs.Map.Iter.{deref}
+use Rattle.std.specs.Ordering.{match_ordering}
 use Rattle.toml.proofs.Views.{Entry}
+use Rattle.toml.specs.Data.{Data, get_member, member, Members, no_members}
 use Rattle.toml.specs.View.{members_view}
+use Rattle.nextest_config_values.proofs.Elements.{all_weaker}
 use Rattle.nextest_config_values.specs.Read.{value_of}
+use Rattle.nextest_config_findings.specs.Judged.{names_of}
 use Rattle.nextest_config_findings.specs.Place.{keys_told}
-use Rattle.nextest_config_findings.specs.Unknown.{names_of}
 use Rattle.nextest_config_findings.specs.declared.place.Place.{Place}
 
 -- ---- the search for a key
@@ -27,6 +33,20 @@ at_this_key rows i d name within same = rw (drop_more rows i d within, same) ref
 names_are : (entries : List Entry) → names_of (members_view entries) ≡ map string_bytes (keys_of entries)
 names_are [] = refl
 names_are (entry ∷ entries) = ap (λ (names : List (List ℕ)). string_bytes entry.0 ∷ names) (names_are entries)
+
+stays : (order : Ordering) (value : Data) (rest : Option Data) → IsSome rest → IsSome (match_ordering order rest (Some value) rest)
+stays Less value rest h = h
+stays Equal value rest h = refl
+stays Greater value rest h = h
+
+-- a table has a value at each of its keys
+pub names_have : (held : Members) → AllByRecursion (λ name. IsSome (get_member name held)) (names_of held)
+names_have no_members = tt
+names_have (member name value rest) = (
+  rw (tied_itself nat_list_cmp_total name) refl,
+  all_weaker (λ other. IsSome (get_member other rest)) (λ other. IsSome (get_member other (member name value rest)))
+      (λ other h. stays (slice_cmp nat_cmp other name) value (get_member other rest) h) (names_of rest) (names_have rest),
+)
 
 -- all keys of a table that were yielded, as names
 pub all_names : {B : Type 0} (entries : List Entry) (yielded : List (Bor (String Global))) (f : List ℕ → B) → map deref yielded ≡ keys_of entries

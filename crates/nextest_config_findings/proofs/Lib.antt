@@ -1,9 +1,12 @@
+pub mod Depth
 pub mod FindingsOnce
 pub mod FoundKinds
 pub mod FoundLists
 pub mod Keys
+pub mod Leading
 pub mod NoDuration
 pub mod Places
+pub mod Profiles
 pub mod Severities
 pub mod WarnedFiles
 pub mod WarnedReads

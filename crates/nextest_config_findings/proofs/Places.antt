@@ -1,13 +1,18 @@
 -- Where findings stand in a text.
-use Rattle.std.proofs.Common.{◌≡◌, ℕ, suc, ◌+◌, ◌<◌, ◌≤◌, Bool, List, [], ◌∷◌, ◌++◌, append_assoc, append-nil, ap, arith, cond, count_by, get_or, if◌then◌else◌, inl, inr, length, refl, rules, sym, take, ◌∙◌}
-use Rattle.std.specs.List.{AllZip}
+use Rattle.std.proofs.Common.{◌≡◌, ℕ, suc, ◌+◌, ◌<◌, ◌≤◌, Bool, List, [], ◌∷◌, ◌++◌, append_assoc, append-nil, ap, arith, cond, count_by, get_or, if◌then◌else◌, IsSome, Some, inl, inr, length, refl, rules, sym, take, ◌∙◌}
+use Rattle.std.specs.List.{AllByRecursion, AllZip}
 use Rattle.std.proofs.lemmas.Bool.Decides.{eqb_tells, nat_tests}
 use Rattle.std.proofs.lemmas.Grind.{common_steps}
 use Rattle.std.proofs.lemmas.List.{take_more}
 use Rattle.std.proofs.lemmas.List.Sums.{sum_by_push}
+use Rattle.toml.specs.Data.{Members}
+use Rattle.toml.specs.Parse.{parse_document}
+use Rattle.nextest_config_lines.specs.Line.{found_in, LeadsIn}
+use Rattle.nextest_config_lines.specs.Step.{PathStep}
 use Rattle.nextest_config_values.specs.Characters.{line_feed}
 use Rattle.nextest_config_values.proofs.Elements.{all_joined}
-use Rattle.nextest_config_findings.specs.File.{AreAtLines, begins_character, column_after, IsColumn, IsFindingAtLine, IsInLine}
+use Rattle.nextest_config_findings.specs.File.{AreAtLines, begins_character, column_after, IsColumn, IsFindingAtLine, IsFindingIn, IsInLine, line_path}
+use Rattle.nextest_config_findings.specs.FindingsLaws.{LeadsToValue}
 use Rattle.nextest_config_findings.specs.Found.{Found, Tells}
 use Rattle.nextest_config_findings.specs.declared.file.LocatedFinding.{LocatedFinding}
 use Rattle.nextest_config_findings.specs.declared.finding.Finding.{Finding}
@@ -47,6 +52,22 @@ pub column_within : (column byte n : ℕ) → column ≤ n → 0 < n → column_
 column_within column byte n within some = grind (arith, nat_tests)
 
 -- ---- findings at their lines
+
+-- what is led to in a document is led to in its text
+leads_in_text : (contents : List ℕ) (members : Members) (path : List PathStep) → parse_document contents ≡ Some members → IsSome (found_in members path) → LeadsIn contents path contents
+leads_in_text contents members path reads leads =
+    record {
+      read = record { cut = record { rest = []; whole = sym (append-nil contents); ends = inr refl }; members = members; reads = reads };
+      leads = leads;
+    }
+
+-- findings that tell what stands at values of a document stand in its text
+pub all_in_text : (contents : List ℕ) (members : Members) → parse_document contents ≡ Some members → (findings : List Finding) (founds : List Found) → Tells findings founds
+    → AllByRecursion (LeadsToValue members) founds → AllByRecursion (IsFindingIn contents) findings
+all_in_text contents members reads [] founds told lead = tt
+all_in_text contents members reads (finding ∷ findings) (found ∷ founds) told lead =
+    ((found, cc told, leads_in_text contents members (line_path found) reads lead.0), all_in_text contents members reads findings founds (cc told) lead.1)
+all_in_text contents members reads (finding ∷ findings) [] told lead = absurd (cc told)
 
 -- findings at the lines of what they tell
 pub all_at_lines : (contents : List ℕ) (findings : List Finding) (located : List LocatedFinding) → AllZip (IsFindingAtLine contents) findings located

@@ -1,17 +1,9 @@
 -- How grave findings are.
-use Rattle.std.proofs.Common.{◌≡◌, List, map, nat_cmp, None, Option, Some, ap, option_map, rules}
+use Rattle.std.proofs.Common.{◌≡◌, List, map, None, Option, Some, ap, option_map}
 use Rattle.nextest_config_lines.specs.Step.{PathStep, step_of}
-use Rattle.nextest_config_findings.specs.Finding.{gravity_told, rank, severity_of}
+use Rattle.nextest_config_findings.specs.Finding.{gravity_told, severity_of}
 use Rattle.nextest_config_findings.specs.Found.{Found, found_at, FoundKind, found_of, gravity, kind_told}
-use Rattle.nextest_config_findings.specs.contracts.finding.SeverityOrd.TheImpl as severity_ord
 use Rattle.nextest_config_findings.specs.declared.finding.Finding.{Finding}
-use Rattle.nextest_config_findings.specs.declared.finding.Severity.{Severity}
-
--- the derived order
-pub by_rank : (a b : Severity) → (severity_ord.ghosts).cmp a b ≡ nat_cmp (rank a) (rank b)
-by_rank a b = search rules
-
--- ---- what a finding tells
 
 told_kind : (path : List PathStep) (told : Option FoundKind) (found : Found) → option_map (found_at path) told ≡ Some found → told ≡ Some found.kind
 told_kind path None found is = ap (option_map (λ (f : Found). f.kind)) is

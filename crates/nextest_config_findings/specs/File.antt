@@ -11,7 +11,7 @@ use Rattle.toml.specs.declared.de.error.Error.{Error}
 use Rattle.nextest_config_values.specs.Characters.{line_feed}
 use Rattle.nextest_config_sources.specs.declared.nextest_version.edition.Edition.{Edition}
 use Rattle.nextest_config_sources.specs.declared.nextest_version.source.ConfigSourceKind.{ConfigSourceKind}
-use Rattle.nextest_config_lines.specs.Line.{EndsLine, HasNoLine, IsLine, line_behind}
+use Rattle.nextest_config_lines.specs.Line.{EndsLine, IsLine, LeadsIn, line_behind}
 use Rattle.nextest_config_lines.specs.Step.{key, PathStep}
 use Rattle.nextest_config_findings.specs.Document.{AreFindings}
 use Rattle.nextest_config_findings.specs.Found.{Found, found_at, FoundKind, found_of, not_toml, not_utf8, unknown_key}
@@ -84,16 +84,16 @@ path_behind path kind = path
 abbrev pub line_path : Found → List PathStep
 line_path found = path_behind found.path found.kind
 
--- the line of a path, or the first one where it has none
-abbrev pub IsLineOrFirst : List ℕ → List PathStep → ℕ → Type 0
-IsLineOrFirst contents path line = IsLine contents path line
-    ⊎ (HasNoLine contents path × (line ≡ 1))
-
 -- a finding at its line
 pub record IsAtLine (contents : List ℕ) (found : Found) (located : LocatedFinding) : Type 0 where
   pub told : found_of located.finding ≡ Some found
   pub no_column : located.column ≡ None
-  pub at_line : IsLineOrFirst contents (line_path found) located.line
+  pub at_line : IsLine contents (line_path found) located.line
+
+-- what the finding tells stands at a value of the text
+abbrev pub IsFindingIn : List ℕ → Finding → Type 0
+IsFindingIn contents finding = (found : Found) × (found_of finding ≡ Some found)
+    × LeadsIn contents (line_path found) contents
 
 -- the finding is at the line of what it tells
 abbrev pub IsFindingAtLine : List ℕ → Finding → LocatedFinding → Type 0

@@ -1,5 +1,5 @@
 -- Words of the laws of findings.
-use Rattle.std.specs.Prelude.{◌≡◌, ◌⊎◌, ℕ, IsUtf8, List, Option, Some, None}
+use Rattle.std.specs.Prelude.{◌≡◌, ◌⊎◌, ℕ, IsSome, IsUtf8, List, Option, Some, None}
 use Rattle.std.specs.List.{AllByRecursion}
 use Rattle.toml.specs.Data.{Data, get_member, Members}
 use Rattle.toml.specs.Parse.{parse_document}
@@ -7,8 +7,10 @@ use Rattle.nextest_config_values.specs.Read.Fault.{Fault}
 use Rattle.nextest_config_sources.specs.NextestVersion.{experimental_key, FeatureSetting, features_reading, ObeysForm, ObeysToolRule}
 use Rattle.nextest_config_sources.specs.declared.nextest_version.edition.Edition.{Edition}
 use Rattle.nextest_config_sources.specs.declared.nextest_version.source.ConfigSourceKind.{ConfigSourceKind}
+use Rattle.nextest_config_lines.specs.Line.{found_in}
 use Rattle.nextest_config_lines.specs.Step.{printed_path}
 use Rattle.nextest_config_findings.specs.Faults.{added_step, IsUnjudged, led_to}
+use Rattle.nextest_config_findings.specs.File.{line_path}
 use Rattle.nextest_config_findings.specs.Finding.{severity_of}
 use Rattle.nextest_config_findings.specs.Found.{Found, gravity}
 use Rattle.nextest_config_findings.specs.Judged.{from_table, JudgedValue}
@@ -23,6 +25,10 @@ IsWarning found = gravity found.kind ≡ Warning
 -- the located finding is a warning
 abbrev pub IsLocatedWarning : LocatedFinding → Type 0
 IsLocatedWarning located = severity_of located.finding.kind ≡ Warning
+
+-- the path of the finding, for an unknown key that of the key, leads to a value of the document
+abbrev pub LeadsToValue : Members → Found → Type 0
+LeadsToValue members found = IsSome (found_in members (line_path found))
 
 -- the value that has the fault: the judged one, or one right below it
 abbrev pub faulty_value : JudgedValue → Fault → Data

@@ -1,6 +1,7 @@
 -- The values of a document that have a place, depth-first.
 use Rattle.std.specs.Prelude.{◌≡◌, ℕ, suc, zero, List, [], ◌∷◌, ◌++◌, flat_map, map, Option, Some, None, Vec}
 use Rattle.std.specs.declared.alloc.Global.{Global}
+use Rattle.std.specs.List.{AllByRecursion}
 use Rattle.toml.specs.Data.{array, Data, get_member, item, Items, member, Members, no_items, no_members, table}
 use Rattle.toml.specs.View.{view}
 use Rattle.nextest_config_lines.specs.Step.{index, key, PathStep}
@@ -54,11 +55,14 @@ abbrev pub known_in : List PathStep → Members → Option (List (List ℕ × Pl
 known_in path held None = []
 known_in path held (Some keys) = flat_map (at_known_key path held) keys
 
--- each value of a table is a profile
+-- the keys of a table
+abbrev pub names_of : Members → List (List ℕ)
+names_of no_members = []
+names_of (member name value rest) = name ∷ names_of rest
+
+-- the value at each key of a table is a profile
 abbrev pub profiles_in : List PathStep → Members → List JudgedValue
-profiles_in path no_members = []
-profiles_in path (member name value rest) =
-    judged_at path (key name) Profile value ∷ profiles_in path rest
+profiles_in path held = flat_map (λ name. at_known_key path held (name, Profile)) (names_of held)
 
 -- each element of an array is an override; the first one has this index
 abbrev pub overrides_in : List PathStep → ℕ → Items → List JudgedValue
@@ -91,10 +95,27 @@ abbrev pub judged_in : ℕ → JudgedValue → List JudgedValue
 judged_in zero judged = judged ∷ []
 judged_in (suc depth) judged = judged ∷ flat_map (judged_in depth) (below judged)
 
--- nothing that has a place lies deeper below a key of the document
+-- how deep the values below a key of the document are judged
 abbrev pub deepest : ℕ
 deepest = 5
 
 -- all that have a place in a document
 abbrev pub from_table : Members → List JudgedValue
 from_table members = flat_map (judged_in deepest) (below_table Top [] members)
+
+-- ---- how deep places lie
+
+abbrev pub places_among : Option (List (List ℕ × Place)) → List Place
+places_among None = []
+places_among (Some keys) = map (λ known. known.1) keys
+
+-- the places right below a place
+abbrev pub places_below : Place → List Place
+places_below Profiles = Profile ∷ []
+places_below Overrides = Override ∷ []
+places_below place = places_among (keys_of place)
+
+-- no path of places goes on from a place for more steps
+abbrev pub EndsWithin : ℕ → Place → Type 0
+EndsWithin zero place = places_below place ≡ []
+EndsWithin (suc steps) place = AllByRecursion (EndsWithin steps) (places_below place)

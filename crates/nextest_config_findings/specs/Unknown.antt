@@ -1,10 +1,10 @@
 -- The keys of a document that aren't known where they stand, and what they may be meant for.
-use Rattle.std.specs.Prelude.{◌≡◌, ◌&&◌, ℕ, Bool, true, false, not, List, [], ◌∷◌, is_some, map, Option, Some, None}
-use Rattle.toml.specs.Data.{Data, member, Members, no_members, table}
+use Rattle.std.specs.Prelude.{◌≡◌, ◌&&◌, ℕ, Bool, true, false, not, List, [], is_some, map, Option, Some, None}
+use Rattle.toml.specs.Data.{Data, Members, table}
 use Rattle.nextest_config_values.specs.Read.{value_of}
 use Rattle.nextest_config_lines.specs.Step.{PathStep}
 use Rattle.nextest_config_findings.specs.Found.{Found, found_at, IsNearestMeant, Meant, the_top, unknown_key}
-use Rattle.nextest_config_findings.specs.Judged.{JudgedValue}
+use Rattle.nextest_config_findings.specs.Judged.{JudgedValue, names_of}
 use Rattle.nextest_config_findings.specs.Place.{is_top, keys_of, rows_of}
 use Rattle.nextest_config_findings.specs.declared.place.Place.{Place}
 use Rattle.nextest_config_findings.specs.declared.place.TheConstants.{TOP}
@@ -21,10 +21,6 @@ pub record JudgedKey : Type 0 where
   pub name : List ℕ
 
 -- ---- the keys that are judged
-
-abbrev pub names_of : Members → List (List ℕ)
-names_of no_members = []
-names_of (member name value rest) = name ∷ names_of rest
 
 abbrev pub key_at : Place → Known → List PathStep → List ℕ → JudgedKey
 key_at place known path name = record { place = place; known = known; path = path; name = name }

@@ -1,13 +1,13 @@
 //! All that is found in a file, each with its line.
 
 ghost use Rattle.std.specs.Prelude.{◌≡◌, ◌<◌, ◌^◌, [], ◌∷◌, IfOk, None, OnOk, Some, map, option_map};
-ghost use Rattle.std.specs.List.{AllZip};
+ghost use Rattle.std.specs.List.{AllByRecursion, AllZip};
 ghost use Rattle.toml.specs.Errors.{IsMemory, IsWithin, span_start};
 ghost use Rattle.toml.specs.Parse.{parse_document};
 ghost use Rattle.toml.specs.View.{table_view};
-ghost use Rattle.nextest_config_lines.specs.Line.{line_behind};
+ghost use Rattle.nextest_config_lines.specs.Line.{IsLine, LeadsIn, line_behind};
 ghost use Rattle.nextest_config_lines.specs.Step.{step_of};
-ghost use Rattle.nextest_config_findings.specs.File.{AreInText, AreLocated, AreLocatedIn, column_after, IsColumn, IsFindingAtLine, IsLineOrFirst, IsNotTomlAt, line_path, located_told};
+ghost use Rattle.nextest_config_findings.specs.File.{AreInText, AreLocated, AreLocatedIn, column_after, IsColumn, IsFindingAtLine, IsFindingIn, IsNotTomlAt, line_path, located_told};
 ghost use Rattle.nextest_config_findings.specs.Found.{Found, found_at, found_of, kind_told, not_utf8};
 
 use crate::document::findings;
@@ -158,6 +158,7 @@ fn located_in_document(
     text: &str,
     document: &Table,
 ) -> Result<Vec<LocatedFinding>, AllocError>
+    requires { parse_document text.now ≡ Some (table_view document.now) }
     ensures { IfOk result (λ located.
         AreLocatedIn edition source.now text.now (table_view document.now) located.items) }
 {
@@ -167,12 +168,13 @@ fn located_in_document(
     Ok(located)
 }
 
-// Each finding with its line.
+// Each finding with its line; each stands at a value.
 fn at_lines(
     alloc: Global,
     text: &str,
     findings: Vec<Finding>,
 ) -> Result<Vec<LocatedFinding>, AllocError>
+    requires { AllByRecursion (IsFindingIn text.now) findings.items }
     ensures { IfOk result
         (λ located. AllZip (IsFindingAtLine text.now) findings.items located.items) }
 {
@@ -183,12 +185,13 @@ fn at_lines(
     Ok(located)
 }
 
-// A finding with its line.
+// A finding with its line, which stands at a value.
 fn at_line(alloc: Global, text: &str, finding: Finding) -> Result<LocatedFinding, AllocError>
+    requires { IsFindingIn text.now finding }
     ensures { IfOk result (IsFindingAtLine text.now finding) }
 {
     let path = line_path(alloc, &finding)?;
-    let line = line_or_first(alloc, text, path.as_slice())?;
+    let line = line_of_value(alloc, text, path.as_slice())?;
     Ok(LocatedFinding {
         line,
         column: None,
@@ -196,13 +199,14 @@ fn at_line(alloc: Global, text: &str, finding: Finding) -> Result<LocatedFinding
     })
 }
 
-// The line of a path, or the first one where it has none.
-fn line_or_first(alloc: Global, text: &str, path: &[Step]) -> Result<usize, AllocError>
-    ensures { IfOk result (IsLineOrFirst text.now (map step_of path.now)) }
+// The line of a path that leads to a value.
+fn line_of_value(alloc: Global, text: &str, path: &[Step]) -> Result<usize, AllocError>
+    requires { LeadsIn text.now (map step_of path.now) text.now }
+    ensures { IfOk result (IsLine text.now (map step_of path.now)) }
 {
     match line_of(alloc, text, path)? {
         Some(line) => Ok(line),
-        None => Ok(1),
+        None => unreachable!(),
     }
 }
 

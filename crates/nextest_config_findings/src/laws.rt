@@ -1,6 +1,6 @@
 //! Laws of the definitions, for every document. They call nothing.
 
-ghost use Rattle.std.specs.Prelude.{◌≡◌, ◌↔◌, ℕ, List, Some};
+ghost use Rattle.std.specs.Prelude.{◌≡◌, ◌↔◌, ℕ, ◌+◌, [], flat_map, List, Some};
 ghost use Rattle.std.specs.List.{AllByRecursion};
 ghost use Rattle.std.specs.Ordering.{nat_cmp};
 ghost use Rattle.toml.specs.Data.{Members};
@@ -12,15 +12,16 @@ ghost use Rattle.nextest_config_sources.specs.declared.nextest_version.source.Co
 ghost use Rattle.nextest_config_findings.specs.Document.{AreFindings};
 ghost use Rattle.nextest_config_findings.specs.File.{AreLocated};
 ghost use Rattle.nextest_config_findings.specs.Finding.{rank};
-ghost use Rattle.nextest_config_findings.specs.FindingsLaws.{IsFileWithoutError, IsLocatedWarning, IsWarning, IsWithoutError};
+ghost use Rattle.nextest_config_findings.specs.FindingsLaws.{IsFileWithoutError, IsLocatedWarning, IsWarning, IsWithoutError, LeadsToValue};
 ghost use Rattle.nextest_config_findings.specs.Found.{Found};
+ghost use Rattle.nextest_config_findings.specs.Judged.{below_table, deepest, EndsWithin, from_table, judged_in, places_below};
 ghost use Rattle.nextest_config_findings.specs.declared.file.LocatedFinding.{LocatedFinding};
 ghost use Rattle.nextest_config_findings.specs.declared.finding.Severity.{Severity};
+ghost use Rattle.nextest_config_findings.specs.declared.place.Place.TheVariants.{Top};
 
 use crate::finding::Severity;
 
 /// Of severities a warning is below an error.
-#[tactic(auto, using(crate::proofs::Severities::by_rank))]
 pub fn law_severity_order()
     ensures order { (a b : Severity) → ⟦<Severity as Ord>⟧.cmp a b ≡ nat_cmp (rank a) (rank b) }
     ensures equality { IsEquality ⟦<Severity as PartialEq>⟧.eq }
@@ -48,6 +49,22 @@ pub fn law_no_error_in_file()
     ensures { (edition : Edition) (kind : ConfigSourceKind) (contents : List ℕ)
         (located : List LocatedFinding) → AreLocated edition kind contents located
         → AllByRecursion IsLocatedWarning located ↔ IsFileWithoutError edition kind contents }
+{}
+
+/// Each finding of a document stands at a value of it: its path leads to one, and for an unknown key
+/// the path with that key.
+pub fn law_findings_lead()
+    ensures { (edition : Edition) (kind : ConfigSourceKind) (members : Members)
+        (founds : List Found) → AreFindings edition kind members founds
+        → AllByRecursion (LeadsToValue members) founds }
+{}
+
+/// No place lies deeper than values are judged: no path of places is longer, and to a greater depth
+/// the values of a document are the same.
+pub fn law_deepest()
+    ensures places { AllByRecursion (EndsWithin deepest) (places_below Top) }
+    ensures values { (more : ℕ) (members : Members)
+        → flat_map (judged_in (more + deepest)) (below_table Top [] members) ≡ from_table members }
 {}
 
 /// A text that is a document, of which only warnings are found, is read as a source: it asks

@@ -3,9 +3,9 @@
 ghost use Rattle.std.specs.Prelude.{◌≡◌, ◌++◌, [], IfOk, OnOk, flat_map, map, option_map};
 ghost use Rattle.toml.specs.View.{table_view};
 ghost use Rattle.nextest_config_findings.specs.Found.{AddsFound, AddsOne, AreFoundIn, meant_of, TellsSome};
-ghost use Rattle.nextest_config_findings.specs.Judged.{judged_value, mark_step};
+ghost use Rattle.nextest_config_findings.specs.Judged.{judged_value, mark_step, names_of};
 ghost use Rattle.nextest_config_findings.specs.Place.{keys_told};
-ghost use Rattle.nextest_config_findings.specs.Unknown.{is_known, is_of_top, IsHintFor, IsKeyFound, key_at, keys_at, keys_in, names_of};
+ghost use Rattle.nextest_config_findings.specs.Unknown.{is_known, is_of_top, IsHintFor, IsKeyFound, key_at, keys_at, keys_in};
 
 use crate::finding::{Finding, FindingKind, Hint};
 use crate::judged::{Judged, Mark, steps_of};
