@@ -4,7 +4,7 @@ ghost use Rattle.std.specs.Prelude.{◌≡◌, ◌≢◌, ◌↔◌, ◌⊎◌, 
 ghost use Rattle.std.specs.IoError.{error_kind};
 ghost use Rattle.std.specs.Io.KnownBytes.{Appends, IsAtEnd, Keeps};
 ghost use Rattle.semver.specs.Identifiers.{parts_of};
-ghost use Rattle.nextest_config_report.specs.Streams.{AddsFront};
+ghost use Rattle.nextest_config_report.specs.Streams.{AddsOrFails};
 ghost use Rattle.nextest_config_check.specs.CommandLine.{IfCheck, IfComplaint, asked_by, words_fault_text, words_status};
 ghost use Rattle.nextest_config_check.specs.Streams.{WritesReport, IsCutShort, Writes, run_fault_text};
 ghost use Rattle.nextest_config_check.specs.Report.{IsReport};
@@ -14,12 +14,12 @@ pub use crate::report::Outcome;
 use crate::report::report_on;
 use nextest_config::nextest_version::Edition;
 use nextest_config_report::streams::{
-    CANNOT_WRITE, NO_OUTCOME, OUT_OF_MEMORY, complain, write_report,
+    CANNOT_WRITE, NO_OUTCOME, OUT_OF_MEMORY, Stream, complain, write_report,
 };
 use semver::Version;
 use std::alloc::{AllocError, Global};
 use std::fmt;
-use std::io::{self, ErrorKind, Read, Write};
+use std::io::{self, ErrorKind, Read};
 
 #[cfg(test)]
 mod tests;
@@ -82,7 +82,7 @@ impl fmt::Display for RunFault {
 
 /// Does what the words of the command line, without the program's name, ask for, and answers the
 /// status that the program ends with.
-pub fn serve<R: Read, W: Write, E: Write>(
+pub fn serve<R: Read, W: Stream, E: Stream>(
     alloc: Global,
     words: &[String],
     reader: &mut R,
@@ -92,7 +92,8 @@ pub fn serve<R: Read, W: Write, E: Write>(
     // Words that are refused.
     ensures complaint { IfComplaint (asked_by words.now) (λ _. result ≡ 2) }
     ensures told { IfComplaint (asked_by words.now) (λ text.
-        AddsFront (E.contents faults.old) (E.contents faults.new) text) }
+        AddsOrFails (E.may_have_failed faults.new) (E.contents faults.old)
+        (E.contents faults.new) text) }
     ensures unread { IfComplaint (asked_by words.now) (λ _.
         Keeps (R.remaining reader.old) (R.remaining reader.new)) }
     ensures unwritten { IfComplaint (asked_by words.now) (λ _.
@@ -107,8 +108,9 @@ pub fn serve<R: Read, W: Write, E: Write>(
     ensures quiet { result ≢ 3 → IfCheck (asked_by words.now)
         (λ _ _ _. Keeps (E.contents faults.old) (E.contents faults.new)) }
     ensures cut_short { result ≡ 3 → IfCheck (asked_by words.now) (λ _ _ _. IsCutShort
-        (R.remaining reader.new) (W.contents writer.old) (W.contents writer.new)
-        (E.contents faults.old) (E.contents faults.new)) }
+        (R.remaining reader.new) (W.may_have_failed writer.new) (W.contents writer.old)
+        (W.contents writer.new) (E.may_have_failed faults.new) (E.contents faults.old)
+        (E.contents faults.new)) }
 {
     match parse_words(alloc, words) {
         Ok(check) => make(alloc, &check, reader, writer, faults),
@@ -118,7 +120,7 @@ pub fn serve<R: Read, W: Write, E: Write>(
 
 // Makes the check, says why if there is no outcome, and answers the status that the program ends
 // with.
-fn make<R: Read, W: Write, E: Write>(
+fn make<R: Read, W: Stream, E: Stream>(
     alloc: Global,
     check: &Check,
     reader: &mut R,
@@ -131,8 +133,9 @@ fn make<R: Read, W: Write, E: Write>(
         (W.contents writer.old) (W.contents writer.new) }
     ensures drained { result ≢ 3 → IsAtEnd (R.remaining reader.new) }
     ensures quiet { result ≢ 3 → Keeps (E.contents faults.old) (E.contents faults.new) }
-    ensures cut_short { result ≡ 3 → IsCutShort (R.remaining reader.new) (W.contents writer.old)
-        (W.contents writer.new) (E.contents faults.old) (E.contents faults.new) }
+    ensures cut_short { result ≡ 3 → IsCutShort (R.remaining reader.new)
+        (W.may_have_failed writer.new) (W.contents writer.old) (W.contents writer.new)
+        (E.may_have_failed faults.new) (E.contents faults.old) (E.contents faults.new) }
 {
     match run(
         alloc,
@@ -152,10 +155,10 @@ fn make<R: Read, W: Write, E: Write>(
 
 /// Says why the words of the command line are refused, and answers the status that the program ends
 /// with.
-pub(crate) fn refuse<E: Write>(faults: &mut E, fault: WordsFault<'_>) -> u8
+pub(crate) fn refuse<E: Stream>(faults: &mut E, fault: WordsFault<'_>) -> u8
     ensures status { result ≡ words_status fault.entry }
-    ensures told { AddsFront (E.contents faults.old) (E.contents faults.new)
-        (words_fault_text fault.entry ++ codes "\n") }
+    ensures told { AddsOrFails (E.may_have_failed faults.new) (E.contents faults.old)
+        (E.contents faults.new) (words_fault_text fault.entry ++ codes "\n") }
 {
     let (complaint, word) = fault.text();
     let _ = complain(faults, complaint, word);
@@ -163,7 +166,7 @@ pub(crate) fn refuse<E: Write>(faults: &mut E, fault: WordsFault<'_>) -> u8
 }
 
 /// Reads the whole input, its sources under the edition, and then writes the report on it.
-pub fn run<R: Read, W: Write>(
+pub fn run<R: Read, W: Stream>(
     alloc: Global,
     reader: &mut R,
     writer: &mut W,
@@ -177,7 +180,8 @@ pub fn run<R: Read, W: Write>(
         × Appends (W.contents writer.old) (W.contents writer.new) text)) }
     ensures read { OnOk result (IsAtEnd (R.remaining reader.new)) }
     ensures read_first { result ≡ Err RunFault.Write → IsAtEnd (R.remaining reader.new) }
-    ensures nothing { IfErr result (Writes (W.contents writer.old) (W.contents writer.new)) }
+    ensures nothing { IfErr result (Writes (W.may_have_failed writer.new) (W.contents writer.old)
+        (W.contents writer.new)) }
 {
     let mut input = Vec::new(alloc);
     if let Err(error) = reader.read_to_end(&mut input) {

@@ -100,3 +100,8 @@ IsUnread holds place fails.Memory = Unit {0}
 abbrev pub IsUnreadAmong : Holding → List Place → Unanswered → Type 0
 IsUnreadAmong holds places (fails.Unread said) = IsFirstUnread holds places (string_bytes said)
 IsUnreadAmong holds places fails.Memory = Unit {0}
+
+-- what is said where there is no answer
+abbrev pub unanswered_text : Unanswered → List ℕ
+unanswered_text (fails.Unread said) = string_bytes said
+unanswered_text fails.Memory = codes "out of memory"

@@ -3,13 +3,11 @@ use Rattle.std.specs.Prelude.{◌≡◌, ℕ, List, [], ◌∷◌, ◌++◌, cod
 use Rattle.std.specs.Io.KnownBytes.{Appends, Keeps}
 use Rattle.std.specs.declared.alloc.Global.{Global}
 use Rattle.nextest_config_sources.specs.NextestVersion.{Place}
-use Rattle.nextest_config_report.specs.Streams.{AddsFront}
+use Rattle.nextest_config_report.specs.Streams.{AddsFront, AddsOrFails}
 use Rattle.nextest_config_command.specs.Answer.{Answers, IsAnswer}
 use Rattle.nextest_config_command.specs.Asked.{places_of}
 use Rattle.nextest_config_command.specs.Files.{AreFilesRead, File, Holding, IsFirstUnread}
 use Rattle.nextest_config_command.specs.declared.asked.Asked.{Asked}
-use Rattle.nextest_config_command.specs.declared.files.Unanswered.{Unanswered}
-use Rattle.nextest_config_command.specs.declared.files.Unanswered.TheVariants as fails
 use Rattle.nextest_config_command.specs.declared.streams.Served.{Served}
 
 -- where the files are that are asked for, lowest priority first
@@ -37,29 +35,33 @@ AreAsked holds asked files = AreFilesRead holds (asked_places asked) files
 abbrev pub said_before : Asked → List File → List ℕ
 said_before asked files = notice_before (string_bytes asked.repository.path) files
 
--- the answer about the files was written, with this status
-pub record IsServed (holds : Holding) (asked : Asked) (status : ℕ)
-    (old new said says : Option (List ℕ)) : Type 0 where
+-- the answer about the files was written, with this status, and what is said before it was said, or
+-- that failed
+pub record IsServed (holds : Holding) (asked : Asked) (status : ℕ) (old new : Option (List ℕ))
+    (unsaid : Type 0) (said says : Option (List ℕ)) : Type 0 where
   pub files : List File
   pub read : AreAsked holds asked files
   pub text : List ℕ
   pub answers : Answers asked.edition asked.task files text status
   pub written : Appends old new text
-  pub noticed : AddsFront said says (said_before asked files)
+  pub noticed : AddsOrFails unsaid said says (said_before asked files)
 
 -- what cut the command short: a file that can't be read, before anything was written; refused
--- memory, before anything was written; or a failed write
-pub data IsCutShort (holds : Holding) (asked : Asked) (old new said says : Option (List ℕ)) : Type 0
-  where
-    unread : (complaint : List ℕ) → IsFirstUnread holds (asked_places asked) complaint → Keeps old new
-        → AddsFront said says (line_of complaint)
-        → IsCutShort holds asked old new said says
-    no_memory : Keeps old new → AddsFront said says (line_of (codes "out of memory"))
-        → IsCutShort holds asked old new said says
-    unwritten : (files : List File) (between : Option (List ℕ)) → AreAsked holds asked files
-        → AddsFront said between (said_before asked files)
-        → AddsFront between says (line_of (codes "cannot write output"))
-        → IsCutShort holds asked old new said says
+-- memory, before anything was written; or a write of the answer that failed. Each was said, or that
+-- failed
+pub data IsCutShort (holds : Holding) (asked : Asked) (unwritten : Type 0)
+    (old new : Option (List ℕ)) (unsaid : Type 0) (said says : Option (List ℕ)) : Type 0 where
+  unread : (complaint : List ℕ) → IsFirstUnread holds (asked_places asked) complaint → Keeps old new
+      → AddsOrFails unsaid said says (line_of complaint)
+      → IsCutShort holds asked unwritten old new unsaid said says
+  no_memory : Keeps old new → AddsOrFails unsaid said says (line_of (codes "out of memory"))
+      → IsCutShort holds asked unwritten old new unsaid said says
+  cut_off : (files : List File) (text : List ℕ) (status : ℕ) (between : Option (List ℕ))
+      → AreAsked holds asked files → Answers asked.edition asked.task files text status
+      → unwritten → AddsFront old new text
+      → AddsOrFails unsaid said between (said_before asked files)
+      → AddsOrFails unsaid between says (line_of (codes "cannot write output"))
+      → IsCutShort holds asked unwritten old new unsaid said says
 
 -- ---- one step
 
@@ -83,20 +85,18 @@ Serves holds asked served = (files : List File) × AreAsked holds asked files
     × Answered asked files served
 
 -- the answer was written
-pub record IsTold (served : Served) (status : ℕ) (old new said says : Option (List ℕ)) : Type 0
-  where
-    pub status_is : status ≡ served.answer.status
-    pub written : Appends old new (string_bytes served.answer.text)
-    pub noticed : AddsFront said says (notice_said served.notice)
+pub record IsTold (served : Served) (status : ℕ) (old new : Option (List ℕ)) (unsaid : Type 0)
+    (said says : Option (List ℕ)) : Type 0 where
+  pub status_is : status ≡ served.answer.status
+  pub written : Appends old new (string_bytes served.answer.text)
+  pub noticed : AddsOrFails unsaid said says (notice_said served.notice)
 
 -- the answer couldn't be written
-pub record IsUnwritten (served : Served) (status : ℕ) (said says : Option (List ℕ)) : Type 0 where
+pub record IsUnwritten (served : Served) (status : ℕ) (unwritten : Type 0)
+    (old new : Option (List ℕ)) (unsaid : Type 0) (said says : Option (List ℕ)) : Type 0 where
   pub status_is : status ≡ 3
+  pub failed : unwritten
+  pub front : AddsFront old new (string_bytes served.answer.text)
   pub between : Option (List ℕ)
-  pub noticed : AddsFront said between (notice_said served.notice)
-  pub told : AddsFront between says (line_of (codes "cannot write output"))
-
--- why there is no answer, as a line
-abbrev pub unanswered_line : Unanswered → List ℕ
-unanswered_line (fails.Unread complaint) = line_of (string_bytes complaint)
-unanswered_line fails.Memory = line_of (codes "out of memory")
+  pub noticed : AddsOrFails unsaid said between (notice_said served.notice)
+  pub told : AddsOrFails unsaid between says (line_of (codes "cannot write output"))

@@ -2,8 +2,9 @@
 
 ghost use Rattle.std.specs.Prelude.{◌≡◌, ◌++◌, ℕ, IfErr, IfOk, List, OnOk, map, option_map, vec_items};
 ghost use Rattle.nextest_config_sources.specs.NextestVersion.{place_of};
-ghost use Rattle.nextest_config_command.specs.Files.{AreFilesRead, file_if, file_of, Held, held_of, IsReadAt, IsUnread, IsUnreadAmong, SaysUnread};
+ghost use Rattle.nextest_config_command.specs.Files.{AreFilesRead, file_if, file_of, Held, held_of, IsReadAt, IsUnread, IsUnreadAmong, SaysUnread, unanswered_text};
 
+use nextest_config_report::streams::OUT_OF_MEMORY;
 use nextest_config_sources::nextest_version::{ConfigSource, ConfigSourceKind};
 use std::alloc::{AllocError, Global};
 
@@ -41,6 +42,18 @@ pub(crate) enum Unanswered {
     Unread(String),
     /// A request for memory was refused.
     Memory,
+}
+
+impl Unanswered {
+    /// What is said of it.
+    pub fn as_str(&self) -> &str
+        ensures { result.now ≡ unanswered_text self.now }
+    {
+        match self {
+            Unanswered::Unread(said) => said.as_str(),
+            Unanswered::Memory => OUT_OF_MEMORY,
+        }
+    }
 }
 
 impl From<AllocError> for Unanswered {

@@ -1,18 +1,15 @@
 //! From what is asked to what is written, and to a status.
 
 ghost use Rattle.std.specs.Prelude.{◌≡◌, ◌≢◌, ◌⊎◌, IfErr, IfOk, map};
-ghost use Rattle.nextest_config_report.specs.Streams.{AddsFront};
-ghost use Rattle.nextest_config_command.specs.Files.{file_of, IsUnreadAmong};
-ghost use Rattle.nextest_config_command.specs.Streams.{Answered, asked_places, IsCutShort, IsNoticeFor, IsServed, IsTold, IsUnwritten, notice_said, Serves, unanswered_line};
+ghost use Rattle.nextest_config_report.specs.Streams.{AddsOrFails};
+ghost use Rattle.nextest_config_command.specs.Files.{file_of, IsUnreadAmong, unanswered_text};
+ghost use Rattle.nextest_config_command.specs.Streams.{Answered, asked_places, IsCutShort, IsNoticeFor, IsServed, IsTold, IsUnwritten, line_of, notice_said, Serves};
 
 use crate::answer::{Answer, answer_to};
 use crate::asked::Asked;
 use crate::files::{Files, SourceFile, Unanswered, read_sources};
-use nextest_config_report::streams::{
-    CANNOT_WRITE, NO_OUTCOME, OUT_OF_MEMORY, complain, write_report,
-};
+use nextest_config_report::streams::{CANNOT_WRITE, NO_OUTCOME, Stream, complain, write_report};
 use std::alloc::{AllocError, Global};
-use std::io::Write;
 
 /// An answer, and what is said before it, if anything.
 #[derive(Debug, PartialEq, Eq, Drop)]
@@ -23,7 +20,7 @@ pub(crate) struct Served {
 
 /// Does what is asked, and answers the status that the command ends with. Where no file was read,
 /// the third stream says so, and the command goes on as for no source.
-pub fn serve<F: Files, W: Write, E: Write>(
+pub fn serve<F: Files, W: Stream, E: Stream>(
     alloc: Global,
     asked: &Asked,
     files: &F,
@@ -32,10 +29,10 @@ pub fn serve<F: Files, W: Write, E: Write>(
 ) -> u8
     ensures served { (result ≡ 3) ⊎ IsServed (F.holds files.now) asked.now result
         (W.contents writer.old) (W.contents writer.new)
-        (E.contents faults.old) (E.contents faults.new) }
+        (E.may_have_failed faults.new) (E.contents faults.old) (E.contents faults.new) }
     ensures cut_short { result ≡ 3 → IsCutShort (F.holds files.now) asked.now
-        (W.contents writer.old) (W.contents writer.new)
-        (E.contents faults.old) (E.contents faults.new) }
+        (W.may_have_failed writer.new) (W.contents writer.old) (W.contents writer.new)
+        (E.may_have_failed faults.new) (E.contents faults.old) (E.contents faults.new) }
 {
     match answer_asked(alloc, asked, files) {
         Ok(served) => tell(&served, writer, faults),
@@ -77,10 +74,12 @@ fn notice(alloc: Global, path: &str, files: &[SourceFile]) -> Result<Option<Stri
 }
 
 // Says what is said before the answer, writes the answer, and answers the status.
-fn tell<W: Write, E: Write>(served: &Served, writer: &mut W, faults: &mut E) -> u8
+fn tell<W: Stream, E: Stream>(served: &Served, writer: &mut W, faults: &mut E) -> u8
     ensures { IsTold served.now result (W.contents writer.old) (W.contents writer.new)
-        (E.contents faults.old) (E.contents faults.new)
-        ⊎ IsUnwritten served.now result (E.contents faults.old) (E.contents faults.new) }
+        (E.may_have_failed faults.new) (E.contents faults.old) (E.contents faults.new)
+        ⊎ IsUnwritten served.now result (W.may_have_failed writer.new) (W.contents writer.old)
+        (W.contents writer.new) (E.may_have_failed faults.new) (E.contents faults.old)
+        (E.contents faults.new) }
 {
     say(&served.notice, faults);
     match write_report(writer, served.answer.text.as_bytes()) {
@@ -93,8 +92,9 @@ fn tell<W: Write, E: Write>(served: &Served, writer: &mut W, faults: &mut E) -> 
 }
 
 // Says a notice as a line, if there is one.
-fn say<E: Write>(notice: &Option<String>, faults: &mut E)
-    ensures { AddsFront (E.contents faults.old) (E.contents faults.new) (notice_said notice.now) }
+fn say<E: Stream>(notice: &Option<String>, faults: &mut E)
+    ensures { AddsOrFails (E.may_have_failed faults.new) (E.contents faults.old)
+        (E.contents faults.new) (notice_said notice.now) }
 {
     if let Some(notice) = notice {
         let _ = complain(faults, notice.as_str(), "");
@@ -102,15 +102,11 @@ fn say<E: Write>(notice: &Option<String>, faults: &mut E)
 }
 
 // Says why there is no answer, and answers the status.
-fn give_up<E: Write>(unanswered: &Unanswered, faults: &mut E) -> u8
+fn give_up<E: Stream>(unanswered: &Unanswered, faults: &mut E) -> u8
     ensures status { result ≡ 3 }
-    ensures told { AddsFront (E.contents faults.old) (E.contents faults.new)
-        (unanswered_line unanswered.now) }
+    ensures told { AddsOrFails (E.may_have_failed faults.new) (E.contents faults.old)
+        (E.contents faults.new) (line_of (unanswered_text unanswered.now)) }
 {
-    let complaint = match unanswered {
-        Unanswered::Unread(complaint) => complaint.as_str(),
-        Unanswered::Memory => OUT_OF_MEMORY,
-    };
-    let _ = complain(faults, complaint, "");
+    let _ = complain(faults, unanswered.as_str(), "");
     NO_OUTCOME
 }

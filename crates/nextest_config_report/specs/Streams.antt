@@ -1,5 +1,5 @@
 -- What is written to a stream.
-use Rattle.std.specs.Prelude.{◌≡◌, ℕ, List, ◌++◌, Option}
+use Rattle.std.specs.Prelude.{◌≡◌, ◌⊎◌, ℕ, List, ◌++◌, Option}
 use Rattle.std.specs.Io.KnownBytes.{Appends}
 
 -- known bytes stay, and what stands before this rest of the text comes behind them
@@ -11,3 +11,7 @@ pub record AddsUpTo (old new : Option (List ℕ)) (text rest : List ℕ) : Type 
 -- known bytes stay, and a front of the text comes behind them
 abbrev pub AddsFront : Option (List ℕ) → Option (List ℕ) → List ℕ → Type 0
 AddsFront old new text = (rest : List ℕ) × AddsUpTo old new text rest
+
+-- known bytes stay, and the text comes behind them; or a call failed, and a front of it does
+abbrev pub AddsOrFails : Type 0 → Option (List ℕ) → Option (List ℕ) → List ℕ → Type 0
+AddsOrFails failed old new text = Appends old new text ⊎ (failed × AddsFront old new text)

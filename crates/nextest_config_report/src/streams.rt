@@ -1,8 +1,9 @@
 //! How reports and complaints are written to streams, and the texts and the status that programs
 //! have in common.
 
-ghost use Rattle.std.specs.Prelude.{◌++◌, codes, OnOk};
-ghost use Rattle.std.specs.Io.KnownBytes.{Appends};
+ghost use Rattle.std.specs.Prelude.{◌≡◌, ◌<◌, ◌++◌, ℕ, List, Option, codes, IfOk, length, OnErr, OnOk};
+ghost use Rattle.std.specs.Io.{WritesAtMost};
+ghost use Rattle.std.specs.Io.KnownBytes.{Appends, Keeps, WriteAppends};
 ghost use Rattle.nextest_config_report.specs.Streams.{AddsFront};
 
 use std::io::{self, ErrorKind, Write};
@@ -20,45 +21,106 @@ pub const CANNOT_WRITE: &str = "cannot write output";
 /// What a program says where a request for memory was refused.
 pub const OUT_OF_MEMORY: &str = "out of memory";
 
-/// Writes a complaint and the word that it is about as a line, with nothing left in the writer's
+/// What reports and complaints are written to: any writer, or what says itself where it fails.
+pub trait Stream {
+    // The bytes that it holds, where they are known.
+    ghost contents: { Self → Option (List ℕ) };
+
+    // A call of it may have failed.
+    ghost may_have_failed: { Self → Type 0 };
+
+    /// Takes a front of the bytes, and answers how long that is: at least one byte, where there is
+    /// one, unless it fails.
+    fn write(&mut self, bytes: &[u8]) -> io::Result<usize>
+        ensures bound { WritesAtMost result bytes.now }
+        ensures bytes { WriteAppends (contents self.old) (contents self.new) result bytes.now }
+        ensures failed { OnErr result (may_have_failed self.new) }
+        ensures stuck { IfOk result (λ count. count ≡ 0 → 0 < length bytes.now
+            → may_have_failed self.new) }
+        ensures kept { may_have_failed self.old → may_have_failed self.new };
+
+    /// Passes on what it took.
+    fn flush(&mut self) -> io::Result<()>
+        ensures bytes { Keeps (contents self.old) (contents self.new) }
+        ensures failed { OnErr result (may_have_failed self.new) }
+        ensures kept { may_have_failed self.old → may_have_failed self.new };
+}
+
+/// A writer doesn't say whether a call of it has failed.
+impl<W: Write> Stream for W {
+    ghost contents = { λ writer. W.Write.contents writer };
+
+    ghost may_have_failed = { λ _. Unit {0} };
+
+    fn write(&mut self, bytes: &[u8]) -> io::Result<usize> {
+        Write::write(self, bytes)
+    }
+
+    fn flush(&mut self) -> io::Result<()> {
+        Write::flush(self)
+    }
+}
+
+/// Writes a complaint and the word that it is about as a line, with nothing left in the stream's
 /// buffers. Where that fails, a front of the line may have been written.
-pub fn complain<E: Write>(faults: &mut E, complaint: &str, word: &str) -> io::Result<()>
-    ensures whole { OnOk result (Appends (E.contents faults.old) (E.contents faults.new)
+pub fn complain<S: Stream>(faults: &mut S, complaint: &str, word: &str) -> io::Result<()>
+    ensures whole { OnOk result (Appends (S.contents faults.old) (S.contents faults.new)
         ((complaint.now ++ word.now) ++ codes "\n")) }
-    ensures front { AddsFront (E.contents faults.old) (E.contents faults.new)
+    ensures front { AddsFront (S.contents faults.old) (S.contents faults.new)
         ((complaint.now ++ word.now) ++ codes "\n") }
+    ensures failed { OnErr result (S.may_have_failed faults.new) }
+    ensures kept { S.may_have_failed faults.old → S.may_have_failed faults.new }
 {
-    write_text(faults, complaint)?;
-    write_text(faults, word)?;
-    write_text(faults, "\n")?;
+    write_text(faults, complaint.as_bytes())?;
+    write_text(faults, word.as_bytes())?;
+    write_text(faults, b"\n")?;
     faults.flush()
 }
 
-// Writes the text; where that fails, a front of it may have been written.
-fn write_text<E: Write>(faults: &mut E, text: &str) -> io::Result<()>
-    ensures whole { OnOk result (Appends (E.contents faults.old) (E.contents faults.new) text.now) }
-    ensures front { AddsFront (E.contents faults.old) (E.contents faults.new) text.now }
+/// Writes the text of a report, with nothing left in the stream's buffers. Where that fails, a front
+/// of it may have been written.
+pub fn write_report<S: Stream>(stream: &mut S, text: &[u8]) -> io::Result<()>
+    ensures whole { OnOk result (Appends (S.contents stream.old) (S.contents stream.new) text.now) }
+    ensures front { AddsFront (S.contents stream.old) (S.contents stream.new) text.now }
+    ensures failed { OnErr result (S.may_have_failed stream.new) }
+    ensures kept { S.may_have_failed stream.old → S.may_have_failed stream.new }
 {
-    let mut rest = text.as_bytes();
-    for _ in 0..u64::MAX {
-        if rest.is_empty() {
-            return Ok(());
+    write_text(stream, text)?;
+    stream.flush()
+}
+
+// Writes the text; where that fails, a front of it may have been written.
+fn write_text<S: Stream>(stream: &mut S, text: &[u8]) -> io::Result<()>
+    ensures whole { OnOk result (Appends (S.contents stream.old) (S.contents stream.new) text.now) }
+    ensures front { AddsFront (S.contents stream.old) (S.contents stream.new) text.now }
+    ensures failed { OnErr result (S.may_have_failed stream.new) }
+    ensures kept { S.may_have_failed stream.old → S.may_have_failed stream.new }
+{
+    let mut rest = text;
+    while !rest.is_empty() {
+        match write_some(stream, rest)? {
+            0 => return Err(io::Error::from(ErrorKind::WriteZero)),
+            count => rest = &rest[count..],
         }
-        match faults.write(rest) {
-            Ok(0) => return Err(io::Error::from(ErrorKind::WriteZero)),
-            Ok(count) => rest = &rest[count..],
+    }
+    Ok(())
+}
+
+// Writes a front of the bytes. An interrupted write is tried again.
+fn write_some<S: Stream>(stream: &mut S, bytes: &[u8]) -> io::Result<usize>
+    ensures bound { WritesAtMost result bytes.now }
+    ensures bytes { WriteAppends (S.contents stream.old) (S.contents stream.new) result bytes.now }
+    ensures failed { OnErr result (S.may_have_failed stream.new) }
+    ensures stuck { IfOk result (λ count. count ≡ 0 → 0 < length bytes.now
+        → S.may_have_failed stream.new) }
+    ensures kept { S.may_have_failed stream.old → S.may_have_failed stream.new }
+{
+    for _ in 0..u64::MAX {
+        match stream.write(bytes) {
+            Ok(count) => return Ok(count),
             Err(error) if error.kind() == ErrorKind::Interrupted => {}
             Err(error) => return Err(error),
         }
     }
     Err(io::Error::from(ErrorKind::Interrupted))
-}
-
-/// Writes the text of a report, with nothing left in the writer's buffers. What of it was written
-/// where that fails isn't said.
-pub fn write_report<W: Write>(writer: &mut W, text: &[u8]) -> io::Result<()>
-    ensures { OnOk result (Appends (W.contents writer.old) (W.contents writer.new) text.now) }
-{
-    writer.write_all(text)?;
-    writer.flush()
 }
