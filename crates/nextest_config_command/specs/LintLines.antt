@@ -4,6 +4,7 @@ use Rattle.std.specs.List.{list_any}
 use Rattle.nextest_config_sources.specs.declared.nextest_version.edition.Edition.{Edition}
 use Rattle.nextest_config_findings.specs.File.{AreLocated}
 use Rattle.nextest_config_findings.specs.Finding.{finding_text, severity_of}
+use Rattle.nextest_config_findings.specs.FindingsLaws.{IsFileWithoutError}
 use Rattle.nextest_config_findings.specs.declared.file.LocatedFinding.{LocatedFinding}
 use Rattle.nextest_config_findings.specs.declared.finding.Severity.{Severity}
 use Rattle.nextest_config_findings.specs.declared.finding.Severity.TheVariants.{Error, Warning}
@@ -30,6 +31,10 @@ abbrev pub IsFoundIn : Edition → File → List AtPath → Type 0
 IsFoundIn edition file founds =
     (found : List LocatedFinding) × AreLocated edition file.place.kind file.contents found
     × (founds ≡ map (at_path file.place.path) found)
+
+-- the file is UTF-8, and a document without an error
+abbrev pub HasNoError : Edition → File → Type 0
+HasNoError edition file = IsFileWithoutError edition file.place.kind file.contents
 
 -- what is found in the files, in their order
 abbrev pub AreFound : Edition → List File → List AtPath → Type 0

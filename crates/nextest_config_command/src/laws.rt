@@ -1,8 +1,23 @@
 //! Laws of the definitions, for every value. They call nothing.
 
+ghost use Rattle.std.specs.Prelude.{◌≡◌, ◌↔◌, ℕ, false, List};
+ghost use Rattle.std.specs.List.{AllByRecursion};
 ghost use Rattle.nextest_config_values.specs.Equality.{IsCopy, IsEquality};
+ghost use Rattle.nextest_config_sources.specs.declared.nextest_version.edition.Edition.{Edition};
+ghost use Rattle.nextest_config_command.specs.Answer.{IsLinted};
+ghost use Rattle.nextest_config_command.specs.Files.{File};
+ghost use Rattle.nextest_config_command.specs.LintLines.{HasNoError};
+ghost use Rattle.nextest_config_command.specs.declared.lint_lines.Format.{Format};
 
 use crate::lint_lines::Format;
+
+/// A lint of files that isn't strict has the status 0 exactly where each of them is UTF-8 and a
+/// document without an error.
+pub fn law_lint_status()
+    ensures { (edition : Edition) (format : Format) (files : List File) (text : List ℕ)
+        (status : ℕ) → IsLinted edition format false files text status
+        → (status ≡ 0) ↔ AllByRecursion (HasNoError edition) files }
+{}
 
 /// Formats are equal exactly where they are the same, and a copy is what it is made of.
 pub fn law_equality()
