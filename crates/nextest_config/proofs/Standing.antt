@@ -7,10 +7,11 @@ use Rattle.std.proofs.lemmas.List.Concat.{flat_map-append, flat_map_single}
 use Rattle.std.proofs.lemmas.List.Elements.{Contains-append_cases, Contains-append_left, Contains-append_right}
 use Rattle.std.proofs.lemmas.Option.{IfSome_then}
 use Rattle.std.specs.List.{AllByRecursion, AllZip}
+use Rattle.std.specs.List.Sorted.{IsStrictlySortedBy}
 use Rattle.semver.specs.Parse.{Parts}
 use Rattle.nextest_config_lists.specs.Merge.{HavePieces, IsJoinOfPieces, total}
-use Rattle.nextest_config_sources.specs.NextestVersion.{Ask, FeaturesInOrder, is_below, IsBelow, Place}
-use Rattle.nextest_config.specs.NextestVersion.{Adds, AreRead, array_of, asked_from, AsksNoGreater, AsksNone, AsksOther, Configuration, configuration_from, entry_of, IsEnabledBySome, IsGreatest, IsReadAs, IsSeenAs, join_configurations, join_kept, Kept, neutral, neutral_seen, Reads, seen_configuration, SeenConfiguration, SourceAsk, StandsFor, StandsForAsks, StandsForOne, StandsIn, Unknown}
+use Rattle.nextest_config_sources.specs.NextestVersion.{Ask, FeaturesInOrder, is_below, nothing, IsBelow, Place}
+use Rattle.nextest_config.specs.NextestVersion.{Adds, AreRead, array_of, asked_from, AsksNoGreater, AsksNone, AsksOther, Configuration, configuration_from, entry_of, IsEnabledBySome, IsGreatest, IsRead, IsReadAs, IsSeenAs, join_configurations, join_kept, Kept, neutral, neutral_seen, Reads, seen_configuration, SeenConfiguration, SourceAsk, StandsFor, StandsForAsks, StandsForOne, StandsIn, Unknown}
 use Rattle.nextest_config_sources.specs.NextestVersion.PrecedenceLaws.{below_trans, not_below_itself, not_below_trans}
 use Rattle.nextest_config_sources.specs.NextestVersion.Source.{Source}
 use Rattle.nextest_config_lists.proofs.Lists.{zip_joined}
@@ -138,6 +139,11 @@ stands_added source none new is adds =
     let seen : SeenConfiguration = seen_configuration (configuration_from a.place a.ask) in
     let joined : IsSeenAs seen new = subst (λ (c : Configuration). IsSeenAs (join_configurations (seen_configuration c) seen) new) is adds.joined in
     (a ∷ [], (record { place = refl; read = adds.read }, tt), stands_as (a ∷ []) seen new (seen_alone a) joined)
+
+-- the neutral configuration stands for a source that asks nothing
+pub stands_for_nothing : (source : Source) (none : Configuration) → none ≡ neutral → IsRead source nothing → StandsForOne source none
+unfolding IsStrictlySortedBy
+stands_for_nothing source none is read = stands_added source none none is (record { ask = nothing; read = read; joined = rw is (record { roles = refl; experimental = record { same = refl; in_order = tt } }) })
 
 -- ---- lists in a row
 

@@ -5,7 +5,7 @@ ghost use Rattle.nextest_config_sources.specs.NextestVersion.{place_of};
 ghost use Rattle.nextest_config.specs.NextestVersion.{file_given, givens_of};
 
 use super::error::ConfigParseError;
-use super::version_only::VersionOnlyConfig;
+use super::version_only::{VersionOnlyConfig, asks_nothing};
 use nextest_config_lists::merge::{Merge, PieceRefusal, ReadPiece};
 use nextest_config_sources::nextest_version::{ConfigSource, Edition, RepositoryText, ToolText};
 use std::alloc::{AllocError, Global};
@@ -136,6 +136,9 @@ impl<'a> ReadPiece for FileConfig<'a> {
         edition: &Edition,
         file: &File<'a>,
     ) -> Result<Self, PieceRefusal<ConfigParseError>> {
+        if asks_nothing(file.contents()) {
+            return Ok(FileConfig::new(VersionOnlyConfig::new(alloc)));
+        }
         let source = file.source(alloc)?;
         let config = VersionOnlyConfig::of_source(alloc, *edition, &source, file.contents())?;
         Ok(FileConfig::new(config))

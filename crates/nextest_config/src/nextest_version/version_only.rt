@@ -1,10 +1,12 @@
 //! The configuration of a list of sources.
 
-ghost use Rattle.std.specs.Prelude.{◌≡◌, IfOk, IfErr, OnOk, map, option_map, string_bytes};
+ghost use Rattle.std.specs.Prelude.{◌≡◌, IfOk, IfErr, IsTrue, OnOk, map, option_map, string_bytes};
 ghost use Rattle.nextest_config_lists.specs.Merge.{IsRefusalOfOne};
-ghost use Rattle.nextest_config_sources.specs.NextestVersion.{given_at, IsWrong, RefusesSource, source_of, source_under, under};
+ghost use Rattle.nextest_config_sources.specs.NextestVersion.{given_at, IsWrong, nothing, RefusesSource, source_of, source_under, TextAsks, under};
 ghost use Rattle.nextest_config.specs.NextestVersion.{Adds, configuration_of, experimental_of, IsErrorOf, IsErrorOfList, IsRefusalOf, kind_of, neutral, Reads, refusal_of, roles_of, SelectsFor, sources_of, sources_under, StandsFor, StandsForOne};
 ghost use Rattle.nextest_config_lists.specs.declared.merge.PieceRefusal.TheVariants.{Memory};
+ghost use Rattle.nextest_config_sources.specs.declared.nextest_version.edition.Edition.{Edition};
+ghost use Rattle.nextest_config_sources.specs.declared.nextest_version.source.ConfigSourceKind.{ConfigSourceKind};
 ghost use Rattle.nextest_config_sources.specs.declared.nextest_version.error_kind.ConfigParseErrorKind.TheVariants as kinds;
 
 use super::error::{ConfigParseError, ListRefusal};
@@ -186,6 +188,17 @@ impl VersionOnlyConfig {
     }
 }
 
+// Whether there is no file, or an empty one.
+pub(super) fn asks_nothing(contents: &Option<String>) -> bool
+    ensures { IsTrue result → (edition : Edition) (kind : ConfigSourceKind)
+        → TextAsks edition kind (option_map string_bytes contents.now) nothing }
+{
+    match contents {
+        Some(text) => text.is_empty(),
+        None => true,
+    }
+}
+
 impl Merge for VersionOnlyConfig {
     ghost use Rattle.nextest_config.specs.NextestVersion.VersionOnly.{configuration_of, join_configurations, neutral_seen, seen_configuration, SeenConfiguration};
     ghost use Rattle.nextest_config.specs.NextestVersion.VersionOnlyLaws.{configurations_join};
@@ -240,6 +253,9 @@ impl ReadPiece for VersionOnlyConfig {
         edition: &Edition,
         source: &SourceText,
     ) -> Result<Self, PieceRefusal<ConfigParseError>> {
+        if asks_nothing(&source.contents) {
+            return Ok(VersionOnlyConfig::new(alloc));
+        }
         VersionOnlyConfig::of_source(alloc, *edition, &source.source, &source.contents)
     }
 
