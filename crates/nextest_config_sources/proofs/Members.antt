@@ -1,17 +1,15 @@
 -- The elements of lists: of a mapped list, found by a test, in order, and those that hold something.
-use Rattle.std.proofs.Common.{◌≡◌, ◌↔◌, ◌⊎◌, zero, suc, Bool, true, List, [], ◌∷◌, ◌++◌, map, Contains, Ordering, Less, Equal, Greater, refl, subst, sym, ap, ◌∙◌, inl, inr, ⊎_elim, append_assoc, arith}
+use Rattle.std.proofs.Common.{◌≡◌, ◌↔◌, Bool, true, List, [], ◌∷◌, ◌++◌, map, Contains, Ordering, Less, subst, sym, ◌∙◌, inl, inr, ⊎_elim, append_assoc}
 use mathlib.Core.Logic.{⊎_map}
 use Rattle.std.proofs.lemmas.List.{append-nil, map-id, map_push}
 use Rattle.std.proofs.lemmas.List.Elements.{Contains-append_left, Contains-push, Contains-push_cases}
 use Rattle.std.proofs.lemmas.List.Folds.{list_any_at}
 use Rattle.std.proofs.lemmas.Map.Views.{Contains-from_any}
-use Rattle.std.specs.BTreeSet.{insert_key}
 use Rattle.std.specs.List.Sorted.{IsStrictlySortedBy}
-use Rattle.std.specs.Ordering.{match_ordering}
 use Rattle.std.specs.Set.{is_member}
 use Rattle.nextest_config_lists.proofs.Lists.{all_mapped}
 use Rattle.nextest_config_sources.specs.NextestVersion.{HasOneMore}
-use Rattle.nextest_config_sources.specs.NextestVersion.SetLaws.{contains_cases, contains_first, contains_later, contains_none}
+use Rattle.nextest_config_sources.specs.NextestVersion.SetLaws.{contains_none}
 
 pub pushed : {X : Type 0} (xs : List X) (x : X) → HasOneMore xs x (xs ++ x ∷ [])
 pushed xs x y = (Contains-push_cases xs x y, ⊎_elim (Contains-append_left xs (x ∷ []) y) (λ same. subst (Contains (xs ++ x ∷ [])) same (Contains-push xs x)))

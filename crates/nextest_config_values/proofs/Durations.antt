@@ -1,5 +1,5 @@
 -- What the steps of reading a duration have read, and that their faults are those of the text.
-use Rattle.std.proofs.Common.{◌≡◌, ◌≢◌, ℕ, ◌+◌, ◌-◌, ◌*◌, ◌<◌, ◌^◌, Bool, List, [], ◌∷◌, ◌++◌, length, Some, None, refl, sym, ap, ◌∙◌, subst, inl, inr, rules, arith}
+use Rattle.std.proofs.Common.{◌≡◌, ◌≢◌, ℕ, ◌+◌, ◌-◌, ◌*◌, ◌<◌, ◌^◌, List, [], ◌∷◌, ◌++◌, length, Some, None, refl, sym, ap, ◌∙◌, subst, inl, inr, rules, arith}
 use Rattle.std.specs.Prelude.{min, IsTrue, Err, Ok, Result, chars, encode_utf8_all}
 use Rattle.std.proofs.lemmas.Bool.{cases_Bool}
 use Rattle.std.proofs.lemmas.List.{append_assoc, append-nil, length-append}
@@ -13,7 +13,7 @@ use Rattle.std.specs.Result.{OkIff}
 use Rattle.nextest_config_values.proofs.Elements.{all_joined, all_weaker}
 use Rattle.nextest_config_values.proofs.Texts.{ascii_encoded}
 use Rattle.nextest_config_values.specs.Duration.Fronts.{fault_stops, longest_front, run_begins, white_no_end}
-use Rattle.nextest_config_values.specs.Duration.{AreAll, AreFittingDigits, BeginsWith, EndsWith, HasNumberThatFits, is_in_word, IsCutBehind, IsDuration, IsDurationFault, IsFaultAt, IsFaultBehind, IsFront, IsItemText, IsLongestFront, IsNext, IsNextFault, IsReadItem, IsRun, IsUncut, Item, nothing_stops, offset, one_next, Spells, Stops, total, unit_length}
+use Rattle.nextest_config_values.specs.Duration.{AreAll, AreFittingDigits, BeginsWith, EndsWith, HasNumberThatFits, is_in_word, IsCutBehind, IsDuration, IsDurationFault, IsFaultAt, IsFaultBehind, IsFront, IsItemText, IsNext, IsNextFault, IsReadItem, IsRun, IsUncut, Item, nothing_stops, offset, Spells, total, unit_length}
 use Rattle.nextest_config_values.specs.declared.duration.DurationFault.{DurationFault}
 use Rattle.nextest_config_values.specs.declared.duration.DurationFault.TheVariants as faults
 

@@ -1,14 +1,11 @@
 -- The join of two paths, by the toolchain's words and by ours.
-use Rattle.std.proofs.Common.{◌≡◌, ◌≢◌, ◌⊎◌, ◌↔◌, ℕ, ◌-◌, ◌<◌, eqb, Bool, false, List, [], ◌∷◌, ◌++◌, codes, length, reverse, slice_index, refl, sym, ap, ◌∙◌, inl, inr, append_assoc, append-nil, arith, rules}
+use Rattle.std.proofs.Common.{◌≡◌, ℕ, ◌-◌, false, List, [], ◌∷◌, ◌++◌, length, reverse, slice_index, refl, sym, ap, ◌∙◌, inl, inr, append_assoc, append-nil, arith, rules}
 use Rattle.std.proofs.lemmas.Bool.{cases_Bool, ne_eqb}
 use Rattle.std.proofs.lemmas.List.{get_or-reverse}
-use Rattle.std.proofs.lemmas.List.Splits.{join_with_byte-slice_split, length-slice_split, slice_split-cons_no, slice_split-cons_yes}
-use Rattle.std.specs.List.{AllByRecursion, join_with_byte, onto_first, slice_split}
 use Rattle.std.specs.Path.{path_join, with_separator}
 use Rattle.std.specs.Prelude.{◌==◌}
 use Rattle.nextest_config_values.specs.Characters.{slash}
-use Rattle.nextest_config_values.proofs.Elements.{all_middle}
-use Rattle.nextest_config_values.specs.Helpers.Paths.{begins_with_slash, BeginsWithSlash, EndsWithSlash, HasParentSegment, joined_path, separator}
+use Rattle.nextest_config_values.specs.Helpers.Paths.{begins_with_slash, joined_path, separator}
 
 -- ---- the join of two paths
 

@@ -40,15 +40,15 @@ true_decided false = inr (λ holds. cc holds)
 
 pub same_decided : (m n : ℕ) → IsDecided (m ≡ n)
 same_decided m n = elim (cases_lt m n) [
-  inl below ↦ inr (λ same. absurd (omega arith))
+  | inl below ↦ inr (λ same. absurd (omega arith))
   | inr over ↦ elim (cases_lt n m) [
-    inl above ↦ inr (λ same. absurd (omega arith))
+    | inl above ↦ inr (λ same. absurd (omega arith))
     | inr under ↦ inl (omega arith)
   ]
 ]
 
 pub same_text_decided : (text other : List ℕ) → IsDecided (text ≡ other)
 same_text_decided text other = elim (cases_Bool (pointwise nat_eq text other)) [
-  inl same ↦ inl (same_text text other (sym same))
+  | inl same ↦ inl (same_text text other (sym same))
   | inr differ ↦ inr (other_text text other (sym differ))
 ]

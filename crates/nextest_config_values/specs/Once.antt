@@ -6,7 +6,8 @@ abbrev pub HasMeaningOrFault : {X F : Type 0} → (X → Type 0) → (F → Type
 HasMeaningOrFault {X} {F} means is_fault = ((x : X) × means x) ⊎ ((f : F) × is_fault f)
 
 -- each value means one thing and has no fault, or means nothing and has one fault
-pub record HasOneMeaningOrFault {D X F : Type 0} (means : D → X → Type 0) (is_fault : D → F → Type 0)
+pub record HasOneMeaningOrFault {D X F : Type 0} (means : D → X → Type 0)
+    (is_fault : D → F → Type 0)
     : Type 0 where
   pub meaning_or_fault : (value : D) → HasMeaningOrFault (means value) (is_fault value)
   pub one_meaning : (value : D) (x y : X) → means value x → means value y → x ≡ y

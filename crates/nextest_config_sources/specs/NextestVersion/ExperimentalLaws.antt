@@ -125,16 +125,19 @@ named_among {IsEnabled} {StandsThere} enabled texts there =
               ((there text).0 among, none),
           λ (stands, none). (unknown.1.members text).1 ((there text).1 stands, none),
         );
-        in_order = record { known_in_order = known.1.in_order; unknown_in_order = unknown.1.in_order };
+        in_order = record {
+          known_in_order = known.1.in_order;
+          unknown_in_order = unknown.1.in_order;
+        };
       },
     )
 
 contains_decided : (texts : List (List ℕ)) (text : List ℕ) → IsDecided (Contains texts text)
 contains_decided [] text = inr contains_none
 contains_decided (first ∷ rest) text = elim (same_text_decided first text) [
-  inl same ↦ inl (contains_first rest same)
+  | inl same ↦ inl (contains_first rest same)
   | inr other ↦ elim (contains_decided rest text) [
-    inl later ↦ inl (contains_later first rest later)
+    | inl later ↦ inl (contains_later first rest later)
     | inr none ↦ inr (λ there. ⊎_elim other none (contains_cases first rest there))
   ]
 ]
@@ -174,7 +177,9 @@ text_first value items text texts is all = record {
         → IsTextAt (item value items) index
     each_text zero some = rw is refl
     each_text (suc index) some = all.of_texts index some
-    among_one_of : (other : List ℕ) → IsAmong (item value items) other → Contains (text ∷ texts) other
+
+    among_one_of : (other : List ℕ) → IsAmong (item value items) other
+        → Contains (text ∷ texts) other
     among_one_of other (zero, there) = contains_first texts (cc (is, there))
     among_one_of other (suc index, there) =
         contains_later text texts ((all.members other).1 (index, there))
@@ -222,7 +227,8 @@ array_names : (items : Items) (texts : List (List ℕ)) → AreTexts items texts
     → (named : Features) × MeansFeatureArray items named
 array_names items texts all =
     let (named, of_names) = named_among
-    (λ feature. decided_by (all.members (word_of feature)) (contains_decided texts (word_of feature)))
+    (λ feature. decided_by (all.members (word_of feature))
+    (contains_decided texts (word_of feature)))
     texts all.members in
     (named, record { of_texts = all.of_texts; of_names = of_names })
 
@@ -301,12 +307,14 @@ key_by : (order : Ordering) (key other : List ℕ) (value : Data) (table : Membe
     → Contains (key ∷ keys_in table) other
     ↔ IsSome (match_ordering order (get_member other table) (Some value) (get_member other table))
 key_by Less key other value table is rest = (
-  λ there. (rest).0 (⊎_elim (λ same. absurd (apart Less key other same is (λ e. cc e))) (λ later. later)
+  λ there. rest.0
+      (⊎_elim (λ same. absurd (apart Less key other same is (λ e. cc e))) (λ later. later)
       (contains_cases key (keys_in table) there)),
   λ some. contains_later key (keys_in table) (rest.1 some),
 )
 key_by Greater key other value table is rest = (
-  λ there. (rest).0 (⊎_elim (λ same. absurd (apart Greater key other same is (λ e. cc e))) (λ later. later)
+  λ there. rest.0
+      (⊎_elim (λ same. absurd (apart Greater key other same is (λ e. cc e))) (λ later. later)
       (contains_cases key (keys_in table) there)),
   λ some. contains_later key (keys_in table) (rest.1 some),
 )

@@ -1,4 +1,5 @@
--- Sets that are written in order: an insertion, and the elements of a list of which something holds.
+-- Sets that are written in order: an insertion, and the elements of a list of which something
+-- holds.
 use Rattle.std.proofs.Common.{◌≡◌, ◌↔◌, ◌⊎◌, zero, suc, List, [], ◌∷◌, map, Contains, Ordering, Less, Equal, Greater, refl, subst, sym, ap, ◌∙◌, inl, inr, ⊎_elim, arith}
 use mathlib.Core.Logic.{⊎_map}
 use Rattle.std.proofs.lemmas.List.{map-id}
@@ -15,10 +16,12 @@ use Rattle.nextest_config_sources.specs.NextestVersion.Experimental.{HasOneMore}
 pub contains_first : {X : Type 0} {x y : X} (xs : List X) → x ≡ y → Contains (x ∷ xs) y
 contains_first xs same = (0, omega arith, same)
 
-pub contains_later : {X : Type 0} (x : X) {y : X} (xs : List X) → Contains xs y → Contains (x ∷ xs) y
+pub contains_later : {X : Type 0} (x : X) {y : X} (xs : List X) → Contains xs y
+    → Contains (x ∷ xs) y
 contains_later x xs (k, within, is) = (suc k, omega arith, is)
 
-pub contains_cases : {X : Type 0} (x : X) {y : X} (xs : List X) → Contains (x ∷ xs) y → (x ≡ y) ⊎ Contains xs y
+pub contains_cases : {X : Type 0} (x : X) {y : X} (xs : List X) → Contains (x ∷ xs) y
+    → (x ≡ y) ⊎ Contains xs y
 contains_cases x xs (zero, within, is) = inl is
 contains_cases x xs (suc k, within, is) = inr (k, omega arith, is)
 
@@ -26,43 +29,63 @@ pub contains_none : {X : Type 0} {y : X} → Contains [] y → ⊥
 contains_none (k, within, is) = omega arith
 
 one_in_front : {X : Type 0} (xs : List X) (x : X) → HasOneMore xs x (x ∷ xs)
-one_in_front xs x y = (λ h. ⊎_elim inr inl (contains_cases x xs h), ⊎_elim (contains_later x xs) (contains_first xs))
+one_in_front xs x y =
+    (λ h. ⊎_elim inr inl (contains_cases x xs h), ⊎_elim (contains_later x xs) (contains_first xs))
 
 -- an element in front of both lists
-behind_another : {X : Type 0} (z x : X) (before after : List X) → HasOneMore before x after → HasOneMore (z ∷ before) x (z ∷ after)
+behind_another : {X : Type 0} (z x : X) (before after : List X) → HasOneMore before x after
+    → HasOneMore (z ∷ before) x (z ∷ after)
 behind_another z x before after more y =
     let still = contains_later z after in (
-      λ h. ⊎_elim (λ same. inl (contains_first before same)) (λ h. ⊎_map (contains_later z before) (λ same. same) ((more y).0 h)) (contains_cases z after h),
-      ⊎_elim (λ h. ⊎_elim (contains_first after) (λ h. still ((more y).1 (inl h))) (contains_cases z before h)) (λ same. still ((more y).1 (inr same))),
+      λ h. ⊎_elim (λ same. inl (contains_first before same))
+          (λ h. ⊎_map (contains_later z before) (λ same. same) ((more y).0 h))
+          (contains_cases z after h),
+      ⊎_elim (λ h. ⊎_elim (contains_first after) (λ h. still ((more y).1 (inl h)))
+          (contains_cases z before h)) (λ same. still ((more y).1 (inr same))),
     )
 
--- an order on the keys, and what is seen of each key, which is the same at keys that are equal by the order
-module _ {K Y : Type 0} (cmp : K → K → Ordering) (seen : K → Y) (exact : (x y : K) → cmp x y ≡ Equal → seen x ≡ seen y) (k : K) where
-  inserted_by : (order : Ordering) (x : K) (xs : List K) → cmp k x ≡ order → HasOneMore (map seen xs) (seen k) (map seen (insert_key cmp xs k))
-      → HasOneMore (map seen (x ∷ xs)) (seen k) (map seen (match_ordering order (k ∷ x ∷ xs) (x ∷ xs) (x ∷ insert_key cmp xs k)))
+-- an order on the keys, and what is seen of each key, which is the same at keys that are equal by
+-- the order
+module _ {K Y : Type 0} (cmp : K → K → Ordering) (seen : K → Y)
+    (exact : (x y : K) → cmp x y ≡ Equal → seen x ≡ seen y) (k : K) where
+  inserted_by : (order : Ordering) (x : K) (xs : List K) → cmp k x ≡ order
+      → HasOneMore (map seen xs) (seen k) (map seen (insert_key cmp xs k))
+      → HasOneMore (map seen (x ∷ xs)) (seen k)
+      (map seen (match_ordering order (k ∷ x ∷ xs) (x ∷ xs) (x ∷ insert_key cmp xs k)))
   inserted_by Less x xs is more = one_in_front (map seen (x ∷ xs)) (seen k)
-  inserted_by Equal x xs is more = λ y. (inl, ⊎_elim (λ h. h) (λ same. contains_first (map seen xs) (sym (exact k x is) ∙ same)))
-  inserted_by Greater x xs is more = behind_another (seen x) (seen k) (map seen xs) (map seen (insert_key cmp xs k)) more
+  inserted_by Equal x xs is more =
+      λ y. (inl, ⊎_elim (λ h. h) (λ same. contains_first (map seen xs) (sym (exact k x is) ∙ same)))
+  inserted_by Greater x xs is more =
+      behind_another (seen x) (seen k) (map seen xs) (map seen (insert_key cmp xs k)) more
 
   inserted : (ks : List K) → HasOneMore (map seen ks) (seen k) (map seen (insert_key cmp ks k))
   inserted [] = one_in_front [] (seen k)
   inserted (x ∷ xs) = inserted_by (cmp k x) x xs refl (inserted xs)
 
 -- after an insertion, a set has one more of what is seen of its keys, and one more key
-pub one_more_seen : {K Y : Type 0} (cmp : K → K → Ordering) (seen : K → Y) → ((x y : K) → cmp x y ≡ Equal → seen x ≡ seen y) → (k : K) (before after : List K) → after ≡ insert_key cmp before k → HasOneMore (map seen before) (seen k) (map seen after)
+pub one_more_seen : {K Y : Type 0} (cmp : K → K → Ordering) (seen : K → Y)
+    → ((x y : K) → cmp x y ≡ Equal → seen x ≡ seen y) → (k : K) (before after : List K)
+    → after ≡ insert_key cmp before k → HasOneMore (map seen before) (seen k) (map seen after)
 one_more_seen cmp seen exact k before after is = rw is (inserted cmp seen exact k before)
 
-pub one_more : {K : Type 0} (cmp : K → K → Ordering) → ((x y : K) → cmp x y ≡ Equal → x ≡ y) → (k : K) (before after : List K) → after ≡ insert_key cmp before k → HasOneMore before k after
-one_more {K} cmp exact k before after is = rw (map-id before, map-id after) at (one_more_seen cmp (λ (x : K). x) exact k before after is)
+pub one_more : {K : Type 0} (cmp : K → K → Ordering) → ((x y : K) → cmp x y ≡ Equal → x ≡ y)
+    → (k : K) (before after : List K) → after ≡ insert_key cmp before k → HasOneMore before k after
+one_more {K} cmp exact k before after is =
+    rw (map-id before, map-id after) at (one_more_seen cmp (λ (x : K). x) exact k before after is)
 
 -- ---- images
 
-pub among_images : {X Y : Type 0} (f : X → Y) (xs : List X) (y : Y) → Contains (map f xs) y ↔ ((x : X) × Contains xs x × (f x ≡ y))
-among_images f [] y = (λ h. absurd (contains_none h), λ (x, none, image). absurd (contains_none none))
+pub among_images : {X Y : Type 0} (f : X → Y) (xs : List X) (y : Y)
+    → Contains (map f xs) y ↔ ((x : X) × Contains xs x × (f x ≡ y))
+among_images f [] y =
+    (λ h. absurd (contains_none h), λ (x, none, image). absurd (contains_none none))
 among_images f (x ∷ xs) y = (
-  λ h. ⊎_elim (λ same. (x, contains_first xs refl, same)) (λ later. let (k, there, image) = (among_images f xs y).0 later in (k, contains_later x xs there, image))
+  λ h. ⊎_elim (λ same. (x, contains_first xs refl, same))
+      (λ later. let (k, there, image) = (among_images f xs y).0 later in
+      (k, contains_later x xs there, image))
       (contains_cases (f x) (map f xs) h),
-  λ (k, there, image). ⊎_elim (λ same. contains_first (map f xs) (ap f same ∙ image)) (λ later. contains_later (f x) (map f xs) ((among_images f xs y).1 (k, later, image)))
+  λ (k, there, image). ⊎_elim (λ same. contains_first (map f xs) (ap f same ∙ image))
+      (λ later. contains_later (f x) (map f xs) ((among_images f xs y).1 (k, later, image)))
       (contains_cases x xs there),
 )
 

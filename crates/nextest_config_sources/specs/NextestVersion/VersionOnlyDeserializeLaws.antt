@@ -142,7 +142,8 @@ text_not_wrong edition kind (Some text) ask wrong read refused =
 
 -- what a table asks, or what is wrong with it
 abbrev IsAskOrWrong : Edition → ConfigSourceKind → Members → Type 0
-IsAskOrWrong edition kind table = HasMeaningOrFault (Asks edition kind table) (IsWrongTable edition kind table)
+IsAskOrWrong edition kind table =
+    HasMeaningOrFault (Asks edition kind table) (IsWrongTable edition kind table)
 
 names_of : (features : Features) → (names : List (List ℕ)) × AreNames features names
 names_of features =
@@ -177,7 +178,7 @@ none_decided features = by_sets features.known features.unknown
 tool_rule_or_error : (kind : ConfigSourceKind) (features : Features)
     → ObeysToolRule kind features ⊎ ((wrong : Wrong) × BreaksToolRule kind features wrong)
 tool_rule_or_error (Tool name) features = elim (none_decided features) [
-  inl none ↦ inl none
+  | inl none ↦ inl none
   | inr some ↦ let (names, are) = names_of features in
       inr (tool_features names, (some, (names, are, refl)))
 ]
@@ -202,7 +203,12 @@ module _ (edition : Edition) (kind : ConfigSourceKind) (table : Members) where
       → IsAskOrWrong edition kind table
   named_or_error versions named of_versions of_form of_features (inl of_tool) = inl (
     record { versions = versions; features = named.features; array = named.array },
-    record { of_versions = of_versions; of_form = of_form; of_features = of_features; of_tool = of_tool },
+    record {
+      of_versions = of_versions;
+      of_form = of_form;
+      of_features = of_features;
+      of_tool = of_tool;
+    },
   )
   named_or_error versions named of_versions of_form of_features (inr (wrong, broken)) =
       inr (wrong, inr (versions, of_versions, inr (of_form, inr (named, of_features, broken))))
@@ -229,7 +235,8 @@ module _ (edition : Edition) (kind : ConfigSourceKind) (table : Members) where
   table_by : HasMeaningOrFault (AsksVersions table) (versions_asked.faults table [])
       → IsAskOrWrong edition kind table
   table_by (inl (versions, of_versions)) =
-      form_or_behind versions of_versions (form_or_error edition (get_member experimental_key table))
+      form_or_behind versions of_versions
+      (form_or_error edition (get_member experimental_key table))
   table_by (inr (fault, faulty)) = inr (setting fault, inl (fault, faulty, refl))
 
   table_or_error : IsAskOrWrong edition kind table
@@ -239,10 +246,12 @@ document_or_error : (edition : Edition) (kind : ConfigSourceKind) (text : List �
     (document : Option Members) → parse_document text ≡ document
     → HasMeaningOrFault (TextAsks edition kind (Some text)) (IsWrong edition kind (Some text))
 document_or_error edition kind text None is =
-    inr (not_toml, subst (λ (d : Option Members). IsWrongDocument edition kind d not_toml) (sym is)
-    refl)
+    inr (
+      not_toml,
+      subst (λ (d : Option Members). IsWrongDocument edition kind d not_toml) (sym is) refl,
+    )
 document_or_error edition kind text (Some table) is = elim (table_or_error edition kind table) [
-  inl (ask, asks) ↦ inl (ask, (table, is, asks))
+  | inl (ask, asks) ↦ inl (ask, (table, is, asks))
   | inr (wrong, broken) ↦ inr (
     wrong,
     subst (λ (d : Option Members). IsWrongDocument edition kind d wrong) (sym is) broken,

@@ -322,9 +322,9 @@ one_byte_more b text plain_byte (inr (inr none)) = inr (inr (plain_byte, none))
 mark_or_none : (text : List ℕ) → HasMarkOrNone text
 mark_or_none [] = inr (inr tt)
 mark_or_none (b ∷ text) = elim (same_decided b hyphen) [
-  inl is ↦ inl (mark_here hyphen b text is)
+  | inl is ↦ inl (mark_here hyphen b text is)
   | inr no_hyphen ↦ elim (same_decided b plus_sign) [
-    inl is ↦ inr (inl (mark_here plus_sign b text is))
+    | inl is ↦ inr (inl (mark_here plus_sign b text is))
     | inr no_plus ↦ one_byte_more b text (no_hyphen, no_plus) (mark_or_none text)
   ]
 ]

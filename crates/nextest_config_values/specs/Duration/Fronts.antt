@@ -1,7 +1,7 @@
--- Each text has a longest front of items, and so a duration or a fault; and what TOML values mean as
--- durations.
+-- Each text has a longest front of items, and so a duration or a fault; and what TOML values mean
+-- as durations.
 use Rattle.std.proofs.Common.{◌≡◌, ◌≢◌, ℕ, ◌≤◌, ◌<◌, ◌+◌, Bool, List, [], ◌∷◌, ◌++◌, length, Option, Some, None, zero, suc, refl, sym, ap, ◌∙◌, subst, inl, inr, rules, arith}
-use Rattle.std.specs.Prelude.{IsTrue, chars, codes, ◌*◌, ◌^◌, ◌⊎◌}
+use Rattle.std.specs.Prelude.{chars, codes, ◌*◌, ◌^◌, ◌⊎◌}
 use Rattle.std.proofs.lemmas.Bool.{cases_Bool, cases_lt}
 use Rattle.std.proofs.lemmas.List.{append_assoc, append-nil, length-append}
 use Rattle.std.specs.Char.{is_ascii_digit, is_whitespace}
@@ -9,9 +9,9 @@ use Rattle.std.specs.Duration.{FitsDuration}
 use Rattle.std.specs.Str.Parse.{digits_value}
 use Rattle.toml.specs.Data.{Data, as_str}
 use Rattle.nextest_config_values.specs.Decisions.{below_decided, IsDecided, IsFoundOrNone}
-use Rattle.nextest_config_values.specs.Duration.Grammar.{AreAll, AreFittingDigits, BeginsWith, EndsWith, HasNumberThatFits, IsDuration, IsDurationFault, IsFront, IsItemText, IsLongestFront, IsNext, IsNextFault, IsRun, IsUncut, Item, is_in_word, offset, Spells, total, unit_length}
+use Rattle.nextest_config_values.specs.Duration.Grammar.{AreAll, AreFittingDigits, BeginsWith, EndsWith, HasNumberThatFits, IsDuration, IsDurationFault, IsFront, IsLongestFront, IsNext, IsNextFault, IsRun, IsUncut, Item, is_in_word, offset, total, unit_length}
 use Rattle.nextest_config_values.specs.Duration.Steps.{IsFaultAt}
-use Rattle.nextest_config_values.specs.Duration.Laws.{covers, never_duration_and_fault, nothing_stops, one_duration, one_duration_fault, one_next, Stops}
+use Rattle.nextest_config_values.specs.Duration.Laws.{covers, never_duration_and_fault, one_duration, one_duration_fault, one_next, Stops}
 use Rattle.nextest_config_values.specs.Once.{HasMeaningOrFault, HasOneMeaningOrFault}
 use Rattle.nextest_config_values.specs.Read.Fault.{wrong_value}
 use Rattle.nextest_config_values.specs.Read.FromToml.{Reading}
@@ -125,13 +125,13 @@ some_length (c ∷ cs) some = omega arith
 shorter : (text space after digits gap word rest : List ℕ) → text ≡ space ++ after
     → IsNext after digits gap word rest → digits ≢ [] → length rest < length text
 shorter text space after digits gap word rest whole next some = omega (
-      arith,
-      some_length digits some,
-      ap length whole ∙ length-append space after,
-      ap length next.whole ∙ length-append digits (gap ++ (word ++ rest)),
-      length-append gap (word ++ rest),
-      length-append word rest,
-    )
+  arith,
+  some_length digits some,
+  ap length whole ∙ length-append space after,
+  ap length next.whole ∙ length-append digits (gap ++ (word ++ rest)),
+  length-append gap (word ++ rest),
+  length-append word rest,
+)
 
 module _ (text space after digits gap word rest : List ℕ) (whole : text ≡ space ++ after)
     (run : IsRun is_whitespace space after) (next : IsNext after digits gap word rest) where
@@ -219,8 +219,10 @@ pub fault_stops : (place : ℕ) (text : List ℕ) (fault : DurationFault)
 fault_stops place text fault no_space (digits, gap, word, behind, next, told) =
     record {
       no_space = no_space;
-      no_item = λ item other_digits other_gap other_word rest other_next some is_number is_unit fits.
-          let same = one_next text digits gap word behind other_digits other_gap other_word rest next
+      no_item = λ item other_digits other_gap other_word rest other_next some is_number is_unit
+          fits.
+          let same = one_next text digits gap word behind other_digits other_gap other_word rest
+          next
           other_next in
           no_such_item place digits gap word fault item.number item.unit told (rw same.0 some)
           (rw same.0 is_number) (rw same.2 is_unit) fits;
@@ -232,7 +234,8 @@ pub longest_front : (text front behind : List ℕ) (items : List Item)
 longest_front text front behind items a stops =
     record {
       is_front = a;
-      longest = λ other rest others b. (covers HasNumberThatFits items others front behind other rest
+      longest = λ other rest others b.
+          (covers HasNumberThatFits items others front behind other rest
           a.spelled b.spelled (sym a.whole ∙ b.whole) a.uncut b.uncut stops b.fit).longer;
     }
 
@@ -243,14 +246,17 @@ sum_or_fault : (text front : List ℕ) (item : Item) (items : List Item)
     → IsDecided (FitsDuration (total (item ∷ items)))
     → HasMeaningOrFault (IsDuration text) (IsDurationFault text)
 sum_or_fault text front item items longest (inl fits) =
-    inl (total (item ∷ items), record {
-      items = item ∷ items;
-      some = λ none. cc none;
-      spelled = rw (longest.is_front.whole, append-nil front) longest.is_front.spelled;
-      fit = longest.is_front.fit;
-      sum = refl;
-      sum_fits = fits;
-    })
+    inl (
+      total (item ∷ items),
+      record {
+        items = item ∷ items;
+        some = λ none. cc none;
+        spelled = rw (longest.is_front.whole, append-nil front) longest.is_front.spelled;
+        fit = longest.is_front.fit;
+        sum = refl;
+        sum_fits = fits;
+      },
+    )
 sum_or_fault text front item items longest (inr large) =
     inr (faults.SumTooLarge, (front, [], item ∷ items, longest, ((λ none. cc none), large)))
 
@@ -260,7 +266,8 @@ front_or_fault : (text front behind : List ℕ) (items : List Item)
     → HasMeaningOrFault (IsDuration text) (IsDurationFault text)
 front_or_fault text front [] [] longest ends = inr (faults.Empty, (front, [], [], longest, refl))
 front_or_fault text front [] (item ∷ items) longest ends =
-    sum_or_fault text front item items longest (below_decided (total (item ∷ items)) (2 ^ 64 * 1_000_000_000))
+    sum_or_fault text front item items longest
+    (below_decided (total (item ∷ items)) (2 ^ 64 * 1_000_000_000))
 front_or_fault text front (c ∷ cs) items longest ends =
     let told = ends (offset front) in
     inr (told.0, (front, c ∷ cs, items, longest, told.1))

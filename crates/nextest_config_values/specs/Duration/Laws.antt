@@ -1,6 +1,6 @@
 -- The laws of durations: a text is spelled in one way, and has one duration or one fault.
 use Rattle.std.proofs.Common.{◌≡◌, ◌≢◌, ℕ, ◌+◌, ◌≤◌, Bool, true, false, List, [], ◌∷◌, ◌++◌, length, Some, refl, sym, ap, ◌∙◌, subst, inl, inr, rules, arith}
-use Rattle.std.specs.Prelude.{IsTrue, chars, codes, nat_eq, ◌&&◌}
+use Rattle.std.specs.Prelude.{IsTrue, chars, nat_eq, ◌&&◌}
 use Rattle.std.proofs.lemmas.List.{append_assoc, append-nil, length-append}
 use Rattle.std.proofs.lemmas.Bool.{cases_Bool}
 use Rattle.std.specs.Char.{is_ascii_digit, is_whitespace}
@@ -133,7 +133,8 @@ space_of_item text item behind h =
     record {
       inside = h.space_is_white;
       over = run_apart is_ascii_digit is_whitespace
-          (λ c digit white. never_white_and_digit c white digit) h.digits (h.gap ++ (h.word ++ behind))
+          (λ c digit white. never_white_and_digit c white digit) h.digits
+          (h.gap ++ (h.word ++ behind))
           h.some_digits h.digits_are;
     }
 

@@ -1,13 +1,6 @@
 -- Relative paths, and the join of two paths.
 use Rattle.std.specs.Prelude.{◌≡◌, ℕ, ◌==◌, Bool, false, List, [], ◌∷◌, ◌++◌, reverse, codes, if◌then◌else◌, ◌⊎◌}
-use Rattle.std.proofs.Common.{inl, inr, refl, sym, ◌∙◌}
-use Rattle.toml.specs.Data.{Data, as_str}
 use Rattle.nextest_config_values.specs.Characters.{slash}
-use Rattle.nextest_config_values.specs.Decisions.{IsDecided, IsFoundOrNone}
-use Rattle.nextest_config_values.specs.Read.Fault.{wrong_value}
-use Rattle.nextest_config_values.specs.Read.FromToml.{Reading}
-use Rattle.nextest_config_values.specs.Read.Plain.{text_expected}
-use Rattle.nextest_config_values.specs.Read.Readings.{in_memory, kind, one_that, wrong_kind}
 
 -- the text begins with a slash
 abbrev pub BeginsWithSlash : List ℕ → Type 0

@@ -1,5 +1,5 @@
--- The segments of a path between slashes: each text is a relative path or isn't; and what TOML values
--- mean as relative paths.
+-- The segments of a path between slashes; each text is a relative path, or isn't; and what TOML
+-- values mean as relative paths.
 use Rattle.std.proofs.Common.{◌≡◌, ◌≢◌, ◌⊎◌, ◌↔◌, ℕ, ◌<◌, eqb, Bool, List, [], ◌∷◌, ◌++◌, codes, length, refl, sym, ap, ◌∙◌, inl, inr, append_assoc, arith}
 use Rattle.std.proofs.lemmas.Bool.{cases_Bool}
 use Rattle.std.proofs.lemmas.List.Splits.{join_with_byte-slice_split, length-slice_split, slice_split-cons_no, slice_split-cons_yes}
@@ -26,41 +26,79 @@ abbrev AreNames : List (List ℕ) → Type 0
 AreNames = AllByRecursion (λ segment. segment ≢ codes "..")
 
 -- without a segment `..` in the text, no part is it, whatever whole segments stand before the parts
-all_names : (parts : List (List ℕ)) (before : List ℕ) → IsFront before → ¬ (HasParentSegment (before ++ join_with_byte 47 parts)) → AreNames parts
+all_names : (parts : List (List ℕ)) (before : List ℕ) → IsFront before
+    → ¬ (HasParentSegment (before ++ join_with_byte 47 parts)) → AreNames parts
 all_names [] before front none = tt
-all_names (part ∷ []) before front none =
-    (λ e. none (record { before = before; after = []; whole = rw e refl; begins = front; ends = inl refl }), tt)
+all_names (part ∷ []) before front none = (
+  λ e. none (record {
+    before = before;
+    after = [];
+    whole = rw e refl;
+    begins = front;
+    ends = inl refl;
+  }),
+  tt,
+)
 all_names (part ∷ next ∷ parts) before front none =
     let behind = join_with_byte 47 (next ∷ parts) in
     let moved : (before ++ (part ++ (47 ∷ []))) ++ behind ≡ before ++ (part ++ (47 ∷ behind)) =
-    append_assoc before (part ++ (47 ∷ [])) behind ∙ ap (λ rest. before ++ rest) (append_assoc part (47 ∷ []) behind) in (
-      λ e. none (record { before = before; after = 47 ∷ behind; whole = rw e refl; begins = front; ends = inr (behind, refl) }),
-      all_names (next ∷ parts) (before ++ (part ++ (47 ∷ []))) (inr (before ++ part, sym (append_assoc before part (47 ∷ [])))) (rw moved none),
+    append_assoc before (part ++ (47 ∷ [])) behind
+    ∙ ap (λ rest. before ++ rest) (append_assoc part (47 ∷ []) behind) in (
+      λ e. none (record {
+        before = before;
+        after = 47 ∷ behind;
+        whole = rw e refl;
+        begins = front;
+        ends = inr (behind, refl);
+      }),
+      all_names (next ∷ parts) (before ++ (part ++ (47 ∷ [])))
+          (inr (before ++ part, sym (append_assoc before part (47 ∷ [])))) (rw moved none),
     )
 
 -- ---- the other way
 
-onto_joined : (b : ℕ) (parts more : List (List ℕ)) → 0 < length parts → onto_first b (parts ++ more) ≡ onto_first b parts ++ more
+onto_joined : (b : ℕ) (parts more : List (List ℕ)) → 0 < length parts
+    → onto_first b (parts ++ more) ≡ onto_first b parts ++ more
 onto_joined b [] more some = absurd (omega arith)
 onto_joined b (part ∷ parts) more some = refl
 
-segments_joined : (front rest : List ℕ) → segments (front ++ (47 ∷ rest)) ≡ segments front ++ segments rest
+segments_joined : (front rest : List ℕ)
+    → segments (front ++ (47 ∷ rest)) ≡ segments front ++ segments rest
 segments_joined [] rest = refl
 segments_joined (b ∷ front) rest = elim (cases_Bool (is_slash b)) [
-  | inl slash ↦ rw (slice_split-cons_yes is_slash b (front ++ (47 ∷ rest)) slash, slice_split-cons_yes is_slash b front slash, segments_joined front rest) refl
-  | inr other ↦ rw (slice_split-cons_no is_slash b (front ++ (47 ∷ rest)) other, slice_split-cons_no is_slash b front other, segments_joined front rest)
-      (onto_joined b (segments front) (segments rest) (omega (arith, length-slice_split is_slash front)))
+  | inl slash ↦
+      rw (
+        slice_split-cons_yes is_slash b (front ++ (47 ∷ rest)) slash,
+        slice_split-cons_yes is_slash b front slash,
+        segments_joined front rest,
+      ) refl
+  | inr other ↦
+      rw (
+        slice_split-cons_no is_slash b (front ++ (47 ∷ rest)) other,
+        slice_split-cons_no is_slash b front other,
+        segments_joined front rest,
+      )
+      (onto_joined b (segments front) (segments rest)
+      (omega (arith, length-slice_split is_slash front)))
 ]
 
-parent_first : (after : List ℕ) → (after ≡ []) ⊎ BeginsWithSlash after → (more : List (List ℕ)) × (segments (codes ".." ++ after) ≡ codes ".." ∷ more)
+parent_first : (after : List ℕ) → (after ≡ []) ⊎ BeginsWithSlash after
+    → (more : List (List ℕ)) × (segments (codes ".." ++ after) ≡ codes ".." ∷ more)
 parent_first after (inl end) = ([], rw end refl)
-parent_first after (inr slash) = (segments slash.0, rw slash.1 (segments_joined (codes "..") slash.0))
+parent_first after (inr slash) =
+    (segments slash.0, rw slash.1 (segments_joined (codes "..") slash.0))
 
-behind_front : (before rest : List ℕ) → IsFront before → (fronts : List (List ℕ)) × (segments (before ++ rest) ≡ fronts ++ segments rest)
+behind_front : (before rest : List ℕ) → IsFront before
+    → (fronts : List (List ℕ)) × (segments (before ++ rest) ≡ fronts ++ segments rest)
 behind_front before rest (inl start) = ([], rw start refl)
-behind_front before rest (inr slash) = (segments slash.0, rw (slash.1, append_assoc slash.0 (47 ∷ []) rest) (segments_joined slash.0 rest))
+behind_front before rest (inr slash) = (
+  segments slash.0,
+  rw (slash.1, append_assoc slash.0 (47 ∷ []) rest)
+      (segments_joined slash.0 rest),
+)
 
-not_parent : (fronts : List (List ℕ)) (name : List ℕ) (more : List (List ℕ)) → AreNames (fronts ++ (name ∷ more)) → name ≢ codes ".."
+not_parent : (fronts : List (List ℕ)) (name : List ℕ) (more : List (List ℕ))
+    → AreNames (fronts ++ (name ∷ more)) → name ≢ codes ".."
 not_parent [] name more h = h.0
 not_parent (front ∷ fronts) name more h = not_parent fronts name more h.1
 
@@ -72,7 +110,11 @@ no_parent text names h =
 
 -- no segment is `..`, said of the segments and of the text
 pub tells_no_parent : (text : List ℕ) → AreNames (segments text) ↔ ¬ (HasParentSegment text)
-tells_no_parent text = (no_parent text, λ none. all_names (segments text) [] (inl refl) (rw (join_with_byte-slice_split 47 text) none))
+tells_no_parent text = (
+  no_parent text,
+  λ none. all_names (segments text) [] (inl refl)
+      (rw (join_with_byte-slice_split 47 text) none),
+)
 
 -- ---- each text is a relative path, or isn't
 
@@ -105,7 +147,8 @@ path_or_none held = path_found held (relative_decided held)
 abbrev pub relative_path_in : List ℕ → Reading Data (List ℕ)
 relative_path_in held =
     in_memory (one_that (λ path. (path ≡ held) × IsRelativePath held) (λ x y a b. a.0 ∙ sym b.0)
-    (path_or_none held) (λ value at. wrong_value value at (codes "a relative path with no parent components")))
+    (path_or_none held)
+    (λ value at. wrong_value value at (codes "a relative path with no parent components")))
 
 abbrev pub relative_path_reading : Reading Data (List ℕ)
 relative_path_reading = kind as_str relative_path_in (wrong_kind text_expected)

@@ -148,7 +148,7 @@ plain_or_flawed : (cs : List ℕ)
     → IsPlainIdentifier cs ⊎ ((kind : InvalidIdentifierKind) × IsPlainFlaw cs kind)
 plain_or_flawed [] = inr (kinds.Empty, refl)
 plain_or_flawed (c ∷ cs) = elim (plain_decided (c ∷ cs)) [
-  inl plain ↦ inl plain
+  | inl plain ↦ inl plain
   | inr not_plain ↦ inr (kinds.InvalidXid, ((λ none. cc none), not_plain))
 ]
 
@@ -157,9 +157,9 @@ pub cut_or_none : (cs : List ℕ)
     → ((before after : List ℕ) × IsCutAtColon cs before after) ⊎ HasNoColon cs
 cut_or_none [] = inr tt
 cut_or_none (c ∷ cs) = elim (same_decided c 58) [
-  inl is ↦ inl ([], cs, record { cut = ap (λ x. x ∷ cs) is; first = tt })
+  | inl is ↦ inl ([], cs, record { cut = ap (λ x. x ∷ cs) is; first = tt })
   | inr not ↦ elim (cut_or_none cs) [
-    inl (before, after, found) ↦ inl (
+    | inl (before, after, found) ↦ inl (
       c ∷ before,
       after,
       record { cut = ap (λ rest. c ∷ rest) found.cut; first = (not, found.first) },
@@ -173,8 +173,8 @@ begins_or_not : (mark cs : List ℕ) → IsFoundOrNone (λ rest. cs ≡ mark ++ 
 begins_or_not [] cs = inl (cs, refl)
 begins_or_not (m ∷ mark) [] = inr (λ rest whole. cc whole)
 begins_or_not (m ∷ mark) (c ∷ cs) = elim (same_decided c m) [
-  inl is ↦ elim (begins_or_not mark cs) [
-    inl (rest, whole) ↦ inl (rest, cc (is, whole))
+  | inl is ↦ elim (begins_or_not mark cs) [
+    | inl (rest, whole) ↦ inl (rest, cc (is, whole))
     | inr none ↦ inr (λ rest whole. none rest (cc whole))
   ]
   | inr not ↦ inr (λ rest whole. not (cc whole))
@@ -184,14 +184,20 @@ components_or_flaw : (cs rest tool name : List ℕ) → cs ≡ tool_mark ++ rest
     → IsCutAtColon rest tool name
     → IsIdentifierForm cs ⊎ ((f : IdentifierFlaw) × IsIdentifierFlaw cs f)
 components_or_flaw cs rest tool name marked cut = elim (plain_or_flawed tool) [
-  inl tool_plain ↦ elim (plain_or_flawed name) [
-    inl name_plain ↦ inl (inr (tool, name, record {
-      marked = marked ∙ ap (λ t. tool_mark ++ t) cut.cut;
-      tool_is_plain = tool_plain;
-      name_is_plain = name_plain;
-    }))
-    | inr (kind, wrong) ↦ inr (Component kind,
-        (rest, tool, name, marked, cut, inr (tool_plain, wrong)))
+  | inl tool_plain ↦ elim (plain_or_flawed name) [
+    | inl name_plain ↦ inl (inr (
+      tool,
+      name,
+      record {
+        marked = marked ∙ ap (λ t. tool_mark ++ t) cut.cut;
+        tool_is_plain = tool_plain;
+        name_is_plain = name_plain;
+      },
+    ))
+    | inr (kind, wrong) ↦ inr (
+      Component kind,
+      (rest, tool, name, marked, cut, inr (tool_plain, wrong)),
+    )
   ]
   | inr (kind, wrong) ↦ inr (Component kind, (rest, tool, name, marked, cut, inl wrong))
 ]
@@ -199,25 +205,26 @@ components_or_flaw cs rest tool name marked cut = elim (plain_or_flawed tool) [
 marked_or_flaw : (cs rest : List ℕ) → cs ≡ tool_mark ++ rest
     → IsIdentifierForm cs ⊎ ((f : IdentifierFlaw) × IsIdentifierFlaw cs f)
 marked_or_flaw cs rest marked = elim (cut_or_none rest) [
-  inl (tool, name, cut) ↦ components_or_flaw cs rest tool name marked cut
+  | inl (tool, name, cut) ↦ components_or_flaw cs rest tool name marked cut
   | inr none ↦ inr (OneComponent, (rest, marked, none))
 ]
 
 unmarked_or_flaw : (cs : List ℕ) → IsUnmarked cs
     → IsIdentifierForm cs ⊎ ((f : IdentifierFlaw) × IsIdentifierFlaw cs f)
 unmarked_or_flaw cs unmarked = elim (plain_or_flawed cs) [
-  inl plain ↦ inl (inl plain)
+  | inl plain ↦ inl (inl plain)
   | inr (kind, wrong) ↦ inr (Whole kind, (unmarked, wrong))
 ]
 
 pub identifier_or_flaw : (cs : List ℕ)
     → IsIdentifierForm cs ⊎ ((f : IdentifierFlaw) × IsIdentifierFlaw cs f)
 identifier_or_flaw cs = elim (begins_or_not tool_mark cs) [
-  inl (rest, marked) ↦ marked_or_flaw cs rest marked
+  | inl (rest, marked) ↦ marked_or_flaw cs rest marked
   | inr unmarked ↦ unmarked_or_flaw cs unmarked
 ]
 
-tool_name_flaw : (cs : List ℕ) → ¬ IsPlainIdentifier cs → IsFoundOrNone (λ rest. cs ≡ codes "@tool" ++ rest)
+tool_name_flaw : (cs : List ℕ) → ¬ IsPlainIdentifier cs
+    → IsFoundOrNone (λ rest. cs ≡ codes "@tool" ++ rest)
     → (f : ToolNameFlaw) × IsToolNameFlaw cs f
 tool_name_flaw cs not_plain (inl marked) = (of_names.StartsWithToolPrefix, marked)
 tool_name_flaw [] not_plain (inr unmarked) = (of_names.Empty, refl)
@@ -227,7 +234,7 @@ tool_name_flaw (c ∷ cs) not_plain (inr unmarked) =
 pub tool_name_or_flaw : (cs : List ℕ)
     → IsPlainIdentifier cs ⊎ ((f : ToolNameFlaw) × IsToolNameFlaw cs f)
 tool_name_or_flaw cs = elim (plain_decided cs) [
-  inl plain ↦ inl plain
+  | inl plain ↦ inl plain
   | inr not_plain ↦ inr (tool_name_flaw cs not_plain (begins_or_not (codes "@tool") cs))
 ]
 
@@ -293,20 +300,24 @@ module _ {Flaw : Type 0} (IsInGrammar : List ℕ → Type 0) (IsFlaw : List ℕ 
 pub one_identifier_or_fault : HasOneMeaningOrFault (IsNormalText IsIdentifierForm)
     (IsNormalFault IsIdentifierFlaw)
 one_identifier_or_fault =
-    one_name_or_fault IsIdentifierForm IsIdentifierFlaw identifier_or_flaw one_identifier_flaw identifier_not_flawed
+    one_name_or_fault IsIdentifierForm IsIdentifierFlaw identifier_or_flaw one_identifier_flaw
+    identifier_not_flawed
 
 pub one_tool_name_or_fault : HasOneMeaningOrFault (IsNormalText IsPlainIdentifier)
     (IsNormalFault IsToolNameFlaw)
 one_tool_name_or_fault =
-    one_name_or_fault IsPlainIdentifier IsToolNameFlaw tool_name_or_flaw one_tool_name_flaw tool_name_not_flawed
+    one_name_or_fault IsPlainIdentifier IsToolNameFlaw tool_name_or_flaw one_tool_name_flaw
+    tool_name_not_flawed
 
 -- an identifier
 abbrev pub identifier_reading : Reading Data (List ℕ)
 identifier_reading =
-    name_reading IsIdentifierForm IsIdentifierFlaw identifier_or_flaw one_identifier_flaw identifier_not_flawed
+    name_reading IsIdentifierForm IsIdentifierFlaw identifier_or_flaw one_identifier_flaw
+    identifier_not_flawed
     identifier
 
 -- a tool name
 abbrev pub tool_name_reading : Reading Data (List ℕ)
-tool_name_reading = name_reading IsPlainIdentifier IsToolNameFlaw tool_name_or_flaw one_tool_name_flaw
+tool_name_reading =
+    name_reading IsPlainIdentifier IsToolNameFlaw tool_name_or_flaw one_tool_name_flaw
     tool_name_not_flawed tool_name

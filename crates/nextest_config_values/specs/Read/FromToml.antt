@@ -8,7 +8,8 @@ use Rattle.nextest_config_values.specs.declared.read.fault.ReadFault.{ReadFault}
 -- memory is no fault
 pub record IsReading {D X : Type 0} (means : D → X → Type 0) (faults : D → List ℕ → Fault → Type 0)
     : Type 0 where
-  pub meaning_or_fault : (value : D) (at : List ℕ) → HasMeaningOrFault (means value) (faults value at)
+  pub meaning_or_fault : (value : D) (at : List ℕ)
+      → HasMeaningOrFault (means value) (faults value at)
   pub one_meaning : (value : D) (x y : X) → means value x → means value y → x ≡ y
   pub one_fault : (value : D) (at : List ℕ) (f g : Fault) → faults value at f → faults value at g
       → f ≡ g

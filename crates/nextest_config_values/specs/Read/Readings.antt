@@ -35,7 +35,8 @@ no_value fault_of = record {
   };
 }
 
-pub meaning_or_fault_that : {X : Type 0} {Holds : X → Type 0} → IsFoundOrNone Holds → (fault : Fault)
+pub meaning_or_fault_that : {X : Type 0} {Holds : X → Type 0} → IsFoundOrNone Holds
+    → (fault : Fault)
     → HasMeaningOrFault Holds (λ f. ((x : X) → ¬ Holds x) × (f ≡ fault))
 meaning_or_fault_that (inl found) fault = inl found
 meaning_or_fault_that (inr none) fault = inr (fault, (none, refl))
@@ -73,8 +74,10 @@ in_memory reading = record {
   law = reading.law;
 }
 
-pub meaning_or_fault_made : {X Y F : Type 0} {means : X → Type 0} {is_fault : F → Type 0} (make : X → Y)
-    → HasMeaningOrFault means is_fault → HasMeaningOrFault (λ y. (x : X) × means x × (y ≡ make x)) is_fault
+pub meaning_or_fault_made : {X Y F : Type 0} {means : X → Type 0} {is_fault : F → Type 0}
+    (make : X → Y)
+    → HasMeaningOrFault means is_fault
+    → HasMeaningOrFault (λ y. (x : X) × means x × (y ≡ make x)) is_fault
 meaning_or_fault_made make (inl (x, meant)) = inl (make x, (x, meant, refl))
 meaning_or_fault_made make (inr wrong) = inr wrong
 
@@ -85,7 +88,8 @@ made_of {D} {X} make reading = record {
   faults = reading.faults;
   takes_memory = reading.takes_memory;
   law = record {
-    meaning_or_fault = λ value at. meaning_or_fault_made make (reading.law.meaning_or_fault value at);
+    meaning_or_fault =
+        λ value at. meaning_or_fault_made make (reading.law.meaning_or_fault value at);
     one_meaning = λ value y z a b. a.2
         ∙ ap make (reading.law.one_meaning value a.0 b.0 a.1 b.1) ∙ sym b.2;
     one_fault = reading.law.one_fault;
@@ -233,7 +237,8 @@ then {D} {X} first later = record {
 pub record Check (D : Type 0) : Type 1 where
   pub passes : D → Type 0
   pub faults : D → List ℕ → Fault → Type 0
-  pub passes_or_faults : (value : D) (at : List ℕ) → passes value ⊎ ((f : Fault) × faults value at f)
+  pub passes_or_faults : (value : D) (at : List ℕ)
+      → passes value ⊎ ((f : Fault) × faults value at f)
   pub one_fault : (value : D) (at : List ℕ) (f g : Fault) → faults value at f → faults value at g
       → f ≡ g
   pub never_both : (value : D) (at : List ℕ) (f : Fault) → passes value → faults value at f → ⊥
@@ -252,7 +257,7 @@ module _ {D : Type 0} (check : Check D) (value : D) (at : List ℕ) {later : Fau
   pub passes_or_faults_behind : {A : Type 0} → A ⊎ ((f : Fault) × later f)
       → (check.passes value × A) ⊎ ((f : Fault) × FaultsBehind check value at later f)
   passes_or_faults_behind also = elim (check.passes_or_faults value at) [
-    inl passed ↦ passed_behind passed also
+    | inl passed ↦ passed_behind passed also
     | inr (f, wrong) ↦ inr (f, inl wrong)
   ]
 
@@ -264,7 +269,8 @@ module _ {D : Type 0} (check : Check D) (value : D) (at : List ℕ) {later : Fau
       → check.passes value × A → FaultsBehind check value at later f → ⊥
   never_both_behind never f a b = search (rules, check.never_both, never)
 
-pub meaning_or_fault_passed : {X F : Type 0} {Passes : Type 0} {means : X → Type 0} {is_fault : F → Type 0}
+pub meaning_or_fault_passed : {X F : Type 0} {Passes : Type 0} {means : X → Type 0}
+    {is_fault : F → Type 0}
     → (Passes × ((x : X) × means x)) ⊎ ((f : F) × is_fault f)
     → HasMeaningOrFault (λ x. Passes × means x) is_fault
 meaning_or_fault_passed (inl (passed, (x, meant))) = inl (x, (passed, meant))
@@ -278,7 +284,8 @@ behind check reading = record {
   takes_memory = reading.takes_memory;
   law = record {
     meaning_or_fault = λ value at.
-        meaning_or_fault_passed (passes_or_faults_behind check value at (reading.law.meaning_or_fault value at));
+        meaning_or_fault_passed
+        (passes_or_faults_behind check value at (reading.law.meaning_or_fault value at));
     one_meaning = λ value x y a b. reading.law.one_meaning value x y a.1 b.1;
     one_fault = λ value at. one_fault_behind check value at (reading.law.one_fault value at);
     never_both = λ value at x. never_both_behind check value at (reading.law.never_both value at x);
@@ -311,7 +318,8 @@ abbrev pub both : {D : Type 0} → Check D → Check D → Check D
 both check other = record {
   passes = λ value. check.passes value × other.passes value;
   faults = λ value at. FaultsBehind check value at (other.faults value at);
-  passes_or_faults = λ value at. passes_or_faults_behind check value at (other.passes_or_faults value at);
+  passes_or_faults =
+      λ value at. passes_or_faults_behind check value at (other.passes_or_faults value at);
   one_fault = λ value at. one_fault_behind check value at (other.one_fault value at);
   never_both = λ value at. never_both_behind check value at (other.never_both value at);
 }

@@ -38,7 +38,7 @@ has_word : {X : Type 0} (word : X → List ℕ) (all : List X) (text : List ℕ)
     → value_of word all text ≡ Some x → word x ≡ text
 has_word word [] text x found = cc found
 has_word word (first ∷ rest) text x found = elim (cases_Bool (pointwise nat_eq (word first) text)) [
-  inl same ↦ let first_is : Some first ≡ Some x = rw same at found in
+  | inl same ↦ let first_is : Some first ≡ Some x = rw same at found in
       let same_value : first ≡ x = cc first_is in
       ap word (sym same_value) ∙ same_text (word first) text (sym same)
   | inr other ↦ has_word word rest text x (rw other at found)
