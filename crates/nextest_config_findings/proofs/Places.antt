@@ -54,20 +54,20 @@ column_within column byte n within some = grind (arith, nat_tests)
 -- ---- findings at their lines
 
 -- what is led to in a document is led to in its text
-leads_in_text : (contents : List ℕ) (members : Members) (path : List PathStep) → parse_document contents ≡ Some members → IsSome (found_in members path) → LeadsIn contents path contents
-leads_in_text contents members path reads leads =
+leads_in_text : (contents : List ℕ) (top : Members) (path : List PathStep) → parse_document contents ≡ Some top → IsSome (found_in top path) → LeadsIn contents path contents
+leads_in_text contents top path reads leads =
     record {
-      read = record { cut = record { rest = []; whole = sym (append-nil contents); ends = inr refl }; members = members; reads = reads };
+      read = record { cut = record { rest = []; whole = sym (append-nil contents); ends = inr refl }; members = top; reads = reads };
       leads = leads;
     }
 
 -- findings that tell what stands at values of a document stand in its text
-pub all_in_text : (contents : List ℕ) (members : Members) → parse_document contents ≡ Some members → (findings : List Finding) (founds : List Found) → Tells findings founds
-    → AllByRecursion (LeadsToValue members) founds → AllByRecursion (IsFindingIn contents) findings
-all_in_text contents members reads [] founds told lead = tt
-all_in_text contents members reads (finding ∷ findings) (found ∷ founds) told lead =
-    ((found, cc told, leads_in_text contents members (line_path found) reads lead.0), all_in_text contents members reads findings founds (cc told) lead.1)
-all_in_text contents members reads (finding ∷ findings) [] told lead = absurd (cc told)
+pub all_in_text : (contents : List ℕ) (top : Members) → parse_document contents ≡ Some top → (findings : List Finding) (founds : List Found) → Tells findings founds
+    → AllByRecursion (LeadsToValue top) founds → AllByRecursion (IsFindingIn contents) findings
+all_in_text contents top reads [] founds told lead = tt
+all_in_text contents top reads (finding ∷ findings) (found ∷ founds) told lead =
+    ((found, cc told, leads_in_text contents top (line_path found) reads lead.0), all_in_text contents top reads findings founds (cc told) lead.1)
+all_in_text contents top reads (finding ∷ findings) [] told lead = absurd (cc told)
 
 -- findings at the lines of what they tell
 pub all_at_lines : (contents : List ℕ) (findings : List Finding) (located : List LocatedFinding) → AllZip (IsFindingAtLine contents) findings located
