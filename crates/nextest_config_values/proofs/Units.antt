@@ -1,5 +1,5 @@
 -- The search of a table of names, by bytes and by characters.
-use Rattle.std.proofs.Common.{◌≡◌, ℕ, Bool, true, false, not, List, [], ◌∷◌, map, nat_eq, Some, None, slice_get, refl, sym, ap, ◌∙◌, inl, inr}
+use Rattle.std.proofs.Common.{◌≡◌, ℕ, length, rules, Bool, true, false, not, List, [], ◌∷◌, map, nat_eq, Some, None, slice_get, refl, sym, ap, ◌∙◌, inl, inr}
 use Rattle.std.specs.Prelude.{chars, encode_utf8_all}
 use Rattle.std.proofs.lemmas.Bool.{cases_Bool}
 use Rattle.std.proofs.lemmas.Str.{chars-encodes, encodes-chars}
@@ -42,6 +42,10 @@ by_rows may (row ∷ table) word allowed = elim (cases_Bool (may row.0)) [
   ]
 ]
 
+-- the rows of words that aren't of one byte
+abbrev pub others : List (List ℕ × ℕ) → List (List ℕ × ℕ)
+others = filter (λ row. not (nat_eq (length row.0) 1))
+
 -- the first byte is of this kind
 abbrev pub first_is : (ℕ → Bool) → List ℕ → Bool
 first_is kind [] = false
@@ -60,3 +64,12 @@ module _ (kind : ℕ → Bool) (table : List (List ℕ × ℕ)) where
       begins : (word : List ℕ) → ((b : ℕ) → Some b ≡ slice_get word 0 → kind b ≡ false) → not (first_is kind word) ≡ true
       begins [] other = refl
       begins (b ∷ word) other = rw (other b refl) refl
+
+module _ (table : List (List ℕ × ℕ)) (word : List ℕ) where
+  -- a word of one byte is sought among those
+  pub by_one : length word ≡ 1 → length_in (filter (λ row. nat_eq (length row.0) 1) table) word ≡ length_in table word
+  by_one one = by_rows (λ name. nat_eq (length name) 1) table word (search rules)
+
+  -- and any other among the others
+  pub by_others : nat_eq (length word) 1 ≡ false → length_in (others table) word ≡ length_in table word
+  by_others other = by_rows (λ name. not (nat_eq (length name) 1)) table word (rw other refl)

@@ -11,13 +11,23 @@ use std::time::Duration;
 use thiserror::Error;
 use toml::Value;
 
-// The words of the units by their first letters, each with the length of its unit in nanoseconds.
-// Letter case counts.
+// The units that are one letter, each with its length in nanoseconds. Letter case counts.
+const LETTERS: [(&str, u64); 7] = [
+    ("s", 1_000_000_000),
+    ("m", 60_000_000_000),
+    ("h", 3_600_000_000_000),
+    ("d", 86_400_000_000_000),
+    ("w", 604_800_000_000_000),
+    ("M", 2_630_016_000_000_000),
+    ("y", 31_557_600_000_000_000),
+];
+
+// The longer words of the units by their first letters.
 const NANOSECONDS: [(&str, u64); 3] = [("nanos", 1), ("nsec", 1), ("ns", 1)];
 
 const MICROSECONDS: [(&str, u64); 3] = [("usec", 1_000), ("us", 1_000), ("µs", 1_000)];
 
-const MILLISECONDS_MINUTES_MONTHS: [(&str, u64); 11] = [
+const MILLISECONDS_MINUTES_MONTHS: [(&str, u64); 9] = [
     ("millis", 1_000_000),
     ("msec", 1_000_000),
     ("ms", 1_000_000),
@@ -25,48 +35,38 @@ const MILLISECONDS_MINUTES_MONTHS: [(&str, u64); 11] = [
     ("minute", 60_000_000_000),
     ("mins", 60_000_000_000),
     ("min", 60_000_000_000),
-    ("m", 60_000_000_000),
     ("months", 2_630_016_000_000_000),
     ("month", 2_630_016_000_000_000),
-    ("M", 2_630_016_000_000_000),
 ];
 
-const SECONDS: [(&str, u64); 5] = [
+const SECONDS: [(&str, u64); 4] = [
     ("seconds", 1_000_000_000),
     ("second", 1_000_000_000),
     ("secs", 1_000_000_000),
     ("sec", 1_000_000_000),
-    ("s", 1_000_000_000),
 ];
 
-const HOURS: [(&str, u64); 5] = [
+const HOURS: [(&str, u64); 4] = [
     ("hours", 3_600_000_000_000),
     ("hour", 3_600_000_000_000),
     ("hrs", 3_600_000_000_000),
     ("hr", 3_600_000_000_000),
-    ("h", 3_600_000_000_000),
 ];
 
-const DAYS: [(&str, u64); 3] = [
-    ("days", 86_400_000_000_000),
-    ("day", 86_400_000_000_000),
-    ("d", 86_400_000_000_000),
-];
+const DAYS: [(&str, u64); 2] = [("days", 86_400_000_000_000), ("day", 86_400_000_000_000)];
 
-const WEEKS: [(&str, u64); 5] = [
+const WEEKS: [(&str, u64); 4] = [
     ("weeks", 604_800_000_000_000),
     ("week", 604_800_000_000_000),
     ("wks", 604_800_000_000_000),
     ("wk", 604_800_000_000_000),
-    ("w", 604_800_000_000_000),
 ];
 
-const YEARS: [(&str, u64); 5] = [
+const YEARS: [(&str, u64); 4] = [
     ("years", 31_557_600_000_000_000),
     ("year", 31_557_600_000_000_000),
     ("yrs", 31_557_600_000_000_000),
     ("yr", 31_557_600_000_000_000),
-    ("y", 31_557_600_000_000_000),
 ];
 
 /// Why a text is no duration. Offsets are in bytes, from 0.
@@ -158,12 +158,15 @@ fn split_run<F: FnMut(char) -> bool + Drop>(text: &str, ends: F) -> (&str, &str)
 fn unit_length(word: &str) -> Option<u64>
     ensures { result ≡ unit_length (chars word.now) }
 {
+    if word.len() == 1 {
+        return find_unit(&LETTERS, word);
+    }
     let first = word.as_bytes().first()?;
     match *first {
         b'n' => find_unit(&NANOSECONDS, word),
         // `µ` begins with this byte.
         b'u' | 0xC2 => find_unit(&MICROSECONDS, word),
-        b'm' | b'M' => find_unit(&MILLISECONDS_MINUTES_MONTHS, word),
+        b'm' => find_unit(&MILLISECONDS_MINUTES_MONTHS, word),
         b's' => find_unit(&SECONDS, word),
         b'h' => find_unit(&HOURS, word),
         b'd' => find_unit(&DAYS, word),
