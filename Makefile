@@ -35,6 +35,7 @@ test: toolchain
 	bench/measure-durations --small --alone $(BENCH)
 	bench/measure-hostile --small --program $(PROGRAM) --alone $(BENCH)
 	bench/measure-board --small --alone $(BENCH)
+	bench/measure-nothing --small --alone $(BENCH)
 	bench/measure-findings --small --alone $(BENCH)
 
 run: toolchain

@@ -11,12 +11,16 @@
 //! too, and
 //! `board` puts them on a board and makes so many changes there, each with the verdict behind it.
 //! The
-//!   verdict has to be an error that names the greatest version.
+//!   verdict has to be an error that names the greatest version;
+//! - `make OF GIVEN SIZE` makes so many `sources` or files of `tools` that ask nothing, with
+//! contents that
+//!   are `empty` or `absent`, and `read` reads them, too.
 #![tactic(auto)]
 
 mod alone;
 mod board;
 mod files;
+mod nothing;
 
 use std::env;
 use std::process::ExitCode;
@@ -38,6 +42,7 @@ fn run(rt: &HostRuntime) -> Option<()> {
         [what, size, changes] => {
             board::run(rt.alloc(), what, size.parse().ok()?, changes.parse().ok()?)
         }
+        [what, of, given, size] => nothing::run(rt.alloc(), what, of, given, size.parse().ok()?),
         _ => None,
     }
 }

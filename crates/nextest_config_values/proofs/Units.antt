@@ -1,5 +1,5 @@
 -- The search of a table of names, by bytes and by characters.
-use Rattle.std.proofs.Common.{◌≡◌, ℕ, length, rules, Bool, true, false, not, List, [], ◌∷◌, map, nat_eq, Some, None, slice_get, refl, sym, ap, ◌∙◌, inl, inr}
+use Rattle.std.proofs.Common.{◌≡◌, ◌≢◌, ℕ, length, rules, Bool, true, false, not, List, [], ◌∷◌, map, nat_eq, Some, None, slice_get, refl, sym, ap, ◌∙◌, inl, inr}
 use Rattle.std.specs.Prelude.{chars, encode_utf8_all}
 use Rattle.std.proofs.lemmas.Bool.{cases_Bool}
 use Rattle.std.proofs.lemmas.Str.{chars-encodes, encodes-chars}
@@ -71,5 +71,5 @@ module _ (table : List (List ℕ × ℕ)) (word : List ℕ) where
   by_one one = by_rows (λ name. nat_eq (length name) 1) table word (search rules)
 
   -- and any other among the others
-  pub by_others : nat_eq (length word) 1 ≡ false → length_in (others table) word ≡ length_in table word
-  by_others other = by_rows (λ name. not (nat_eq (length name) 1)) table word (rw other refl)
+  pub by_others : length word ≢ 1 → length_in (others table) word ≡ length_in table word
+  by_others other = by_rows (λ name. not (nat_eq (length name) 1)) table word (search rules)
