@@ -4,9 +4,12 @@ use crate::memory::MemoryFiles;
 use crate::tests::blocks::Run;
 use crate::tests::words::asked;
 use nextest_config_command::serve;
-use nextest_config_rows::rows::{Runner, compare, copied, done, push};
+use nextest_config_rows::rows::{Runner, compare, copied, done};
 use std::alloc::Global;
 use std::io::{self, ErrorKind, Write};
+
+// What is told behind bytes that weren't passed on.
+const NOT_FLUSHED: &str = "(not flushed)";
 
 // What an odd call of a writer answers: how many bytes it takes at most, or why it fails.
 type Odd = Result<usize, ErrorKind>;
@@ -29,6 +32,11 @@ struct Manner {
 const PLAIN: Manner = Manner {
     step: 4096,
     odd: None,
+};
+
+const BROKEN: Manner = Manner {
+    step: 16,
+    odd: Some((0, Err(ErrorKind::BrokenPipe))),
 };
 
 // A writer that keeps what it takes.
@@ -64,7 +72,7 @@ impl Watched {
     // What was kept, and whether it was passed on.
     fn told(&self, rt: &impl Runner) -> String {
         let kept = str::from_utf8(self.kept.as_slice()).unwrap_or("no text");
-        let mark = if self.is_flushed { "" } else { "(not flushed)" };
+        let mark = if self.is_flushed { "" } else { NOT_FLUSHED };
         done(rt, format!(in rt.alloc(); "{kept}{mark}"))
     }
 }
@@ -84,17 +92,27 @@ impl Write for Watched {
     }
 }
 
-/// Does the run, and again with each call of its streams odd in turn.
+/// Does the run, and again with each call of its streams odd in turn, and so with those of its first
+/// complaint where the answer can't be written, too.
 pub(crate) fn check_run(rt: &impl Runner, files: &MemoryFiles, run: &Run<'_>) {
     compare_run(rt, files, run, PLAIN, PLAIN);
     for odd in ODD {
-        for call in 0..written_calls(run) {
-            let odd = Some((call, odd));
-            compare_run(rt, files, run, Manner { step: 16, odd }, PLAIN);
-        }
-        for call in 0..=run.complaint.len() {
-            let odd = Some((call, odd));
-            compare_run(rt, files, run, PLAIN, Manner { step: 1, odd });
+        check_odd(rt, files, run, odd);
+    }
+}
+
+// Does the run with each call of its streams odd in this way.
+fn check_odd(rt: &impl Runner, files: &MemoryFiles, run: &Run<'_>, odd: Odd) {
+    let calls = written_calls(run);
+    for call in 0..calls {
+        let odd = Some((call, odd));
+        compare_run(rt, files, run, Manner { step: 16, odd }, PLAIN);
+    }
+    for call in 0..=run.complaint.len() {
+        let odd = Some((call, odd));
+        compare_run(rt, files, run, PLAIN, Manner { step: 1, odd });
+        if calls > 0 && call < run.complaint.len() {
+            compare_run(rt, files, run, BROKEN, Manner { step: 1, odd });
         }
     }
 }
@@ -110,8 +128,8 @@ fn written_calls(run: &Run<'_>) -> usize {
 }
 
 // Does the run over streams of which one may have an odd call. Where the writer fails, the status
-// is 3, and the run complains of that at last; where a complaint fails, the status and the output
-// stay.
+// is 3, and the run complains of that at last, whatever became of what it said before; where a
+// complaint fails, the status and the output stay.
 fn compare_run(
     rt: &impl Runner,
     files: &MemoryFiles,
@@ -134,7 +152,8 @@ fn compare_run(
     let (_, mut complaint) = taken(rt, faults_manner, run.complaint.as_str());
     let status = if is_written { run.status } else { "3" };
     if !is_written {
-        push(rt, &mut complaint, "cannot write output\n");
+        let said = complaint.as_str().trim_end_matches(NOT_FLUSHED);
+        complaint = done(rt, format!(in rt.alloc(); "{said}cannot write output\n"));
     }
     let wanted = done(
         rt,
@@ -160,7 +179,7 @@ fn taken(rt: &impl Runner, manner: Manner, text: &str) -> (bool, String) {
     } else if front.is_empty() {
         String::new(rt.alloc())
     } else {
-        done(rt, format!(in rt.alloc(); "{front}(not flushed)"))
+        done(rt, format!(in rt.alloc(); "{front}{NOT_FLUSHED}"))
     };
     (goes_on, told)
 }

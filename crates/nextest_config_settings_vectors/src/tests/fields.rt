@@ -1,6 +1,7 @@
 //! The fields of tables, and a reader of this crate's own: an integer from 0 to 100.
 
-ghost use Rattle.std.specs.Prelude.{◌≤◌, ℕ, codes};
+ghost use Rattle.std.specs.Prelude.{◌<◌, ℕ, codes};
+ghost use Rattle.nextest_config_values.specs.Decisions.{below_decided};
 ghost use Rattle.nextest_config_values.specs.Read.{number_reading};
 
 use crate::tests::runner::Test;
@@ -21,7 +22,8 @@ impl FromToml for Percent {
 
     ghost seen = { λ it. it.percent };
 
-    ghost reading = { number_reading (λ n. n ≤ 100) (codes "a percentage") };
+    ghost reading = { number_reading (λ n. n < 101) (λ n. below_decided n 101)
+        (codes "a percentage") };
 
     fn read(alloc: Global, value: &Value, at: &str) -> Result<Self, ReadFault> {
         let Some(number) = value.as_integer() else {
