@@ -1,20 +1,15 @@
-//! What the scripts of `bench/` measure. The words say what is done; where it fails, the status is
-//! 1:
+//! What the scripts of `bench/` measure. The words say what is done; where that fails, the status
+//! is 1.
 //!
-//! - `toml` reads the sources on standard input with `toml` and nothing else, and lets each
-//! document go;
-//! - `duration` reads standard input as one duration;
+//! - `toml` reads the sources on standard input with `toml` alone, and lets each document go.
+//! - `duration` reads standard input as one duration.
 //! - `findings` and `located` judge standard input as a configuration file, the first without its
-//! lines, and
-//!   print how much is found;
+//!   lines, and print how much is found.
 //! - `sources SIZE CHANGES` makes so many sources of one version each, `list` reads them as a list,
-//! too, and
-//! `board` puts them on a board and makes so many changes there, each with the verdict behind it.
-//! The
-//!   verdict has to be an error that names the greatest version;
-//! - `make OF GIVEN SIZE` makes so many `sources` or files of `tools` that ask nothing, with
-//! contents that
-//!   are `empty` or `absent`, and `read` reads them, too.
+//!   too, and `board` puts them on a board and makes so many changes there, each with the verdict
+//!   behind it, which has to be an error that names the greatest version.
+//! - `make OF GIVEN SIZE` makes so many `sources`, or files of `tools`, that ask nothing: their
+//!   contents are `empty` or `absent`. `read` reads them, too.
 #![tactic(auto)]
 
 mod alone;
