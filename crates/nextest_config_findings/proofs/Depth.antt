@@ -3,7 +3,7 @@ use Rattle.std.specs.Prelude.{◌≡◌, ℕ, zero, suc, ◌+◌, List, [], ◌�
 use Rattle.std.proofs.Common.{add-suc, ap, ap₂, refl}
 use Rattle.std.specs.List.{AllByRecursion}
 use Rattle.toml.specs.Data.{array, Data, get_member, item, Items, Members, no_items, table}
-use Rattle.nextest_config_lines.specs.Step.{key, PathStep}
+use Rattle.nextest_config_positions.specs.Step.{key, PathStep}
 use Rattle.nextest_config_values.proofs.Elements.{all_joined}
 use Rattle.nextest_config_findings.specs.Judged.{at_known_key, below, below_array, below_table, below_value, deepest, EndsWithin, from_table, if_there, judged_in, JudgedValue, known_in, names_of, overrides_in, places_among, places_below}
 use Rattle.nextest_config_findings.specs.Place.{keys_of}

@@ -10,7 +10,7 @@ use Rattle.nextest_config_sources.specs.declared.nextest_version.edition.Edition
 use Rattle.nextest_config_sources.specs.declared.nextest_version.source.ConfigSourceKind.{ConfigSourceKind}
 use Rattle.nextest_config_sources.specs.declared.nextest_version.source.ConfigSourceKind.TheVariants.{Tool}
 use Rattle.nextest_config_hints.specs.NearestWord.{nearest_once}
-use Rattle.nextest_config_lines.specs.Step.{PathStep, printed_path}
+use Rattle.nextest_config_positions.specs.Step.{PathStep, printed_path}
 use Rattle.nextest_config_findings.specs.Document.{AreFindings, keys_of_document}
 use Rattle.nextest_config_findings.specs.Faults.{added_step, IsFaultFound, IsFoundKind, IsFoundOf, led_to}
 use Rattle.nextest_config_findings.specs.Features.{AreFeaturesFound, AreNamedFound, AreToolsFound, features_path, IsNameFound}

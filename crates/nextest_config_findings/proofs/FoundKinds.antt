@@ -3,7 +3,7 @@ use Rattle.std.proofs.Common.{◌≡◌, ◌↔◌, ℕ, Bool, true, false, IfSo
 use Rattle.toml.specs.Data.{Data}
 use Rattle.nextest_config_values.specs.Read.Fault.{Fault}
 use Rattle.nextest_config_values.specs.Read.{fault_at, Reason}
-use Rattle.nextest_config_lines.specs.Step.{PathStep, printed_path}
+use Rattle.nextest_config_positions.specs.Step.{PathStep, printed_path}
 use Rattle.nextest_config_findings.specs.Faults.{Added, added_step, IsFoundKind, IsFoundOf, IsUnjudged, led_to, with_added}
 use Rattle.nextest_config_findings.specs.Found.{Found, found_at, FoundKind, refused, unjudged}
 

@@ -6,8 +6,8 @@ use Rattle.std.proofs.lemmas.Option.{none-some, option_and_then_some, same_Some}
 use Rattle.std.specs.List.{AllByRecursion}
 use Rattle.toml.specs.Data.{array, as_str, Data, get_item, get_member, item, Items, Members, no_items, table}
 use Rattle.toml_parser.specs.Lexical.{dot, left_bracket}
-use Rattle.nextest_config_lines.specs.Line.{found_below, found_in, step_from}
-use Rattle.nextest_config_lines.specs.Step.{index, key, PathStep, printed_path}
+use Rattle.nextest_config_positions.specs.Line.{found_below, found_in, step_from}
+use Rattle.nextest_config_positions.specs.Step.{index, key, PathStep, printed_path}
 use Rattle.nextest_config_sources.specs.NextestVersion.{experimental_key, Features}
 use Rattle.nextest_config_sources.specs.declared.nextest_version.edition.Edition.{Edition}
 use Rattle.nextest_config_sources.specs.declared.nextest_version.source.ConfigSourceKind.{ConfigSourceKind}

@@ -7,8 +7,8 @@ use Rattle.std.proofs.lemmas.List.{take_more}
 use Rattle.std.proofs.lemmas.List.Sums.{sum_by_push}
 use Rattle.toml.specs.Data.{Members}
 use Rattle.toml.specs.Parse.{parse_document}
-use Rattle.nextest_config_lines.specs.Line.{found_in, LeadsIn}
-use Rattle.nextest_config_lines.specs.Step.{PathStep}
+use Rattle.nextest_config_positions.specs.Line.{found_in, LeadsIn}
+use Rattle.nextest_config_positions.specs.Step.{PathStep}
 use Rattle.nextest_config_values.specs.Characters.{line_feed}
 use Rattle.nextest_config_values.proofs.Elements.{all_joined}
 use Rattle.nextest_config_findings.specs.File.{AreAtLines, begins_character, column_after, IsColumn, IsFindingAtLine, IsFindingIn, IsInLine, line_path}

@@ -8,7 +8,7 @@ use Rattle.toml.proofs.Views.{Entry, view-lookup}
 use Rattle.toml.specs.Data.{get_member}
 use Rattle.toml.specs.View.{members_view, table_view, view}
 use Rattle.toml.specs.declared.value.Value.{Value}
-use Rattle.nextest_config_lines.specs.Step.{key, PathStep}
+use Rattle.nextest_config_positions.specs.Step.{key, PathStep}
 use Rattle.nextest_config_findings.specs.Judged.{at_known_key, judged_at, JudgedValue, names_of}
 use Rattle.nextest_config_findings.specs.declared.place.Place.TheVariants.{Profile}
 

@@ -1,6 +1,6 @@
 -- How grave findings are.
 use Rattle.std.proofs.Common.{◌≡◌, List, map, None, Option, Some, ap, option_map}
-use Rattle.nextest_config_lines.specs.Step.{PathStep, step_of}
+use Rattle.nextest_config_positions.specs.Step.{PathStep, step_of}
 use Rattle.nextest_config_findings.specs.Finding.{gravity_told, severity_of}
 use Rattle.nextest_config_findings.specs.Found.{Found, found_at, FoundKind, found_of, gravity, kind_told}
 use Rattle.nextest_config_findings.specs.declared.finding.Finding.{Finding}

@@ -9,7 +9,7 @@ use Rattle.nextest_config_values.specs.Read.{either, Reading}
 use Rattle.nextest_config_sources.specs.NextestVersion.{Ask, experimental_key, features_reading, FeatureSetting, no_feature_setting, no_versions, ObeysForm, ObeysToolRule, TextAsks, version_key, Versions, versions_reading}
 use Rattle.nextest_config_sources.specs.declared.nextest_version.edition.Edition.{Edition}
 use Rattle.nextest_config_sources.specs.declared.nextest_version.source.ConfigSourceKind.{ConfigSourceKind}
-use Rattle.nextest_config_lines.specs.Step.{key, printed_path}
+use Rattle.nextest_config_positions.specs.Step.{key, printed_path}
 use Rattle.nextest_config_findings.proofs.NoDuration.{experimental_no_duration, NeverDuration, versions_no_duration}
 use Rattle.nextest_config_findings.proofs.Warnings.{warned_in}
 use Rattle.nextest_config_findings.specs.Document.{AreFindings}

@@ -10,7 +10,7 @@ use Rattle.nextest_config_sources.specs.NextestVersion.{experimental_key, Featur
 use Rattle.nextest_config_sources.specs.declared.nextest_version.edition.Edition.{Edition}
 use Rattle.nextest_config_sources.specs.declared.nextest_version.source.ConfigSourceKind.{ConfigSourceKind}
 use Rattle.nextest_config_sources.specs.declared.nextest_version.source.ConfigSourceKind.TheVariants.{DiscoveredRepository, ExplicitRepository, Tool}
-use Rattle.nextest_config_lines.specs.Step.{printed_path}
+use Rattle.nextest_config_positions.specs.Step.{printed_path}
 use Rattle.nextest_config_findings.specs.Document.{AreFindings, keys_of_document}
 use Rattle.nextest_config_findings.specs.Faults.{IsFaultFound, IsFoundKind, IsUnjudged}
 use Rattle.nextest_config_findings.specs.Features.{AreFeaturesFound, AreNamedFound, IsNameFound}

@@ -7,7 +7,7 @@ use Rattle.nextest_config_values.specs.Read.Fault.{Fault, invalid_value}
 use Rattle.nextest_config_values.specs.Read.{Reason}
 use Rattle.nextest_config_sources.specs.declared.nextest_version.edition.Edition.{Edition}
 use Rattle.nextest_config_hints.specs.UnjudgedDuration.{MayBeDuration}
-use Rattle.nextest_config_lines.specs.Step.{index, key, PathStep, printed_path}
+use Rattle.nextest_config_positions.specs.Step.{index, key, PathStep, printed_path}
 use Rattle.nextest_config_findings.specs.Found.{Found, FoundKind, refused, unjudged}
 use Rattle.nextest_config_findings.specs.Judged.{JudgedValue}
 use Rattle.nextest_config_findings.specs.Place.{place_check}

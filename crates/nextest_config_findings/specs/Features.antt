@@ -6,7 +6,7 @@ use Rattle.nextest_config_sources.specs.NextestVersion.{all_features, AreNames, 
 use Rattle.nextest_config_sources.specs.declared.nextest_version.edition.Edition.{Edition}
 use Rattle.nextest_config_sources.specs.declared.nextest_version.source.ConfigSourceKind.{ConfigSourceKind}
 use Rattle.nextest_config_sources.specs.declared.nextest_version.source.ConfigSourceKind.TheVariants.{DiscoveredRepository, ExplicitRepository, Tool}
-use Rattle.nextest_config_lines.specs.Step.{key, PathStep}
+use Rattle.nextest_config_positions.specs.Step.{key, PathStep}
 use Rattle.nextest_config_findings.specs.Found.{AreFoundIn, Found, found_at, IsNearestMeant, Meant, tool_names, unknown_name}
 use Rattle.nextest_config_findings.specs.Place.{experimental_check}
 

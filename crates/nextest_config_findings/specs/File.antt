@@ -11,8 +11,8 @@ use Rattle.toml.specs.declared.de.error.Error.{Error}
 use Rattle.nextest_config_values.specs.Characters.{line_feed}
 use Rattle.nextest_config_sources.specs.declared.nextest_version.edition.Edition.{Edition}
 use Rattle.nextest_config_sources.specs.declared.nextest_version.source.ConfigSourceKind.{ConfigSourceKind}
-use Rattle.nextest_config_lines.specs.Line.{EndsLine, IsLine, LeadsIn, line_behind}
-use Rattle.nextest_config_lines.specs.Step.{key, PathStep}
+use Rattle.nextest_config_positions.specs.Line.{EndsLine, IsLine, LeadsIn, line_behind}
+use Rattle.nextest_config_positions.specs.Step.{key, PathStep}
 use Rattle.nextest_config_findings.specs.Document.{AreFindings}
 use Rattle.nextest_config_findings.specs.Found.{Found, found_at, FoundKind, found_of, not_toml, not_utf8, unknown_key}
 use Rattle.nextest_config_findings.specs.declared.file.LocatedFinding.{LocatedFinding}

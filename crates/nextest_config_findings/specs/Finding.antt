@@ -1,7 +1,7 @@
 -- How grave findings are, and how they print.
 use Rattle.std.specs.Prelude.{ℕ, List, [], ◌∷◌, ◌++◌, map, codes, Option, Some, None, string_bytes}
 use Rattle.nextest_config_values.specs.Read.{kind_text, quoted_text, quoted_texts}
-use Rattle.nextest_config_lines.specs.Step.{PathStep, printed_path, step_of}
+use Rattle.nextest_config_positions.specs.Step.{PathStep, printed_path, step_of}
 use Rattle.nextest_config_findings.specs.Found.{FoundKind, gravity, kind_told}
 use Rattle.nextest_config_findings.specs.declared.finding.Finding.{Finding}
 use Rattle.nextest_config_findings.specs.declared.finding.FindingKind.{FindingKind}

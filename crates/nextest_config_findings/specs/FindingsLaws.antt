@@ -7,8 +7,8 @@ use Rattle.nextest_config_values.specs.Read.Fault.{Fault}
 use Rattle.nextest_config_sources.specs.NextestVersion.{experimental_key, FeatureSetting, features_reading, ObeysForm, ObeysToolRule}
 use Rattle.nextest_config_sources.specs.declared.nextest_version.edition.Edition.{Edition}
 use Rattle.nextest_config_sources.specs.declared.nextest_version.source.ConfigSourceKind.{ConfigSourceKind}
-use Rattle.nextest_config_lines.specs.Line.{found_in}
-use Rattle.nextest_config_lines.specs.Step.{printed_path}
+use Rattle.nextest_config_positions.specs.Line.{found_in}
+use Rattle.nextest_config_positions.specs.Step.{printed_path}
 use Rattle.nextest_config_findings.specs.Faults.{added_step, IsUnjudged, led_to}
 use Rattle.nextest_config_findings.specs.File.{line_path}
 use Rattle.nextest_config_findings.specs.Finding.{severity_of}

@@ -3,7 +3,7 @@ use Rattle.std.specs.Prelude.{◌≡◌, ℕ, List, [], ◌∷◌, ◌++◌, map
 use Rattle.std.specs.declared.alloc.Global.{Global}
 use Rattle.nextest_config_values.specs.Read.{Reason, reason_of}
 use Rattle.nextest_config_hints.specs.NearestWord.{IsNearest}
-use Rattle.nextest_config_lines.specs.Step.{PathStep, step_of}
+use Rattle.nextest_config_positions.specs.Step.{PathStep, step_of}
 use Rattle.nextest_config_findings.specs.declared.finding.Finding.{Finding}
 use Rattle.nextest_config_findings.specs.declared.finding.FindingKind.{FindingKind}
 use Rattle.nextest_config_findings.specs.declared.finding.FindingKind.TheVariants as kinds

@@ -4,7 +4,7 @@ use Rattle.std.specs.declared.alloc.Global.{Global}
 use Rattle.std.specs.List.{AllByRecursion}
 use Rattle.toml.specs.Data.{array, Data, get_member, item, Items, member, Members, no_items, no_members, table}
 use Rattle.toml.specs.View.{view}
-use Rattle.nextest_config_lines.specs.Step.{index, key, PathStep}
+use Rattle.nextest_config_positions.specs.Step.{index, key, PathStep}
 use Rattle.nextest_config_findings.specs.Place.{keys_of}
 use Rattle.nextest_config_findings.specs.declared.judged.Judged.{Judged}
 use Rattle.nextest_config_findings.specs.declared.judged.Mark.{Mark}

@@ -2,7 +2,7 @@
 use Rattle.std.specs.Prelude.{◌≡◌, ◌&&◌, ℕ, Bool, true, false, not, List, [], is_some, map, Option, Some, None}
 use Rattle.toml.specs.Data.{Data, Members, table}
 use Rattle.nextest_config_values.specs.Read.{value_of}
-use Rattle.nextest_config_lines.specs.Step.{PathStep}
+use Rattle.nextest_config_positions.specs.Step.{PathStep}
 use Rattle.nextest_config_findings.specs.Found.{Found, found_at, IsNearestMeant, Meant, the_top, unknown_key}
 use Rattle.nextest_config_findings.specs.Judged.{JudgedValue, names_of}
 use Rattle.nextest_config_findings.specs.Place.{is_top, keys_of, rows_of}

@@ -11,7 +11,7 @@ ghost use Rattle.nextest_config_findings.specs.Found.{AddsOne, AreFoundIn, found
 use crate::finding::{Finding, FindingKind, Hint};
 use crate::judged::at_key;
 use crate::place::read_experimental;
-use nextest_config_lines::Step;
+use nextest_config_positions::Step;
 use nextest_config_sources::nextest_version::{
     ConfigExperimental, ConfigSourceKind, Edition, ExperimentalDeserialize,
 };

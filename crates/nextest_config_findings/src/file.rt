@@ -5,14 +5,14 @@ ghost use Rattle.std.specs.List.{AllByRecursion, AllZip};
 ghost use Rattle.toml.specs.Errors.{IsMemory, IsWithin, span_start};
 ghost use Rattle.toml.specs.Parse.{parse_document};
 ghost use Rattle.toml.specs.View.{table_view};
-ghost use Rattle.nextest_config_lines.specs.Line.{IsLine, LeadsIn, line_behind};
-ghost use Rattle.nextest_config_lines.specs.Step.{step_of};
+ghost use Rattle.nextest_config_positions.specs.Line.{IsLine, LeadsIn, line_behind};
+ghost use Rattle.nextest_config_positions.specs.Step.{step_of};
 ghost use Rattle.nextest_config_findings.specs.File.{AreInText, AreLocated, AreLocatedIn, column_after, IsColumn, IsFindingAtLine, IsFindingIn, IsNotTomlAt, line_path, located_told};
 ghost use Rattle.nextest_config_findings.specs.Found.{Found, found_at, found_of, kind_told, not_utf8};
 
 use crate::document::findings;
 use crate::finding::{Finding, FindingKind};
-use nextest_config_lines::{Step, line_behind, line_of};
+use nextest_config_positions::{Step, line_behind, line_of};
 use nextest_config_sources::nextest_version::{ConfigSourceKind, Edition};
 use std::alloc::{AllocError, Global};
 use toml::Table;

@@ -7,7 +7,7 @@ ghost use Rattle.nextest_config_findings.specs.Found.{IsNearestMeant, meant_of};
 ghost use Rattle.nextest_config_findings.specs.Finding.{finding_kind_text, finding_text, hint_text, severity_of};
 
 use nextest_config_hints::nearest_word::nearest;
-use nextest_config_lines::{PathText, Step};
+use nextest_config_positions::{PathText, Step};
 use nextest_config_values::read::{FaultKind, QuotedText, QuotedTexts};
 use std::alloc::{AllocError, Global};
 use std::collections::BTreeSet;

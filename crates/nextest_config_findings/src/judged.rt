@@ -3,12 +3,12 @@
 ghost use Rattle.std.specs.Prelude.{◌≡◌, ◌++◌, [], ◌∷◌, IfOk, OnOk, flat_map, map, option_map};
 ghost use Rattle.toml.specs.Data.{get_member};
 ghost use Rattle.toml.specs.View.{array_view, table_view, view};
-ghost use Rattle.nextest_config_lines.specs.Step.{step_of};
+ghost use Rattle.nextest_config_positions.specs.Step.{step_of};
 ghost use Rattle.nextest_config_findings.specs.Judged.{AreJudged, at_known_key, below, below_table, deepest, from_table, judged_at, judged_in, judged_value, mark_step, overrides_in, profiles_in};
 ghost use Rattle.nextest_config_findings.specs.Place.{keys_told};
 
 use crate::place::Place;
-use nextest_config_lines::Step;
+use nextest_config_positions::Step;
 use std::alloc::{AllocError, Global};
 use toml::value::Array;
 use toml::{Table, Value};

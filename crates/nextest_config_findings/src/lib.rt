@@ -14,4 +14,4 @@ mod unknown;
 pub use document::findings;
 pub use file::{LocatedFinding, located};
 pub use finding::{Finding, FindingKind, Hint, Severity};
-pub use nextest_config_lines::{PathText, Step, line_of};
+pub use nextest_config_positions::{PathText, Step, line_of};

@@ -1,5 +1,5 @@
 use Rattle.std.proofs.Common.{◌≡◌, Some, ap, rules}
-use Rattle.nextest_config_lines.specs.Step.{printed_path}
+use Rattle.nextest_config_positions.specs.Step.{printed_path}
 use Rattle.nextest_config_findings.specs.Judged.{judged_value}
 use Rattle.nextest_config_findings.proofs.faults.find_fault.Goals as goal
 

@@ -1,7 +1,7 @@
 use Rattle.std.proofs.Common.{◌≡◌, [], ◌∷◌, ◌++◌, None, Some, map, refl, rules, string_bytes}
 use Rattle.std.proofs.lemmas.List.{map_push}
 use Rattle.toml.specs.View.{view}
-use Rattle.nextest_config_lines.specs.Step.{printed_path, step_of}
+use Rattle.nextest_config_positions.specs.Step.{printed_path, step_of}
 use Rattle.nextest_config_findings.specs.Faults.{added_step}
 use Rattle.nextest_config_findings.specs.Judged.{mark_step}
 use Rattle.nextest_config_findings.proofs.FoundKinds.{finding_told}

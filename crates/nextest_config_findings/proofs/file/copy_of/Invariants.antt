@@ -1,5 +1,5 @@
 use Rattle.std.proofs.Common.{◌≡◌, map, take}
-use Rattle.nextest_config_lines.specs.Step.{step_of}
+use Rattle.nextest_config_positions.specs.Step.{step_of}
 use Rattle.nextest_config_findings.proofs.file.copy_of.Given as goal
 
 abbrev pub invariant-loop-step : goal.invariant-loop-step
