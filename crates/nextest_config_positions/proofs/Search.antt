@@ -166,14 +166,16 @@ module _ {text : List ℕ} {path : List PathStep} {low floor high : ℕ} (so : I
       let next : (other : List ℕ) → IsReadFront text other → low < length other → high ≤ length other = λ other read beyond.
       no_read_between text floor high none so.within other read (lt_of_not-le (λ up. so.unread other read beyond up)) in
       record {
-        front = take high text;
-        leads = so.leads;
-        is_first = λ other led. omega (arith, top, next other led.read (so.is_low.nowhere other led));
         before = take low text;
-        is_before = record {
-          read = so.is_low.read;
-          shorter = omega (arith, top, bottom, so.low_within, so.order);
-          is_last = λ other read shorter. elim (cases_lt low (length other)) [ inl beyond ↦ omega (arith, top, shorter, next other read beyond) | inr up ↦ omega (arith, bottom, up) ];
+        front = take high text;
+        of_statement = record {
+          leads = so.leads;
+          is_first = λ other led. omega (arith, top, next other led.read (so.is_low.nowhere other led));
+          is_before = record {
+            read = so.is_low.read;
+            shorter = omega (arith, top, bottom, so.low_within, so.order);
+            is_last = λ other read shorter. elim (cases_lt low (length other)) [ inl beyond ↦ omega (arith, top, shorter, next other read beyond) | inr up ↦ omega (arith, bottom, up) ];
+          };
         };
         line_is = refl;
       }

@@ -57,14 +57,19 @@ pub record IsLastBefore (text front before : List ℕ) : Type 0 where
 abbrev pub line_behind : List ℕ → ℕ
 line_behind front = suc (count_by (λ byte. byte == line_feed) front)
 
--- the line of a path that isn't empty: the one behind the last front that reads before the first
--- one in which the path leads to a value
+-- what a path's statement stands between: the last front that reads before the first one in which
+-- the path leads to a value, and that one
+pub record IsStatementOf (text : List ℕ) (path : List PathStep) (before front : List ℕ) : Type 0
+  where
+    pub leads : LeadsIn text path front
+    pub is_first : (other : List ℕ) → LeadsIn text path other → length front ≤ length other
+    pub is_before : IsLastBefore text front before
+
+-- the line of a path that isn't empty: the one on which its statement begins
 pub record IsLineOf (text : List ℕ) (path : List PathStep) (line : ℕ) : Type 0 where
-  pub front : List ℕ
-  pub leads : LeadsIn text path front
-  pub is_first : (other : List ℕ) → LeadsIn text path other → length front ≤ length other
   pub before : List ℕ
-  pub is_before : IsLastBefore text front before
+  pub front : List ℕ
+  pub of_statement : IsStatementOf text path before front
   pub line_is : line ≡ line_behind before
 
 -- the line of a path

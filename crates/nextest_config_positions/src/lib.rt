@@ -1,8 +1,22 @@
-//! Where values stand in a configuration file: paths, and the line on which a value begins.
+//! Where keys and values stand in a configuration file.
 #![tactic(auto)]
 
+mod begin;
+mod document;
+mod entry;
+mod front;
+mod index;
+mod key;
+pub mod laws;
 mod line;
+mod place;
+mod refusal;
 mod step;
+mod table;
+mod value;
 
+pub use front::place_behind;
+pub use index::Index;
 pub use line::{line_behind, line_of};
+pub use place::{Place, Span};
 pub use step::{PathText, Step};

@@ -1,0 +1,9 @@
+pub mod Alike
+pub mod Stands
+pub mod Rests
+pub mod Found
+pub mod Tables
+pub mod Keys
+pub mod Values
+pub mod Documents
+pub mod Promises

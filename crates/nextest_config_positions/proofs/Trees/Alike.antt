@@ -1,0 +1,58 @@
+-- Two answers that are given together or not at all.
+use Rattle.std.proofs.Common.{◌≡◌, Bool, true, false, cond, Option, Some, None, option_and_then, option_map, refl, sym, ◌∙◌}
+use Rattle.std.proofs.lemmas.Option.{none-some, same_Some}
+
+-- neither is given, or both are, and this holds of them
+pub data Alike {A B : Type 0} (P : A → B → Type 0) (o : Option A) (p : Option B) : Type 0 where
+  neither : o ≡ None → p ≡ None → Alike P o p
+  either : (x : A) (y : B) → o ≡ Some x → p ≡ Some y → P x y → Alike P o p
+
+module _ {A B : Type 0} {P : A → B → Type 0} {o : Option A} {p : Option B} where
+  -- under functions
+  pub alike_map : {C D : Type 0} {Q : C → D → Type 0} (f : A → C) (g : B → D) → Alike P o p
+      → ((x : A) (y : B) → o ≡ Some x → p ≡ Some y → P x y → Q (f x) (g y)) → Alike Q (option_map f o) (option_map g p)
+  alike_map f g (neither none none_too) on = neither (rw none refl) (rw none_too refl)
+  alike_map f g (either x y is is_too holds) on = either (f x) (g y) (rw is refl) (rw is_too refl) (on x y is is_too holds)
+
+  -- and where more is asked of both
+  pub alike_then : {C D : Type 0} {Q : C → D → Type 0} (f : A → Option C) (g : B → Option D) → Alike P o p
+      → ((x : A) (y : B) → o ≡ Some x → p ≡ Some y → P x y → Alike Q (f x) (g y)) → Alike Q (option_and_then f o) (option_and_then g p)
+  alike_then f g (neither none none_too) on = neither (rw none refl) (rw none_too refl)
+  alike_then f g (either x y is is_too holds) on = rw (is, is_too) (on x y is is_too holds)
+
+  -- what holds of both where the first is given
+  pub alike_first : Alike P o p → (x : A) → o ≡ Some x → (y : B) × (p ≡ Some y) × P x y
+  alike_first (neither none none_too) x is = absurd (none-some x (sym none ∙ is))
+  alike_first (either z y is_z is_too holds) x is = (y, is_too, rw (same_Some z x (sym is_z ∙ is)) at holds)
+
+  -- and where the first isn't
+  pub alike_none : Alike P o p → o ≡ None → p ≡ None
+  alike_none (neither none none_too) is = none_too
+  alike_none (either x y is_x is_too holds) is = absurd (none-some x (sym is ∙ is_x))
+
+  -- and the other way round
+  pub alike_second : Alike P o p → (y : B) → p ≡ Some y → (x : A) × (o ≡ Some x) × P x y
+  alike_second (neither none none_too) y is = absurd (none-some y (sym none_too ∙ is))
+  alike_second (either x z is is_z holds) y is_too = (x, is, rw (same_Some z y (sym is_z ∙ is_too)) at holds)
+
+  pub alike_none_too : Alike P o p → p ≡ None → o ≡ None
+  alike_none_too (neither none none_too) is = none
+  alike_none_too (either x y is is_y holds) is_too = absurd (none-some y (sym is_too ∙ is_y))
+
+-- one of two on both sides, by one test
+pub alike_if : {A B : Type 0} {P : A → B → Type 0} (b : Bool) (o o' : Option A) (p p' : Option B)
+    → (b ≡ true → Alike P o p) → (b ≡ false → Alike P o' p') → Alike P (cond b o o') (cond b p p')
+alike_if true o o' p p' held failed = held refl
+alike_if false o o' p p' held failed = failed refl
+
+-- the same answer, where more is asked of it on both sides
+pub alike_same : {X A B : Type 0} {P : A → B → Type 0} (o : Option X) (f : X → Option A) (g : X → Option B)
+    → ((x : X) → o ≡ Some x → Alike P (f x) (g x)) → Alike P (option_and_then f o) (option_and_then g o)
+alike_same None f g on = neither refl refl
+alike_same (Some x) f g on = on x refl
+
+-- and where it is taken under functions
+pub alike_same_map : {X A B : Type 0} {P : A → B → Type 0} (o : Option X) (f : X → A) (g : X → B)
+    → ((x : X) → o ≡ Some x → P (f x) (g x)) → Alike P (option_map f o) (option_map g o)
+alike_same_map None f g on = neither refl refl
+alike_same_map (Some x) f g on = either (f x) (g x) refl refl (on x refl)
