@@ -1,6 +1,6 @@
 -- All that is found in a file, each with its line.
-use Rattle.std.specs.Prelude.{◌≡◌, ◌≢◌, ◌⊎◌, ℕ, suc, ◌+◌, ◌||◌, ◌==◌, Bool, List, [], ◌∷◌, ◌++◌, IsUtf8, count_by, if◌then◌else◌, map, nat_lt, nat_le, Option, Some, None, take}
-use Rattle.std.specs.List.{AllByRecursion, AllZip}
+use Rattle.std.specs.Prelude.{◌≡◌, ◌⊎◌, ℕ, List, [], ◌∷◌, ◌++◌, IsUtf8, map, Option, Some, None, take}
+use Rattle.std.specs.List.{AllZip}
 use Rattle.std.specs.List.Sorted.{IsPermutation, IsSortedByKey, IsStableByKey}
 use Rattle.std.specs.Ordering.{nat_cmp}
 use Rattle.std.specs.Str.Lossy.{utf8_valid_len}
@@ -8,13 +8,15 @@ use Rattle.toml.specs.Data.{Members}
 use Rattle.toml.specs.Errors.{IsMemory, IsWithin, span_start}
 use Rattle.toml.specs.Parse.{parse_document}
 use Rattle.toml.specs.declared.de.error.Error.{Error}
-use Rattle.nextest_config_values.specs.Characters.{line_feed}
 use Rattle.nextest_config_sources.specs.declared.nextest_version.edition.Edition.{Edition}
 use Rattle.nextest_config_sources.specs.declared.nextest_version.source.ConfigSourceKind.{ConfigSourceKind}
-use Rattle.nextest_config_positions.specs.Line.{EndsLine, IsLine, LeadsIn, line_behind}
+use Rattle.nextest_config_positions.specs.Index.{IsIndexOf}
+use Rattle.nextest_config_positions.specs.Line.{IsLine, LeadsIn, line_behind}
+use Rattle.nextest_config_positions.specs.Place.{IsColumn}
 use Rattle.nextest_config_positions.specs.Step.{key, PathStep}
 use Rattle.nextest_config_findings.specs.Document.{AreFindings}
 use Rattle.nextest_config_findings.specs.Found.{Found, found_at, FoundKind, found_of, not_toml, not_utf8, unknown_key}
+use Rattle.nextest_config_positions.specs.declared.index.Index.{Index}
 use Rattle.nextest_config_findings.specs.declared.file.LocatedFinding.{LocatedFinding}
 use Rattle.nextest_config_findings.specs.declared.finding.Finding.{Finding}
 
@@ -26,29 +28,6 @@ abbrev pub located_told : LocatedFinding → Told
 located_told located = (located.line, located.column, found_of located.finding)
 
 -- ---- a file that is no document
-
--- the byte ends no line
-abbrev pub IsInLine : ℕ → Type 0
-IsInLine byte = byte ≢ line_feed
-
--- the byte begins a character
-abbrev pub begins_character : ℕ → Bool
-begins_character byte = nat_lt byte 128 || nat_le 192 byte
-
--- the column, from 1, of what stands behind this front of a text: in its last line, as many
--- characters further
-pub record IsColumn (front : List ℕ) (column : ℕ) : Type 0 where
-  pub before : List ℕ
-  pub last : List ℕ
-  pub whole : front ≡ before ++ last
-  pub begins : EndsLine before ⊎ (before ≡ [])
-  pub one_line : AllByRecursion IsInLine last
-  pub column_is : column ≡ suc (count_by begins_character last)
-
--- the column behind one byte more
-abbrev pub column_after : ℕ → ℕ → ℕ
-column_after column byte = if byte == line_feed then 1 else if begins_character byte then column + 1
-    else column
 
 -- the file isn't UTF-8, at the line of its first bad byte
 abbrev pub IsNotUtf8 : List ℕ → List LocatedFinding → Type 0
@@ -99,6 +78,15 @@ IsFindingIn contents finding = (found : Found) × (found_of finding ≡ Some fou
 abbrev pub IsFindingAtLine : List ℕ → Finding → LocatedFinding → Type 0
 IsFindingAtLine contents finding located = (found : Found) → found_of finding ≡ Some found
     → IsAtLine contents found located
+
+-- the same of a text of which this is the index
+abbrev pub IsFindingInIndexed : Index → Finding → Type 0
+IsFindingInIndexed index finding = (text : List ℕ) × IsIndexOf text index
+    × IsFindingIn text finding
+
+abbrev pub IsFindingAtItsLine : Index → Finding → LocatedFinding → Type 0
+IsFindingAtItsLine index finding located = (text : List ℕ) → IsIndexOf text index
+    → IsFindingAtLine text finding located
 
 -- each finding at its line
 abbrev pub AreAtLines : List ℕ → List Found → List LocatedFinding → Type 0

@@ -1,18 +1,19 @@
 //! All that is found in a file, each with its line.
 
-ghost use Rattle.std.specs.Prelude.{◌≡◌, ◌<◌, ◌^◌, [], ◌∷◌, IfOk, None, OnOk, Some, map, option_map};
+ghost use Rattle.std.specs.Prelude.{◌≡◌, ℕ, [], ◌∷◌, IfOk, IsSome, List, None, OnOk, Some, map, option_map};
 ghost use Rattle.std.specs.List.{AllByRecursion, AllZip};
 ghost use Rattle.toml.specs.Errors.{IsMemory, IsWithin, span_start};
 ghost use Rattle.toml.specs.Parse.{parse_document};
 ghost use Rattle.toml.specs.View.{table_view};
+ghost use Rattle.nextest_config_positions.specs.Index.{IsIndexOf};
 ghost use Rattle.nextest_config_positions.specs.Line.{IsLine, LeadsIn, line_behind};
 ghost use Rattle.nextest_config_positions.specs.Step.{step_of};
-ghost use Rattle.nextest_config_findings.specs.File.{AreInText, AreLocated, AreLocatedIn, column_after, IsColumn, IsFindingAtLine, IsFindingIn, IsNotTomlAt, line_path, located_told};
+ghost use Rattle.nextest_config_findings.specs.File.{AreInText, AreLocated, AreLocatedIn, IsFindingAtItsLine, IsFindingAtLine, IsFindingIn, IsFindingInIndexed, IsNotTomlAt, line_path, located_told};
 ghost use Rattle.nextest_config_findings.specs.Found.{Found, found_at, found_of, kind_told, not_utf8};
 
 use crate::document::findings;
 use crate::finding::{Finding, FindingKind};
-use nextest_config_positions::{Step, line_behind, line_of};
+use nextest_config_positions::{Index, Step, line_behind, place_behind};
 use nextest_config_sources::nextest_version::{ConfigSourceKind, Edition};
 use std::alloc::{AllocError, Global};
 use toml::Table;
@@ -81,31 +82,6 @@ fn alone(
     Ok(located)
 }
 
-// The column, from 1, of what stands behind this front of a text.
-fn column_behind(front: &[u8]) -> usize
-    ensures { IsColumn front.now result }
-{
-    let mut column = 1;
-    for byte in front {
-        column = column_after(column, *byte);
-    }
-    column
-}
-
-// The column behind one byte more.
-fn column_after(column: usize, byte: u8) -> usize
-    requires { column < 2 ^ 63 }
-    ensures { result ≡ column_after column byte }
-{
-    if byte == b'\n' {
-        1
-    } else if byte < 128 || byte >= 192 {
-        column + 1
-    } else {
-        column
-    }
-}
-
 // What is found in a text.
 fn located_in_text(
     alloc: Global,
@@ -138,15 +114,10 @@ fn not_toml(alloc: Global, text: &[u8], error: &Error) -> Result<Vec<LocatedFind
     let Some(span) = error.span() else {
         return Err(AllocError);
     };
-    let front = &text[..span.start];
+    let place = place_behind(&text[..span.start]);
     let message = String::from_str(alloc, error.message())?;
-    let column = Some(column_behind(front));
-    let located = alone(
-        alloc,
-        line_behind(front),
-        column,
-        FindingKind::NotToml { message },
-    )?;
+    let kind = FindingKind::NotToml { message };
+    let located = alone(alloc, place.line, Some(place.column), kind)?;
     Ok(located)
 }
 
@@ -168,30 +139,52 @@ fn located_in_document(
     Ok(located)
 }
 
-// Each finding with its line; each stands at a value.
+// Each finding with its line; each stands at a value. Where nothing was found, no index is made.
 fn at_lines(
     alloc: Global,
     text: &str,
     findings: Vec<Finding>,
 ) -> Result<Vec<LocatedFinding>, AllocError>
-    requires { AllByRecursion (IsFindingIn text.now) findings.items }
+    requires is_document { IsSome (parse_document text.now) }
+    requires at_values { AllByRecursion (IsFindingIn text.now) findings.items }
     ensures { IfOk result
         (λ located. AllZip (IsFindingAtLine text.now) findings.items located.items) }
 {
+    if findings.is_empty() {
+        return Ok(Vec::new(alloc));
+    }
+    match Index::of(alloc, text)? {
+        Some(index) => {
+            let located = at_their_lines(alloc, &index, findings)?;
+            Ok(located)
+        }
+        None => unreachable!(),
+    }
+}
+
+// The same by the index of their text.
+fn at_their_lines(
+    alloc: Global,
+    index: &Index,
+    findings: Vec<Finding>,
+) -> Result<Vec<LocatedFinding>, AllocError>
+    requires { AllByRecursion (IsFindingInIndexed index.now) findings.items }
+    ensures { IfOk result (λ located. AllZip (IsFindingAtItsLine index.now) findings.items located.items) }
+{
     let mut located = Vec::new(alloc);
     for finding in findings {
-        located.push(at_line(alloc, text, finding)?)?;
+        located.push(at_line(alloc, index, finding)?)?;
     }
     Ok(located)
 }
 
 // A finding with its line, which stands at a value.
-fn at_line(alloc: Global, text: &str, finding: Finding) -> Result<LocatedFinding, AllocError>
-    requires { IsFindingIn text.now finding }
-    ensures { IfOk result (IsFindingAtLine text.now finding) }
+fn at_line(alloc: Global, index: &Index, finding: Finding) -> Result<LocatedFinding, AllocError>
+    requires { IsFindingInIndexed index.now finding }
+    ensures { IfOk result (IsFindingAtItsLine index.now finding) }
 {
     let path = line_path(alloc, &finding)?;
-    let line = line_of_value(alloc, text, path.as_slice())?;
+    let line = line_of_value(index, path.as_slice());
     Ok(LocatedFinding {
         line,
         column: None,
@@ -200,12 +193,13 @@ fn at_line(alloc: Global, text: &str, finding: Finding) -> Result<LocatedFinding
 }
 
 // The line of a path that leads to a value.
-fn line_of_value(alloc: Global, text: &str, path: &[Step]) -> Result<usize, AllocError>
-    requires { LeadsIn text.now (map step_of path.now) text.now }
-    ensures { IfOk result (IsLine text.now (map step_of path.now)) }
+fn line_of_value(index: &Index, path: &[Step]) -> usize
+    requires { (text : List ℕ) × IsIndexOf text index.now × LeadsIn text (map step_of path.now) text }
+    ensures { (text : List ℕ) → IsIndexOf text index.now
+        → IsLine text (map step_of path.now) result }
 {
-    match line_of(alloc, text, path)? {
-        Some(line) => Ok(line),
+    match index.line(path) {
+        Some(line) => line,
         None => unreachable!(),
     }
 }

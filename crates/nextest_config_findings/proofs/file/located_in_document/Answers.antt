@@ -1,4 +1,4 @@
-use Rattle.std.proofs.Common.{rules}
+use Rattle.std.proofs.Common.{refl, rules}
 use Rattle.std.proofs.lemmas.List.Sorted.{answers_always}
 use Rattle.toml.specs.View.{table_view}
 use Rattle.nextest_config_findings.proofs.Leading.{findings_lead}
@@ -9,7 +9,10 @@ pub at_lines-requires : goal.at_lines-requires
 at_lines-requires c =
     let found = c.in_ok-findings.ensures in
     let leads = findings_lead c.args.edition c.args.source.now (table_view c.args.document.now) found.0 found.1 in
-    all_in_text c.args.text.now (table_view c.args.document.now) c.requires _ found.0 found.2 leads
+    record {
+      is_document = rw c.requires refl;
+      at_values = all_in_text c.args.text.now (table_view c.args.document.now) c.requires _ found.0 found.2 leads;
+    }
 
 pub returns : goal.returns
 returns c =
