@@ -30,6 +30,7 @@ test: toolchain
 	rt ci | tests/wrong --behind
 	tests/run $(PROGRAM) $(COMMAND)/out/nextest_config_cli
 	tests/random $(PROGRAM)
+	tests/positions $(BENCH)
 	tests/refusals $(REFUSALS) $(PROGRAM) $(COMMAND)/out/nextest_config_cli
 	bench/measure --small --program $(PROGRAM) --alone $(BENCH)
 	bench/measure-durations --small --alone $(BENCH)
@@ -37,6 +38,7 @@ test: toolchain
 	bench/measure-board --small --alone $(BENCH)
 	bench/measure-nothing --small --alone $(BENCH)
 	bench/measure-findings --small --alone $(BENCH)
+	bench/measure-positions --small --alone $(BENCH)
 
 run: toolchain
 	@$(MAKE) --no-print-directory --jobs=2 --output-sync run-list run-lint

@@ -10,6 +10,7 @@ mod keys;
 mod lines;
 mod orders;
 mod places;
+mod positions;
 mod real;
 mod runner;
 

@@ -17,7 +17,8 @@ pub(crate) fn ask(rt: &impl Runner, path: &str, input: &str) -> Option<()> {
     }
 }
 
-fn steps_of(rt: &impl Runner, path: &str) -> Option<Vec<Step>> {
+/// The steps of a path, which are parted by slashes: a number is an index.
+pub(crate) fn steps_of(rt: &impl Runner, path: &str) -> Option<Vec<Step>> {
     let mut steps = Vec::new(rt.alloc());
     for step in path.split('/') {
         steps.push(step_of(rt, step)?).ok()?;

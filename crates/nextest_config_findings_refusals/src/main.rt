@@ -4,6 +4,7 @@
 
 mod files;
 mod lines;
+mod positions;
 
 use nextest_config_calls::announced::Runner;
 use nextest_config_calls::asked::{Calls, ask_twice};
@@ -32,6 +33,10 @@ impl Calls for FileCalls {
             "findings" => files::find(rt, name, input),
             "located" => files::locate(rt, name, input),
             "line_of" => lines::ask(rt, name, input),
+            "index" => positions::make(rt, name, input),
+            "key" => positions::key(rt, name, input),
+            "value" => positions::value(rt, name, input),
+            "line" => positions::line(rt, name, input),
             _ => None,
         }
     }

@@ -4,7 +4,7 @@ use crate::tests::runner::Test;
 use nextest_config_findings::{Step, line_of};
 use nextest_config_rows::rows::{Escaped, Runner, Subject, check, copied, done, written};
 
-const ROWS: &str = r#"
+pub(crate) const ROWS: &str = r#"
 # each value of a file, by its path, and the line on which it begins
 nextest-version / require | nextest-version = { require = '0.9.99' }\nexperimental = ['x']\n\n[profile.default]\nretries = 'two'\n | 1
 experimental | nextest-version = { require = '0.9.99' }\nexperimental = ['x']\n\n[profile.default]\nretries = 'two'\n | 2
