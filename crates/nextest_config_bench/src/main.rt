@@ -3,6 +3,10 @@
 //!
 //! - `toml` reads the sources on standard input with `toml` alone, and lets each document go.
 //! - `duration` reads standard input as one duration.
+//! - `text` reads standard input as a text, and does nothing more; `document` then reads it with
+//!   `toml` alone, as one document, and `index` makes the index of its places.
+//! - `places` prints, of each document on standard input, where all that it holds stands. A NUL stands
+//!   between two documents, and a blank line behind each.
 //! - `findings` and `located` judge standard input as a configuration file, the first without its
 //!   lines, and print how much is found.
 //! - `sources SIZE CHANGES` makes so many sources of one version each, `list` reads them as a list,
@@ -16,6 +20,7 @@ mod alone;
 mod board;
 mod files;
 mod nothing;
+mod positions;
 
 use std::env;
 use std::process::ExitCode;
@@ -32,6 +37,7 @@ fn run(rt: &HostRuntime) -> Option<()> {
     match words.as_slice() {
         [what] => match what.as_str() {
             "findings" | "located" => files::judge(rt, what),
+            "text" | "document" | "index" | "places" => positions::run(rt, what),
             _ => alone::read(rt, what),
         },
         [what, size, changes] => {
