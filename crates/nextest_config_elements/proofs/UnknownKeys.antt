@@ -35,9 +35,9 @@ key_there (e ∷ entries) (x ∷ so_far) rest key whole =
     found_later (slice_cmp nat_cmp (string_bytes key) (string_bytes e.0)) (view e.1) (get_member (string_bytes key) (members_view entries))
     (key_there entries so_far rest key (cc whole))
 
--- no text comes before one that it comes behind
-not_behind : (first text : List ℕ) → ComesBefore first text → ¬ ComesBefore text first
-not_behind first text behind before = not_itself text (nat_list_cmp_total.trans text first text before behind)
+-- no text comes before one that it comes after
+not_after : (first text : List ℕ) → ComesBefore first text → ¬ ComesBefore text first
+not_after first text after before = not_itself text (nat_list_cmp_total.trans text first text before after)
 
 module _ (known : List (List ℕ)) where
   -- these keys are known
@@ -53,12 +53,12 @@ module _ (known : List (List ℕ)) where
     abbrev IsNoneBefore : List ℕ → Type 0
     IsNoneBefore text = ¬ IsOneOf known text → ¬ ComesBefore text (string_bytes key)
 
-    -- behind known keys, no unknown one comes before the next
+    -- after known keys, no unknown one comes before the next
     none_before : (so_far rest : List (String Global)) → IsStrictlySortedBy string_cmp (so_far ++ key ∷ rest) → AreKnown so_far
         → AllByRecursion (λ k. IsNoneBefore (string_bytes k)) (so_far ++ key ∷ rest)
     none_before [] rest sorted all =
-        let behind = sorted_head string_cmp key rest sorted in
-        (λ unknown. not_itself (string_bytes key), all_weaker (λ k. string_cmp key k ≡ Less) (λ k. IsNoneBefore (string_bytes k)) (λ k less unknown. not_behind (string_bytes key) (string_bytes k) less) rest behind)
+        let after = sorted_head string_cmp key rest sorted in
+        (λ unknown. not_itself (string_bytes key), all_weaker (λ k. string_cmp key k ≡ Less) (λ k. IsNoneBefore (string_bytes k)) (λ k less unknown. not_after (string_bytes key) (string_bytes k) less) rest after)
     none_before (x ∷ so_far) rest sorted all =
         (λ unknown before. unknown all.0, none_before so_far rest (sorted_tail string_cmp x (so_far ++ key ∷ rest) sorted) all.1)
 

@@ -3,7 +3,7 @@ use Rattle.std.specs.Prelude.{◌≡◌, ◌⊎◌, ℕ, Bool, List, [], ◌∷�
 use Rattle.std.proofs.Common.{rules}
 use Rattle.toml.specs.Data.{Data, Members, as_table}
 use Rattle.nextest_config_values.specs.Helpers.Paths.{joined_path}
-use Rattle.nextest_config_values.specs.Read.{bool_reading, held, kind, made_of, optional, Reading, text_reading, then, value_of, word_reading, wrong_kind}
+use Rattle.nextest_config_values.specs.Read.{bool_reading, inner, kind, made_of, optional, Reading, text_reading, then, value_of, word_reading, wrong_kind}
 use Rattle.nextest_config_elements.specs.ReportSkipPolicy.{report_skip_reading}
 use Rattle.nextest_config_elements.specs.declared.junit.DefaultJunitImpl.{DefaultJunitImpl}
 use Rattle.nextest_config_elements.specs.declared.junit.JunitConfig.{JunitConfig}
@@ -59,7 +59,7 @@ at_path report path = record {
   flaky_fail_status = report.flaky_fail_status;
 }
 
--- the report in a folder: none where its settings have no path
+-- the report in a folder: `None` where its settings have no path
 abbrev pub report_in : List ℕ → Report (Option (List ℕ)) → Option (Report (List ℕ))
 report_in folder settings =
     option_map (λ path. at_path settings (joined_path folder path)) settings.path
@@ -104,9 +104,9 @@ table_of_keys path report_name store_success_output store_failure_output report_
       flaky_fail_status = status;
     }
 
--- what is kept of a table
-abbrev pub table_of : JunitImpl → JunitTable
-table_of junit = table_of_keys (option_map string_bytes junit.path)
+-- what a table that was read says
+abbrev pub junit_of : JunitImpl → JunitTable
+junit_of junit = table_of_keys (option_map string_bytes junit.path)
     (option_map string_bytes junit.report_name) junit.store_success_output
     junit.store_failure_output junit.report_skipped junit.flaky_fail_status
 
@@ -132,9 +132,14 @@ report_skipped_key = codes "report-skipped"
 abbrev pub flaky_fail_status_key : List ℕ
 flaky_fail_status_key = codes "flaky-fail-status"
 
--- the keys behind the path and the name
-abbrev pub keys_behind_texts : Option (List ℕ) → Option (List ℕ) → Reading Members JunitTable
-keys_behind_texts path report_name =
+-- the keys that the table may have
+abbrev pub junit_keys : List (List ℕ)
+junit_keys = path_key ∷ report_name_key ∷ store_success_output_key ∷ store_failure_output_key
+    ∷ report_skipped_key ∷ flaky_fail_status_key ∷ []
+
+-- the keys after the path and the name
+abbrev pub keys_after_texts : Option (List ℕ) → Option (List ℕ) → Reading Members JunitTable
+keys_after_texts path report_name =
     then (optional store_success_output_key bool_reading) (λ store_success_output.
     then (optional store_failure_output_key bool_reading) (λ store_failure_output.
     then (optional report_skipped_key report_skip_reading) (λ report_skipped.
@@ -144,7 +149,7 @@ keys_behind_texts path report_name =
 -- the keys in turn; other keys don't count
 abbrev pub junit_table : Reading Members JunitTable
 junit_table = then (optional path_key text_reading) (λ path.
-    then (optional report_name_key text_reading) (keys_behind_texts path))
+    then (optional report_name_key text_reading) (keys_after_texts path))
 
 -- the table has a text, which is kept in memory of its own
 abbrev pub HasText : JunitTable → Type 0
@@ -155,7 +160,7 @@ abbrev pub junit_expected : List ℕ
 junit_expected = codes "a table"
 
 abbrev pub junit_reading : Reading Data JunitTable
-junit_reading = kind as_table (held junit_table) (wrong_kind junit_expected)
+junit_reading = kind as_table (inner junit_table) (wrong_kind junit_expected)
 
 -- ---- the default profile
 

@@ -48,6 +48,10 @@ period_key = codes "period"
 abbrev pub result_key : List ℕ
 result_key = codes "result"
 
+-- the keys that the table may have
+abbrev pub leak_timeout_keys : List (List ℕ)
+leak_timeout_keys = period_key ∷ result_key ∷ []
+
 -- the table has a period, and may have a result; other keys don't count
 abbrev pub leak_timeout_table : Reading Members LeakTimeoutRecord
 leak_timeout_table =

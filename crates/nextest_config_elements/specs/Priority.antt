@@ -6,7 +6,7 @@ use Rattle.toml.specs.Data.{Data, as_integer}
 use Rattle.nextest_config_values.specs.Decisions.{both_decided, IsDecided}
 use Rattle.nextest_config_values.specs.Once.{HasMeaningOrFault}
 use Rattle.nextest_config_values.specs.Read.Fault.{Fault, priority_outside}
-use Rattle.nextest_config_values.specs.Read.{custom, fault_at, kind, Reading, wrong_kind, wrong_value}
+use Rattle.nextest_config_values.specs.Read.{broken_by, kind, Reading, wrong_kind, wrong_value}
 use Rattle.nextest_config_elements.specs.IntegerLaws.{at_most_decided, fits_decided}
 
 -- from -100 to 100
@@ -21,32 +21,32 @@ priority_fits : (number : ℤ) → IsPriority number → FitsSigned w8 number
 priority_fits number h = search rules
 
 -- what is wrong with an integer: it isn't one of 8 bits, or it is one and no priority
-abbrev pub PriorityFaults : ℤ → Data → List ℕ → Fault → Type 0
-PriorityFaults held value at fault =
-    (¬ (FitsSigned w8 held) × (fault ≡ wrong_value value at priority_expected))
+abbrev pub PriorityFaults : ℤ → Data → Fault → Type 0
+PriorityFaults held value fault =
+    (¬ (FitsSigned w8 held) × (fault ≡ wrong_value value priority_expected))
     ⊎ (FitsSigned w8 held × ¬ (IsPriority held)
-    × (fault ≡ fault_at at (custom (priority_outside held))))
+    × (fault ≡ broken_by (priority_outside held)))
 
 priority_decided : (number : ℤ) → IsDecided (IsPriority number)
 priority_decided number = both_decided (at_most_decided (neg_ℤ (pos 100)) number)
     (at_most_decided number (pos 100))
 
-pub one_priority_fault : (held : ℤ) (value : Data) (at : List ℕ) (f g : Fault)
-    → PriorityFaults held value at f → PriorityFaults held value at g → f ≡ g
-one_priority_fault held value at f g a b = search rules
+pub one_priority_fault : (held : ℤ) (value : Data) (f g : Fault)
+    → PriorityFaults held value f → PriorityFaults held value g → f ≡ g
+one_priority_fault held value f g a b = search rules
 
-pub no_priority_fault : (held : ℤ) (value : Data) (at : List ℕ) (f : Fault) → IsPriority held
-    → PriorityFaults held value at f → ⊥
-no_priority_fault held value at f h (inl a) = a.0 (priority_fits held h)
-no_priority_fault held value at f h (inr a) = a.1 h
+pub no_priority_fault : (held : ℤ) (value : Data) (f : Fault) → IsPriority held
+    → PriorityFaults held value f → ⊥
+no_priority_fault held value f h (inl a) = a.0 (priority_fits held h)
+no_priority_fault held value f h (inr a) = a.1 h
 
-pub priority_or_fault : (held : ℤ) (value : Data) (at : List ℕ)
-    → HasMeaningOrFault (λ priority. (priority ≡ held) × IsPriority held) (PriorityFaults held value at)
-priority_or_fault held value at = elim (priority_decided held) [
+pub priority_or_fault : (held : ℤ) (value : Data)
+    → HasMeaningOrFault (λ priority. (priority ≡ held) × IsPriority held) (PriorityFaults held value)
+priority_or_fault held value = elim (priority_decided held) [
   | inl is ↦ inl (held, (refl, is))
   | inr not ↦ elim (fits_decided w8 held) [
-    | inl fits ↦ inr (fault_at at (custom (priority_outside held)), inr (fits, not, refl))
-    | inr large ↦ inr (wrong_value value at priority_expected, inl (large, refl))
+    | inl fits ↦ inr (broken_by (priority_outside held), inr (fits, not, refl))
+    | inr large ↦ inr (wrong_value value priority_expected, inl (large, refl))
   ]
 ]
 
@@ -60,7 +60,7 @@ priority_in held = record {
     meaning_or_fault = priority_or_fault held;
     one_meaning = λ value x y a b. a.0 ∙ sym b.0;
     one_fault = one_priority_fault held;
-    never_both = λ value at x f a. no_priority_fault held value at f a.1;
+    never_both = λ value x f a. no_priority_fault held value f a.1;
   };
 }
 

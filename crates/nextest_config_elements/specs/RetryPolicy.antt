@@ -1,4 +1,4 @@
--- The setting `retries`: how often a failed test is tried again, and when.
+-- The setting `retries`: the maximum number of retries of a failed test, and when they come.
 use Rattle.std.specs.Prelude.{◌≡◌, ◌<◌, ℕ, ℤ, pos, negsuc, Bool, true, false, List, [], ◌∷◌, ◌++◌, codes, Option, Some, None, option_map}
 use Rattle.std.proofs.Common.{ap, inl, inr, refl, rules}
 use Rattle.std.specs.Duration.{as_nanos}
@@ -7,7 +7,7 @@ use Rattle.toml.specs.Data.{Data, Members, as_integer}
 use Rattle.nextest_config_values.specs.Decisions.{below_decided, both_decided, IsDecided, same_decided, true_decided}
 use Rattle.nextest_config_values.specs.Duration.{duration_reading}
 use Rattle.nextest_config_values.specs.Read.Plain.{u32_decided}
-use Rattle.nextest_config_values.specs.Read.{behind, bool_reading, both, Check, count_zero, delay_zero, in_range, IsU32, jitter_without_delay, kind, made_of, max_delay_below_delay, max_delay_zero, only, optional, or_default, outside, Reading, required, rule, rule_check, then, u32_reading, value_of, word_reading, words_text}
+use Rattle.nextest_config_values.specs.Read.{after_check, bool_reading, both, Check, count_zero, delay_zero, in_range, IsU32, jitter_without_delay, kind, made_of, max_delay_below_delay, max_delay_zero, only, optional, or_default, outside, Reading, required, rule, rule_check, then, u32_reading, value_of, word_reading, words_text}
 use Rattle.nextest_config_elements.specs.FromTable.{set_by_table}
 use Rattle.nextest_config_elements.specs.UnknownKeysLaws.{keys_check}
 use Rattle.nextest_config_elements.specs.declared.retry_policy.Backoff.{Backoff}
@@ -23,7 +23,7 @@ pub record FixedPolicy : Type 0 where
   pub delay : ℕ
   pub jitter : Bool
 
--- a delay that grows from try to try, up to the greatest, if there is one; both in nanoseconds
+-- a delay that grows from try to try, up to the maximum, if there is one; both in nanoseconds
 pub record ExponentialPolicy : Type 0 where
   pub count : ℕ
   pub delay : ℕ
@@ -50,7 +50,7 @@ retry_policy_of (policies.Exponential count delay jitter max_delay) =
 abbrev pub without_delay : ℕ → RetryPolicyRecord
 without_delay count = fixed (record { count = count; delay = 0; jitter = false })
 
--- how often a policy tries a test again
+-- the maximum number of retries
 abbrev pub count_of : RetryPolicyRecord → ℕ
 count_of (fixed policy) = policy.count
 count_of (exponential policy) = policy.count
@@ -134,13 +134,13 @@ fixed_table =
     then (required count_key u32_reading) (λ count.
     then (or_default delay_key 0 duration_reading) (λ delay.
     then (or_default jitter_key false bool_reading) (λ jitter.
-    behind (other_keys backoffs.Fixed)
+    after_check (other_keys backoffs.Fixed)
     (rule (IsJitterAlone delay jitter) (jitter_decided delay jitter) jitter_without_delay
     (only (fixed (record { count = count; delay = delay; jitter = jitter })))))))
 
 -- ---- an exponential backoff
 
--- the greatest delay is below the first one
+-- the maximum delay is below the first one
 abbrev pub IsMaxBelow : ℕ → Option ℕ → Type 0
 IsMaxBelow delay max_delay = (max : ℕ) × (max_delay ≡ Some max) × (max < delay)
 
@@ -173,8 +173,8 @@ exponential_table =
     then (required delay_key duration_reading) (λ delay.
     then (or_default jitter_key false bool_reading) (λ jitter.
     then (optional max_delay_key duration_reading) (λ max_delay.
-    behind (other_keys backoffs.Exponential)
-    (behind (exponential_rules count delay max_delay)
+    after_check (other_keys backoffs.Exponential)
+    (after_check (exponential_rules count delay max_delay)
     (only (exponential (record {
       count = count;
       delay = delay;
@@ -184,16 +184,16 @@ exponential_table =
 
 -- ---- the table form
 
--- a table of this backoff
-abbrev pub table_of : Backoff → Reading Members RetryPolicyRecord
-table_of backoffs.Fixed = fixed_table
-table_of backoffs.Exponential = exponential_table
+-- a table with this backoff
+abbrev pub table_with_backoff : Backoff → Reading Members RetryPolicyRecord
+table_with_backoff backoffs.Fixed = fixed_table
+table_with_backoff backoffs.Exponential = exponential_table
 
 -- the backoff, and the keys of that
 abbrev pub retry_table : Reading Members RetryPolicyRecord
 retry_table =
     then (required backoff_key (word_reading backoffs_in_order backoff_word backoff_reads_back))
-    table_of
+    table_with_backoff
 
 -- ---- the setting
 

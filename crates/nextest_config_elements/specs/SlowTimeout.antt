@@ -68,6 +68,10 @@ grace_period_key = codes "grace-period"
 abbrev pub on_timeout_key : List ℕ
 on_timeout_key = codes "on-timeout"
 
+-- the keys that the table may have
+abbrev pub slow_timeout_keys : List (List ℕ)
+slow_timeout_keys = period_key ∷ terminate_after_key ∷ grace_period_key ∷ on_timeout_key ∷ []
+
 -- the table has a period, and may have the rest; other keys don't count
 abbrev pub slow_timeout_table : Reading Members SlowTimeoutRecord
 slow_timeout_table =

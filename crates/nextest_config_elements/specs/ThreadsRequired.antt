@@ -46,7 +46,7 @@ threads_or_none held = elim (same_text_decided held (codes "num-cpus")) [
 -- a text that is the word of a setting
 abbrev pub threads_in : List ℕ → Reading Data ThreadsRequired
 threads_in held = one_that (λ threads. threads_text threads ≡ Some held) (one_threads held)
-    (threads_or_none held) (λ value at. wrong_value value at threads_expected)
+    (threads_or_none held) (λ value. wrong_value value threads_expected)
 
 -- an integer that is a count, or a text
 abbrev pub threads_reading : Reading Data ThreadsRequired

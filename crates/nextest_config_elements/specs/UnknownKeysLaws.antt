@@ -121,7 +121,7 @@ module _ (known : List (List ℕ)) (key : List ℕ) (value : Data) (others : Mem
           this_first not_known (λ text unknown also.
               is.is_first text unknown (nat_list_cmp_total.trans text key first also before)),
         )
-        | inr behind ↦ inr (first, other_first first is (λ not_known. behind))
+        | inr after ↦ inr (first, other_first first is (λ not_known. after))
       ]
 
 first_or_none : (known : List (List ℕ)) (members : Members) → FirstOrNone known members
@@ -129,23 +129,23 @@ first_or_none known no_members = inl (λ key unknown. cc unknown.0)
 first_or_none known (member key value others) = one_more known key value others
     (known_decided known key) (first_or_none known others)
 
-pub only_or_first : (known : List (List ℕ)) (expected : List ℕ) (members : Members) (at : List ℕ)
+pub only_or_first : (known : List (List ℕ)) (expected : List ℕ) (members : Members)
     → HasOnlyKeys known members
     ⊎ ((f : Fault) × ((key : List ℕ) × IsFirstUnknownKey known members key
-    × (f ≡ unknown_key key at expected)))
-only_or_first known expected members at = elim (first_or_none known members) [
+    × (f ≡ unknown_key key expected)))
+only_or_first known expected members = elim (first_or_none known members) [
   | inl only ↦ inl only
-  | inr (key, first) ↦ inr (unknown_key key at expected, (key, first, refl))
+  | inr (key, first) ↦ inr (unknown_key key expected, (key, first, refl))
 ]
 
 -- the first unknown key is the fault of its table
 abbrev pub keys_check : List (List ℕ) → List ℕ → Check Members
 keys_check known expected = record {
   passes = HasOnlyKeys known;
-  faults = λ members at fault. (key : List ℕ) × IsFirstUnknownKey known members key
-      × (fault ≡ unknown_key key at expected);
+  faults = λ members fault. (key : List ℕ) × IsFirstUnknownKey known members key
+      × (fault ≡ unknown_key key expected);
   passes_or_faults = only_or_first known expected;
-  one_fault = λ members at f g a b. a.2
-      ∙ ap (λ key. unknown_key key at expected) (one_first a.0 b.0 a.1 b.1) ∙ sym b.2;
-  never_both = λ members at f none a. none a.0 a.1.is_unknown;
+  one_fault = λ members f g a b. a.2
+      ∙ ap (λ key. unknown_key key expected) (one_first a.0 b.0 a.1 b.1) ∙ sym b.2;
+  never_both = λ members f none a. none a.0 a.1.is_unknown;
 }

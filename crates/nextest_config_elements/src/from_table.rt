@@ -6,7 +6,7 @@ ghost use Rattle.toml.specs.View.{table_view, view};
 ghost use Rattle.nextest_config_values.specs.Read.{Reading, RefusesBy};
 ghost use Rattle.nextest_config_elements.specs.FromTable.{set_by_table};
 
-use nextest_config_values::read::ReadFault;
+use nextest_config_values::read::ValueFault;
 use std::alloc::Global;
 use toml::{Table, Value};
 
@@ -20,29 +20,27 @@ pub(crate) trait FromTable: Sized {
     // What tables mean, and what is wrong with them.
     ghost reading: { Reading Members Seen };
 
-    // Reads the table of a value. A fault names its path, which begins with `at`.
-    fn read_table(alloc: Global, table: &Table, at: &str) -> Result<Self, ReadFault>
+    fn read_table(alloc: Global, table: &Table) -> Result<Self, ValueFault>
         ensures meant { IfOk result (λ x. reading.means (table_view table.now) (seen x)) }
-        ensures refused { IfErr result (RefusesBy reading (table_view table.now) at.now) };
+        ensures refused { IfErr result (RefusesBy reading (table_view table.now)) };
 }
 
 // Reads a value that is to be a table; `expected` names what the setting takes.
 pub(crate) fn read_set<T: FromTable>(
     alloc: Global,
     value: &Value,
-    at: &str,
     expected: &'static str,
-) -> Result<Option<T>, ReadFault>
+) -> Result<Option<T>, ValueFault>
     ensures meant { IfOk result (λ x.
         (set_by_table T.reading expected.now).means (view value.now) (option_map T.seen x)) }
     ensures refused { IfErr result
-        (RefusesBy (set_by_table T.reading expected.now) (view value.now) at.now) }
+        (RefusesBy (set_by_table T.reading expected.now) (view value.now)) }
 {
     match value.as_table() {
         Some(table) => {
-            let x = T::read_table(alloc, table, at)?;
+            let x = T::read_table(alloc, table)?;
             Ok(Some(x))
         }
-        None => Err(ReadFault::invalid_type(alloc, value, at, expected)),
+        None => Err(ValueFault::invalid_type(alloc, value, expected)),
     }
 }

@@ -4,7 +4,7 @@ ghost use Rattle.std.specs.Prelude.{ℕ};
 ghost use Rattle.nextest_config_values.specs.Duration.{duration_reading};
 ghost use Rattle.nextest_config_elements.specs.GlobalTimeout.{global_timeout_of};
 
-use nextest_config_values::read::{FromToml, ReadFault};
+use nextest_config_values::read::{FromToml, ValueFault};
 use std::alloc::Global;
 use std::time::Duration;
 use toml::Value;
@@ -23,8 +23,8 @@ impl FromToml for GlobalTimeout {
 
     ghost reading = { duration_reading };
 
-    fn read(alloc: Global, value: &Value, at: &str) -> Result<Self, ReadFault> {
-        let period = Duration::read(alloc, value, at)?;
+    fn read_value(alloc: Global, value: &Value) -> Result<Self, ValueFault> {
+        let period = Duration::read_value(alloc, value)?;
         Ok(GlobalTimeout { period })
     }
 }

@@ -3,11 +3,11 @@
 ghost use Rattle.std.specs.Prelude.{◌≡◌, None, IfErr, IfOk, IsOk, option_map};
 ghost use Rattle.toml.specs.View.{table_view, view};
 ghost use Rattle.nextest_config_values.specs.Read.{RefusesBy};
-ghost use Rattle.nextest_config_elements.specs.Junit.{default_of, empty_table, flaky_fail_reads_back, flaky_fail_statuses, flaky_fail_word, HasText, IsFirstMissing, junit_reading, junit_table, JunitTable, report_in, report_of, SaysAll, settings_of, table_of};
+ghost use Rattle.nextest_config_elements.specs.Junit.{default_of, empty_table, flaky_fail_reads_back, flaky_fail_statuses, flaky_fail_word, HasText, IsFirstMissing, junit_of, junit_reading, junit_table, JunitTable, report_in, report_of, SaysAll, settings_of};
 
 use crate::report_skip_policy::ReportSkipPolicy;
 use nextest_config_values::helpers::join_path;
-use nextest_config_values::read::{FromToml, ReadFault, Word, optional_field};
+use nextest_config_values::read::{FromToml, ValueFault, Word, optional};
 use std::alloc::{AllocError, Global};
 use thiserror::Error;
 use toml::{Table, Value};
@@ -78,7 +78,7 @@ pub struct JunitConfig<'cfg> {
 }
 
 impl<'cfg> JunitConfig<'cfg> {
-    /// The report of these settings below the folder `store_dir`; none where they have no path.
+    /// The report of these settings below the folder `store_dir`. `None`: they have no path.
     pub fn new(
         alloc: Global,
         store_dir: &str,
@@ -102,7 +102,6 @@ impl<'cfg> JunitConfig<'cfg> {
         }))
     }
 
-    /// A copy of the configuration.
     pub fn clone(&self, _alloc: Global) -> Result<Self, AllocError>
         ensures { IfOk result (λ config. report_of config ≡ report_of self.now) }
     {
@@ -117,7 +116,6 @@ impl<'cfg> JunitConfig<'cfg> {
         self.path.as_str()
     }
 
-    /// The name of the report.
     pub fn report_name(&self) -> &'cfg str
         ensures { result.now ≡ (report_of self.now).name }
     {
@@ -156,9 +154,8 @@ impl<'cfg> JunitConfig<'cfg> {
 /// What a profile and those that it inherits from say of the report.
 #[derive(Clone, Debug, Drop)]
 pub struct JunitSettings<'cfg> {
-    /// The path of the report; none, and there is no report.
+    /// The path of the report. `None`: no report.
     pub path: Option<&'cfg str>,
-    /// The name of the report.
     pub report_name: &'cfg str,
     /// Whether the output of tests that passed is stored.
     pub store_success_output: bool,
@@ -173,9 +170,8 @@ pub struct JunitSettings<'cfg> {
 /// What the default profile says of the report.
 #[derive(Debug, Drop)]
 pub struct DefaultJunitImpl {
-    /// The path of the report; none, and there is no report.
+    /// The path of the report. `None`: no report.
     pub path: Option<String>,
-    /// The name of the report.
     pub report_name: String,
     /// Whether the output of tests that passed is stored.
     pub store_success_output: bool,
@@ -190,8 +186,8 @@ pub struct DefaultJunitImpl {
 impl DefaultJunitImpl {
     /// What the table of the default profile says, which has to say all but the path.
     pub fn for_default_profile(junit: JunitImpl) -> Result<Self, MissingSetting>
-        ensures complete { IfOk result (λ d. SaysAll (table_of junit) (default_of d)) }
-        ensures missing { IfErr result (IsFirstMissing (table_of junit)) }
+        ensures complete { IfOk result (λ d. SaysAll (junit_of junit) (default_of d)) }
+        ensures missing { IfErr result (IsFirstMissing (junit_of junit)) }
     {
         Ok(DefaultJunitImpl {
             path: junit.path,
@@ -209,7 +205,6 @@ impl DefaultJunitImpl {
         })
     }
 
-    /// A copy of what is said.
     pub fn clone(&self, _alloc: Global) -> Result<Self, AllocError>
         ensures { IfOk result (λ d. default_of d ≡ default_of self.now) }
     {
@@ -226,19 +221,14 @@ impl DefaultJunitImpl {
 /// A setting of the report that the default profile has to have.
 #[derive(Clone, Copy, Debug, PartialEq, Eq, Error)]
 pub enum MissingSetting {
-    /// The name of the report.
     #[error("the default profile doesn't set junit.report-name")]
     ReportName,
-    /// Whether the output of tests that passed is stored.
     #[error("the default profile doesn't set junit.store-success-output")]
     StoreSuccessOutput,
-    /// Whether the output of tests that failed is stored.
     #[error("the default profile doesn't set junit.store-failure-output")]
     StoreFailureOutput,
-    /// Which skipped tests are reported.
     #[error("the default profile doesn't set junit.report-skipped")]
     ReportSkipped,
-    /// How a flaky test that is to fail is reported.
     #[error("the default profile doesn't set junit.flaky-fail-status")]
     FlakyFailStatus,
 }
@@ -246,9 +236,7 @@ pub enum MissingSetting {
 /// What the table of one profile says of the report.
 #[derive(Debug, Drop)]
 pub struct JunitImpl {
-    /// The path of the report.
     pub path: Option<String>,
-    /// The name of the report.
     pub report_name: Option<String>,
     /// Whether the output of tests that passed is stored.
     pub store_success_output: Option<bool>,
@@ -261,7 +249,7 @@ pub struct JunitImpl {
 }
 
 impl Default for JunitImpl {
-    ghost is_default = { λ junit. table_of junit ≡ empty_table };
+    ghost is_default = { λ junit. junit_of junit ≡ empty_table };
 
     fn default() -> Self {
         JunitImpl {
@@ -276,9 +264,18 @@ impl Default for JunitImpl {
 }
 
 impl JunitImpl {
-    /// A copy of what is said.
+    /// The keys of its table.
+    pub const KEYS: &'static [&'static str] = &[
+        PATH_KEY,
+        REPORT_NAME_KEY,
+        STORE_SUCCESS_OUTPUT_KEY,
+        STORE_FAILURE_OUTPUT_KEY,
+        REPORT_SKIPPED_KEY,
+        FLAKY_FAIL_STATUS_KEY,
+    ];
+
     pub fn clone(&self, _alloc: Global) -> Result<Self, AllocError>
-        ensures { IfOk result (λ junit. table_of junit ≡ table_of self.now) }
+        ensures { IfOk result (λ junit. junit_of junit ≡ junit_of self.now) }
     {
         let path = self.path.clone()?;
         let report_name = self.report_name.clone()?;
@@ -289,18 +286,17 @@ impl JunitImpl {
         })
     }
 
-    // What a table says.
-    fn read_table(alloc: Global, table: &Table, at: &str) -> Result<Self, ReadFault>
+    fn read_table(alloc: Global, table: &Table) -> Result<Self, ValueFault>
         ensures meant { IfOk result (λ junit.
-            junit_table.means (table_view table.now) (table_of junit)) }
-        ensures refused { IfErr result (RefusesBy junit_table (table_view table.now) at.now) }
+            junit_table.means (table_view table.now) (junit_of junit)) }
+        ensures refused { IfErr result (RefusesBy junit_table (table_view table.now)) }
     {
-        let path: Option<String> = optional_field(alloc, table, PATH_KEY, at)?;
-        let report_name: Option<String> = optional_field(alloc, table, REPORT_NAME_KEY, at)?;
-        let store_success_output = optional_field(alloc, table, STORE_SUCCESS_OUTPUT_KEY, at)?;
-        let store_failure_output = optional_field(alloc, table, STORE_FAILURE_OUTPUT_KEY, at)?;
-        let report_skipped = optional_field(alloc, table, REPORT_SKIPPED_KEY, at)?;
-        let flaky_fail_status = optional_field(alloc, table, FLAKY_FAIL_STATUS_KEY, at)?;
+        let path: Option<String> = optional(alloc, table, PATH_KEY)?;
+        let report_name: Option<String> = optional(alloc, table, REPORT_NAME_KEY)?;
+        let store_success_output = optional(alloc, table, STORE_SUCCESS_OUTPUT_KEY)?;
+        let store_failure_output = optional(alloc, table, STORE_FAILURE_OUTPUT_KEY)?;
+        let report_skipped = optional(alloc, table, REPORT_SKIPPED_KEY)?;
+        let flaky_fail_status = optional(alloc, table, FLAKY_FAIL_STATUS_KEY)?;
         Ok(JunitImpl {
             path,
             report_name,
@@ -315,22 +311,22 @@ impl JunitImpl {
 impl FromToml for JunitImpl {
     ghost Seen = { JunitTable };
 
-    ghost seen = { table_of };
+    ghost seen = { junit_of };
 
     ghost reading = { junit_reading };
 
     /// Reads the table of a profile's `junit`. It takes memory for a path and for a name of the
     /// report.
-    fn read(alloc: Global, value: &Value, at: &str) -> Result<Self, ReadFault>
+    fn read_value(alloc: Global, value: &Value) -> Result<Self, ValueFault>
         ensures meant { IfOk result (λ junit.
-            junit_reading.means (view value.now) (table_of junit)) }
-        ensures refused { IfErr result (RefusesBy junit_reading (view value.now) at.now) }
+            junit_reading.means (view value.now) (junit_of junit)) }
+        ensures refused { IfErr result (RefusesBy junit_reading (view value.now)) }
         ensures texts { (said : JunitTable) → junit_reading.means (view value.now) said
             → ¬ HasText said → IsOk result }
     {
         match value.as_table() {
-            Some(table) => JunitImpl::read_table(alloc, table, at),
-            None => Err(ReadFault::invalid_type(alloc, value, at, "a table")),
+            Some(table) => JunitImpl::read_table(alloc, table),
+            None => Err(ValueFault::invalid_type(alloc, value, "a table")),
         }
     }
 }

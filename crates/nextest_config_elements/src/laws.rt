@@ -1,25 +1,26 @@
 //! Laws of the definitions, for every value. They call nothing.
 
-ghost use Rattle.std.specs.Prelude.{◌≡◌, ◌↔◌, ℕ, ◌<◌, ◌≤◌, ◌^◌, ℤ, ◌<ℤ◌, IsTrue, List};
+ghost use Rattle.std.specs.Prelude.{◌≡◌, ◌↔◌, ℕ, ◌<◌, ◌≤◌, ◌^◌, ℤ, ◌<ℤ◌, IsTrue, List, map};
 ghost use Rattle.std.specs.Ordering.{MatchOrdering};
+ghost use Rattle.toml.specs.Data.{Members};
 ghost use Rattle.nextest_config_values.specs.Duration.{duration_reading};
 ghost use Rattle.nextest_config_values.specs.Equality.{IsCopy, IsEquality, IsEqualityBy};
 ghost use Rattle.nextest_config_values.specs.Helpers.PathsLaws.{relative_path_reading};
 ghost use Rattle.nextest_config_values.specs.Once.{HasOneMeaningOrFault};
 ghost use Rattle.nextest_config_values.specs.Read.{IsReading};
-ghost use Rattle.nextest_config_elements.specs.Junit.{junit_reading};
-ghost use Rattle.nextest_config_elements.specs.LeakTimeout.{leak_timeout_reading};
-ghost use Rattle.nextest_config_elements.specs.MaxFail.{fail_fast_reading, IsLimitFault, IsLimitText, IsReached, limit_fault, limit_text, LimitFault};
+ghost use Rattle.nextest_config_elements.specs.Junit.{HasText, junit_keys, junit_reading, junit_table, JunitTable};
+ghost use Rattle.nextest_config_elements.specs.LeakTimeout.{leak_timeout_keys, leak_timeout_reading};
+ghost use Rattle.nextest_config_elements.specs.MaxFail.{fail_fast_keys, fail_fast_reading, IsLimitFault, IsLimitText, IsReached, limit_fault, limit_text, LimitFault};
 ghost use Rattle.nextest_config_elements.specs.Priority.{priority_reading};
 ghost use Rattle.nextest_config_elements.specs.RetryPolicy.{flaky_result_reading, retry_policy_reading};
-ghost use Rattle.nextest_config_elements.specs.SlowTimeout.{slow_timeout_reading};
+ghost use Rattle.nextest_config_elements.specs.SlowTimeout.{slow_timeout_keys, slow_timeout_reading};
 ghost use Rattle.nextest_config_elements.specs.ThreadsRequired.{threads_reading};
 ghost use Rattle.nextest_config_elements.specs.declared.max_fail.MaxFail.{MaxFail};
 ghost use Rattle.nextest_config_elements.specs.declared.max_fail.MaxFail.TheVariants.{All, Count};
 ghost use Rattle.nextest_config_elements.specs.declared.max_fail.TerminateMode.{TerminateMode};
 
 use crate::global_timeout::GlobalTimeout;
-use crate::junit::{JunitFlakyFailStatus, MissingSetting};
+use crate::junit::{JunitFlakyFailStatus, JunitImpl, MissingSetting};
 use crate::leak_timeout::{LeakTimeout, LeakTimeoutResult};
 use crate::max_fail::{CountFault, MaxFail, MaxFailParseError, TerminateMode};
 use crate::priority::{TestPriority, TestPriorityOutOfRange};
@@ -60,7 +61,7 @@ pub fn law_priority_order()
 {}
 
 /// As each of these settings, and as a relative path, a value means one thing and has no fault, or it
-/// means nothing and has one fault at each path.
+/// means nothing and has one fault.
 pub fn law_setting_once()
     ensures slow_timeout { IsReading slow_timeout_reading.means slow_timeout_reading.faults }
     ensures global_timeout { IsReading duration_reading.means duration_reading.faults }
@@ -72,6 +73,20 @@ pub fn law_setting_once()
     ensures threads_required { IsReading threads_reading.means threads_reading.faults }
     ensures junit { IsReading junit_reading.means junit_reading.faults }
     ensures relative_path { IsReading relative_path_reading.means relative_path_reading.faults }
+{}
+
+/// The keys that a type tells are those of the table that it is read from, in their order.
+pub fn law_keys()
+    ensures slow_timeout { map (λ key. key.now) SlowTimeout.KEYS.now ≡ slow_timeout_keys }
+    ensures leak_timeout { map (λ key. key.now) LeakTimeout.KEYS.now ≡ leak_timeout_keys }
+    ensures fail_fast { map (λ key. key.now) MaxFail.KEYS.now ≡ fail_fast_keys }
+    ensures junit { map (λ key. key.now) JunitImpl.KEYS.now ≡ junit_keys }
+{}
+
+/// What is kept of the table of a report takes memory only for its texts.
+pub fn law_report_memory()
+    ensures { (members : Members) (said : JunitTable) → junit_table.means members said
+        → junit_table.takes_memory members → HasText said }
 {}
 
 /// Values are equal exactly where they are the same; refusals of a fail limit where they tell the

@@ -2,11 +2,11 @@
 
 ghost use Rattle.std.specs.Prelude.{◌≡◌, IfOk, IfErr, option_map};
 ghost use Rattle.toml.specs.View.{view};
-ghost use Rattle.nextest_config_values.specs.Read.{RefusesBy};
+ghost use Rattle.nextest_config_values.specs.Read.{RefusesAt, RefusesBy};
 ghost use Rattle.nextest_config_elements.specs.LeakTimeout.{default_leak_timeout, leak_timeout_of, leak_timeout_reading, leak_timeout_reads_back, leak_timeout_results, leak_timeout_table, leak_timeout_word, LeakTimeoutRecord};
 
 use crate::from_table::{FromTable, read_set};
-use nextest_config_values::read::{FromToml, ReadFault, Word, field_or, required_field};
+use nextest_config_values::read::{FromToml, ReadFault, ValueFault, Word, or_default, required};
 use std::alloc::Global;
 use std::time::Duration;
 use toml::{Table, Value};
@@ -27,6 +27,11 @@ pub struct LeakTimeout {
     pub result: LeakTimeoutResult,
 }
 
+impl LeakTimeout {
+    /// The keys of its table.
+    pub const KEYS: &'static [&'static str] = &[PERIOD_KEY, RESULT_KEY];
+}
+
 impl Default for LeakTimeout {
     ghost is_default = { λ timeout. leak_timeout_of timeout ≡ default_leak_timeout };
 
@@ -45,9 +50,9 @@ impl FromTable for LeakTimeout {
 
     ghost reading = { leak_timeout_table };
 
-    fn read_table(alloc: Global, table: &Table, at: &str) -> Result<Self, ReadFault> {
-        let period: Duration = required_field(alloc, table, PERIOD_KEY, at)?;
-        let result = field_or(alloc, table, RESULT_KEY, at, LeakTimeoutResult::default())?;
+    fn read_table(alloc: Global, table: &Table) -> Result<Self, ValueFault> {
+        let period: Duration = required(alloc, table, PERIOD_KEY)?;
+        let result = or_default(alloc, table, RESULT_KEY, LeakTimeoutResult::default())?;
         Ok(LeakTimeout { period, result })
     }
 }
@@ -61,15 +66,27 @@ pub fn deserialize_leak_timeout(
 ) -> Result<Option<LeakTimeout>, ReadFault>
     ensures meant { IfOk result (λ timeout.
         leak_timeout_reading.means (view value.now) (option_map leak_timeout_of timeout)) }
-    ensures refused { IfErr result (RefusesBy leak_timeout_reading (view value.now) at.now) }
+    ensures refused { IfErr result (RefusesAt leak_timeout_reading (view value.now) at.now) }
+{
+    match read_leak_timeout(alloc, value) {
+        Ok(timeout) => Ok(timeout),
+        Err(fault) => Err(fault.at(alloc, at)),
+    }
+}
+
+/// Reads the value of `leak-timeout`, as [`deserialize_leak_timeout`] does, wherever it stands.
+pub fn read_leak_timeout(alloc: Global, value: &Value) -> Result<Option<LeakTimeout>, ValueFault>
+    ensures meant { IfOk result (λ timeout.
+        leak_timeout_reading.means (view value.now) (option_map leak_timeout_of timeout)) }
+    ensures refused { IfErr result (RefusesBy leak_timeout_reading (view value.now)) }
 {
     match value.as_str() {
         Some(_) => {
-            let period = Duration::read(alloc, value, at)?;
+            let period = Duration::read_value(alloc, value)?;
             let result = LeakTimeoutResult::default();
             Ok(Some(LeakTimeout { period, result }))
         }
-        None => read_set(alloc, value, at, EXPECTED),
+        None => read_set(alloc, value, EXPECTED),
     }
 }
 

@@ -10,9 +10,10 @@ ghost use Rattle.nextest_config_elements.specs.declared.max_fail.TerminateMode.{
 
 mod fail_fast;
 
-pub use fail_fast::deserialize_fail_fast;
+pub use fail_fast::{deserialize_fail_fast, read_fail_fast};
 use nextest_config_values::read::Word;
 use std::alloc::{AllocError, Global};
+use std::error::Error;
 use std::fmt;
 
 /// How many tests may fail before no more are started.
@@ -20,7 +21,7 @@ use std::fmt;
 pub enum MaxFail {
     /// The limit is reached with this many failures.
     Count {
-        /// The number of failures.
+        /// The maximum number of failures.
         max_fail: usize,
         /// What then happens to running tests.
         terminate: TerminateMode,
@@ -88,7 +89,7 @@ impl fmt::Display for TerminateMode {
 /// Why a text has no fail limit.
 #[derive(Debug, PartialEq, Eq, Drop)]
 pub enum MaxFailParseError {
-    /// What stands behind the first colon is no mode.
+    /// What stands after the first colon is no mode.
     Mode { text: String },
     /// What stands before the first colon, or the whole text, is no count.
     Count { text: String, reason: CountFault },
@@ -126,7 +127,7 @@ impl MaxFail {
         }
     }
 
-    /// What happens to running tests, once so many failures reach the limit.
+    /// What happens to running tests, once so many failures reach the limit. `None`: they don't.
     pub fn is_exceeded(&self, failed: usize) -> Option<TerminateMode>
         ensures { MatchOption result ((mode : TerminateMode) → ¬ (IsReached self.now failed mode))
             (IsReached self.now failed) }
@@ -141,7 +142,7 @@ impl MaxFail {
     }
 
     /// The limit of a text as `--max-fail` takes it: `all` in any ASCII letter case; or a count,
-    /// and behind it, if it isn't `wait`, a colon and a mode. The mode is judged before the count.
+    /// and after it, if it isn't `wait`, a colon and a mode. The mode is judged before the count.
     pub fn from_str(alloc: Global, s: &str) -> Result<Self, MaxFailParseError>
         ensures accepted { IfOk result (IsLimitText s.now) }
         ensures refused { IfErr result (RefusesLimit (IsLimitFault s.now)) }
@@ -241,12 +242,12 @@ fn parse_number(text: &str) -> Result<isize, CountFault>
 fn is_number(text: &str) -> bool
     ensures { IsTrue result ↔ IsNumeral 10 (without_leading_sign text.now) }
 {
-    let digits = behind_sign(text);
+    let digits = after_sign(text);
     !digits.is_empty() && are_digits(digits)
 }
 
-// What stands behind the sign of a text, if it has one.
-fn behind_sign(text: &str) -> &[u8]
+// What stands after the sign of a text, if it has one.
+fn after_sign(text: &str) -> &[u8]
     ensures { result.now ≡ without_leading_sign text.now }
 {
     match text.as_bytes() {
@@ -287,17 +288,19 @@ fn write_named<W: fmt::Write>(
     f: &mut fmt::Formatter<W>,
     before: &str,
     text: &str,
-    behind: &str,
+    after: &str,
 ) -> fmt::Result
     ensures writes { WritesOnOk W.write_str_gives f.old result
-        (before.now ++ (text.now ++ behind.now)) f.new }
+        (before.now ++ (text.now ++ after.now)) f.new }
     ensures styled { WritesStyledOnOk W.write_str_gives f.old result
-        (before.now ++ (text.now ++ behind.now)) f.new }
+        (before.now ++ (text.now ++ after.now)) f.new }
 {
     f.write_str(before)?;
     f.write_str(text)?;
-    f.write_str(behind)
+    f.write_str(after)
 }
+
+impl Error for MaxFailParseError {}
 
 impl fmt::Display for MaxFailParseError {
     ghost output = { λ error. Some (told_text limit_fault_text (limit_fault error)) };

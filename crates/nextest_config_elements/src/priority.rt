@@ -6,7 +6,7 @@ ghost use Rattle.std.specs.Cmp.Rules.{comparing};
 ghost use Rattle.std.specs.Ordering.{int_cmp};
 ghost use Rattle.nextest_config_elements.specs.Priority.{IsPriority, priority_reading};
 
-use nextest_config_values::read::{FaultKind, FromToml, ReadFault, Rule};
+use nextest_config_values::read::{FaultKind, FromToml, Rule, ValueFault};
 use std::alloc::Global;
 use std::cmp::Ordering;
 use std::marker::Model;
@@ -21,7 +21,6 @@ pub struct TestPriority(i8);
 #[derive(Clone, Copy, Debug, PartialEq, Eq, Error)]
 #[error("priority {priority} must be between -100 and 100")]
 pub struct TestPriorityOutOfRange {
-    /// The number.
     pub priority: i8,
 }
 
@@ -100,18 +99,18 @@ impl FromToml for TestPriority {
 
     ghost reading = { priority_reading };
 
-    fn read(alloc: Global, value: &Value, at: &str) -> Result<Self, ReadFault> {
+    fn read_value(alloc: Global, value: &Value) -> Result<Self, ValueFault> {
         let Some(number) = value.as_integer() else {
-            return Err(ReadFault::invalid_type(alloc, value, at, "i8"));
+            return Err(ValueFault::invalid_type(alloc, value, "i8"));
         };
         let Ok(number) = i8::try_from(number) else {
-            return Err(ReadFault::invalid_value(alloc, value, at, "i8"));
+            return Err(ValueFault::invalid_value(alloc, value, "i8"));
         };
         match TestPriority::new(number) {
             Ok(priority) => Ok(priority),
             Err(TestPriorityOutOfRange { priority }) => {
                 let rule = Rule::Priority { priority };
-                Err(ReadFault::new(alloc, at, FaultKind::Custom(rule)))
+                Err(ValueFault::new(alloc, FaultKind::Custom(rule)))
             }
         }
     }

@@ -3,13 +3,13 @@
 ghost use Rattle.std.specs.Prelude.{◌≡◌, ◌↔◌, ◌∷◌, ℕ, IfOk, IfErr, IsOk, IsTrue, List, MatchOption, OnOk, option_map, string_bytes};
 ghost use Rattle.std.specs.Duration.{as_nanos};
 ghost use Rattle.toml.specs.View.{table_view, view};
-ghost use Rattle.nextest_config_values.specs.Read.{broken_rule, custom, fault_at, RefusesAs, RefusesBy, RefusesOne, words_text};
-ghost use Rattle.nextest_config_elements.specs.RetryPolicy.{backoff_key, backoff_reads_back, backoff_word, backoffs_in_order, count_of, exponential_rules, exponential_table, fail_message, fixed_table, flaky_result_reads_back, flaky_result_word, flaky_results, keys_beside, other_keys, retry_number, retry_policy_of, retry_policy_reading, retry_table, RetryPolicyRecord, table_of, without_delay};
+ghost use Rattle.nextest_config_values.specs.Read.{broken_by, broken_rule, no_data, RefusesAs, RefusesAt, RefusesBy, RefusesOne, words_text};
+ghost use Rattle.nextest_config_elements.specs.RetryPolicy.{backoff_key, backoff_reads_back, backoff_word, backoffs_in_order, count_of, exponential_rules, exponential_table, fail_message, fixed_table, flaky_result_reads_back, flaky_result_word, flaky_results, keys_beside, other_keys, retry_number, retry_policy_of, retry_policy_reading, retry_table, RetryPolicyRecord, table_with_backoff, without_delay};
 ghost use Rattle.nextest_config_elements.specs.UnknownKeys.{IsOneOf};
 
 use crate::from_table::{FromTable, read_set};
 use nextest_config_values::read::{
-    FaultKind, FromToml, ReadFault, Rule, Word, field_or, optional_field, required_field,
+    FaultKind, ReadFault, Rule, ValueFault, Word, optional, or_default, required,
 };
 use std::alloc::{AllocError, Global};
 use std::time::Duration;
@@ -27,12 +27,12 @@ const JITTER_KEY: &str = "jitter";
 
 const MAX_DELAY_KEY: &str = "max-delay";
 
-/// How often a failed test is tried again, and how long it waits between tries.
+/// The maximum number of retries of a failed test, and the time between tries.
 #[derive(Clone, Copy, Debug, PartialEq, Eq)]
 pub enum RetryPolicy {
     /// The same delay between all tries.
     Fixed {
-        /// How often the test is tried again.
+        /// The maximum number of retries.
         count: u32,
         /// The time between tries.
         delay: Duration,
@@ -41,13 +41,13 @@ pub enum RetryPolicy {
     },
     /// A delay that grows exponentially from try to try.
     Exponential {
-        /// How often the test is tried again.
+        /// The maximum number of retries.
         count: u32,
         /// The time before the first retry.
         delay: Duration,
         /// Whether the delay is varied at random.
         jitter: bool,
-        /// The longest delay; none, and it grows on.
+        /// The maximum delay. `None`: no maximum.
         max_delay: Option<Duration>,
     },
 }
@@ -72,7 +72,7 @@ impl RetryPolicy {
         }
     }
 
-    /// How often a test is tried again.
+    /// The maximum number of retries.
     pub fn count(&self) -> u32
         ensures { result ≡ count_of (retry_policy_of self.now) }
     {
@@ -92,32 +92,39 @@ pub fn deserialize_retry_policy(
 ) -> Result<Option<RetryPolicy>, ReadFault>
     ensures meant { IfOk result (λ policy.
         retry_policy_reading.means (view value.now) (option_map retry_policy_of policy)) }
-    ensures refused { IfErr result (RefusesBy retry_policy_reading (view value.now) at.now) }
+    ensures refused { IfErr result (RefusesAt retry_policy_reading (view value.now) at.now) }
+{
+    match read_retry_policy(alloc, value) {
+        Ok(policy) => Ok(policy),
+        Err(fault) => Err(fault.at(alloc, at)),
+    }
+}
+
+/// Reads the value of `retries`, as [`deserialize_retry_policy`] does, wherever it stands.
+pub fn read_retry_policy(alloc: Global, value: &Value) -> Result<Option<RetryPolicy>, ValueFault>
+    ensures meant { IfOk result (λ policy.
+        retry_policy_reading.means (view value.now) (option_map retry_policy_of policy)) }
+    ensures refused { IfErr result (RefusesBy retry_policy_reading (view value.now)) }
 {
     if let Some(number) = value.as_integer() {
-        let policy = read_number(alloc, value, number, at)?;
+        let policy = read_number(alloc, value, number)?;
         return Ok(Some(policy));
     }
-    read_set(alloc, value, at, EXPECTED)
+    read_set(alloc, value, EXPECTED)
 }
 
 // The policy that a value with this integer means.
-fn read_number(
-    alloc: Global,
-    value: &Value,
-    number: i64,
-    at: &str,
-) -> Result<RetryPolicy, ReadFault>
+fn read_number(alloc: Global, value: &Value, number: i64) -> Result<RetryPolicy, ValueFault>
     ensures meant { IfOk result (λ policy.
         (retry_number number).means (view value.now) (retry_policy_of policy)) }
-    ensures refused { IfErr result (RefusesBy (retry_number number) (view value.now) at.now) }
+    ensures refused { IfErr result (RefusesBy (retry_number number) (view value.now)) }
 {
     if number < 0 {
-        return Err(ReadFault::invalid_value(alloc, value, at, EXPECTED));
+        return Err(ValueFault::invalid_value(alloc, value, EXPECTED));
     }
     match u32::try_from(number) {
         Ok(count) => Ok(RetryPolicy::new_without_delay(count)),
-        Err(_) => Err(ReadFault::invalid_value(alloc, value, at, "a u32")),
+        Err(_) => Err(ValueFault::invalid_value(alloc, value, "a u32")),
     }
 }
 
@@ -128,24 +135,24 @@ impl FromTable for RetryPolicy {
 
     ghost reading = { retry_table };
 
-    fn read_table(alloc: Global, table: &Table, at: &str) -> Result<Self, ReadFault> {
-        let backoff: Backoff = required_field(alloc, table, BACKOFF_KEY, at)?;
-        backoff.read_table(alloc, table, at)
+    fn read_table(alloc: Global, table: &Table) -> Result<Self, ValueFault> {
+        let backoff: Backoff = required(alloc, table, BACKOFF_KEY)?;
+        backoff.read_table(alloc, table)
     }
 }
 
 // The policy that a table with a fixed backoff means.
-fn read_fixed(alloc: Global, table: &Table, at: &str) -> Result<RetryPolicy, ReadFault>
+fn read_fixed(alloc: Global, table: &Table) -> Result<RetryPolicy, ValueFault>
     ensures meant { IfOk result (λ policy.
         fixed_table.means (table_view table.now) (retry_policy_of policy)) }
-    ensures refused { IfErr result (RefusesBy fixed_table (table_view table.now) at.now) }
+    ensures refused { IfErr result (RefusesBy fixed_table (table_view table.now)) }
 {
-    let count = required_field(alloc, table, COUNT_KEY, at)?;
-    let delay = field_or(alloc, table, DELAY_KEY, at, Duration::ZERO)?;
-    let jitter = field_or(alloc, table, JITTER_KEY, at, false)?;
-    Backoff::Fixed.check_keys(alloc, table, at)?;
+    let count = required(alloc, table, COUNT_KEY)?;
+    let delay = or_default(alloc, table, DELAY_KEY, Duration::ZERO)?;
+    let jitter = or_default(alloc, table, JITTER_KEY, false)?;
+    Backoff::Fixed.check_keys(alloc, table)?;
     if jitter && delay.is_zero() {
-        return Err(broken(alloc, at, Rule::JitterWithoutDelay));
+        return Err(broken(alloc, Rule::JitterWithoutDelay));
     }
     Ok(RetryPolicy::Fixed {
         count,
@@ -155,18 +162,18 @@ fn read_fixed(alloc: Global, table: &Table, at: &str) -> Result<RetryPolicy, Rea
 }
 
 // The policy that a table with an exponential backoff means.
-fn read_exponential(alloc: Global, table: &Table, at: &str) -> Result<RetryPolicy, ReadFault>
+fn read_exponential(alloc: Global, table: &Table) -> Result<RetryPolicy, ValueFault>
     ensures meant { IfOk result (λ policy.
         exponential_table.means (table_view table.now) (retry_policy_of policy)) }
-    ensures refused { IfErr result (RefusesBy exponential_table (table_view table.now) at.now) }
+    ensures refused { IfErr result (RefusesBy exponential_table (table_view table.now)) }
 {
-    let count = required_field(alloc, table, COUNT_KEY, at)?;
-    let delay: Duration = required_field(alloc, table, DELAY_KEY, at)?;
-    let jitter = field_or(alloc, table, JITTER_KEY, at, false)?;
-    let max_delay: Option<Duration> = optional_field(alloc, table, MAX_DELAY_KEY, at)?;
-    Backoff::Exponential.check_keys(alloc, table, at)?;
+    let count = required(alloc, table, COUNT_KEY)?;
+    let delay: Duration = required(alloc, table, DELAY_KEY)?;
+    let jitter = or_default(alloc, table, JITTER_KEY, false)?;
+    let max_delay: Option<Duration> = optional(alloc, table, MAX_DELAY_KEY)?;
+    Backoff::Exponential.check_keys(alloc, table)?;
     match first_broken(count, delay, max_delay) {
-        Some(rule) => Err(broken(alloc, at, rule)),
+        Some(rule) => Err(broken(alloc, rule)),
         None => Ok(RetryPolicy::Exponential {
             count,
             delay,
@@ -179,10 +186,9 @@ fn read_exponential(alloc: Global, table: &Table, at: &str) -> Result<RetryPolic
 // The first rule that an exponential backoff breaks.
 fn first_broken(count: u32, delay: Duration, max_delay: Option<Duration>) -> Option<Rule>
     ensures { MatchOption result
-        ((exponential_rules count (as_nanos delay) (option_map as_nanos max_delay)).passes (tt {0}))
-        (λ rule. (at : List ℕ) →
-        (exponential_rules count (as_nanos delay) (option_map as_nanos max_delay)).faults
-        (tt {0}) at (fault_at at (custom (broken_rule rule)))) }
+        ((exponential_rules count (as_nanos delay) (option_map as_nanos max_delay)).passes no_data)
+        (λ rule. (exponential_rules count (as_nanos delay) (option_map as_nanos max_delay)).faults
+        no_data (broken_by (broken_rule rule))) }
 {
     if count == 0 {
         return Some(Rule::CountZero);
@@ -201,10 +207,10 @@ fn first_broken(count: u32, delay: Duration, max_delay: Option<Duration>) -> Opt
 }
 
 // The fault of a table that breaks a rule.
-fn broken(alloc: Global, at: &str, rule: Rule) -> ReadFault
-    ensures { RefusesAs (fault_at at.now (custom (broken_rule rule))) result }
+fn broken(alloc: Global, rule: Rule) -> ValueFault
+    ensures { RefusesAs (broken_by (broken_rule rule)) result }
 {
-    ReadFault::new(alloc, at, FaultKind::Custom(rule))
+    ValueFault::new(alloc, FaultKind::Custom(rule))
 }
 
 // How the delay between tries grows.
@@ -241,26 +247,26 @@ impl Word for Backoff {
 
 impl Backoff {
     // The policy that a table with this backoff means.
-    fn read_table(self, alloc: Global, table: &Table, at: &str) -> Result<RetryPolicy, ReadFault>
+    fn read_table(self, alloc: Global, table: &Table) -> Result<RetryPolicy, ValueFault>
         ensures meant { IfOk result (λ policy.
-            (table_of self).means (table_view table.now) (retry_policy_of policy)) }
-        ensures refused { IfErr result (RefusesBy (table_of self) (table_view table.now) at.now) }
+            (table_with_backoff self).means (table_view table.now) (retry_policy_of policy)) }
+        ensures refused { IfErr result (RefusesBy (table_with_backoff self) (table_view table.now)) }
     {
         match self {
-            Backoff::Fixed => read_fixed(alloc, table, at),
-            Backoff::Exponential => read_exponential(alloc, table, at),
+            Backoff::Fixed => read_fixed(alloc, table),
+            Backoff::Exponential => read_exponential(alloc, table),
         }
     }
 
     // Refuses the first key, in byte order, that doesn't belong to this backoff.
-    fn check_keys(self, alloc: Global, table: &Table, at: &str) -> Result<(), ReadFault>
+    fn check_keys(self, alloc: Global, table: &Table) -> Result<(), ValueFault>
         ensures kept { OnOk result ((other_keys self).passes (table_view table.now)) }
         ensures refused { IfErr result
-            (RefusesOne ((other_keys self).faults (table_view table.now) at.now)) }
+            (RefusesOne ((other_keys self).faults (table_view table.now))) }
     {
         for key in table.keys() {
             if !self.has_key(key.as_str()) {
-                return Err(ReadFault::unknown_field(alloc, key.as_str(), at, self.keys()));
+                return Err(ValueFault::unknown_field(alloc, key.as_str(), self.keys()));
             }
         }
         Ok(())
@@ -291,16 +297,14 @@ impl Backoff {
 /// Whether a flaky test, one that passes on a later attempt, fails or passes.
 #[derive(Clone, Copy, Debug, PartialEq, Eq)]
 pub enum FlakyResult {
-    /// It fails.
     Fail,
-    /// It passes.
     Pass,
 }
 
 impl FlakyResult {
     ghost use Rattle.nextest_config_elements.specs.declared.retry_policy.FlakyResult.TheVariants.{Pass};
 
-    /// What a report says of a flaky test that fails although it passed on this attempt; none where
+    /// What a report says of a flaky test that fails although it passed on this attempt. `None`:
     /// flaky tests pass.
     pub fn fail_message(
         self,

@@ -3,13 +3,13 @@
 ghost use Rattle.std.specs.Prelude.{◌≡◌, IfOk, IfErr, option_map};
 ghost use Rattle.std.specs.Duration.{as_nanos};
 ghost use Rattle.toml.specs.View.{view};
-ghost use Rattle.nextest_config_values.specs.Read.{RefusesBy};
+ghost use Rattle.nextest_config_values.specs.Read.{RefusesAt, RefusesBy};
 ghost use Rattle.nextest_config_elements.specs.Durations.{seconds};
 ghost use Rattle.nextest_config_elements.specs.SlowTimeout.{default_grace_period, slow_timeout_of, slow_timeout_reading, slow_timeout_reads_back, slow_timeout_results, slow_timeout_table, slow_timeout_word, SlowTimeoutRecord, with_period};
 
 use crate::from_table::{FromTable, read_set};
 use nextest_config_values::read::{
-    FromToml, NonZeroCount, ReadFault, Word, field_or, optional_field, required_field,
+    FromToml, NonZeroCount, ReadFault, ValueFault, Word, optional, or_default, required,
 };
 use std::alloc::Global;
 use std::time::Duration;
@@ -30,7 +30,7 @@ const ON_TIMEOUT_KEY: &str = "on-timeout";
 pub struct SlowTimeout {
     /// The time after which a test is slow.
     pub period: Duration,
-    /// The number of periods after which a slow test is terminated; none, and it never is.
+    /// The number of periods after which a slow test is terminated. `None`: never terminated.
     pub terminate_after: Option<NonZeroCount>,
     /// The time that a test has to end by itself once it is told to.
     pub grace_period: Duration,
@@ -39,6 +39,14 @@ pub struct SlowTimeout {
 }
 
 impl SlowTimeout {
+    /// The keys of its table.
+    pub const KEYS: &'static [&'static str] = &[
+        PERIOD_KEY,
+        TERMINATE_AFTER_KEY,
+        GRACE_PERIOD_KEY,
+        ON_TIMEOUT_KEY,
+    ];
+
     /// A timeout that no test meets: roughly 30 years.
     pub fn very_large() -> Self
         ensures { slow_timeout_of result ≡ with_period (seconds 946_080_000) }
@@ -66,22 +74,11 @@ impl FromTable for SlowTimeout {
 
     ghost reading = { slow_timeout_table };
 
-    fn read_table(alloc: Global, table: &Table, at: &str) -> Result<Self, ReadFault> {
-        let period: Duration = required_field(alloc, table, PERIOD_KEY, at)?;
-        let terminate_after: Option<NonZeroCount> = optional_field(
-            alloc,
-            table,
-            TERMINATE_AFTER_KEY,
-            at,
-        )?;
-        let grace_period = field_or(alloc, table, GRACE_PERIOD_KEY, at, default_grace_period())?;
-        let on_timeout = field_or(
-            alloc,
-            table,
-            ON_TIMEOUT_KEY,
-            at,
-            SlowTimeoutResult::default(),
-        )?;
+    fn read_table(alloc: Global, table: &Table) -> Result<Self, ValueFault> {
+        let period: Duration = required(alloc, table, PERIOD_KEY)?;
+        let terminate_after: Option<NonZeroCount> = optional(alloc, table, TERMINATE_AFTER_KEY)?;
+        let grace_period = or_default(alloc, table, GRACE_PERIOD_KEY, default_grace_period())?;
+        let on_timeout = or_default(alloc, table, ON_TIMEOUT_KEY, SlowTimeoutResult::default())?;
         Ok(SlowTimeout {
             period,
             terminate_after,
@@ -101,16 +98,28 @@ pub fn deserialize_slow_timeout(
 ) -> Result<Option<SlowTimeout>, ReadFault>
     ensures meant { IfOk result (λ timeout.
         slow_timeout_reading.means (view value.now) (option_map slow_timeout_of timeout)) }
-    ensures refused { IfErr result (RefusesBy slow_timeout_reading (view value.now) at.now) }
+    ensures refused { IfErr result (RefusesAt slow_timeout_reading (view value.now) at.now) }
+{
+    match read_slow_timeout(alloc, value) {
+        Ok(timeout) => Ok(timeout),
+        Err(fault) => Err(fault.at(alloc, at)),
+    }
+}
+
+/// Reads the value of `slow-timeout`, as [`deserialize_slow_timeout`] does, wherever it stands.
+pub fn read_slow_timeout(alloc: Global, value: &Value) -> Result<Option<SlowTimeout>, ValueFault>
+    ensures meant { IfOk result (λ timeout.
+        slow_timeout_reading.means (view value.now) (option_map slow_timeout_of timeout)) }
+    ensures refused { IfErr result (RefusesBy slow_timeout_reading (view value.now)) }
 {
     if let Some(text) = value.as_str() {
         if text.is_empty() {
             return Ok(None);
         }
-        let period = Duration::read(alloc, value, at)?;
+        let period = Duration::read_value(alloc, value)?;
         return Ok(Some(SlowTimeout::with_period(period)));
     }
-    read_set(alloc, value, at, EXPECTED)
+    read_set(alloc, value, EXPECTED)
 }
 
 // The grace period where none is given.
@@ -123,9 +132,7 @@ fn default_grace_period() -> Duration
 /// Whether a test that is terminated by its timeout fails or passes.
 #[derive(Clone, Copy, Debug, PartialEq, Eq)]
 pub enum SlowTimeoutResult {
-    /// It fails.
     Fail,
-    /// It passes.
     Pass,
 }
 

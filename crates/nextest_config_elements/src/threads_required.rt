@@ -4,7 +4,7 @@ ghost use Rattle.std.specs.Prelude.{◌≡◌, ◌≢◌, ℕ, Some, MatchOption
 ghost use Rattle.nextest_config_elements.specs.ThreadsRequired.{thread_count, threads_reading, threads_text};
 ghost use Rattle.nextest_config_elements.specs.declared.threads_required.ThreadsRequired.{ThreadsRequired};
 
-use nextest_config_values::read::{FromToml, ReadFault};
+use nextest_config_values::read::{FromToml, ValueFault};
 use std::alloc::Global;
 use toml::Value;
 
@@ -42,19 +42,19 @@ impl FromToml for ThreadsRequired {
 
     ghost reading = { threads_reading };
 
-    fn read(alloc: Global, value: &Value, at: &str) -> Result<Self, ReadFault> {
+    fn read_value(alloc: Global, value: &Value) -> Result<Self, ValueFault> {
         if let Some(number) = value.as_integer() {
             return match usize::try_from(number) {
                 Ok(count) if count > 0 => Ok(ThreadsRequired::Count(count)),
-                _ => Err(ReadFault::invalid_value(alloc, value, at, EXPECTED)),
+                _ => Err(ValueFault::invalid_value(alloc, value, EXPECTED)),
             };
         }
         match value.as_str() {
             Some(text) => match from_word(text) {
                 Some(threads) => Ok(threads),
-                None => Err(ReadFault::invalid_value(alloc, value, at, EXPECTED)),
+                None => Err(ValueFault::invalid_value(alloc, value, EXPECTED)),
             },
-            None => Err(ReadFault::invalid_type(alloc, value, at, EXPECTED)),
+            None => Err(ValueFault::invalid_type(alloc, value, EXPECTED)),
         }
     }
 }

@@ -33,7 +33,7 @@ among_all_features features.Benchmarks = (2, omega arith, refl)
 pub goes_on : (so_far left after : List ConfigExperimental) (feature : ConfigExperimental) → all_features ≡ so_far ++ left → left ≡ feature ∷ after → all_features ≡ (so_far ++ feature ∷ []) ++ after
 goes_on so_far left after feature whole step = whole ∙ ap (λ rest. so_far ++ rest) step ∙ sym (append_assoc so_far (feature ∷ []) after)
 
--- behind the last of the features, those that hold this are all that do
+-- after the last of the features, those that hold this are all that do
 pub those_of_all : (Holds : ConfigExperimental → Type 0) (so_far left keys : List ConfigExperimental) → all_features ≡ so_far ++ left → left ≡ []
     → AreThoseOf Holds so_far keys → (feature : ConfigExperimental) → Contains keys feature ↔ Holds feature
 those_of_all Holds so_far left keys whole ended those feature =

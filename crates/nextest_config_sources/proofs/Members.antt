@@ -61,11 +61,11 @@ one_that_fails Holds so_far those x are fails other =
       λ (there, held). (are other).1 (⊎_elim (λ stood. stood) (λ same. absurd (fails (subst Holds (sym same) held))) (grown.0 there), held),
     )
 
--- ---- those that hold something, behind others, as they are seen
+-- ---- those that hold something, after others, as they are seen
 
 -- each element of a list is among those of which nothing is asked
-pub none_behind : {X : Type 0} (xs : List X) → AreThoseOf (λ x. Unit {0}) (xs ++ []) xs
-none_behind xs x = rw (append-nil xs) (λ h. (h, tt), λ h. h.0)
+pub none_after : {X : Type 0} (xs : List X) → AreThoseOf (λ x. Unit {0}) (xs ++ []) xs
+none_after xs x = rw (append-nil xs) (λ h. (h, tt), λ h. h.0)
 
 pub seen_holds : {X Y : Type 0} (seen : X → Y) (Holds : Y → Type 0) (base : List Y) (xs : List X) (x : X) (before after : List Y) (y : Y) → AreThoseOf Holds (base ++ map seen xs) before
     → HasOneMore before y after → y ≡ seen x → Holds (seen x) → AreThoseOf Holds (base ++ map seen (xs ++ x ∷ [])) after

@@ -22,8 +22,8 @@ use Rattle.toml.specs.View.{items_view, members_view, view}
 use Rattle.toml.specs.declared.value.Value.{Value}
 use Rattle.nextest_config_values.proofs.Faults.{refused_mapped}
 use Rattle.nextest_config_values.specs.Read.Fault.{Fault}
-use Rattle.nextest_config_values.specs.Read.{made_of, Refuses, RefusesBy}
-use Rattle.nextest_config_values.specs.declared.read.fault.ReadFault.{ReadFault}
+use Rattle.nextest_config_values.specs.Read.{Always, made_of, Refuses, RefusesBy}
+use Rattle.nextest_config_values.specs.declared.read.value_fault.ValueFault.{ValueFault}
 use Rattle.nextest_config_sources.specs.NextestVersion.{AddsItem, AddsText, all_features, AreNamed, AreNames, feature_array, feature_cmp, feature_table, Features, FeaturesInOrder, HasOneMore, in_form, IsAmong, IsTextAt, IsUnknown, IsUnknownFeatureKey, IsWordAmong, ItemFaults, MeansFeatureArray, no_features, switch, switches, table_names, text_in, TextsInOrder, word_of}
 use Rattle.nextest_config_sources.specs.declared.nextest_version.experimental.ConfigExperimental.{ConfigExperimental}
 use Rattle.nextest_config_sources.specs.declared.nextest_version.experimental.ConfigExperimental.TheVariants as features
@@ -123,7 +123,7 @@ pub item_here : (xs items : List Value) (index : ℕ) (value : Value) → xs ≡
 item_here xs items index value same below is =
     subst (λ ys. get_item index (items_view ys) ≡ Some (view value)) same (sym (get_item_within xs index value below) ∙ ap (λ v. Some (view v)) (sym is))
 
--- behind the last element
+-- after the last element
 module _ (vs : List Value) (count : ℕ) (past : length vs ≤ count) where
   index_below : (index : ℕ) → IsSome (get_item index (items_view vs)) → index < count
   index_below index some = ⊎_elim (λ below. below) (λ beyond. absurd (false≢true (subst IsSome (sym (get_item_past vs index (omega arith))) some))) (cases_lt index count)
@@ -145,10 +145,10 @@ module _ (vs : List Value) (count : ℕ) (past : length vs ≤ count) where
     };
   }
 
--- an element that is no text, behind texts
-pub refuses_array : {items : Items} {index : ℕ} {value : Data} {named : Features} (at : List ℕ) (fault : ReadFault) → NamedSoFar items index named → get_item index items ≡ Some value
-    → Refuses (ItemFaults value index at) (Unit {0}) fault → RefusesBy (made_of (in_form true) feature_array) items at fault
-refuses_array {index = index} {value = value} at fault so_far is refused = record { told = refused_mapped fault refused inl (λ f wrong. (index, value, is, so_far.of_texts, wrong)) }
+-- an element that is no text, after texts
+pub refuses_array : {items : Items} {index : ℕ} {value : Data} {named : Features} (fault : ValueFault) → NamedSoFar items index named → get_item index items ≡ Some value
+    → Refuses (ItemFaults value index) Always fault → RefusesBy (made_of (in_form true) feature_array) items fault
+refuses_array {index = index} {value = value} fault so_far is refused = record { told = refused_mapped fault refused inl (λ f wrong. (index, value, is, so_far.of_texts, wrong)) }
 
 -- ---- a table
 
@@ -183,19 +183,19 @@ switched_on {members} {so_far} {left} {known} {after} {more} {feature} h step on
   in_order = in_order;
 }
 
--- a switch that is no boolean, behind others that are read, is the first
-first_of : (members : Members) (at : List ℕ) (fault : Fault) (so_far after : List ConfigExperimental) (feature : ConfigExperimental) → AreSwitches members so_far → (switch feature).faults members at fault
-    → (switches (so_far ++ feature ∷ after)).faults members at fault
-first_of table at fault [] after feature read wrong = inl wrong
-first_of table at fault (x ∷ so_far) after feature read wrong = inr (read.0.0, read.0.1, first_of table at fault so_far after feature read.1 wrong)
+-- a switch that is no boolean, after others that are read, is the first
+first_of : (members : Members) (fault : Fault) (so_far after : List ConfigExperimental) (feature : ConfigExperimental) → AreSwitches members so_far → (switch feature).faults members fault
+    → (switches (so_far ++ feature ∷ after)).faults members fault
+first_of table fault [] after feature read wrong = inl wrong
+first_of table fault (x ∷ so_far) after feature read wrong = inr (read.0.0, read.0.1, first_of table fault so_far after feature read.1 wrong)
 
-pub refuses_switches : {members : Members} {so_far left known after : List ConfigExperimental} {feature : ConfigExperimental} (at : List ℕ) (fault : ReadFault) → SwitchedSoFar members so_far left known → left ≡ feature ∷ after
-    → RefusesBy (switch feature) members at fault → RefusesBy feature_table members at fault
-refuses_switches {members} {so_far} {after = after} {feature} at fault h step refused =
+pub refuses_switches : {members : Members} {so_far left known after : List ConfigExperimental} {feature : ConfigExperimental} (fault : ValueFault) → SwitchedSoFar members so_far left known → left ≡ feature ∷ after
+    → RefusesBy (switch feature) members fault → RefusesBy feature_table members fault
+refuses_switches {members} {so_far} {after = after} {feature} fault h step refused =
     let whole : all_features ≡ so_far ++ feature ∷ after = h.whole ∙ ap (λ rest. so_far ++ rest) step in
-    record { told = refused_mapped fault refused.told (λ wanted. inl tt) (λ f wrong. subst (λ of. (switches of).faults members at f) (sym whole) (first_of members at f so_far after feature h.read wrong)) }
+    record { told = refused_mapped fault refused.told (λ wanted. inl tt) (λ f wrong. subst (λ of. (switches of).faults members f) (sym whole) (first_of members f so_far after feature h.read wrong)) }
 
--- behind the last switch
+-- after the last switch
 pub all_switches : {members : Members} {so_far left known : List ConfigExperimental} → SwitchedSoFar members so_far left known → left ≡ [] → (feature : ConfigExperimental) → (on : Bool) × (switch feature).means members on
 all_switches {members} {so_far} h ended feature =
     let Read : ConfigExperimental → Type 0 = λ f. (on : Bool) × (switch f).means members on in
@@ -204,8 +204,8 @@ all_switches {members} {so_far} h ended feature =
 
 -- each switch is read, and so are these in turn
 pub read_in_turn : (of : List ConfigExperimental) (members : Members) (named : Features) → ((feature : ConfigExperimental) → (on : Bool) × (switch feature).means members on) → table_names.means members named → (switches of).means members named
-read_in_turn [] members named read names = names
-read_in_turn (feature ∷ rest) members named read names = ((read feature).0, (read feature).1, read_in_turn rest members named read names)
+read_in_turn [] table named read names = names
+read_in_turn (feature ∷ rest) table named read names = ((read feature).0, (read feature).1, read_in_turn rest table named read names)
 
 -- a key that the text isn't
 other_key : (text key : List ℕ) (rest : Option Data) (others : List (List ℕ)) → (key ≡ text → ⊥) → Contains others text ↔ IsSome rest → Contains (key ∷ others) text ↔ IsSome rest

@@ -1,8 +1,8 @@
 //! Laws of the definitions, for every value. They call nothing.
 
-ghost use Rattle.std.specs.Prelude.{◌≡◌, ◌↔◌};
+ghost use Rattle.std.specs.Prelude.{◌≡◌, ◌↔◌, map};
 ghost use Rattle.semver.specs.Parse.{Parts};
-ghost use Rattle.nextest_config_sources.specs.NextestVersion.{given_of, IsEnough, IsEnoughByNumbers, features_reading, HasVersion, IsVersionFault, IsWrong, Numbers, place_of, plain, TextAsks, versions_reading};
+ghost use Rattle.nextest_config_sources.specs.NextestVersion.{given_of, IsEnough, IsEnoughByNumbers, features_reading, features_under, HasVersion, IsVersionFault, IsWrong, Numbers, place_of, plain, TextAsks, version_table_keys, versions_reading};
 ghost use Rattle.nextest_config_sources.specs.NextestVersion.Source.{repository_given, tool_given};
 ghost use Rattle.nextest_config_sources.specs.declared.nextest_version.edition.Edition.{Edition};
 ghost use Rattle.nextest_config_sources.specs.declared.nextest_version.source.ConfigSourceKind.{ConfigSourceKind};
@@ -11,8 +11,8 @@ ghost use Rattle.nextest_config_values.specs.Once.{HasOneMeaningOrFault};
 ghost use Rattle.nextest_config_values.specs.Read.{IsReading};
 
 use crate::nextest_version::{
-    ConfigExperimental, ConfigSource, ConfigSourceKind, Edition, RepositoryText, SourceText,
-    ToolText,
+    ConfigExperimental, ConfigSource, ConfigSourceKind, Edition, NextestVersionDeserialize,
+    RepositoryText, SourceText, ToolText,
 };
 
 /// Each text has one version and breaks no rule, or has none and breaks one.
@@ -22,10 +22,17 @@ pub fn law_version_once()
 {}
 
 /// Each value of `nextest-version` and of `experimental` means one thing and has no fault, or means
-/// nothing and has one fault at each path.
+/// nothing and has one fault; that of `experimental` under either edition, too.
 pub fn law_setting_once()
     ensures versions { IsReading versions_reading.means versions_reading.faults }
     ensures features { IsReading features_reading.means features_reading.faults }
+    ensures of_edition { (edition : Edition)
+        → IsReading (features_under edition).means (features_under edition).faults }
+{}
+
+/// The keys that a type tells are those of the table that it is read from, in their order.
+pub fn law_keys()
+    ensures { map (λ key. key.now) NextestVersionDeserialize.KEYS.now ≡ version_table_keys }
 {}
 
 /// Under either edition each source asks one thing and nothing is wrong with it, or asks nothing and

@@ -13,7 +13,7 @@ use Rattle.std.specs.Result.{OkIff}
 use Rattle.nextest_config_values.proofs.Elements.{all_joined, all_weaker}
 use Rattle.nextest_config_values.proofs.Texts.{ascii_encoded}
 use Rattle.nextest_config_values.specs.Duration.Fronts.{fault_stops, longest_front, run_begins, white_no_end}
-use Rattle.nextest_config_values.specs.Duration.{AreAll, AreFittingDigits, BeginsWith, EndsWith, HasNumberThatFits, is_in_word, IsCutBehind, IsDuration, IsDurationFault, IsFaultAt, IsFaultBehind, IsFront, IsItemText, IsNext, IsNextFault, IsReadItem, IsRun, IsUncut, Item, nothing_stops, offset, Spells, total, unit_length}
+use Rattle.nextest_config_values.specs.Duration.{AreAll, AreFittingDigits, BeginsWith, EndsWith, HasNumberThatFits, is_in_word, IsCutAfter, IsDuration, IsDurationFault, IsFaultAt, IsFaultAfter, IsFront, IsItemText, IsNext, IsNextFault, IsReadItem, IsRun, IsUncut, Item, nothing_stops, offset, Spells, total, unit_length}
 use Rattle.nextest_config_values.specs.declared.duration.DurationFault.{DurationFault}
 use Rattle.nextest_config_values.specs.declared.duration.DurationFault.TheVariants as faults
 
@@ -22,8 +22,8 @@ use Rattle.nextest_config_values.specs.declared.duration.DurationFault.TheVarian
 pub offset_of_text : (text : List ℕ) → IsUtf8 text → offset (chars text) ≡ length text
 offset_of_text text u = ap length (encodes-chars text u)
 
-pub offset_behind : (front behind : List ℕ) → offset (front ++ behind) ≡ offset front + offset behind
-offset_behind front behind = ap length (encodes-append front behind) ∙ length-append (encode_utf8_all front) (encode_utf8_all behind)
+pub offset_after : (front behind : List ℕ) → offset (front ++ behind) ≡ offset front + offset behind
+offset_after front behind = ap length (encodes-append front behind) ∙ length-append (encode_utf8_all front) (encode_utf8_all behind)
 
 -- ---- runs
 
@@ -82,7 +82,7 @@ chars_nil (c ∷ text) e = absurd (omega (arith, e))
 pub chars_some : (text : List ℕ) → IsUtf8 text → 0 < length text → chars text ≢ []
 chars_some text u some e = omega (arith, some, ap length (sym (encodes-chars text u) ∙ ap encode_utf8_all e))
 
-module _ (place : ℕ) {text digits behind : List ℕ} (cut : IsCutBehind is_ascii_digit text digits behind) where
+module _ (place : ℕ) {text digits behind : List ℕ} (cut : IsCutAfter is_ascii_digit text digits behind) where
   -- a fault of the digits, whatever follows
   at_digits : (fault : DurationFault) → ((gap word : List ℕ) → IsNextFault place (chars digits) gap word fault)
       → IsFaultAt place (chars text) fault
@@ -99,10 +99,10 @@ module _ (place : ℕ) {text digits behind : List ℕ} (cut : IsCutBehind is_asc
       let large : ¬ (digits_value 10 (chars digits) < 2 ^ 64) = λ fits. parsed digits (Err e) cut.run_utf8 cut.is_run.inside p (some, fits) in
       at_digits (faults.NumberTooLarge place) (λ gap word. (omega (arith, large), refl))
 
--- behind a number that fits
+-- after a number that fits
 module _ (place : ℕ) {text digits behind trimmed_text word rest : List ℕ} (text_utf8 : IsUtf8 text) (trimmed_utf8 : IsUtf8 trimmed_text)
-    (cut : IsCutBehind is_ascii_digit text digits behind) (is_trimmed : trimmed_text ≡ trim_start behind)
-    (letters : IsCutBehind is_in_word trimmed_text word rest)
+    (cut : IsCutAfter is_ascii_digit text digits behind) (is_trimmed : trimmed_text ≡ trim_start behind)
+    (letters : IsCutAfter is_in_word trimmed_text word rest)
     {E : Type 0} (answer : Result ℕ E) (parses : ParsesUnsigned 64 10 digits answer) (number : ℕ) (is : answer ≡ Ok number) where
   gap : (space : List ℕ) × IsTrimmed (chars behind) space (chars trimmed_text)
   gap = trimmed behind trimmed_text trimmed_utf8 is_trimmed
@@ -122,7 +122,7 @@ module _ (place : ℕ) {text digits behind trimmed_text word rest : List ℕ} (t
         arith,
         offset_of_text text text_utf8,
         ap offset parts,
-        offset_behind front (chars trimmed_text),
+        offset_after front (chars trimmed_text),
         offset_of_text trimmed_text trimmed_utf8,
       )
 
@@ -161,13 +161,13 @@ module _ (place : ℕ) {text digits behind trimmed_text word rest : List ℕ} (t
 
 -- ---- the way through a text
 
-no_end_behind : (front : List ℕ) (c : ℕ) (cs : List ℕ) → AreAll is_whitespace (c ∷ cs) → ¬ EndsWith is_in_word (front ++ (c ∷ cs))
-no_end_behind [] c cs h ends = white_no_end (c ∷ cs) h ends
-no_end_behind (x ∷ []) c cs h ends = white_no_end (c ∷ cs) h ends
-no_end_behind (x ∷ y ∷ front) c cs h ends = no_end_behind (y ∷ front) c cs h ends
+no_end_after : (front : List ℕ) (c : ℕ) (cs : List ℕ) → AreAll is_whitespace (c ∷ cs) → ¬ EndsWith is_in_word (front ++ (c ∷ cs))
+no_end_after [] c cs h ends = white_no_end (c ∷ cs) h ends
+no_end_after (x ∷ []) c cs h ends = white_no_end (c ∷ cs) h ends
+no_end_after (x ∷ y ∷ front) c cs h ends = no_end_after (y ∷ front) c cs h ends
 
-item_behind_white : (space text : List ℕ) (item : Item) → AreAll is_whitespace space → IsItemText text item → IsItemText (space ++ text) item
-item_behind_white space text item white h = record {
+item_after_white : (space text : List ℕ) (item : Item) → AreAll is_whitespace space → IsItemText text item → IsItemText (space ++ text) item
+item_after_white space text item white h = record {
   space = space ++ h.space;
   digits = h.digits;
   gap = h.gap;
@@ -185,7 +185,7 @@ item_behind_white space text item white h = record {
 spells_both : (items more : List Item) (front text : List ℕ) → Spells items front → Spells more text → Spells (items ++ more) (front ++ text)
 spells_both [] [] front text a b = all_joined (λ c. IsTrue (is_whitespace c)) front text a b
 spells_both [] (item ∷ more) front text a (here, behind, whole, h, b) =
-    (front ++ here, behind, ap (λ t. front ++ t) whole ∙ sym (append_assoc front here behind), item_behind_white front here item a h, b)
+    (front ++ here, behind, ap (λ t. front ++ t) whole ∙ sym (append_assoc front here behind), item_after_white front here item a h, b)
 spells_both (item ∷ items) more front text (here, behind, whole, h, a) b =
     (here, behind ++ text, ap (λ t. t ++ text) whole ∙ append_assoc here behind text, h, spells_both items more behind text a b)
 
@@ -215,7 +215,7 @@ begun {space = space} trim some = record {
 
 uncut_more : (front here space left : List ℕ) → ¬ BeginsWith is_in_word (space ++ left) → AreAll is_whitespace space → IsUncut (front ++ (here ++ space)) left
 uncut_more front here [] left over white = λ ends. over
-uncut_more front here (c ∷ space) left over white = λ ends. absurd (no_end_behind (front ++ here) c space white (rw (← append_assoc front here (c ∷ space)) at ends))
+uncut_more front here (c ∷ space) left over white = λ ends. absurd (no_end_after (front ++ here) c space white (rw (← append_assoc front here (c ∷ space)) at ends))
 
 -- one item more
 pub read_more : (text left behind rest space : List ℕ) (nanoseconds more : ℕ) → IsReadUpTo text left nanoseconds → IsReadItem left more behind → IsTrimmed behind space rest
@@ -236,15 +236,15 @@ read_more text left behind rest space nanoseconds more a r trim = record {
 
 -- ---- the answers
 
-fault_behind : (front left : List ℕ) (items : List Item) (fault : DurationFault) → left ≢ [] → IsFaultAt (offset front) left fault → IsFaultBehind front left items fault
-fault_behind front left items fault some told = search rules
+fault_after : (front left : List ℕ) (items : List Item) (fault : DurationFault) → left ≢ [] → IsFaultAt (offset front) left fault → IsFaultAfter front left items fault
+fault_after front left items fault some told = search rules
 
 -- what isn't an item is the fault of the text
 pub fault_within : (text : List ℕ) {left : List ℕ} {nanoseconds : ℕ} (place : ℕ) (fault : DurationFault)
     (a : IsReadUpTo (chars text) left nanoseconds) → left ≢ [] → place ≡ offset a.front → IsFaultAt place left fault
     → IsDurationFault text fault
 fault_within text {left} place fault a some at told =
-    (a.front, left, a.items, longest_front (chars text) a.front left a.items a.is_front (fault_stops place left fault a.no_space told), fault_behind a.front left a.items fault some (rw at at told))
+    (a.front, left, a.items, longest_front (chars text) a.front left a.items a.is_front (fault_stops place left fault a.no_space told), fault_after a.front left a.items fault some (rw at at told))
 
 pub empty_fault : (text : List ℕ) {space left : List ℕ} → IsTrimmed (chars text) space left → left ≡ [] → IsDurationFault text faults.Empty
 empty_fault text {space} trimmed_off none =
@@ -268,5 +268,5 @@ module _ (text : List ℕ) (nanoseconds : ℕ) (a : IsReadUpTo (chars text) [] n
 -- where what is left begins
 pub place_left : (text left : List ℕ) (nanoseconds : ℕ) (a : IsReadUpTo (chars text) (chars left) nanoseconds) → IsUtf8 text → IsUtf8 left → length text - length left ≡ offset a.front
 place_left text left nanoseconds a text_utf8 left_utf8 =
-    let sizes : length text ≡ offset a.front + length left = sym (offset_of_text text text_utf8) ∙ ap offset a.is_front.whole ∙ offset_behind a.front (chars left) ∙ ap (λ n. offset a.front + n) (offset_of_text left left_utf8) in
+    let sizes : length text ≡ offset a.front + length left = sym (offset_of_text text text_utf8) ∙ ap offset a.is_front.whole ∙ offset_after a.front (chars left) ∙ ap (λ n. offset a.front + n) (offset_of_text left left_utf8) in
     omega (arith, sizes)

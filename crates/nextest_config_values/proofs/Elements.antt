@@ -48,7 +48,7 @@ decided_all {X} P Q xs false apart h =
     apart_somewhere (x ∷ xs) a zero within h = apart x a.0 (h x)
     apart_somewhere (x ∷ xs) a (suc k) within h = apart_somewhere xs a.1 k (omega arith) h
 
--- of two elements, each with none like it behind it in the same list, both are the last
+-- of two elements, each with none like it after it in the same list, both are the last
 pub one_last : {X : Type 0} (P Q : X → Type 0) (x y : X) (b c a d : List X) → (P y → ⊥) → (Q x → ⊥) → b ++ (x ∷ a) ≡ c ++ (y ∷ d) → AllByRecursion P a → AllByRecursion Q d → x ≡ y
 one_last P Q x y [] [] a d p q same h k = cc same
 one_last P Q x y [] (z ∷ c) a d p q same h k = absurd (p (all_middle P c y d (subst (AllByRecursion P) (ap (drop 1) same) h)))

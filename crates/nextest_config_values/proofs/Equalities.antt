@@ -1,17 +1,26 @@
 -- What `==` of refusals says.
-use Rattle.std.proofs.Common.{◌≡◌, ◌↔◌, ◌&&◌, ℕ, IsTrue, List, Option, Some, None, String, Global, option_map, string_bytes, refl, sym, ap, ap₂, ◌∙◌, rules}
+use Rattle.std.proofs.Common.{◌≡◌, ◌↔◌, ◌&&◌, ℕ, IsTrue, List, [], ◌∷◌, Option, Some, None, map, String, Global, option_map, string_bytes, refl, sym, ap, ap₂, ◌∙◌, rules}
 use Rattle.std.proofs.lemmas.Bool.{and_from, and_parts}
+use Rattle.std.specs.Cmp.Lexicographic.{pointwise}
 use Rattle.std.specs.String.{string_eq}
 use Rattle.semver.specs.Identifiers.{parts_of}
 use Rattle.semver.specs.contracts.VersionPartialEq.TheImpl as version_eq
 use Rattle.semver.specs.declared.Version.{Version}
 use Rattle.nextest_config_values.specs.Equality.{IsEqualityBy, IsEqualityOfTold}
-use Rattle.nextest_config_values.specs.Read.{broken_rule, BrokenRule, custom, fault_at, fault_of, identifier, Reason, reason_of, required_above_recommended, tool_name}
+use Rattle.nextest_config_values.specs.Read.{as_told, broken_rule, BrokenRule, Cause, cause_of, custom, fault_of, fault_with, identifier, key, missing_key, no_duration, PathStep, Reason, reason_of, required_above_recommended, step_of, told_of, told_with, ToldFault, tool_name}
 use Rattle.nextest_config_values.specs.Read.Fault.{Fault}
 use Rattle.nextest_config_values.specs.Identifier.{identifier_fault, tool_name_fault}
 use Rattle.nextest_config_values.specs.contracts.read.fault.FaultKindPartialEq.TheImpl as kind_eq
 use Rattle.nextest_config_values.specs.contracts.read.fault.ReadFaultPartialEq.TheImpl as fault_eq
 use Rattle.nextest_config_values.specs.contracts.read.fault.RulePartialEq.TheImpl as rule_eq
+use Rattle.nextest_config_values.specs.contracts.read.step.StepPartialEq.TheImpl as step_eq
+use Rattle.nextest_config_values.specs.contracts.read.value_fault.FaultCausePartialEq.TheImpl as cause_eq
+use Rattle.nextest_config_values.specs.contracts.read.value_fault.ValueFaultPartialEq.TheImpl as value_eq
+use Rattle.nextest_config_values.specs.declared.read.step.Step.{Step}
+use Rattle.nextest_config_values.specs.declared.read.step.Step.TheVariants as steps
+use Rattle.nextest_config_values.specs.declared.read.value_fault.FaultCause.{FaultCause}
+use Rattle.nextest_config_values.specs.declared.read.value_fault.FaultCause.TheVariants as causes
+use Rattle.nextest_config_values.specs.declared.read.fault.FaultKind.{FaultKind}
 use Rattle.nextest_config_values.specs.declared.read.fault.FaultKind.TheVariants as kinds
 use Rattle.nextest_config_values.specs.declared.read.fault.Rule.TheVariants as broken
 
@@ -28,7 +37,7 @@ pub same_rule : IsEqualityBy broken_rule (rule_eq.ghosts).eq
 same_rule (broken.RequiredAboveRecommended required recommended) (broken.RequiredAboveRecommended other more) = two_versions required recommended other more
 same_rule a b = search rules
 
-one_told : {F : Type 0} (reason : F → Reason) → ((a b : F) → reason a ≡ reason b → a ≡ b) → (told other : Option F) → option_map reason told ≡ option_map reason other → told ≡ other
+one_told : {F G : Type 0} (reason : F → G) → ((a b : F) → reason a ≡ reason b → a ≡ b) → (told other : Option F) → option_map reason told ≡ option_map reason other → told ≡ other
 one_told reason one None None e = refl
 one_told reason one (Some a) (Some b) e = ap Some (one a b (cc e))
 one_told reason one told other e = cc e
@@ -57,21 +66,88 @@ same_kind a b reason is = search rules
 same_text : IsEqualityBy {X = String Global} string_bytes string_eq
 same_text a b = search rules
 
-fault_parts : (path : List ℕ) (told : Option Reason) (fault : Fault) → option_map (fault_at path) told ≡ Some fault → (told ≡ Some fault.reason) × (path ≡ fault.path)
+fault_parts : (path : List ℕ) (told : Option Reason) (fault : ToldFault) → option_map (told_with path) told ≡ Some fault → (told ≡ Some fault.reason) × (path ≡ fault.path)
 fault_parts path None fault e = cc e
 fault_parts path (Some reason) fault e =
-    let same : fault_at path reason ≡ fault = cc e in
-    (ap (λ (f : Fault). Some f.reason) same, ap (λ (f : Fault). f.path) same)
+    let same : told_with path reason ≡ fault = cc e in
+    (ap (λ (f : ToldFault). Some f.reason) same, ap (λ (f : ToldFault). f.path) same)
 
-pub same_fault : IsEqualityOfTold fault_of (fault_eq.ghosts).eq
+pub same_fault : IsEqualityOfTold told_of (fault_eq.ghosts).eq
 same_fault a b fault is =
     let (reason, path) = fault_parts (string_bytes a.path) (reason_of a.kind) fault is in
     let kind = same_kind a.kind b.kind fault.reason reason in
     let paths = same_text a.path b.path in (
       λ same.
           let (p, k) = and_parts _ _ same in
-          rw (kind.0 k) (ap (λ (at : List ℕ). Some (fault_at at fault.reason)) (sym (paths.0 p) ∙ path)),
+          rw (kind.0 k) (ap (λ (at : List ℕ). Some (told_with at fault.reason)) (sym (paths.0 p) ∙ path)),
       λ told.
           let (r, q) = fault_parts (string_bytes b.path) (reason_of b.kind) fault told in
           and_from _ _ (paths.1 (path ∙ sym q)) (kind.1 r),
+    )
+
+-- ---- of values
+
+pub same_step : IsEqualityBy step_of (step_eq.ghosts).eq
+same_step (steps.Key text) (steps.Key other) =
+    let texts = same_text text other in
+    (λ same. ap key (texts.0 same), λ e. texts.1 (cc e))
+same_step a b = search rules
+
+same_steps : (xs ys : List Step) → IsTrue (pointwise (step_eq.ghosts).eq xs ys) ↔ (map step_of xs ≡ map step_of ys)
+same_steps [] [] = (λ same. refl, λ e. refl)
+same_steps [] (y ∷ ys) = (λ same. cc same, λ e. cc e)
+same_steps (x ∷ xs) [] = (λ same. cc same, λ e. cc e)
+same_steps (x ∷ xs) (y ∷ ys) = (
+  λ same.
+      let (first, rest) = and_parts _ _ same in
+      ap₂ (λ (s : PathStep) (more : List PathStep). s ∷ more) ((same_step x y).0 first) ((same_steps xs ys).0 rest),
+  λ e. and_from _ _ ((same_step x y).1 (cc e)) ((same_steps xs ys).1 (cc e)),
+)
+
+-- of what a told fault is told in
+alike_within : {F G : Type 0} (make : F → G) → ((a b : F) → make a ≡ make b → a ≡ b) → (told other : Option F) (IsSame : Type 0)
+    → ((f : F) → told ≡ Some f → IsSame ↔ (other ≡ Some f)) → (whole : G) → option_map make told ≡ Some whole
+    → IsSame ↔ (option_map make other ≡ Some whole)
+alike_within make one None other IsSame alike whole is = cc is
+alike_within make one (Some f) other IsSame alike whole is = (
+  λ same. ap (option_map make) ((alike f refl).0 same) ∙ is,
+  λ e. (alike f refl).1 (one_told make one other (Some f) (e ∙ sym is)),
+)
+
+one_reason : (told : Option Reason) (cause : Cause) → option_map as_told told ≡ Some cause → (reason : Reason) × (cause ≡ as_told reason)
+one_reason None cause is = cc is
+one_reason (Some reason) cause is = (reason, cc is)
+
+pub same_cause : IsEqualityOfTold cause_of (cause_eq.ghosts).eq
+same_cause (causes.NoDuration found) (causes.NoDuration other) cause is =
+    let texts = same_text found other in
+    (λ same. ap (λ (text : List ℕ). Some (no_duration text)) (sym (texts.0 same)) ∙ is, λ e. texts.1 (cc (is, e)))
+same_cause (causes.Missing name) (causes.Missing other) cause is =
+    let texts = same_text name other in
+    (λ same. ap (λ (text : List ℕ). Some (missing_key text)) (sym (texts.0 same)) ∙ is, λ e. texts.1 (cc (is, e)))
+same_cause (causes.Told kind) (causes.Told other) cause is =
+    alike_within as_told (λ a b e. cc e) (reason_of kind) (reason_of other) _ (same_kind kind other) cause is
+same_cause (causes.Told kind) (causes.NoDuration other) cause is = let one = one_reason (reason_of kind) cause is in (λ same. cc same, λ e. cc (e, one.1))
+same_cause (causes.Told kind) (causes.Missing other) cause is = let one = one_reason (reason_of kind) cause is in (λ same. cc same, λ e. cc (e, one.1))
+same_cause (causes.NoDuration found) (causes.Told other) cause is = (λ same. cc same, λ e. let one = one_reason (reason_of other) cause e in cc (is, one.1))
+same_cause (causes.Missing name) (causes.Told other) cause is = (λ same. cc same, λ e. let one = one_reason (reason_of other) cause e in cc (is, one.1))
+same_cause a b cause is = search rules
+
+value_parts : (steps : List PathStep) (told : Option Cause) (fault : Fault) → option_map (fault_with steps) told ≡ Some fault → (told ≡ Some fault.cause) × (steps ≡ fault.steps)
+value_parts steps None fault e = cc e
+value_parts steps (Some cause) fault e =
+    let same : fault_with steps cause ≡ fault = cc e in
+    (ap (λ (f : Fault). Some f.cause) same, ap (λ (f : Fault). f.steps) same)
+
+pub same_value_fault : IsEqualityOfTold fault_of (value_eq.ghosts).eq
+same_value_fault a b fault is =
+    let (cause, steps) = value_parts (map step_of a.steps.items) (cause_of a.cause) fault is in
+    let causes = same_cause a.cause b.cause fault.cause cause in
+    let both = same_steps a.steps.items b.steps.items in (
+      λ same.
+          let (s, k) = and_parts _ _ same in
+          rw (causes.0 k) (ap (λ (at : List PathStep). Some (fault_with at fault.cause)) (sym (both.0 s) ∙ steps)),
+      λ told.
+          let (r, q) = value_parts (map step_of b.steps.items) (cause_of b.cause) fault told in
+          and_from _ _ (both.1 (steps ∙ sym q)) (causes.1 r),
     )

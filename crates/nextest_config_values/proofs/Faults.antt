@@ -3,27 +3,29 @@ use Rattle.std.proofs.Common.{◌≡◌, ◌⊎◌, ℕ, List, Option, Some, Non
 use Rattle.std.proofs.Math.Logic.{⊎_elim, ⊎_map}
 use Rattle.std.proofs.lemmas.Result.{err_from_is_err_and}
 use Rattle.std.specs.Result.{IfErr, IsErrAnd}
+use Rattle.std.specs.Prelude.{IfSome}
 use Rattle.nextest_config_values.specs.Identifier.{IsNormalFault, NameFault}
 use Rattle.nextest_config_values.specs.Read.Fault.{Fault}
-use Rattle.nextest_config_values.specs.Read.{fault_at, fault_of, FaultOrMemory, IsMemory, IsNameKind, IsRefusal, Reading, Reason, Refuses, RefusesAs, RefusesBy, RefusesKind, RefusesOne}
+use Rattle.nextest_config_values.specs.Read.{Always, as_told, fault_below, fault_here, fault_of, FaultOrMemory, inner_at, IsMemory, IsNameKind, IsRefusal, no_data, PathStep, Reading, Reason, Refuses, RefusesAs, RefusesAt, RefusesBy, RefusesKind, RefusesOne, TellsAs, TellsMemory, told_at, told_of}
 use Rattle.nextest_config_values.specs.declared.read.fault.FaultKind.{FaultKind}
 use Rattle.nextest_config_values.specs.declared.read.fault.ReadFault.{ReadFault}
+use Rattle.nextest_config_values.specs.declared.read.value_fault.ValueFault.{ValueFault}
 
 pub fault_mapped : {F A B : Type 0} {P Q : F → Type 0} (told : Option F) → FaultOrMemory told A P → (A → B) → ((fault : F) → P fault → Q fault) → FaultOrMemory told B Q
 fault_mapped told h f g = search rules
 
-pub refused_mapped : {P Q : Fault → Type 0} {V W : Type 0} (fault : ReadFault) → Refuses P V fault → (V → W) → ((f : Fault) → P f → Q f) → Refuses Q W fault
+pub refused_mapped : {P Q : Fault → Type 0} {V W : Type 0} (fault : ValueFault) → Refuses P V fault → (V → W) → ((f : Fault) → P f → Q f) → Refuses Q W fault
 refused_mapped fault refused f g = fault_mapped (fault_of fault) refused (λ memory. (memory.0, f memory.1)) g
 
 -- a refusal as this fault, which is one of these
-pub refused_as : {W : Type 0} (IsFault : Fault → Type 0) (expected : Fault) (fault : ReadFault) → W → IsFault expected → RefusesAs expected fault → Refuses IsFault W fault
+pub refused_as : {W : Type 0} (IsFault : Fault → Type 0) (expected : Fault) (fault : ValueFault) → W → IsFault expected → RefusesAs expected fault → Refuses IsFault W fault
 refused_as IsFault expected fault wanted has refused = refused_mapped fault refused (λ memory. wanted) (λ f same. subst IsFault (sym same) has)
 
-pub refused_as_one : (IsFault : Fault → Type 0) (expected : Fault) (fault : ReadFault) → IsFault expected → RefusesAs expected fault → RefusesOne IsFault fault
+pub refused_as_one : (IsFault : Fault → Type 0) (expected : Fault) (fault : ValueFault) → IsFault expected → RefusesAs expected fault → RefusesOne IsFault fault
 refused_as_one IsFault expected fault has = refused_as IsFault expected fault (expected, has) has
 
-pub refused_memory : (IsFault : Fault → Type 0) {wanted : Type 0} (fault : ReadFault) → IsMemory fault → wanted → Refuses IsFault wanted fault
-refused_memory IsFault fault memory wanted = rw memory.1 ((memory.0, refl), wanted)
+pub refused_memory : (IsFault : Fault → Type 0) {wanted : Type 0} (fault : ValueFault) → IsMemory fault → wanted → Refuses IsFault wanted fault
+refused_memory IsFault fault memory wanted = rw memory (refl, wanted)
 
 -- a refusal that `?` passes on
 pub passed_on : {T E : Type 0} (IsPassed : E → Type 0) (result : Result T E) (fault : E) → IsErrAnd result (λ passed. passed ≡ fault)
@@ -32,36 +34,59 @@ passed_on IsPassed result fault err refused =
     let passed = err_from_is_err_and result err in
     rw (passed.1, passed.2) refused
 
+-- a refusal that says this of each one says it of one
+pub refused_for : {D T E : Type 0} (IsPassed : D → E → Type 0) (result : Result T E) → IfErr result (λ e. (d : D) → IsPassed d e) → (d : D) → IfErr result (IsPassed d)
+refused_for IsPassed (Ok t) refused d = refused
+refused_for IsPassed (Err e) refused d = refused d
+
 -- ---- of a reading
 
-module _ {D X : Type 0} (reading : Reading D X) (value : D) (at : List ℕ) where
+module _ {D X : Type 0} (reading : Reading D X) (value : D) where
   -- as this fault, which the value has
-  pub refused_by : (expected : Fault) (fault : ReadFault) → reading.faults value at expected → RefusesAs expected fault → RefusesBy reading value at fault
-  refused_by expected fault has refused = record { told = refused_as (reading.faults value at) expected fault (inr (λ x meant. reading.law.never_both value at x expected meant has)) has refused }
+  pub refused_by : (expected : Fault) (fault : ValueFault) → reading.faults value expected → RefusesAs expected fault → RefusesBy reading value fault
+  refused_by expected fault has refused = record { told = refused_as (reading.faults value) expected fault (inr (λ x meant. reading.law.never_both value x expected meant has)) has refused }
 
   -- as one fault of these
-  pub refused_by_one : {IsFault : Fault → Type 0} (fault : ReadFault) → RefusesOne IsFault fault → ((f : Fault) → IsFault f → reading.faults value at f) → RefusesBy reading value at fault
-  refused_by_one fault refused step = record { told = refused_mapped fault refused (λ one. inr (λ x meant. reading.law.never_both value at x one.0 meant (step one.0 one.1))) step }
+  pub refused_by_one : {IsFault : Fault → Type 0} (fault : ValueFault) → RefusesOne IsFault fault → ((f : Fault) → IsFault f → reading.faults value f) → RefusesBy reading value fault
+  refused_by_one fault refused step = record { told = refused_mapped fault refused (λ one. inr (λ x meant. reading.law.never_both value x one.0 meant (step one.0 one.1))) step }
 
   -- the result takes memory, or there is none
-  pub wanted_of : (fault : ReadFault) → RefusesBy reading value at fault → reading.takes_memory value ⊎ ((x : X) → ¬ reading.means value x)
+  pub wanted_of : (fault : ValueFault) → RefusesBy reading value fault → reading.takes_memory value ⊎ ((x : X) → ¬ reading.means value x)
   wanted_of fault refused = by_told (fault_of fault) refused.told where
-    by_told : (told : Option Fault) → FaultOrMemory told (IsMemory fault × (reading.takes_memory value ⊎ ((x : X) → ¬ reading.means value x))) (reading.faults value at) → reading.takes_memory value ⊎ ((x : X) → ¬ reading.means value x)
-    by_told (Some f) faulty = inr (λ x meant. reading.law.never_both value at x f meant faulty)
+    by_told : (told : Option Fault) → FaultOrMemory told (IsMemory fault × (reading.takes_memory value ⊎ ((x : X) → ¬ reading.means value x))) (reading.faults value) → reading.takes_memory value ⊎ ((x : X) → ¬ reading.means value x)
+    by_told (Some f) faulty = inr (λ x meant. reading.law.never_both value x f meant faulty)
     by_told None memory = memory.1
 
-  -- memory was refused where a reading was
-  pub refused_again : (to : List ℕ) (fault again : ReadFault) → RefusesBy reading value at fault → IsMemory again → RefusesBy reading value to again
-  refused_again to fault again refused memory = record { told = refused_memory (reading.faults value to) again memory (wanted_of fault refused) }
-
   -- a value that means something, and whose result takes no memory, is read
-  pub read_whole : {T : Type 0} (result : Result T ReadFault) → IfErr result (RefusesBy reading value at) → (x : X) → reading.means value x → ¬ reading.takes_memory value → IsOk result
+  pub read_whole : {T : Type 0} (result : Result T ValueFault) → IfErr result (RefusesBy reading value) → (x : X) → reading.means value x → ¬ reading.takes_memory value → IsOk result
   read_whole (Ok t) refused x meant free = refl
   read_whole (Err fault) refused x meant free = absurd (⊎_elim free (λ nothing. nothing x meant) (wanted_of fault refused))
 
+  -- what is told of the refusal at a path
+  pub refused_at : (at : List ℕ) (fault : ValueFault) (told : ReadFault) → RefusesBy reading value fault → (IsMemory fault → TellsMemory told)
+      → IfSome (fault_of fault) (λ f. TellsAs (told_at at f) told) → RefusesAt reading value at told
+  refused_at at fault told refused memory tells = by_fault (fault_of fault) refused.told tells where
+    by_fault : (known : Option Fault) → FaultOrMemory known (IsMemory fault × (reading.takes_memory value ⊎ ((x : X) → ¬ reading.means value x))) (reading.faults value)
+        → IfSome known (λ f. TellsAs (told_at at f) told) → RefusesAt reading value at told
+    by_fault (Some f) faulty tells =
+        fault_mapped (told_of told) tells (λ no_memory. (no_memory, inr (λ x meant. reading.law.never_both value x f meant faulty)))
+        (λ t same. (f, faulty, same))
+    by_fault None without tells = let no_memory = memory without.0 in rw no_memory.1 ((no_memory.0, refl), without.1)
+
 -- ---- of readings that are put together
 
-module _ {X Y : Type 0} {means : X → Type 0} {IsFault : Fault → Type 0} {T : Type 0} {fault : ReadFault} where
+-- of what stands at a step
+module _ {D E X : Type 0} (step : PathStep) (reading : Reading E X) (part : E) (value : D) where
+  pub refused_below : (below fault : ValueFault) → RefusesBy reading part below → (IsMemory below → IsMemory fault)
+      → IfSome (fault_of below) (λ f. RefusesAs (fault_below step f) fault) → RefusesBy (inner_at step reading part) value fault
+  refused_below below fault refused memory tells = by_fault (fault_of below) refused.told tells where
+    by_fault : (known : Option Fault) → FaultOrMemory known (IsMemory below × (reading.takes_memory part ⊎ ((x : X) → ¬ reading.means part x))) (reading.faults part)
+        → IfSome known (λ f. RefusesAs (fault_below step f) fault) → RefusesBy (inner_at step reading part) value fault
+    by_fault (Some f) faulty tells = refused_by (inner_at step reading part) value (fault_below step f) fault (f, faulty, refl) tells
+    by_fault None without tells =
+        record { told = refused_memory ((inner_at step reading part).faults value) fault (memory without.0) without.1 }
+
+module _ {X Y : Type 0} {means : X → Type 0} {IsFault : Fault → Type 0} {T : Type 0} {fault : ValueFault} where
   -- of one that says more of the value
   pub in_whole : {said : Y → Type 0} {IsSaid : Fault → Type 0} {U : Type 0} → IsRefusal means IsFault T fault → (T → U) → (((x : X) → ¬ means x) → (y : Y) → ¬ said y) → ((f : Fault) → IsFault f → IsSaid f)
       → IsRefusal said IsSaid U fault
@@ -75,8 +100,8 @@ module _ {X Y : Type 0} {means : X → Type 0} {IsFault : Fault → Type 0} {T :
   pub in_first : {later_means : X → Y → Type 0} {later : Fault → Type 0} {U : Type 0} → IsRefusal means IsFault T fault → IsRefusal (λ y. (x : X) × means x × later_means x y) (λ f. IsFault f ⊎ later f) (T ⊎ U) fault
   in_first refused = in_whole refused inl (λ none y meant. none meant.0 meant.1) (λ f faulty. inl faulty)
 
--- behind a first part
-pub in_later : {D X Y : Type 0} (first : Reading D X) (value : D) {x : X} {later_means : X → Y → Type 0} {IsFault : Fault → Type 0} {later : X → Fault → Type 0} {T : Type 0} {U : X → Type 0} {fault : ReadFault} → first.means value x
+-- after a first part
+pub in_later : {D X Y : Type 0} (first : Reading D X) (value : D) {x : X} {later_means : X → Y → Type 0} {IsFault : Fault → Type 0} {later : X → Fault → Type 0} {T : Type 0} {U : X → Type 0} {fault : ValueFault} → first.means value x
     → IsRefusal (later_means x) (later x) (U x) fault
     → IsRefusal (λ y. (v : X) × first.means value v × later_means v y) (λ f. IsFault f ⊎ ((v : X) × first.means value v × later v f)) (T ⊎ ((v : X) × first.means value v × U v)) fault
 in_later first value {x} {later_means} meant refused = in_whole refused (λ takes. inr (x, meant, takes))
@@ -85,10 +110,10 @@ in_later first value {x} {later_means} meant refused = in_whole refused (λ take
 
 -- ---- of a name
 
-pub refused_name : {Flaw : Type 0} (IsFlaw : List ℕ → Flaw → Type 0) (reason : NameFault Flaw → Reason) {X : Type 0} {means : X → Type 0} (text at : List ℕ) (told : Option (NameFault Flaw)) (of_memory : Type 0) (kind : FaultKind) (fault : ReadFault)
-    → FaultOrMemory told of_memory (IsNormalFault IsFlaw text) → IsNameKind reason told kind → RefusesKind at kind fault
-    → IsRefusal means (λ f. (name : NameFault Flaw) × IsNormalFault IsFlaw text name × (f ≡ fault_at at (reason name))) (Unit {0}) fault
-refused_name IsFlaw reason text at (Some name) of_memory kind fault flawed_so kind_is refused =
-    record { told = refused_as _ (fault_at at (reason name)) fault (inl tt) (name, flawed_so, refl) (rw kind_is at refused) }
-refused_name IsFlaw reason text at None of_memory kind fault flawed_so kind_is refused =
-    record { told = refused_memory _ fault (rw kind_is at refused) (inl tt) }
+pub refused_name : {Flaw : Type 0} (IsFlaw : List ℕ → Flaw → Type 0) (reason : NameFault Flaw → Reason) {X : Type 0} {means : X → Type 0} (text : List ℕ) (told : Option (NameFault Flaw)) (of_memory : Type 0) (kind : FaultKind) (fault : ValueFault)
+    → FaultOrMemory told of_memory (IsNormalFault IsFlaw text) → IsNameKind reason told kind → RefusesKind kind fault
+    → IsRefusal means (λ f. (name : NameFault Flaw) × IsNormalFault IsFlaw text name × (f ≡ fault_here (as_told (reason name)))) Always fault
+refused_name IsFlaw reason text (Some name) of_memory kind fault flawed_so kind_is refused =
+    record { told = refused_as _ (fault_here (as_told (reason name))) fault (inl no_data) (name, flawed_so, refl) (rw kind_is at refused) }
+refused_name IsFlaw reason text None of_memory kind fault flawed_so kind_is refused =
+    record { told = refused_memory _ fault (rw kind_is at refused) (inl no_data) }

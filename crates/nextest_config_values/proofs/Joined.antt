@@ -1,17 +1,17 @@
--- Texts that are written one behind the other, with separators.
+-- Texts that are written one after the other, with separators.
 use Rattle.std.proofs.Common.{◌≡◌, ℕ, List, [], ◌∷◌, ◌++◌, codes, map, refl, sym, ap, ◌∙◌, append_assoc}
 use Rattle.nextest_config_values.specs.Read.{comma_list}
 
--- what stands before a text that comes behind these
-abbrev pub separator_behind : {X : Type 0} → List X → List ℕ
-separator_behind [] = []
-separator_behind (x ∷ xs) = codes ", "
+-- what stands before a text that comes after these
+abbrev pub separator_after : {X : Type 0} → List X → List ℕ
+separator_after [] = []
+separator_after (x ∷ xs) = codes ", "
 
-pub separator_more : {X : Type 0} (xs : List X) (x : X) → codes ", " ≡ separator_behind (xs ++ (x ∷ []))
+pub separator_more : {X : Type 0} (xs : List X) (x : X) → codes ", " ≡ separator_after (xs ++ (x ∷ []))
 separator_more [] x = refl
 separator_more (first ∷ rest) x = refl
 
-pub joined_more : {X : Type 0} (text : X → List ℕ) (xs : List X) (x : X) → comma_list (map text (xs ++ (x ∷ []))) ≡ comma_list (map text xs) ++ (separator_behind xs ++ text x)
+pub joined_more : {X : Type 0} (text : X → List ℕ) (xs : List X) (x : X) → comma_list (map text (xs ++ (x ∷ []))) ≡ comma_list (map text xs) ++ (separator_after xs ++ text x)
 joined_more text [] x = refl
 joined_more text (first ∷ []) x = refl
 joined_more text (first ∷ next ∷ rest) x =

@@ -9,5 +9,6 @@ pub mod Paths
 pub mod Runs
 pub mod Styled
 pub mod Texts
+pub mod Unjudged
 pub mod Units
 pub mod Words

@@ -9,10 +9,10 @@ module _ {W : Type 0} (took : W → List ℕ → W → Type 0) where
   pub styled_append : (f g h : Formatter W) (a b : List ℕ) → HasWrittenStyled took f a g → HasWrittenStyled took g b h → HasWrittenStyled took f (a ++ b) h
   styled_append f g h a b = has_written_styled_append took f a g b h
 
-  -- a text behind another one
-  pub styled_behind : (f g h : Formatter W) (written : Result (Unit {0}) Error) (front : List ℕ) (text : Option (List ℕ)) → (IsFlush f → HasWrittenStyled took f front g) → DisplaysStyledOnOk took g written text h
+  -- a text after another one
+  pub styled_after : (f g h : Formatter W) (written : Result (Unit {0}) Error) (front : List ℕ) (text : Option (List ℕ)) → (IsFlush f → HasWrittenStyled took f front g) → DisplaysStyledOnOk took g written text h
       → DisplaysStyledOnOk took f written (option_map (λ behind. front ++ behind) text) h
-  styled_behind f g h written front text first later = search (rules, styled_append)
+  styled_after f g h written front text first later = search (rules, styled_append)
 
 module _ {W : Type 0} {took : W → List ℕ → W → Type 0} {f g h : Formatter W} {IsDone : Type 0} {front text : List ℕ} where
   -- one write, and then another

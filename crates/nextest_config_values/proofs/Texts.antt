@@ -37,13 +37,13 @@ pub record IsPlainText (p : List ℕ) : Type 0 where
   pub decoded : chars p ≡ p
   pub encoded : encode_utf8_all p ≡ p
 
--- the characters behind such a text
-pub chars_behind : (p text rest : List ℕ) → IsPlainText p → text ≡ p ++ rest → chars text ≡ p ++ chars rest
-chars_behind p text rest h e = ap chars e ∙ chars-append p rest h.utf8 ∙ ap (λ q. q ++ chars rest) h.decoded
+-- the characters after such a text
+pub chars_after : (p text rest : List ℕ) → IsPlainText p → text ≡ p ++ rest → chars text ≡ p ++ chars rest
+chars_after p text rest h e = ap chars e ∙ chars-append p rest h.utf8 ∙ ap (λ q. q ++ chars rest) h.decoded
 
 -- where a text doesn't begin with such a text, nor do its characters
-pub not_behind : (p s : List ℕ) → IsPlainText p → IsUtf8 s → ((rest : List ℕ) → s ≢ p ++ rest) → (cs : List ℕ) → chars s ≢ p ++ cs
-not_behind p s h u none cs e = none _ (sym (encodes-chars s u) ∙ ap encode_utf8_all e ∙ encodes-append p cs ∙ ap (λ q. q ++ encode_utf8_all cs) h.encoded)
+pub not_after : (p s : List ℕ) → IsPlainText p → IsUtf8 s → ((rest : List ℕ) → s ≢ p ++ rest) → (cs : List ℕ) → chars s ≢ p ++ cs
+not_after p s h u none cs e = none _ (sym (encodes-chars s u) ∙ ap encode_utf8_all e ∙ encodes-append p cs ∙ ap (λ q. q ++ encode_utf8_all cs) h.encoded)
 
 pub ascii_encoded : (p : List ℕ) → AllByRecursion (λ b. b < 128) p → encode_utf8_all p ≡ p
 ascii_encoded [] h = refl

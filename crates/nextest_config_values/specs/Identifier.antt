@@ -10,4 +10,4 @@ pub use Normal.{IsKeptText, IsNormalFault, IsQuicklyNormal, normal_chars, normal
 pub use KeptText.{FitsInline, inline_capacity, IsPlaced, text_at}
 pub use ConfigIdentifier.{AreComponents, AreFlawed, HasNoColon, IsCutAtColon, IsIdentifier, IsIdentifierFault, IsIdentifierFlaw, IsIdentifierForm, IsMarked, tool_mark}
 pub use ToolName.{IsToolName, IsToolNameFault, IsToolNameFlaw}
-pub use Laws.{behind_mark, cut_or_none, identifier_not_flawed, identifier_reading, name_reading, no_colon_uncut, one_cut, one_identifier_flaw, one_tool_name_flaw, plain_no_at_sign, plain_no_colon, same_cut, tool_name_not_flawed, tool_name_reading, one_tool_name_or_fault, uncut}
+pub use Laws.{after_mark, cut_or_none, identifier_not_flawed, identifier_reading, name_reading, no_colon_uncut, one_cut, one_identifier_flaw, one_tool_name_flaw, plain_no_at_sign, plain_no_colon, same_cut, tool_name_not_flawed, tool_name_reading, one_tool_name_or_fault, uncut}

@@ -3,13 +3,16 @@
 ghost use Rattle.std.specs.Prelude.{◌≡◌, ◌+◌, ◌++◌, ◌<◌, ◌^◌, ℕ, Bool, false, not, chars, length, IfErr, IfOk};
 ghost use Rattle.std.specs.Duration.{as_nanos};
 ghost use Rattle.std.specs.Fn.{AlwaysReturns};
-ghost use Rattle.nextest_config_values.specs.Duration.{duration_reading, IsCutBehind, IsDuration, IsDurationFault, IsFaultAt, IsReadItem, length_in, rows, unit_length};
+ghost use Rattle.nextest_config_values.specs.Duration.{duration_reading, IsCutAfter, IsDuration, IsDurationFault, IsFaultAt, IsReadItem, length_in, rows, unit_length};
 
-use crate::read::{FromToml, ReadFault};
+mod unjudged;
+
+use crate::read::{FromToml, ValueFault};
 use std::alloc::Global;
 use std::time::Duration;
 use thiserror::Error;
 use toml::Value;
+pub use unjudged::may_be_duration;
 
 // The units that are one letter, each with its length in nanoseconds. Letter case counts.
 const LETTERS: [(&str, u64); 7] = [
@@ -93,7 +96,7 @@ pub enum DurationFault {
 }
 
 /// Reads a duration: whole numbers, each with a unit, as in `1h 30m`. White space may stand before,
-/// between and behind them.
+/// between and after them.
 pub fn parse_duration(s: &str) -> Result<Duration, DurationFault>
     ensures accepted { IfOk result (λ duration. IsDuration s.now (as_nanos duration)) }
     ensures refused { IfErr result (IsDurationFault s.now) }
@@ -104,9 +107,9 @@ pub fn parse_duration(s: &str) -> Result<Duration, DurationFault>
     }
     let mut nanoseconds: u128 = 0;
     while !rest.is_empty() {
-        let (item, behind) = read_item(rest, s.len() - rest.len())?;
+        let (item, after) = read_item(rest, s.len() - rest.len())?;
         nanoseconds = nanoseconds.saturating_add(item);
-        rest = behind.trim_start();
+        rest = after.trim_start();
     }
     if nanoseconds > Duration::MAX.as_nanos() {
         return Err(DurationFault::SumTooLarge);
@@ -114,7 +117,7 @@ pub fn parse_duration(s: &str) -> Result<Duration, DurationFault>
     Ok(Duration::from_nanos_u128(nanoseconds))
 }
 
-// The nanoseconds of a number with its unit, and the text behind it. The text begins at the offset
+// The nanoseconds of a number with its unit, and the text after it. The text begins at the offset
 // `at`.
 fn read_item(text: &str, at: usize) -> Result<(u128, &str), DurationFault>
     requires { at + length text.now < 2 ^ 64 }
@@ -122,16 +125,16 @@ fn read_item(text: &str, at: usize) -> Result<(u128, &str), DurationFault>
     ensures shorter { IfOk result (λ x. length x.1.now < length text.now) }
     ensures refused { IfErr result (IsFaultAt at (chars text.now)) }
 {
-    let (digits, behind) = split_run(text, |c: char| !c.is_ascii_digit());
+    let (digits, after) = split_run(text, |c: char| !c.is_ascii_digit());
     if digits.is_empty() {
         return Err(DurationFault::NumberExpected { at });
     }
     let Ok(number) = digits.parse::<u64>() else {
         return Err(DurationFault::NumberTooLarge { at });
     };
-    let behind = behind.trim_start();
-    let at = at + (text.len() - behind.len());
-    let (word, rest) = split_run(behind, |c: char| c.is_whitespace() || c.is_ascii_digit());
+    let after = after.trim_start();
+    let at = at + (text.len() - after.len());
+    let (word, rest) = split_run(after, |c: char| c.is_whitespace() || c.is_ascii_digit());
     if word.is_empty() {
         return Err(DurationFault::UnitMissing { at });
     }
@@ -141,14 +144,14 @@ fn read_item(text: &str, at: usize) -> Result<(u128, &str), DurationFault>
     }
 }
 
-// The run at the beginning of the text up to the first character that ends it, and what stands
-// behind it.
+// The run at the beginning of the text up to the first character that ends it, and what comes
+// after it.
 fn split_run<F: FnMut(char) -> bool + Drop>(text: &str, ends: F) -> (&str, &str)
     requires { F.IsAlwaysCallable ends }
     ensures whole { text.now ≡ result.0.now ++ result.1.now }
     ensures run { (kind : ℕ → Bool)
         → AlwaysReturns F.FnMut (λ c answer. answer ≡ not (kind c.0)) ends
-        → IsCutBehind kind text.now result.0.now result.1.now }
+        → IsCutAfter kind text.now result.0.now result.1.now }
 {
     let end = text.find(ends).unwrap_or(text.len());
     text.split_at(end)
@@ -195,13 +198,13 @@ impl FromToml for Duration {
 
     ghost reading = { duration_reading };
 
-    fn read(alloc: Global, value: &Value, at: &str) -> Result<Self, ReadFault> {
+    fn read_value(alloc: Global, value: &Value) -> Result<Self, ValueFault> {
         let Some(text) = value.as_str() else {
-            return Err(ReadFault::invalid_type(alloc, value, at, "a duration"));
+            return Err(ValueFault::invalid_type(alloc, value, "a duration"));
         };
         match parse_duration(text) {
             Ok(duration) => Ok(duration),
-            Err(_) => Err(ReadFault::invalid_value(alloc, value, at, "a duration")),
+            Err(_) => Err(ValueFault::no_duration(alloc, value)),
         }
     }
 }

@@ -1,30 +1,35 @@
 //! Laws of the definitions, for every value. They call nothing.
 
-ghost use Rattle.std.specs.Prelude.{◌≡◌, ◌↔◌, ℕ, IsTrue, List};
+ghost use Rattle.std.specs.Prelude.{◌≡◌, ◌↔◌, ℕ, codes, IsTrue, List};
 ghost use Rattle.std.specs.Cmp.Lexicographic.{slice_cmp};
 ghost use Rattle.std.specs.Hash as fed;
 ghost use Rattle.std.specs.Ordering.{nat_cmp};
-ghost use Rattle.nextest_config_values.specs.Duration.{IsDuration, IsDurationFault, Item, Spells};
+ghost use Rattle.toml.specs.Data.{Data};
+ghost use Rattle.nextest_config_values.specs.Duration.{IsDuration, IsDurationFault, Item, Spells, without_fractions, without_gaps};
 ghost use Rattle.nextest_config_values.specs.declared.duration.DurationFault.{DurationFault};
 ghost use Rattle.nextest_config_values.specs.Equality.{IsCopy, IsEquality, IsEqualityBy, IsEqualityOfTold};
 ghost use Rattle.nextest_config_values.specs.Identifier.{identifier_fault, IdentifierFlaw, IsIdentifier, IsIdentifierFault, IsToolName, IsToolNameFault, NameFault, normal_chars, SameAnswers, tool_name_fault, ToolNameFlaw};
 ghost use Rattle.nextest_config_values.specs.Once.{HasOneMeaningOrFault};
-ghost use Rattle.nextest_config_values.specs.Read.{broken_rule, fault_of, IsReading, reason_of};
+ghost use Rattle.nextest_config_values.specs.Read.{broken_rule, cause_of, fault_of, faults_at, IsReading, reason_of, step_of, told_of, ToldFault};
 ghost use Rattle.nextest_config_values.specs.ToolConfig.{Argument, argument_fault, argument_of, ArgumentFault, IsArgumentFault, IsToolArgument};
 ghost use Rattle.nextest_config_values.specs.declared.track_default.TrackDefault.{TrackDefault};
 
 use crate::duration::DurationFault;
 use crate::helpers::InvalidIdentifierKind;
 use crate::identifier::{ConfigIdentifier, InvalidIdentifier, InvalidToolName, ToolName};
-use crate::read::{FaultKind, FromToml, NonZeroCount, ReadFault, Rule};
+use crate::read::{
+    FaultCause, FaultKind, FromToml, NonZeroCount, ReadFault, Rule, Step, ValueFault,
+};
 use crate::tool_config::{ToolConfigFile, ToolConfigFileParseError};
 use crate::track_default::TrackDefault;
 use std::hash::Hash;
 
-/// To each reader a value means one thing and has no fault, or it means nothing and has one fault at
-/// each path.
+/// To each reader a value means one thing and has no fault, or it means nothing and has one fault;
+/// and no value has two faults that are told at one path.
 pub fn law_value_once<T: FromToml>()
-    ensures { IsReading T.reading.means T.reading.faults }
+    ensures once { IsReading T.reading.means T.reading.faults }
+    ensures told_once { (value : Data) (at : List ℕ) (told other : ToldFault)
+        → faults_at T.reading value at told → faults_at T.reading value at other → told ≡ other }
 {}
 
 /// A text is one identifier and has no fault as one, or it is none and has one fault.
@@ -78,9 +83,20 @@ pub fn law_duration_once()
     ensures once { HasOneMeaningOrFault IsDuration IsDurationFault }
 {}
 
+/// What is left out of texts before it is judged whether they may be durations, by examples.
+pub fn law_left_out()
+    ensures fraction { without_fractions (codes "1.5h") ≡ codes "1h" }
+    ensures fractions_in_a_row { without_fractions (codes "1.2.3s") ≡ codes "1s" }
+    ensures dot_before_no_digit { without_fractions (codes "1.h") ≡ codes "1.h" }
+    ensures dot_after_no_digit { without_fractions (codes ".5h") ≡ codes ".5h" }
+    ensures gap { without_gaps (codes "1 2s") ≡ codes "12s" }
+    ensures space_between_items { without_gaps (codes "1h 2m") ≡ codes "1h 2m" }
+    ensures space_around_a_number { without_gaps (codes " 5 s") ≡ codes " 5 s" }
+{}
+
 /// Values are equal exactly where they say the same. Of refusals that may hold one of a name this
 /// is said where they tell a fault.
-#[tactic(auto, using(crate::proofs::Equalities::same_rule, crate::proofs::Equalities::same_kind, crate::proofs::Equalities::same_fault))]
+#[tactic(auto, using(crate::proofs::Equalities::same_rule, crate::proofs::Equalities::same_kind, crate::proofs::Equalities::same_fault, crate::proofs::Equalities::same_step, crate::proofs::Equalities::same_cause, crate::proofs::Equalities::same_value_fault))]
 pub fn law_equality()
     ensures duration_fault { IsEquality ⟦<DurationFault as PartialEq>⟧.eq }
     ensures identifier_kind { IsEquality ⟦<InvalidIdentifierKind as PartialEq>⟧.eq }
@@ -91,7 +107,10 @@ pub fn law_equality()
     ensures count { IsEquality ⟦<NonZeroCount as PartialEq>⟧.eq }
     ensures rule { IsEqualityBy broken_rule ⟦<Rule as PartialEq>⟧.eq }
     ensures kind { IsEqualityOfTold reason_of ⟦<FaultKind as PartialEq>⟧.eq }
-    ensures fault { IsEqualityOfTold fault_of ⟦<ReadFault as PartialEq>⟧.eq }
+    ensures fault { IsEqualityOfTold told_of ⟦<ReadFault as PartialEq>⟧.eq }
+    ensures step { IsEqualityBy step_of ⟦<Step as PartialEq>⟧.eq }
+    ensures cause { IsEqualityOfTold cause_of ⟦<FaultCause as PartialEq>⟧.eq }
+    ensures value_fault { IsEqualityOfTold fault_of ⟦<ValueFault as PartialEq>⟧.eq }
 {}
 
 /// A copy is the value that it is made of.

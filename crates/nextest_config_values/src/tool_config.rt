@@ -12,7 +12,6 @@ use thiserror::Error;
 /// A tool's configuration file.
 #[derive(Debug, PartialEq, Eq, Drop)]
 pub struct ToolConfigFile {
-    /// The name of the tool.
     pub tool: ToolName,
     /// The path of the file; it begins with `/` where it was read from an argument.
     pub config_file: String,
@@ -32,7 +31,7 @@ pub enum ToolConfigFileParseError {
         input: String,
         error: InvalidToolName,
     },
-    /// Nothing stands behind the first colon.
+    /// Nothing comes after the first colon.
     #[error("tool configuration file without a path: {input}")]
     EmptyConfigFile {
         input: String,
@@ -65,7 +64,6 @@ impl ToolConfigFile {
         Ok(ToolConfigFile { tool, config_file })
     }
 
-    /// A copy of the tool and the path.
     pub fn clone(&self, alloc: Global) -> Result<Self, AllocError>
         ensures { IfOk result (λ file. argument_of file ≡ argument_of self.now) }
     {

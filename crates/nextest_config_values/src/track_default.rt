@@ -2,7 +2,7 @@
 
 ghost use Rattle.std.specs.Prelude.{◌≡◌, Bool, true, false};
 
-use crate::read::{FromToml, ReadFault};
+use crate::read::{FromToml, ValueFault};
 use std::alloc::{AllocError, Global};
 use toml::Value;
 
@@ -14,7 +14,6 @@ pub struct TrackDefault<T> {
 }
 
 impl<T> TrackDefault<T> {
-    /// A value that is the default.
     pub fn with_default_value(value: T) -> Self
         ensures { result ≡ record { value = value; is_deserialized = false } }
     {
@@ -24,7 +23,6 @@ impl<T> TrackDefault<T> {
         }
     }
 
-    /// A value that was read.
     pub fn with_deserialized_value(value: T) -> Self
         ensures { result ≡ record { value = value; is_deserialized = true } }
     {
@@ -67,8 +65,8 @@ impl<T: FromToml> FromToml for TrackDefault<T> {
 
     ghost reading = { made_of (λ x. (x, true)) T.reading };
 
-    fn read(alloc: Global, value: &Value, at: &str) -> Result<Self, ReadFault> {
-        let value = T::read(alloc, value, at)?;
+    fn read_value(alloc: Global, value: &Value) -> Result<Self, ValueFault> {
+        let value = T::read_value(alloc, value)?;
         Ok(TrackDefault::with_deserialized_value(value))
     }
 }

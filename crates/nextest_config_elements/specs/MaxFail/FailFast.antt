@@ -27,6 +27,9 @@ max_fail_key = codes "max-fail"
 abbrev pub terminate_key : List ℕ
 terminate_key = codes "terminate"
 
+abbrev pub fail_fast_keys : List (List ℕ)
+fail_fast_keys = max_fail_key ∷ terminate_key ∷ []
+
 -- what the setting takes, and what `max-fail` takes
 abbrev pub fail_fast_expected : List ℕ
 fail_fast_expected = codes "a boolean or { max-fail = ... }"
@@ -83,29 +86,29 @@ some_expected held = elim (number_or_none held) [
   | inr none ↦ expected_without held (λ number has. none number has.0)
 ]
 
-pub max_fail_or_fault : (held : List ℕ) (value : Data) (at : List ℕ)
+pub max_fail_or_fault : (held : List ℕ) (value : Data)
     → HasMeaningOrFault (λ count. (held ≡ codes "all") × (count ≡ All))
     (λ fault. (held ≢ codes "all") × (expected : List ℕ) × IsExpected held expected
-    × (fault ≡ wrong_value value at expected))
-max_fail_or_fault held value at = elim (same_text_decided held (codes "all")) [
+    × (fault ≡ wrong_value value expected))
+max_fail_or_fault held value = elim (same_text_decided held (codes "all")) [
   | inl all ↦ inl (All, (all, refl))
   | inr other ↦ let told = some_expected held in
-      inr (wrong_value value at told.0, (other, told.0, told.1, refl))
+      inr (wrong_value value told.0, (other, told.0, told.1, refl))
 ]
 
 -- a text: `all`, in these letters
 abbrev pub max_fail_in : List ℕ → Reading Data MaxFailCount
 max_fail_in held = record {
   means = λ value count. (held ≡ codes "all") × (count ≡ All);
-  faults = λ value at fault. (held ≢ codes "all") × (expected : List ℕ)
-      × IsExpected held expected × (fault ≡ wrong_value value at expected);
+  faults = λ value fault. (held ≢ codes "all") × (expected : List ℕ)
+      × IsExpected held expected × (fault ≡ wrong_value value expected);
   takes_memory = λ value. ⊥;
   law = record {
     meaning_or_fault = max_fail_or_fault held;
     one_meaning = λ value x y a b. a.1 ∙ sym b.1;
-    one_fault = λ value at f g a b. a.3
-        ∙ ap (wrong_value value at) (one_expected held a.1 b.1 a.2 b.2) ∙ sym b.3;
-    never_both = λ value at x f a b. b.0 a.0;
+    one_fault = λ value f g a b. a.3
+        ∙ ap (wrong_value value) (one_expected held a.1 b.1 a.2 b.2) ∙ sym b.3;
+    never_both = λ value x f a b. b.0 a.0;
   };
 }
 

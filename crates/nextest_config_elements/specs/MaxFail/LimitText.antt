@@ -19,7 +19,7 @@ use Rattle.nextest_config_elements.specs.declared.max_fail.TerminateMode.TheVari
 abbrev pub IsAllText : List ℕ → Type 0
 IsAllText text = str_to_ascii_lowercase text ≡ codes "all"
 
--- the text is a count, and what stands behind its first colon, if it has one
+-- the text is a count, and what stands after its first colon, if it has one
 abbrev pub IsParted : List ℕ → List ℕ → Option (List ℕ) → Type 0
 IsParted text count None = HasNoColon text × (count ≡ text)
 IsParted text count (Some word) = IsCutAtColon text count word
@@ -55,7 +55,7 @@ IsLimitText text (Count max_fail mode) = (count : List ℕ) × HasCount text cou
 
 -- ---- why a text has none
 
--- why a text has no limit: the word behind the colon, the count and its reason, or a number that
+-- why a text has no limit: the word after the colon, the count and its reason, or a number that
 -- isn't positive
 pub data LimitFault : Type 0 where
   bad_mode : List ℕ → LimitFault
@@ -92,12 +92,12 @@ IsBadCount count (bad_mode word) = ⊥
 IsBadCount count (bad_count written reason) = (written ≡ count) × IsCountFault count reason
 IsBadCount count not_positive = IsNotPositive count
 
--- what stands behind the first colon is no mode's word
+-- what stands after the first colon is no mode's word
 abbrev pub IsBadMode : List ℕ → LimitFault → Type 0
 IsBadMode text fault = ¬ (IsAllText text) × (count word : List ℕ) × IsCutAtColon text count word
     × IsNoMode word × (fault ≡ bad_mode word)
 
--- the fault of a text without a limit: that of its mode, or behind a mode that of its count
+-- the fault of a text without a limit: that of its mode, or after a mode that of its count
 abbrev pub IsLimitFault : List ℕ → LimitFault → Type 0
 IsLimitFault text fault = IsBadMode text fault
     ⊎ ((count : List ℕ) × (mode : TerminateMode) × HasCount text count mode

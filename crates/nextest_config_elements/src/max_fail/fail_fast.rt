@@ -2,16 +2,20 @@
 
 ghost use Rattle.std.specs.Prelude.{◌≡◌, IfErr, IfOk};
 ghost use Rattle.toml.specs.View.{view};
-ghost use Rattle.nextest_config_values.specs.Read.{RefusesBy};
+ghost use Rattle.nextest_config_values.specs.Read.{RefusesAt, RefusesBy};
 ghost use Rattle.nextest_config_elements.specs.MaxFail.{fail_fast_reading, fail_fast_table, IsExpected, limit_of, max_fail_reading};
 
 use super::{MaxFail, TerminateMode};
 use crate::from_table::{FromTable, read_set};
-use nextest_config_values::read::{FromToml, ReadFault, field_or, required_field};
+use nextest_config_values::read::{FromToml, ReadFault, ValueFault, or_default, required};
 use std::alloc::Global;
 use toml::{Table, Value};
 
 const EXPECTED: &str = "a boolean or { max-fail = ... }";
+
+const MAX_FAIL_KEY: &str = "max-fail";
+
+const TERMINATE_KEY: &str = "terminate";
 
 const MAX_FAIL_EXPECTED: &str = "a positive integer or the string \"all\"";
 
@@ -23,12 +27,28 @@ pub fn deserialize_fail_fast(
     at: &str,
 ) -> Result<Option<MaxFail>, ReadFault>
     ensures meant { IfOk result (fail_fast_reading.means (view value.now)) }
-    ensures refused { IfErr result (RefusesBy fail_fast_reading (view value.now) at.now) }
+    ensures refused { IfErr result (RefusesAt fail_fast_reading (view value.now) at.now) }
+{
+    match read_fail_fast(alloc, value) {
+        Ok(limit) => Ok(limit),
+        Err(fault) => Err(fault.at(alloc, at)),
+    }
+}
+
+/// Reads the setting `fail-fast`, as [`deserialize_fail_fast`] does, wherever it stands.
+pub fn read_fail_fast(alloc: Global, value: &Value) -> Result<Option<MaxFail>, ValueFault>
+    ensures meant { IfOk result (fail_fast_reading.means (view value.now)) }
+    ensures refused { IfErr result (RefusesBy fail_fast_reading (view value.now)) }
 {
     if let Some(fail_fast) = value.as_bool() {
         return Ok(Some(MaxFail::from_fail_fast(fail_fast)));
     }
-    read_set(alloc, value, at, EXPECTED)
+    read_set(alloc, value, EXPECTED)
+}
+
+impl MaxFail {
+    /// The keys of its table at `fail-fast`.
+    pub const KEYS: &'static [&'static str] = &[MAX_FAIL_KEY, TERMINATE_KEY];
 }
 
 impl FromTable for MaxFail {
@@ -38,9 +58,9 @@ impl FromTable for MaxFail {
 
     ghost reading = { fail_fast_table };
 
-    fn read_table(alloc: Global, table: &Table, at: &str) -> Result<Self, ReadFault> {
-        let count: MaxFailCount = required_field(alloc, table, "max-fail", at)?;
-        let terminate = field_or(alloc, table, "terminate", at, TerminateMode::Wait)?;
+    fn read_table(alloc: Global, table: &Table) -> Result<Self, ValueFault> {
+        let count: MaxFailCount = required(alloc, table, MAX_FAIL_KEY)?;
+        let terminate = or_default(alloc, table, TERMINATE_KEY, TerminateMode::Wait)?;
         Ok(count.with(terminate))
     }
 }
@@ -74,17 +94,17 @@ impl FromToml for MaxFailCount {
 
     ghost reading = { max_fail_reading };
 
-    fn read(alloc: Global, value: &Value, at: &str) -> Result<Self, ReadFault> {
+    fn read_value(alloc: Global, value: &Value) -> Result<Self, ValueFault> {
         if let Some(number) = value.as_integer() {
             return match usize::try_from(number) {
                 Ok(count) if count > 0 => Ok(MaxFailCount::Count(count)),
-                _ => Err(ReadFault::invalid_value(alloc, value, at, MAX_FAIL_EXPECTED)),
+                _ => Err(ValueFault::invalid_value(alloc, value, MAX_FAIL_EXPECTED)),
             };
         }
         match value.as_str() {
             Some("all") => Ok(MaxFailCount::All),
-            Some(text) => Err(ReadFault::invalid_value(alloc, value, at, expected_for(text))),
-            None => Err(ReadFault::invalid_type(alloc, value, at, MAX_FAIL_EXPECTED)),
+            Some(text) => Err(ValueFault::invalid_value(alloc, value, expected_for(text))),
+            None => Err(ValueFault::invalid_type(alloc, value, MAX_FAIL_EXPECTED)),
         }
     }
 }

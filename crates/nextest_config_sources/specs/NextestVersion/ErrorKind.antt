@@ -1,7 +1,6 @@
 -- What is wrong with a source, without where it lies in memory.
 use Rattle.std.specs.Prelude.{◌≡◌, ℕ, Bool, true, false, List, ◌++◌, Option, Some, None, option_map, map, codes, string_bytes}
-use Rattle.nextest_config_values.specs.Read.Fault.{Fault}
-use Rattle.nextest_config_values.specs.Read.{fault_of, fault_text, FaultOrMemory, kind_text, path_text, quoted_texts}
+use Rattle.nextest_config_values.specs.Read.{fault_text, FaultOrMemory, kind_text, path_text, quoted_texts, told_of, ToldFault}
 use Rattle.nextest_config_values.specs.declared.read.fault.ReadFault.{ReadFault}
 use Rattle.nextest_config_sources.specs.declared.nextest_version.error_kind.ConfigParseErrorKind.{ConfigParseErrorKind}
 use Rattle.nextest_config_sources.specs.declared.nextest_version.error_kind.ConfigParseErrorKind.TheVariants as kinds
@@ -10,13 +9,13 @@ use Rattle.nextest_config_sources.specs.declared.nextest_version.error_kind.Conf
 -- features
 pub data Wrong : Type 0 where
   not_toml : Wrong
-  setting : Fault → Wrong
+  setting : ToldFault → Wrong
   tool_features : List (List ℕ) → Wrong
 
 -- what a kind of error says, unless memory was refused
 abbrev pub wrong_of : ConfigParseErrorKind → Option Wrong
 wrong_of kinds.TomlParseError = Some not_toml
-wrong_of (kinds.VersionOnlyDeserializeError fault) = option_map setting (fault_of fault)
+wrong_of (kinds.VersionOnlyDeserializeError fault) = option_map setting (told_of fault)
 wrong_of (kinds.ExperimentalFeaturesInToolConfig features) =
     Some (tool_features (map string_bytes features.keys))
 wrong_of kinds.Memory = None
@@ -35,13 +34,13 @@ RefusesSource IsSuch kind = FaultOrMemory (wrong_of kind) (kind ≡ kinds.Memory
 -- what the refusal of a setting makes of its source
 abbrev pub IsSettingKind : ReadFault → ConfigParseErrorKind → Type 0
 IsSettingKind refused kind =
-    FaultOrMemory (fault_of refused) (kind ≡ kinds.Memory)
-    (λ fault. wrong_of kind ≡ Some (setting fault))
+    FaultOrMemory (told_of refused) (kind ≡ kinds.Memory)
+    (λ told. wrong_of kind ≡ Some (setting told))
 
 -- how it prints
 abbrev pub wrong_text : Wrong → List ℕ
 wrong_text not_toml = codes "not a TOML document"
-wrong_text (setting fault) = fault_text fault
+wrong_text (setting told) = fault_text told
 wrong_text (tool_features names) = codes "experimental features in a tool configuration: "
     ++ quoted_texts names
 

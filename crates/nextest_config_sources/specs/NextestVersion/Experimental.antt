@@ -1,11 +1,14 @@
 -- The experimental features, their words and their environment variables.
 use Rattle.std.specs.Prelude.{◌≡◌, ◌≢◌, ◌↔◌, ◌⊎◌, ℕ, List, [], ◌∷◌, Contains, String, codes, string_bytes, Option, Some, None, option_map}
+use Rattle.std.proofs.Common.{rules}
 use Rattle.std.specs.BTreeMap.{BTreeMap, get_by_text}
 use Rattle.std.specs.Cmp.Lexicographic.{slice_cmp}
 use Rattle.std.specs.List.Sorted.{IsStrictlySortedBy}
 use Rattle.std.specs.Ordering.{nat_cmp}
 use Rattle.std.specs.declared.alloc.Global.{Global}
 use Rattle.std.specs.declared.cmp.Ordering.{Ordering}
+use Rattle.std.specs.Slice.Iter.{iter_rest}
+use Rattle.nextest_config_values.specs.Read.{value_of}
 use Rattle.nextest_config_sources.specs.declared.nextest_version.experimental.ConfigExperimental.{ConfigExperimental}
 use Rattle.nextest_config_sources.specs.declared.nextest_version.experimental.ConfigExperimental.TheVariants as features
 use Rattle.nextest_config_sources.specs.declared.nextest_version.experimental.KnownFeatures.{KnownFeatures}
@@ -19,6 +22,11 @@ abbrev pub word_of : ConfigExperimental → List ℕ
 word_of features.SetupScripts = codes "setup-scripts"
 word_of features.WrapperScripts = codes "wrapper-scripts"
 word_of features.Benchmarks = codes "benchmarks"
+
+-- a word is read back as its feature
+pub feature_reads_back : (feature : ConfigExperimental)
+    → value_of word_of all_features (word_of feature) ≡ Some feature
+feature_reads_back feature = search rules
 
 -- the text is no feature's word
 abbrev pub IsUnknown : List ℕ → Type 0
@@ -59,17 +67,6 @@ HasOneMore {X} before x after = (y : X) → Contains after y ↔ (Contains befor
 
 -- ---- the iterator over the features
 
--- a feature and those behind it, in order
-abbrev pub features_from : ConfigExperimental → List ConfigExperimental
-features_from features.SetupScripts = all_features
-features_from features.WrapperScripts = features.WrapperScripts ∷ features.Benchmarks ∷ []
-features_from features.Benchmarks = features.Benchmarks ∷ []
-
--- the features from this one on, none where there is none
-abbrev pub optional_features : Option ConfigExperimental → List ConfigExperimental
-optional_features None = []
-optional_features (Some feature) = features_from feature
-
 -- the features that come from the iterator
 abbrev pub features_left : KnownFeatures → List ConfigExperimental
-features_left known = optional_features known.next
+features_left known = iter_rest known.features

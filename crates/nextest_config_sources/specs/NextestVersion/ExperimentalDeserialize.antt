@@ -1,8 +1,8 @@
 -- What one source says of the experimental features.
-use Rattle.std.specs.Prelude.{◌≡◌, ◌↔◌, ◌⊎◌, ◌++◌, ◌<◌, ℕ, Bool, false, List, [], map, Contains, codes, decimal, string_bytes, Option, Some, None, IsSome}
+use Rattle.std.specs.Prelude.{◌≡◌, ◌↔◌, ◌⊎◌, ◌<◌, ℕ, Bool, false, List, [], map, Contains, string_bytes, Option, Some, None, IsSome}
 use Rattle.toml.specs.Data.{Data, Items, Members, as_str, get_item, get_member}
 use Rattle.nextest_config_values.specs.Read.Fault.{Fault}
-use Rattle.nextest_config_values.specs.Read.{bool_reading, or_default, Reading, text_expected, wrong_type}
+use Rattle.nextest_config_values.specs.Read.{bool_reading, fault_below, index, or_default, Reading, text_expected, wrong_type}
 use Rattle.nextest_config_sources.specs.NextestVersion.Experimental.{FeaturesInOrder, IsUnknown, TextsInOrder, word_of}
 use Rattle.nextest_config_sources.specs.declared.nextest_version.experimental.ConfigExperimental.{ConfigExperimental}
 use Rattle.nextest_config_sources.specs.declared.nextest_version.experimental_deserialize.ExperimentalDeserialize.{ExperimentalDeserialize}
@@ -58,33 +58,28 @@ abbrev pub text_in : Option Data → Option (List ℕ)
 text_in None = None
 text_in (Some value) = as_str value
 
--- the element at the index is a text
+-- the element at this place is a text
 abbrev pub IsTextAt : Items → ℕ → Type 0
-IsTextAt items index = IsSome (text_in (get_item index items))
+IsTextAt items place = IsSome (text_in (get_item place items))
 
 -- the text is an element
 abbrev pub IsAmong : Items → List ℕ → Type 0
-IsAmong items text = (index : ℕ) × (text_in (get_item index items) ≡ Some text)
+IsAmong items text = (place : ℕ) × (text_in (get_item place items) ≡ Some text)
 
 -- each element is a text; a feature is enabled where its word is an element
 pub record MeansFeatureArray (items : Items) (named : Features) : Type 0 where
-  pub of_texts : (index : ℕ) → IsSome (get_item index items) → IsTextAt items index
+  pub of_texts : (place : ℕ) → IsSome (get_item place items) → IsTextAt items place
   pub of_names : AreNamed (λ feature. IsAmong items (word_of feature)) (IsAmong items) named
 
--- the path of the element at an index of the array at a path
-abbrev pub item_path : List ℕ → ℕ → List ℕ
-item_path at index = at ++ (codes "[" ++ (decimal index ++ codes "]"))
-
--- the element at an index is no text
-abbrev pub ItemFaults : Data → ℕ → List ℕ → Fault → Type 0
-ItemFaults value index at fault = (as_str value ≡ None)
-    × (fault ≡ wrong_type value (item_path at index) text_expected)
+-- the element at this place is no text
+abbrev pub ItemFaults : Data → ℕ → Fault → Type 0
+ItemFaults value place fault = (as_str value ≡ None)
+    × (fault ≡ fault_below (index place) (wrong_type value text_expected))
 
 -- the first element that is no text
-abbrev pub FeatureArrayFaults : Items → List ℕ → Fault → Type 0
-FeatureArrayFaults items at fault = (index : ℕ) × (value : Data)
-    × (get_item index items ≡ Some value)
-    × ((earlier : ℕ) → earlier < index → IsTextAt items earlier) × ItemFaults value index at fault
+abbrev pub FeatureArrayFaults : Items → Fault → Type 0
+FeatureArrayFaults items fault = (place : ℕ) × (value : Data) × (get_item place items ≡ Some value)
+    × ((earlier : ℕ) → earlier < place → IsTextAt items earlier) × ItemFaults value place fault
 
 -- ---- the table form
 

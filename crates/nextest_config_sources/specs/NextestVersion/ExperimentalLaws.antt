@@ -16,10 +16,12 @@ use Rattle.toml.specs.Data.{Data, Items, Members, item, member, no_items, no_mem
 use Rattle.nextest_config_values.specs.Decisions.{IsDecided, not_decided, same_text_decided}
 use Rattle.nextest_config_values.specs.Once.{HasMeaningOrFault}
 use Rattle.nextest_config_values.specs.Read.Fault.{Fault, wrong_type}
-use Rattle.nextest_config_values.specs.Read.{held, in_memory, kind, made_of, Reading, text_expected, then, wrong_kind}
+use Rattle.nextest_config_values.specs.Read.{Always, array_form, broken_by, fault_below, in_memory, index, inner, kind, made_of, no_value, Reading, text_expected, then, wrong_kind}
 use Rattle.nextest_config_sources.specs.NextestVersion.Experimental.{FeaturesInOrder, IsUnknown, TextsInOrder, all_features, feature_cmp, place_among, word_of}
-use Rattle.nextest_config_sources.specs.NextestVersion.ExperimentalDeserialize.{AreNamed, FeatureArrayFaults, Features, FeatureSetting, IsAmong, IsTextAt, MeansFeatureArray, in_form, item_path, switch, text_in}
+use Rattle.nextest_config_sources.specs.NextestVersion.ExperimentalDeserialize.{AreNamed, FeatureArrayFaults, Features, FeatureSetting, IsAmong, IsTextAt, MeansFeatureArray, in_form, switch, text_in}
 use Rattle.nextest_config_sources.specs.NextestVersion.SetLaws.{contains_cases, contains_first, contains_later, contains_none, set_of}
+use Rattle.nextest_config_sources.specs.declared.nextest_version.edition.Edition.{Edition}
+use Rattle.nextest_config_sources.specs.declared.nextest_version.edition.Edition.TheVariants.{ArrayAllowed, TableOnly}
 use Rattle.nextest_config_sources.specs.declared.nextest_version.experimental.ConfigExperimental.{ConfigExperimental}
 use Rattle.nextest_config_sources.specs.declared.nextest_version.experimental.ConfigExperimental.TheVariants as features
 
@@ -150,15 +152,15 @@ decided_by same (inr not_p) = inr (λ q. not_p (same.1 q))
 
 -- each item is a text, and these are the texts
 pub record AreTexts (items : Items) (texts : List (List ℕ)) : Type 0 where
-  pub of_texts : (index : ℕ) → IsSome (get_item index items) → IsTextAt items index
+  pub of_texts : (place : ℕ) → IsSome (get_item place items) → IsTextAt items place
   pub members : (text : List ℕ) → Contains texts text ↔ IsAmong items text
 
 -- the first item that is no text
 pub record HasNoText (items : Items) : Type 0 where
-  pub index : ℕ
+  pub place : ℕ
   pub value : Data
-  pub here : get_item index items ≡ Some value
-  pub earlier : (other : ℕ) → other < index → IsTextAt items other
+  pub here : get_item place items ≡ Some value
+  pub earlier : (other : ℕ) → other < place → IsTextAt items other
   pub no_text : as_str value ≡ None
 
 text_first : (value : Data) (items : Items) (text : List ℕ) (texts : List (List ℕ))
@@ -167,34 +169,34 @@ text_first value items text texts is all = record {
   of_texts = each_text;
   members = λ other. (
     λ there. ⊎_elim (λ same. (0, is ∙ ap Some same))
-        (λ later. let (index, among) = (all.members other).0 later in (suc index, among))
+        (λ later. let (place, among) = (all.members other).0 later in (suc place, among))
         (contains_cases text texts there),
     among_one_of other,
   );
 }
   where
-    each_text : (index : ℕ) → IsSome (get_item index (item value items))
-        → IsTextAt (item value items) index
+    each_text : (place : ℕ) → IsSome (get_item place (item value items))
+        → IsTextAt (item value items) place
     each_text zero some = rw is refl
-    each_text (suc index) some = all.of_texts index some
+    each_text (suc place) some = all.of_texts place some
 
     among_one_of : (other : List ℕ) → IsAmong (item value items) other
         → Contains (text ∷ texts) other
     among_one_of other (zero, there) = contains_first texts (cc (is, there))
-    among_one_of other (suc index, there) =
-        contains_later text texts ((all.members other).1 (index, there))
+    among_one_of other (suc place, there) =
+        contains_later text texts ((all.members other).1 (place, there))
 
 no_text_later : (value : Data) (items : Items) (text : List ℕ) → as_str value ≡ Some text
     → HasNoText items → HasNoText (item value items)
 no_text_later value items text is none = record {
-  index = suc none.index;
+  place = suc none.place;
   value = none.value;
   here = none.here;
   earlier = each_earlier;
   no_text = none.no_text;
 }
   where
-    each_earlier : (other : ℕ) → other < suc none.index → IsTextAt (item value items) other
+    each_earlier : (other : ℕ) → other < suc none.place → IsTextAt (item value items) other
     each_earlier zero below = rw is refl
     each_earlier (suc other) below = none.earlier other (omega arith)
 
@@ -202,7 +204,7 @@ first_item : (value : Data) (items : Items) (text : Option (List ℕ)) → as_st
     → ((texts : List (List ℕ)) × AreTexts items texts) ⊎ HasNoText items
     → ((texts : List (List ℕ)) × AreTexts (item value items) texts) ⊎ HasNoText (item value items)
 first_item value items None is rest = inr (record {
-  index = 0;
+  place = 0;
   value = value;
   here = refl;
   earlier = λ other below. absurd (omega arith);
@@ -217,8 +219,8 @@ texts_or_not : (items : Items)
 texts_or_not no_items = inl (
   [],
   record {
-    of_texts = λ index some. absurd (cc some);
-    members = λ text. (λ none. absurd (contains_none none), λ (index, there). absurd (cc there));
+    of_texts = λ place some. absurd (cc some);
+    members = λ text. (λ none. absurd (contains_none none), λ (place, there). absurd (cc there));
   },
 )
 texts_or_not (item value items) = first_item value items (as_str value) refl (texts_or_not items)
@@ -232,26 +234,25 @@ array_names items texts all =
     texts all.members in
     (named, record { of_texts = all.of_texts; of_names = of_names })
 
-array_by : (items : Items) (at : List ℕ)
-    → ((texts : List (List ℕ)) × AreTexts items texts) ⊎ HasNoText items
-    → HasMeaningOrFault (MeansFeatureArray items) (FeatureArrayFaults items at)
-array_by items at (inl (texts, all)) = inl (array_names items texts all)
-array_by items at (inr none) = inr (
-  wrong_type none.value (item_path at none.index) text_expected,
-  (none.index, none.value, none.here, none.earlier, (none.no_text, refl)),
+array_by : (items : Items) → ((texts : List (List ℕ)) × AreTexts items texts) ⊎ HasNoText items
+    → HasMeaningOrFault (MeansFeatureArray items) (FeatureArrayFaults items)
+array_by items (inl (texts, all)) = inl (array_names items texts all)
+array_by items (inr none) = inr (
+  fault_below (index none.place) (wrong_type none.value text_expected),
+  (none.place, none.value, none.here, none.earlier, (none.no_text, refl)),
 )
 
-pub array_or_fault : (items : Items) (at : List ℕ)
-    → HasMeaningOrFault (MeansFeatureArray items) (FeatureArrayFaults items at)
-array_or_fault items at = array_by items at (texts_or_not items)
+pub array_or_fault : (items : Items)
+    → HasMeaningOrFault (MeansFeatureArray items) (FeatureArrayFaults items)
+array_or_fault items = array_by items (texts_or_not items)
 
-never_text : (items : Items) (index : ℕ) (value : Data) → get_item index items ≡ Some value
-    → as_str value ≡ None → IsTextAt items index → ⊥
-never_text items index value is none is_text = cc (subst IsSome (ap text_in is ∙ none) is_text)
+never_text : (items : Items) (place : ℕ) (value : Data) → get_item place items ≡ Some value
+    → as_str value ≡ None → IsTextAt items place → ⊥
+never_text items place value is none is_text = cc (subst IsSome (ap text_in is ∙ none) is_text)
 
-pub one_array_fault : (items : Items) (at : List ℕ) (f g : Fault) → FeatureArrayFaults items at f
-    → FeatureArrayFaults items at g → f ≡ g
-one_array_fault items at f g (i, value, here, texts, wrong) (k, other, there, others, also) =
+pub one_array_fault : (items : Items) (f g : Fault) → FeatureArrayFaults items f
+    → FeatureArrayFaults items g → f ≡ g
+one_array_fault items f g (i, value, here, texts, wrong) (k, other, there, others, also) =
     by_order (cases_order i k)
   where
     by_order : (i ≡ k) ⊎ ((i < k) ⊎ (k < i)) → f ≡ g
@@ -261,9 +262,9 @@ one_array_fault items at f g (i, value, here, texts, wrong) (k, other, there, ot
         let same_value : value ≡ other = cc (here, there, same) in
         cc (wrong.1, also.1, same, same_value)
 
-pub no_array_fault : (items : Items) (at : List ℕ) (named : Features) (f : Fault)
-    → MeansFeatureArray items named → FeatureArrayFaults items at f → ⊥
-no_array_fault items at named f meant (i, value, here, texts, wrong) =
+pub no_array_fault : (items : Items) (named : Features) (f : Fault)
+    → MeansFeatureArray items named → FeatureArrayFaults items f → ⊥
+no_array_fault items named f meant (i, value, here, texts, wrong) =
     never_text items i value here wrong.0 (meant.of_texts i (rw here refl))
 
 -- the features that an array names
@@ -271,7 +272,7 @@ abbrev pub feature_array : Reading Items Features
 feature_array = record {
   means = MeansFeatureArray;
   faults = FeatureArrayFaults;
-  takes_memory = λ items. Unit {0};
+  takes_memory = λ items. Always;
   law = record {
     meaning_or_fault = array_or_fault;
     one_meaning = λ items a b h k. named_once a b h.of_names k.of_names;
@@ -328,19 +329,19 @@ keys_there (member key value table) text =
     key_by (slice_cmp nat_cmp text key) key text value table refl (keys_there table text)
 
 switch_by : (feature : ConfigExperimental) (table : Members)
-    → HasMeaningOrFault ((switch feature).means table) ((switch feature).faults table [])
+    → HasMeaningOrFault ((switch feature).means table) ((switch feature).faults table)
     → IsDecided ((switch feature).means table true)
 switch_by feature table (inl (true, on)) = inl on
 switch_by feature table (inl (false, off)) =
     inr (λ on. false≢true ((switch feature).law.one_meaning table false true off on))
 switch_by feature table (inr (fault, wrong)) =
-    inr (λ on. (switch feature).law.never_both table [] true fault on wrong)
+    inr (λ on. (switch feature).law.never_both table true fault on wrong)
 
 pub table_named : (table : Members)
     → (named : Features) × AreNamed (λ feature. (switch feature).means table true)
     (λ text. IsSome (get_member text table)) named
 table_named table = named_among
-    (λ feature. switch_by feature table ((switch feature).law.meaning_or_fault table []))
+    (λ feature. switch_by feature table ((switch feature).law.meaning_or_fault table))
     (keys_in table) (keys_there table)
 
 -- a feature is enabled where its key is true; other keys are names whatever their values are
@@ -348,13 +349,13 @@ abbrev pub table_names : Reading Members Features
 table_names = record {
   means = λ members. AreNamed (λ feature. (switch feature).means members true)
       (λ text. IsSome (get_member text members));
-  faults = λ members at fault. ⊥;
+  faults = λ members fault. ⊥;
   takes_memory = λ members. ⊥;
   law = record {
-    meaning_or_fault = λ members at. inl (table_named members);
+    meaning_or_fault = λ members. inl (table_named members);
     one_meaning = λ members. named_once;
-    one_fault = λ members at f g a b. absurd a;
-    never_both = λ members at named f a b. b;
+    one_fault = λ members f g a b. absurd a;
+    never_both = λ members named f a b. b;
   };
 }
 
@@ -373,8 +374,24 @@ feature_table = in_memory (switches all_features)
 abbrev pub features_expected : List ℕ
 features_expected = codes "a table ({ setup-scripts = true, benchmarks = true }) or an array ([\"setup-scripts\", \"benchmarks\"])"
 
+-- a table
+abbrev pub features_of_table : Reading Data FeatureSetting
+features_of_table =
+    kind as_table (inner (made_of (in_form false) feature_table)) (wrong_kind features_expected)
+
 -- an array, or a table
 abbrev pub features_reading : Reading Data FeatureSetting
 features_reading =
-    kind as_array (held (made_of (in_form true) feature_array))
-    (kind as_table (held (made_of (in_form false) feature_table)) (wrong_kind features_expected))
+    kind as_array (inner (made_of (in_form true) feature_array)) features_of_table
+
+-- ---- the setting under an edition
+
+-- what an array means, where tables only are taken: the rule on the form is broken, whatever the
+-- array holds
+abbrev pub no_array : Items → Reading Data FeatureSetting
+no_array items = no_value (λ value. broken_by array_form)
+
+-- a table, and an array where the edition takes arrays
+abbrev pub features_under : Edition → Reading Data FeatureSetting
+features_under ArrayAllowed = features_reading
+features_under TableOnly = kind as_array no_array features_of_table

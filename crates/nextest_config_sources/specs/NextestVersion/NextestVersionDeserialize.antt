@@ -1,10 +1,10 @@
 -- The setting `nextest-version`: the versions that one source asks for.
-use Rattle.std.specs.Prelude.{ℕ, List, codes, Option, Some, None, option_map}
+use Rattle.std.specs.Prelude.{ℕ, List, [], ◌∷◌, codes, Option, Some, None, option_map}
 use Rattle.semver.specs.Identifiers.{parts_of}
 use Rattle.semver.specs.Parse.{Parts}
 use Rattle.toml.specs.Data.{Data, Members, as_str, as_table}
 use Rattle.nextest_config_values.specs.Decisions.{true_decided}
-use Rattle.nextest_config_values.specs.Read.{held, kind, made_of, only, optional, Reading, required_above_recommended, rule, then, wrong_kind}
+use Rattle.nextest_config_values.specs.Read.{inner, kind, made_of, no_data, NoData, only, optional, Reading, required_above_recommended, rule, then, wrong_kind}
 use Rattle.nextest_config_sources.specs.NextestVersion.Precedence.{is_below, IsBelow}
 use Rattle.nextest_config_sources.specs.NextestVersion.VersionTextLaws.{version_reading, version_text}
 use Rattle.nextest_config_sources.specs.declared.nextest_version.nextest_version_deserialize.NextestVersionDeserialize.{NextestVersionDeserialize}
@@ -37,8 +37,11 @@ required_key = codes "required"
 abbrev pub recommended_key : List ℕ
 recommended_key = codes "recommended"
 
+abbrev pub version_table_keys : List (List ℕ)
+version_table_keys = required_key ∷ recommended_key ∷ []
+
 -- these versions; where both stand, the required one isn't above the recommended one
-abbrev pub in_order : Option Parts → Option Parts → Reading (Unit {0}) Versions
+abbrev pub in_order : Option Parts → Option Parts → Reading NoData Versions
 in_order (Some required) (Some recommended) =
     rule (IsBelow recommended required) (true_decided (is_below recommended required))
     (required_above_recommended required recommended)
@@ -50,7 +53,7 @@ abbrev pub version_table : Reading Members Versions
 version_table =
     then (optional required_key version_reading) (λ required.
     then (optional recommended_key version_reading) (λ recommended.
-    held (in_order required recommended) tt))
+    inner (in_order required recommended) no_data))
 
 -- what the setting takes
 abbrev pub versions_expected : List ℕ
@@ -60,5 +63,5 @@ versions_expected = codes
 -- a text, whose version is required, or a table
 abbrev pub versions_reading : Reading Data Versions
 versions_reading =
-    kind as_str (held (made_of requires version_text))
-    (kind as_table (held version_table) (wrong_kind versions_expected))
+    kind as_str (inner (made_of requires version_text))
+    (kind as_table (inner version_table) (wrong_kind versions_expected))

@@ -33,9 +33,9 @@ one_in_front xs x y =
     (λ h. ⊎_elim inr inl (contains_cases x xs h), ⊎_elim (contains_later x xs) (contains_first xs))
 
 -- an element in front of both lists
-behind_another : {X : Type 0} (z x : X) (before after : List X) → HasOneMore before x after
+after_another : {X : Type 0} (z x : X) (before after : List X) → HasOneMore before x after
     → HasOneMore (z ∷ before) x (z ∷ after)
-behind_another z x before after more y =
+after_another z x before after more y =
     let still = contains_later z after in (
       λ h. ⊎_elim (λ same. inl (contains_first before same))
           (λ h. ⊎_map (contains_later z before) (λ same. same) ((more y).0 h))
@@ -56,7 +56,7 @@ module _ {K Y : Type 0} (cmp : K → K → Ordering) (seen : K → Y)
   inserted_by Equal x xs is more =
       λ y. (inl, ⊎_elim (λ h. h) (λ same. contains_first (map seen xs) (sym (exact k x is) ∙ same)))
   inserted_by Greater x xs is more =
-      behind_another (seen x) (seen k) (map seen xs) (map seen (insert_key cmp xs k)) more
+      after_another (seen x) (seen k) (map seen xs) (map seen (insert_key cmp xs k)) more
 
   inserted : (ks : List K) → HasOneMore (map seen ks) (seen k) (map seen (insert_key cmp ks k))
   inserted [] = one_in_front [] (seen k)
@@ -92,7 +92,7 @@ among_images f (x ∷ xs) y = (
 -- ---- an insertion in order
 
 module _ {X : Type 0} (cmp : X → X → Ordering) where
-  -- all come behind this one
+  -- all come after this one
   abbrev pub AreAbove : X → List X → Type 0
   AreAbove x = AllByRecursion (λ y. cmp x y ≡ Less)
 

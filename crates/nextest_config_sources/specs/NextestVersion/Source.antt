@@ -1,6 +1,7 @@
 -- Configuration sources without where they lie in memory.
-use Rattle.std.specs.Prelude.{ℕ, List, ◌++◌, codes, Option, String, string_bytes, option_map, if◌then◌else◌}
+use Rattle.std.specs.Prelude.{ℕ, Bool, List, ◌++◌, codes, Option, String, string_bytes, option_map, if◌then◌else◌}
 use Rattle.std.specs.declared.alloc.Global.{Global}
+use Rattle.nextest_config_values.specs.declared.tool_config.ToolConfigFile.{ToolConfigFile}
 use Rattle.nextest_config_sources.specs.declared.nextest_version.edition.Edition.{Edition}
 use Rattle.nextest_config_sources.specs.declared.nextest_version.edition.Edition.TheVariants.{ArrayAllowed}
 use Rattle.nextest_config_sources.specs.declared.nextest_version.source.ConfigSource.{ConfigSource}
@@ -11,18 +12,18 @@ use Rattle.nextest_config_sources.specs.declared.nextest_version.source.SourceTe
 use Rattle.nextest_config_sources.specs.declared.nextest_version.source.ToolText.{ToolText}
 
 -- what kind of source it is, and its path
-pub record Place : Type 0 where
+pub record SourcePlace : Type 0 where
   pub kind : ConfigSourceKind
   pub path : List ℕ
 
 -- a place and the text that stands there, if any
 pub record Given : Type 0 where
-  pub place : Place
+  pub place : SourcePlace
   pub contents : Option (List ℕ)
 
 -- a place and the text that stands there, if any, which is read under an edition
 pub record Source : Type 0 where
-  pub place : Place
+  pub place : SourcePlace
   pub contents : Option (List ℕ)
   pub edition : Edition
 
@@ -31,7 +32,7 @@ abbrev pub under : Edition → Given → Source
 under edition given = record { place = given.place; contents = given.contents; edition = edition }
 
 -- where a source is
-abbrev pub place_of : ConfigSource → Place
+abbrev pub place_of : ConfigSource → SourcePlace
 place_of source = record { kind = source.kind; path = string_bytes source.path }
 
 -- these contents, at the place of this source
@@ -51,25 +52,31 @@ source_under edition text = under edition (given_of text)
 abbrev pub source_of : SourceText → Source
 source_of = source_under ArrayAllowed
 
+-- where a tool's file is
+abbrev pub tool_place : ToolConfigFile → SourcePlace
+tool_place file = record { kind = Tool file.tool; path = string_bytes file.config_file }
+
+-- where a repository's file is: at this path, which the user named or not
+abbrev pub repository_place : Bool → List ℕ → SourcePlace
+repository_place explicit path = record {
+  kind = if explicit then ExplicitRepository else DiscoveredRepository;
+  path = path;
+}
+
 -- a tool's file
 abbrev pub tool_given : ToolText → Given
-tool_given text = record {
-  place = record { kind = Tool text.file.tool; path = string_bytes text.file.config_file };
-  contents = option_map string_bytes text.contents;
-}
+tool_given text =
+    record { place = tool_place text.file; contents = option_map string_bytes text.contents }
 
 -- a repository's file
 abbrev pub repository_given : RepositoryText → Given
 repository_given text = record {
-  place = record {
-    kind = if text.explicit then ExplicitRepository else DiscoveredRepository;
-    path = string_bytes text.path;
-  };
+  place = repository_place text.explicit (string_bytes text.path);
   contents = option_map string_bytes text.contents;
 }
 
 -- how a place prints
-abbrev pub place_text : Place → List ℕ
+abbrev pub place_text : SourcePlace → List ℕ
 place_text place = kind_text place.kind place.path
   where
     kind_text : ConfigSourceKind → List ℕ → List ℕ

@@ -1,15 +1,13 @@
 -- What one source asks, or what is wrong with it.
-use Rattle.std.specs.Prelude.{◌≡◌, ◌≢◌, ◌⊎◌, ℕ, Bool, false, List, [], codes, Option, Some, None, IsSome}
-use Rattle.toml.specs.Data.{as_array, Data, Items, Members, get_member}
+use Rattle.std.specs.Prelude.{◌≡◌, ◌≢◌, ℕ, Bool, false, List, [], codes, Option, Some, None}
+use Rattle.toml.specs.Data.{Members}
 use Rattle.toml.specs.Parse.{parse_document}
-use Rattle.nextest_config_values.specs.Read.Fault.{Fault}
-use Rattle.nextest_config_values.specs.Read.{array_form, custom, fault_at, or_default, Reading, Then}
+use Rattle.nextest_config_values.specs.Read.{faults_at, or_default, Reading, Then, ToldFault}
 use Rattle.nextest_config_sources.specs.NextestVersion.NextestVersionDeserialize.{Versions, no_versions, versions_of, versions_reading}
 use Rattle.nextest_config_sources.specs.NextestVersion.ErrorKind.{Wrong, not_toml, setting, tool_features}
 use Rattle.nextest_config_sources.specs.NextestVersion.ExperimentalDeserialize.{AreNames, Features, FeatureSetting, features_of, in_form, no_features, no_feature_setting}
-use Rattle.nextest_config_sources.specs.NextestVersion.ExperimentalLaws.{features_reading}
+use Rattle.nextest_config_sources.specs.NextestVersion.ExperimentalLaws.{features_under}
 use Rattle.nextest_config_sources.specs.declared.nextest_version.edition.Edition.{Edition}
-use Rattle.nextest_config_sources.specs.declared.nextest_version.edition.Edition.TheVariants.{ArrayAllowed, TableOnly}
 use Rattle.nextest_config_sources.specs.declared.nextest_version.source.ConfigSourceKind.{ConfigSourceKind}
 use Rattle.nextest_config_sources.specs.declared.nextest_version.source.ConfigSourceKind.TheVariants.{Tool, ExplicitRepository, DiscoveredRepository}
 use Rattle.nextest_config_sources.specs.declared.nextest_version.version_only_deserialize.VersionOnlyDeserialize.{VersionOnlyDeserialize}
@@ -51,23 +49,13 @@ versions_asked = or_default version_key no_versions versions_reading
 abbrev pub AsksVersions : Members → Versions → Type 0
 AsksVersions = versions_asked.means
 
--- what a table says at `experimental`: nothing where it lacks the key
-abbrev pub features_asked : Reading Members FeatureSetting
-features_asked = or_default experimental_key no_feature_setting features_reading
+-- what a table says at `experimental` under the edition: nothing where it lacks the key
+abbrev pub features_asked : Edition → Reading Members FeatureSetting
+features_asked edition = or_default experimental_key no_feature_setting (features_under edition)
 
 -- the table says this of features
-abbrev pub AsksFeatures : Members → FeatureSetting → Type 0
-AsksFeatures = features_asked.means
-
--- what the array holds that a value is, if there is a value and it is an array
-abbrev pub array_in : Option Data → Option Items
-array_in None = None
-array_in (Some value) = as_array value
-
--- where the edition takes tables only, a value of `experimental` is no array
-abbrev pub ObeysForm : Edition → Option Data → Type 0
-ObeysForm ArrayAllowed found = Unit {0}
-ObeysForm TableOnly found = array_in found ≡ None
+abbrev pub AsksFeatures : Edition → Members → FeatureSetting → Type 0
+AsksFeatures edition = (features_asked edition).means
 
 -- a tool's source names no feature
 abbrev pub ObeysToolRule : ConfigSourceKind → Features → Type 0
@@ -76,11 +64,10 @@ ObeysToolRule ExplicitRepository features = Unit {0}
 ObeysToolRule DiscoveredRepository features = Unit {0}
 
 -- the table of a document asks this under the edition
-pub record Asks (edition : Edition) (kind : ConfigSourceKind) (members : Members) (ask : Ask)
+pub record TableAsks (edition : Edition) (kind : ConfigSourceKind) (members : Members) (ask : Ask)
     : Type 0 where
   pub of_versions : AsksVersions members ask.versions
-  pub of_form : ObeysForm edition (get_member experimental_key members)
-  pub of_features : AsksFeatures members (in_form ask.array ask.features)
+  pub of_features : AsksFeatures edition members (in_form ask.array ask.features)
   pub of_tool : ObeysToolRule kind ask.features
 
 -- a source is in its grammar with this ask: it has no contents and asks nothing, or its contents
@@ -88,18 +75,9 @@ pub record Asks (edition : Edition) (kind : ConfigSourceKind) (members : Members
 abbrev pub TextAsks : Edition → ConfigSourceKind → Option (List ℕ) → Ask → Type 0
 TextAsks edition kind None ask = ask ≡ nothing
 TextAsks edition kind (Some text) ask = (members : Members) × (parse_document text ≡ Some members)
-    × Asks edition kind members ask
+    × TableAsks edition kind members ask
 
 -- ---- a source outside its grammar
-
--- an array stands at `experimental`, where only a table is taken
-abbrev pub broken_form : Wrong
-broken_form = setting (fault_at experimental_key (custom array_form))
-
--- the value of `experimental` is an array, where the edition takes tables only
-abbrev pub BreaksForm : Edition → Option Data → Wrong → Type 0
-BreaksForm ArrayAllowed found wrong = ⊥
-BreaksForm TableOnly found wrong = IsSome (array_in found) × (wrong ≡ broken_form)
 
 -- a tool's source names a feature
 abbrev pub BreaksToolRule : ConfigSourceKind → Features → Wrong → Type 0
@@ -108,32 +86,22 @@ BreaksToolRule (Tool name) features wrong = (features ≢ no_features)
 BreaksToolRule ExplicitRepository features wrong = ⊥
 BreaksToolRule DiscoveredRepository features wrong = ⊥
 
--- a setting of the table is refused
+-- a setting of the table is refused, which is told at its path in the document
 abbrev pub IsWrongSetting : {X : Type 0} → Reading Members X → Members → Wrong → Type 0
-IsWrongSetting reading members wrong = (fault : Fault) × reading.faults members [] fault
-    × (wrong ≡ setting fault)
+IsWrongSetting reading members wrong = (told : ToldFault) × faults_at reading members [] told
+    × (wrong ≡ setting told)
 
--- what is wrong with the contents of `experimental`; where they are all right, that a tool names a
--- feature
-abbrev pub IsWrongNamed : ConfigSourceKind → Members → Wrong → Type 0
-IsWrongNamed kind members =
-    Then (IsWrongSetting features_asked members) (AsksFeatures members)
+-- what is wrong with `experimental`; where that is all right, that a tool names a feature
+abbrev pub IsWrongNamed : Edition → ConfigSourceKind → Members → Wrong → Type 0
+IsWrongNamed edition kind members =
+    Then (IsWrongSetting (features_asked edition) members) (AsksFeatures edition members)
     (λ named. BreaksToolRule kind named.features)
 
--- what is wrong with the form of `experimental`; where that is all right, what is wrong with its
--- contents
-abbrev pub IsWrongBehind : Edition → ConfigSourceKind → Members → Wrong → Type 0
-IsWrongBehind edition kind members wrong =
-    BreaksForm edition (get_member experimental_key members) wrong
-    ⊎ (ObeysForm edition (get_member experimental_key members)
-    × IsWrongNamed kind members wrong)
-
--- what is wrong with a table: at `nextest-version`; where that is all right, what is wrong behind
--- it
+-- what is wrong with a table: at `nextest-version`; where that is all right, at `experimental`
 abbrev pub IsWrongTable : Edition → ConfigSourceKind → Members → Wrong → Type 0
 IsWrongTable edition kind members =
     Then (IsWrongSetting versions_asked members) (AsksVersions members)
-    (λ versions. IsWrongBehind edition kind members)
+    (λ versions. IsWrongNamed edition kind members)
 
 -- what is wrong with the document, if it is one
 abbrev pub IsWrongDocument : Edition → ConfigSourceKind → Option Members → Wrong → Type 0

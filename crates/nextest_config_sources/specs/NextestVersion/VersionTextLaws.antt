@@ -14,7 +14,8 @@ use Rattle.semver.specs.declared.error.Error.{Error}
 use Rattle.toml.specs.Data.{Data, as_str}
 use Rattle.nextest_config_values.specs.Decisions.{same_decided}
 use Rattle.nextest_config_values.specs.Once.{HasMeaningOrFault, HasOneMeaningOrFault}
-use Rattle.nextest_config_values.specs.Read.{BrokenRule, build_metadata, custom, fault_at, held, kind, not_version, pre_release, Reading, text_expected, wrong_kind}
+use Rattle.nextest_config_values.specs.Read.Fault.{Fault}
+use Rattle.nextest_config_values.specs.Read.{Always, broken_by, BrokenRule, build_metadata, inner, kind, not_version, pre_release, Reading, text_expected, wrong_kind}
 use Rattle.nextest_config_sources.specs.NextestVersion.VersionText.{Numbers, plain, dot, hyphen, plus_sign, IsNumeral, IsThree, IsTwo, IsVersionText, IsPlain, HasFirstMark, HasVersion, IsVersionFault}
 use Rattle.nextest_config_values.proofs.Elements.{all_right, all_joined, all_middle}
 
@@ -367,36 +368,38 @@ one_version_or_fault = record {
 
 -- ---- what version texts mean
 
-fault_or_fault : (text at : List ℕ) → HasMeaningOrFault (HasVersion text) (IsVersionFault text)
-    → HasMeaningOrFault (HasVersion text) (λ fault. (rule : BrokenRule) × IsVersionFault text rule
-    × (fault ≡ fault_at at (custom rule)))
-fault_or_fault text at (inl version) = inl version
-fault_or_fault text at (inr (rule, wrong)) = inr (fault_at at (custom rule), (rule, wrong, refl))
+-- the text breaks a rule, which is the fault
+abbrev pub VersionFaults : List ℕ → Fault → Type 0
+VersionFaults text fault =
+    (rule : BrokenRule) × IsVersionFault text rule × (fault ≡ broken_by rule)
 
-pub version_text_or_fault : (text at : List ℕ)
-    → HasMeaningOrFault (HasVersion text) (λ fault. (rule : BrokenRule) × IsVersionFault text rule
-    × (fault ≡ fault_at at (custom rule)))
-version_text_or_fault text at = fault_or_fault text at (version_or_fault text)
+fault_or_fault : (text : List ℕ) → HasMeaningOrFault (HasVersion text) (IsVersionFault text)
+    → HasMeaningOrFault (HasVersion text) (VersionFaults text)
+fault_or_fault text (inl version) = inl version
+fault_or_fault text (inr (rule, wrong)) = inr (broken_by rule, (rule, wrong, refl))
+
+pub version_text_or_fault : (text : List ℕ)
+    → HasMeaningOrFault (HasVersion text) (VersionFaults text)
+version_text_or_fault text = fault_or_fault text (version_or_fault text)
 
 -- the version of a text, or the rule that the text breaks
 abbrev pub version_text : Reading (List ℕ) Parts
 version_text = record {
   means = HasVersion;
-  faults = λ text at fault. (rule : BrokenRule) × IsVersionFault text rule
-      × (fault ≡ fault_at at (custom rule));
-  takes_memory = λ text. Unit {0};
+  faults = VersionFaults;
+  takes_memory = λ text. Always;
   law = record {
     meaning_or_fault = version_text_or_fault;
     one_meaning = one_version_or_fault.one_meaning;
-    one_fault = λ text at f g a b. a.2
-        ∙ ap (λ rule. fault_at at (custom rule)) (one_rule text a.0 b.0 a.1 b.1) ∙ sym b.2;
-    never_both = λ text at x f a b. version_not_fault text a.0 b.0 a.1 b.1;
+    one_fault =
+        λ text f g a b. a.2 ∙ ap broken_by (one_rule text a.0 b.0 a.1 b.1) ∙ sym b.2;
+    never_both = λ text x f a b. version_not_fault text a.0 b.0 a.1 b.1;
   };
 }
 
 -- a text that is a version
 abbrev pub version_reading : Reading Data Parts
-version_reading = kind as_str (held version_text) (wrong_kind text_expected)
+version_reading = kind as_str (inner version_text) (wrong_kind text_expected)
 
 -- ---- the scan for a mark
 

@@ -5,6 +5,7 @@ ghost use Rattle.std.specs.Prelude.{◌≡◌, Some};
 use nextest_config_values::read::{QuotedTexts, ReadFault};
 use std::alloc::AllocError;
 use std::collections::BTreeSet;
+use std::error::Error;
 use std::fmt;
 
 /// What is wrong with a configuration source.
@@ -59,6 +60,8 @@ impl From<ReadFault> for ConfigParseErrorKind {
         }
     }
 }
+
+impl Error for ConfigParseErrorKind {}
 
 impl fmt::Display for ConfigParseErrorKind {
     ghost use Rattle.nextest_config_sources.specs.NextestVersion.ErrorKind.{error_kind_text};

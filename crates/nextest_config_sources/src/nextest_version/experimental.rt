@@ -2,20 +2,22 @@
 
 ghost use Rattle.std.specs.Prelude.{◌≡◌, ◌↔◌, Contains, Some, IfOk, IsTrue, OnErr, OnOk, option_map};
 ghost use Rattle.std.specs.Iterator.{YieldsFirst, item_count};
-ghost use Rattle.nextest_config_sources.specs.NextestVersion.{all_features, features_left, FeaturesInOrder, HasOneMore, IsEnabled, IsUnknown, variable_of, word_of};
+ghost use Rattle.nextest_config_sources.specs.NextestVersion.{all_features, feature_reads_back, features_left, FeaturesInOrder, HasOneMore, IsEnabled, IsUnknown, variable_of, word_of};
 
+use nextest_config_values::read::Word;
 use std::alloc::{AllocError, Global};
 use std::collections::{BTreeMap, BTreeSet};
 use std::fmt;
+use std::slice::Iter;
 
-/// An experimental feature.
+/// A feature that is still tried out, which a configuration has to enable.
 #[derive(Copy, Clone, Debug, PartialEq, Eq, PartialOrd, Ord, Hash)]
 pub enum ConfigExperimental {
     /// Scripts that run before tests.
     SetupScripts,
     /// Scripts that tests are run by.
     WrapperScripts,
-    /// Benchmarks.
+    /// Support for benchmarks.
     Benchmarks,
 }
 
@@ -29,15 +31,15 @@ impl ConfigExperimental {
         ensures known { IfOk result (λ feature. word_of feature ≡ text.now) }
         ensures refused { OnErr result (IsUnknown text.now) }
     {
-        match text {
-            "setup-scripts" => Ok(ConfigExperimental::SetupScripts),
-            "wrapper-scripts" => Ok(ConfigExperimental::WrapperScripts),
-            "benchmarks" => Ok(ConfigExperimental::Benchmarks),
-            _ => Err(()),
+        for feature in ConfigExperimental::all() {
+            if feature.as_word() == text {
+                return Ok(*feature);
+            }
         }
+        Err(())
     }
 
-    /// The word of the feature.
+    /// The feature's name in a configuration.
     pub fn as_word(self) -> &'static str
         ensures { result.now ≡ word_of self }
     {
@@ -48,12 +50,12 @@ impl ConfigExperimental {
         }
     }
 
-    /// The features in order.
+    /// All features, in order.
     pub fn known_features() -> KnownFeatures
         ensures { features_left result ≡ all_features }
     {
         KnownFeatures {
-            next: Some(ConfigExperimental::SetupScripts),
+            features: ConfigExperimental::all().iter(),
         }
     }
 
@@ -102,6 +104,30 @@ impl ConfigExperimental {
     }
 }
 
+impl Word for ConfigExperimental {
+    ghost all = { all_features };
+
+    ghost word = { word_of };
+
+    ghost reads_back = { feature_reads_back };
+
+    fn all() -> &'static [Self] {
+        &[
+            ConfigExperimental::SetupScripts,
+            ConfigExperimental::WrapperScripts,
+            ConfigExperimental::Benchmarks,
+        ]
+    }
+
+    fn as_word(self) -> &'static str {
+        ConfigExperimental::as_word(self)
+    }
+
+    fn expected() -> &'static str {
+        "one of `setup-scripts`, `wrapper-scripts`, `benchmarks`"
+    }
+}
+
 // Adds a feature to a set.
 #[tactic(auto, using(crate::proofs::Orders::features_in_order))]
 pub(crate) fn add_feature(
@@ -125,10 +151,10 @@ impl fmt::Display for ConfigExperimental {
     }
 }
 
-/// The experimental features in order. From [`ConfigExperimental::known_features`].
+/// Iterates over all features in order. Made by [`ConfigExperimental::known_features`].
 #[derive(Clone, Debug, Drop)]
 pub struct KnownFeatures {
-    next: Option<ConfigExperimental>,
+    features: Iter<'static, ConfigExperimental>,
 }
 
 impl Iterator for KnownFeatures {
@@ -139,12 +165,6 @@ impl Iterator for KnownFeatures {
     ghost remaining = { item_count features_left };
 
     fn next(&mut self) -> Option<ConfigExperimental> {
-        let feature = self.next?;
-        self.next = match feature {
-            ConfigExperimental::SetupScripts => Some(ConfigExperimental::WrapperScripts),
-            ConfigExperimental::WrapperScripts => Some(ConfigExperimental::Benchmarks),
-            ConfigExperimental::Benchmarks => None,
-        };
-        Some(feature)
+        self.features.next().copied()
     }
 }

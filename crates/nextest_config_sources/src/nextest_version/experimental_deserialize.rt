@@ -2,11 +2,12 @@
 
 ghost use Rattle.std.specs.Prelude.{◌≡◌, ◌↔◌, ℕ, Bool, List, Contains, true, false, IfOk, IfErr, IsTrue, OnOk, map, string_bytes};
 ghost use Rattle.toml.specs.View.{array_view, table_view, view};
-ghost use Rattle.nextest_config_values.specs.Read.{made_of, Refuses, RefusesAs, RefusesBy, text_expected, wrong_type};
-ghost use Rattle.nextest_config_sources.specs.NextestVersion.{AddsItem, AddsText, AreNames, feature_array, feature_setting_of, feature_table, features_of, features_reading, FeatureSetting, FeaturesInOrder, HasOneMore, in_form, IsUnknownFeatureKey, IsWordAmong, item_path, ItemFaults, no_feature_setting, no_features, switch, TextsInOrder};
+ghost use Rattle.nextest_config_values.specs.Read.{Always, fault_below, index, made_of, Refuses, RefusesAs, RefusesBy, text_expected, wrong_type};
+ghost use Rattle.nextest_config_sources.specs.NextestVersion.{AddsItem, AddsText, AreNames, feature_array, feature_setting_of, feature_table, features_of, features_of_table, features_reading, FeatureSetting, FeaturesInOrder, features_under, HasOneMore, in_form, IsUnknownFeatureKey, IsWordAmong, ItemFaults, no_feature_setting, no_features, switch, TextsInOrder};
 
+use super::edition::Edition;
 use super::experimental::{ConfigExperimental, add_feature};
-use nextest_config_values::read::{FromToml, ReadFault, field_or};
+use nextest_config_values::read::{FaultKind, FromToml, Rule, ValueFault, or_default};
 use std::alloc::{AllocError, Global};
 use std::collections::BTreeSet;
 use toml::value::Array;
@@ -38,7 +39,6 @@ impl ExperimentalDeserialize {
         }
     }
 
-    /// A copy of the features and the other names.
     pub fn clone(&self, _alloc: Global) -> Result<Self, AllocError>
         ensures { IfOk result (λ d. feature_setting_of d ≡ feature_setting_of self.now) }
     {
@@ -70,59 +70,80 @@ impl ExperimentalDeserialize {
         Ok(names)
     }
 
+    /// The features that a value of `experimental` names, in a form that the edition takes.
+    pub fn read_under(alloc: Global, edition: Edition, value: &Value) -> Result<Self, ValueFault>
+        ensures meant { IfOk result (λ d.
+            (features_under edition).means (view value.now) (feature_setting_of d)) }
+        ensures refused { IfErr result (RefusesBy (features_under edition) (view value.now)) }
+    {
+        match edition {
+            Edition::ArrayAllowed => ExperimentalDeserialize::read_value(alloc, value),
+            Edition::TableOnly => match value.as_array() {
+                Some(_) => Err(ValueFault::new(alloc, FaultKind::Custom(Rule::ArrayForm))),
+                None => ExperimentalDeserialize::read_table_form(alloc, value),
+            },
+        }
+    }
+
+    // The features that a value names, which is no array.
+    fn read_table_form(alloc: Global, value: &Value) -> Result<Self, ValueFault>
+        ensures meant { IfOk result (λ d.
+            features_of_table.means (view value.now) (feature_setting_of d)) }
+        ensures refused { IfErr result (RefusesBy features_of_table (view value.now)) }
+    {
+        match value.as_table() {
+            Some(table) => ExperimentalDeserialize::read_table(alloc, table),
+            None => Err(ValueFault::invalid_type(alloc, value, EXPECTED)),
+        }
+    }
+
     // The features that an array names.
-    fn read_array(alloc: Global, array: &Array, at: &str) -> Result<Self, ReadFault>
+    fn read_array(alloc: Global, array: &Array) -> Result<Self, ValueFault>
         ensures meant { IfOk result (λ d. (made_of (in_form true) feature_array).means
             (array_view array.now) (feature_setting_of d)) }
         ensures refused { IfErr result
-            (RefusesBy (made_of (in_form true) feature_array) (array_view array.now) at.now) }
+            (RefusesBy (made_of (in_form true) feature_array) (array_view array.now)) }
     {
         let mut features = ExperimentalDeserialize::new(alloc);
         for (index, value) in array.iter().enumerate() {
-            features.read_item(alloc, value, index, at)?;
+            features.read_item(alloc, value, index)?;
         }
         features.array = true;
         Ok(features)
     }
 
     // Adds what the element at an index names.
-    fn read_item(
-        &mut self,
-        alloc: Global,
-        value: &Value,
-        index: usize,
-        at: &str,
-    ) -> Result<(), ReadFault>
+    fn read_item(&mut self, alloc: Global, value: &Value, index: usize) -> Result<(), ValueFault>
         ensures added { OnOk result
             (AddsItem (features_of self.old) (view value.now) (features_of self.new)) }
         ensures form { self.new.array ≡ self.old.array }
-        ensures refused { IfErr result (Refuses
-            (ItemFaults (view value.now) index at.now) (Unit {0})) }
+        ensures refused { IfErr result (Refuses (ItemFaults (view value.now) index) Always) }
     {
         let Some(text) = value.as_str() else {
-            return Err(item_fault(alloc, value, index, at));
+            let fault = ValueFault::invalid_type(alloc, value, "a string");
+            return Err(fault.below_index(alloc, index));
         };
         match self.add(alloc, text) {
             Ok(()) => Ok(()),
-            Err(AllocError) => Err(ReadFault::memory(alloc)),
+            Err(AllocError) => Err(ValueFault::memory(alloc)),
         }
     }
 
     // The features that a table names.
-    fn read_table(alloc: Global, table: &Table, at: &str) -> Result<Self, ReadFault>
+    fn read_table(alloc: Global, table: &Table) -> Result<Self, ValueFault>
         ensures meant { IfOk result (λ d. (made_of (in_form false) feature_table).means
             (table_view table.now) (feature_setting_of d)) }
         ensures refused { IfErr result
-            (RefusesBy (made_of (in_form false) feature_table) (table_view table.now) at.now) }
+            (RefusesBy (made_of (in_form false) feature_table) (table_view table.now)) }
     {
-        let known = read_switches(alloc, table, at)?;
+        let known = read_switches(alloc, table)?;
         match unknown_keys(alloc, table) {
             Ok(unknown) => Ok(ExperimentalDeserialize {
                 known,
                 unknown,
                 array: false,
             }),
-            Err(AllocError) => Err(ReadFault::memory(alloc)),
+            Err(AllocError) => Err(ValueFault::memory(alloc)),
         }
     }
 
@@ -152,13 +173,10 @@ impl FromToml for ExperimentalDeserialize {
 
     ghost reading = { features_reading };
 
-    fn read(alloc: Global, value: &Value, at: &str) -> Result<Self, ReadFault> {
-        if let Some(array) = value.as_array() {
-            return ExperimentalDeserialize::read_array(alloc, array, at);
-        }
-        match value.as_table() {
-            Some(table) => ExperimentalDeserialize::read_table(alloc, table, at),
-            None => Err(ReadFault::invalid_type(alloc, value, at, EXPECTED)),
+    fn read_value(alloc: Global, value: &Value) -> Result<Self, ValueFault> {
+        match value.as_array() {
+            Some(array) => ExperimentalDeserialize::read_array(alloc, array),
+            None => ExperimentalDeserialize::read_table_form(alloc, value),
         }
     }
 }
@@ -180,25 +198,21 @@ fn known_words(
 }
 
 // The features whose keys are true, where none has a value that is no boolean.
-fn read_switches(
-    alloc: Global,
-    table: &Table,
-    at: &str,
-) -> Result<BTreeSet<ConfigExperimental>, ReadFault>
+fn read_switches(alloc: Global, table: &Table) -> Result<BTreeSet<ConfigExperimental>, ValueFault>
     ensures switches { OnOk result ((feature : ConfigExperimental)
         → (on : Bool) × (switch feature).means (table_view table.now) on) }
     ensures on { IfOk result (λ known. (feature : ConfigExperimental)
         → Contains known.keys feature ↔ (switch feature).means (table_view table.now) true) }
     ensures in_order { IfOk result (λ known. FeaturesInOrder known.keys) }
-    ensures refused { IfErr result (RefusesBy feature_table (table_view table.now) at.now) }
+    ensures refused { IfErr result (RefusesBy feature_table (table_view table.now)) }
 {
     let mut known = BTreeSet::new(alloc);
     for feature in ConfigExperimental::known_features() {
-        if !read_switch(alloc, table, feature, at)? {
+        if !read_switch(alloc, table, feature)? {
             continue;
         }
         let Ok(()) = add_feature(&mut known, feature) else {
-            return Err(ReadFault::memory(alloc));
+            return Err(ValueFault::memory(alloc));
         };
     }
     Ok(known)
@@ -209,12 +223,11 @@ fn read_switch(
     alloc: Global,
     table: &Table,
     feature: ConfigExperimental,
-    at: &str,
-) -> Result<bool, ReadFault>
+) -> Result<bool, ValueFault>
     ensures meant { IfOk result ((switch feature).means (table_view table.now)) }
-    ensures refused { IfErr result (RefusesBy (switch feature) (table_view table.now) at.now) }
+    ensures refused { IfErr result (RefusesBy (switch feature) (table_view table.now)) }
 {
-    field_or(alloc, table, feature.as_word(), at, false)
+    or_default(alloc, table, feature.as_word(), false)
 }
 
 // The keys of a table that are no feature's word.
@@ -243,15 +256,4 @@ fn add_text(alloc: Global, texts: &mut BTreeSet<String>, text: &str) -> Result<(
     let text = String::from_str(alloc, text)?;
     texts.insert(text)?;
     Ok(())
-}
-
-// The fault of an element that is no text.
-fn item_fault(alloc: Global, value: &Value, index: usize, at: &str) -> ReadFault
-    ensures { RefusesAs (wrong_type (view value.now) (item_path at.now index) text_expected)
-        result }
-{
-    match format!(in alloc; "{at}[{index}]") {
-        Ok(path) => ReadFault::invalid_type(alloc, value, path.as_str(), "a string"),
-        Err(AllocError) => ReadFault::memory(alloc),
-    }
 }

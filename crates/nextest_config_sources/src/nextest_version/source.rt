@@ -7,7 +7,7 @@ use nextest_config_values::tool_config::ToolConfigFile;
 use std::alloc::{AllocError, Global};
 use std::fmt;
 
-/// The kind of a configuration source.
+/// Whose a configuration source is.
 #[derive(Debug, PartialEq, Eq, Drop)]
 pub enum ConfigSourceKind {
     /// The configuration file that a tool hands in.
@@ -18,38 +18,40 @@ pub enum ConfigSourceKind {
     DiscoveredRepository,
 }
 
-/// A configuration source: its kind and its path.
+/// Where a configuration comes from.
 #[derive(Debug, PartialEq, Eq, Drop)]
 pub struct ConfigSource {
     pub kind: ConfigSourceKind,
     pub path: String,
 }
 
-/// A configuration source and its contents, `None` where there is no file.
+/// A configuration source and its contents.
 #[derive(Debug, PartialEq, Eq, Drop)]
 pub struct SourceText {
     pub source: ConfigSource,
+    /// `None`: there is no file.
     pub contents: Option<String>,
 }
 
-/// A tool's configuration file and its contents, `None` where there is no file.
+/// A tool's configuration file and its contents.
 #[derive(Debug, PartialEq, Eq, Drop)]
 pub struct ToolText {
     pub file: ToolConfigFile,
+    /// `None`: there is no file.
     pub contents: Option<String>,
 }
 
-/// A repository's configuration file and its contents, `None` where there is no file.
+/// A repository's configuration file and its contents.
 #[derive(Debug, PartialEq, Eq, Drop)]
 pub struct RepositoryText {
     /// Whether the user named the file, rather than that it was found at its usual path.
     pub explicit: bool,
     pub path: String,
+    /// `None`: there is no file.
     pub contents: Option<String>,
 }
 
 impl ConfigSourceKind {
-    /// A copy of the kind.
     pub fn clone(&self, alloc: Global) -> Result<Self, AllocError>
         ensures { IfOk result (λ kind. kind ≡ self.now) }
     {
@@ -68,10 +70,7 @@ impl ToolText {
     pub fn source(&self, alloc: Global) -> Result<ConfigSource, AllocError>
         ensures { IfOk result (λ source. place_of source ≡ (tool_given self.now).place) }
     {
-        Ok(ConfigSource {
-            kind: ConfigSourceKind::Tool(self.file.tool.clone(alloc)?),
-            path: String::from_str(alloc, self.file.config_file.as_str())?,
-        })
+        ConfigSource::of_tool(alloc, &self.file)
     }
 }
 
@@ -82,20 +81,36 @@ impl RepositoryText {
     pub fn source(&self, alloc: Global) -> Result<ConfigSource, AllocError>
         ensures { IfOk result (λ source. place_of source ≡ (repository_given self.now).place) }
     {
-        let kind = if self.explicit {
-            ConfigSourceKind::ExplicitRepository
-        } else {
-            ConfigSourceKind::DiscoveredRepository
-        };
-        let path = String::from_str(alloc, self.path.as_str())?;
-        Ok(ConfigSource { kind, path })
+        ConfigSource::of_repository(alloc, self.explicit, self.path.as_str())
     }
 }
 
 impl ConfigSource {
-    ghost use Rattle.nextest_config_sources.specs.NextestVersion.Source.{place_of};
+    ghost use Rattle.nextest_config_sources.specs.NextestVersion.Source.{place_of, repository_place, tool_place};
 
-    /// A copy of the source.
+    /// Where a tool's file comes from.
+    pub fn of_tool(alloc: Global, file: &ToolConfigFile) -> Result<Self, AllocError>
+        ensures { IfOk result (λ source. place_of source ≡ tool_place file.now) }
+    {
+        Ok(ConfigSource {
+            kind: ConfigSourceKind::Tool(file.tool.clone(alloc)?),
+            path: String::from_str(alloc, file.config_file.as_str())?,
+        })
+    }
+
+    /// Where a repository's file comes from.
+    pub fn of_repository(alloc: Global, explicit: bool, path: &str) -> Result<Self, AllocError>
+        ensures { IfOk result (λ source. place_of source ≡ repository_place explicit path.now) }
+    {
+        let kind = if explicit {
+            ConfigSourceKind::ExplicitRepository
+        } else {
+            ConfigSourceKind::DiscoveredRepository
+        };
+        let path = String::from_str(alloc, path)?;
+        Ok(ConfigSource { kind, path })
+    }
+
     pub fn clone(&self, alloc: Global) -> Result<Self, AllocError>
         ensures { IfOk result (λ source. place_of source ≡ place_of self.now) }
     {
@@ -105,7 +120,6 @@ impl ConfigSource {
         })
     }
 
-    /// Copies of the sources.
     pub fn copies(alloc: Global, sources: &[ConfigSource]) -> Result<Vec<ConfigSource>, AllocError>
         ensures { IfOk result (λ copies. map place_of copies.items ≡ map place_of sources.now) }
     {

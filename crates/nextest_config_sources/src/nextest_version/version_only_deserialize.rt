@@ -1,19 +1,18 @@
 //! What one source asks.
 
-ghost use Rattle.std.specs.Prelude.{◌≡◌, IfOk, IfErr, OnOk, option_map, string_bytes};
-ghost use Rattle.toml.specs.Data.{get_member};
-ghost use Rattle.toml.specs.View.{array_view, table_view, view};
-ghost use Rattle.nextest_config_sources.specs.NextestVersion.{array_in, ask_of, Asks, AsksFeatures, BreaksForm, BreaksToolRule, broken_form, experimental_key, feature_setting_of, features_of, IsWrong, IsWrongBehind, IsWrongNamed, IsWrongTable, nothing, ObeysForm, ObeysToolRule, RefusesSource, TextAsks};
+ghost use Rattle.std.specs.Prelude.{◌≡◌, [], IfOk, IfErr, OnOk, option_map, string_bytes};
+ghost use Rattle.toml.specs.View.{table_view};
+ghost use Rattle.nextest_config_values.specs.Read.{RefusesAt};
+ghost use Rattle.nextest_config_sources.specs.NextestVersion.{ask_of, AsksFeatures, BreaksToolRule, feature_setting_of, features_asked, features_of, IsWrong, IsWrongTable, nothing, ObeysToolRule, RefusesSource, TableAsks, TextAsks};
 
 use super::edition::Edition;
 use super::error_kind::ConfigParseErrorKind;
 use super::experimental_deserialize::ExperimentalDeserialize;
 use super::nextest_version_deserialize::NextestVersionDeserialize;
 use super::source::ConfigSourceKind;
-use nextest_config_values::read::{FaultKind, ReadFault, Rule, field_or};
+use nextest_config_values::read::{ReadFault, field_or, value_at};
 use std::alloc::Global;
-use toml::value::Array;
-use toml::{Table, Value};
+use toml::Table;
 
 const VERSION_KEY: &str = "nextest-version";
 
@@ -53,7 +52,7 @@ impl VersionOnlyDeserialize {
             return Ok(VersionOnlyDeserialize::nothing(alloc));
         };
         match toml::table_from_str(alloc, text.as_str()) {
-            Ok(table) => VersionOnlyDeserialize::read_table(alloc, edition, kind, &table),
+            Ok(table) => VersionOnlyDeserialize::of_table(alloc, edition, kind, &table),
             Err(error) => {
                 if error.is_memory() {
                     Err(ConfigParseErrorKind::Memory)
@@ -64,20 +63,21 @@ impl VersionOnlyDeserialize {
         }
     }
 
-    // What the table of a document asks.
-    fn read_table(
+    /// What the document of a source of this kind asks under the edition, as `toml` read it.
+    pub fn of_table(
         alloc: Global,
         edition: Edition,
         kind: &ConfigSourceKind,
         table: &Table,
     ) -> Result<Self, ConfigParseErrorKind>
-        ensures read { IfOk result (λ d. Asks edition kind.now (table_view table.now) (ask_of d)) }
+        ensures read { IfOk result (λ d. TableAsks edition kind.now (table_view table.now) (ask_of d)) }
         ensures refused { IfErr result (RefusesSource
             (IsWrongTable edition kind.now (table_view table.now))) }
     {
         let default = NextestVersionDeserialize::nothing();
         let nextest_version = field_or(alloc, table, VERSION_KEY, "", default)?;
-        let experimental = read_experimental(alloc, edition, kind, table)?;
+        let experimental = read_experimental(alloc, edition, table)?;
+        check_tool(alloc, kind, &experimental)?;
         Ok(VersionOnlyDeserialize {
             nextest_version,
             experimental,
@@ -85,85 +85,24 @@ impl VersionOnlyDeserialize {
     }
 }
 
-// The features that the table names, in a form that the edition takes.
+// The features that a document names, in a form that the edition takes.
 fn read_experimental(
     alloc: Global,
     edition: Edition,
-    kind: &ConfigSourceKind,
-    table: &Table,
-) -> Result<ExperimentalDeserialize, ConfigParseErrorKind>
-    ensures form { OnOk result
-        (ObeysForm edition (get_member experimental_key (table_view table.now))) }
-    ensures asked { IfOk result
-        (λ d. AsksFeatures (table_view table.now) (feature_setting_of d)) }
-    ensures kept { IfOk result (λ d. ObeysToolRule kind.now (features_of d)) }
-    ensures refused { IfErr result (RefusesSource
-        (IsWrongBehind edition kind.now (table_view table.now))) }
+    document: &Table,
+) -> Result<ExperimentalDeserialize, ReadFault>
+    ensures meant { IfOk result
+        (λ d. AsksFeatures edition (table_view document.now) (feature_setting_of d)) }
+    ensures refused { IfErr result
+        (RefusesAt (features_asked edition) (table_view document.now) []) }
 {
-    check_form(alloc, edition, table)?;
-    read_named(alloc, kind, table)
-}
-
-// Refuses an array of features where the edition takes tables only.
-fn check_form(alloc: Global, edition: Edition, table: &Table) -> Result<(), ConfigParseErrorKind>
-    ensures kept { OnOk result
-        (ObeysForm edition (get_member experimental_key (table_view table.now))) }
-    ensures refused { IfErr result (RefusesSource
-        (BreaksForm edition (get_member experimental_key (table_view table.now)))) }
-{
-    match edition {
-        Edition::ArrayAllowed => Ok(()),
-        Edition::TableOnly => match array_form(table) {
-            Some(_) => Err(form_fault(alloc)),
-            None => Ok(()),
-        },
+    let Some(value) = value_at(document, EXPERIMENTAL_KEY) else {
+        return Ok(ExperimentalDeserialize::new(alloc));
+    };
+    match ExperimentalDeserialize::read_under(alloc, edition, value) {
+        Ok(experimental) => Ok(experimental),
+        Err(fault) => Err(fault.below_key(alloc, EXPERIMENTAL_KEY).at(alloc, "")),
     }
-}
-
-// The array of features, if they are named in one.
-fn array_form(table: &Table) -> Option<&Array>
-    ensures { option_map (λ array. array_view array.now) result
-        ≡ array_in (get_member experimental_key (table_view table.now)) }
-{
-    match experimental_in(table) {
-        Some(value) => value.as_array(),
-        None => None,
-    }
-}
-
-// The value at the key of features.
-#[tactic(auto, using(toml::proofs::Views::table_get))]
-fn experimental_in(table: &Table) -> Option<&Value>
-    ensures { option_map (λ value. view value.now) result
-        ≡ get_member experimental_key (table_view table.now) }
-{
-    table.get(EXPERIMENTAL_KEY)
-}
-
-// What is wrong with an array of features where the edition takes tables only.
-fn form_fault(alloc: Global) -> ConfigParseErrorKind
-    ensures { RefusesSource (λ wrong. wrong ≡ broken_form) result }
-{
-    let rule = FaultKind::Custom(Rule::ArrayForm);
-    ConfigParseErrorKind::from(ReadFault::new(alloc, EXPERIMENTAL_KEY, rule))
-}
-
-// The features that the table names, unless it is a tool's.
-fn read_named(
-    alloc: Global,
-    kind: &ConfigSourceKind,
-    table: &Table,
-) -> Result<ExperimentalDeserialize, ConfigParseErrorKind>
-    ensures asked { IfOk result
-        (λ d. AsksFeatures (table_view table.now) (feature_setting_of d)) }
-    ensures kept { IfOk result (λ d. ObeysToolRule kind.now (features_of d)) }
-    ensures refused { IfErr result (RefusesSource
-        (IsWrongNamed kind.now (table_view table.now))) }
-{
-    let default = ExperimentalDeserialize::new(alloc);
-    let experimental = field_or(alloc, table, EXPERIMENTAL_KEY, "", default)?;
-    check_tool(alloc, kind, &experimental)?;
-    Ok(experimental)
 }
 
 // Refuses the features that a tool's source names.

@@ -7,7 +7,7 @@ ghost use Rattle.semver.specs.Parse.{Parts, version_parts};
 ghost use Rattle.nextest_config_values.specs.Read.{broken_rule, RefusesBy};
 ghost use Rattle.nextest_config_sources.specs.NextestVersion.{BreaksVersion, HasVersion, IsPlain, IsVersionFault, version_reading, version_text};
 
-use nextest_config_values::read::{FaultKind, FromToml, ReadFault, Rule};
+use nextest_config_values::read::{FaultKind, FromToml, Rule, ValueFault};
 use semver::Version;
 use std::alloc::{AllocError, Global};
 use toml::Value;
@@ -25,25 +25,25 @@ impl FromToml for VersionText {
 
     ghost reading = { version_reading };
 
-    fn read(alloc: Global, value: &Value, at: &str) -> Result<Self, ReadFault> {
+    fn read_value(alloc: Global, value: &Value) -> Result<Self, ValueFault> {
         match value.as_str() {
             Some(text) => {
-                let version = read_version(alloc, text, at)?;
+                let version = read_version(alloc, text)?;
                 Ok(VersionText { version })
             }
-            None => Err(ReadFault::invalid_type(alloc, value, at, "a string")),
+            None => Err(ValueFault::invalid_type(alloc, value, "a string")),
         }
     }
 }
 
-/// The version of a text at a path.
-pub(crate) fn read_version(alloc: Global, text: &str, at: &str) -> Result<Version, ReadFault>
+/// The version of a text, or the rule that the text breaks.
+pub(crate) fn read_version(alloc: Global, text: &str) -> Result<Version, ValueFault>
     ensures meant { IfOk result (λ v. HasVersion text.now (parts_of v)) }
-    ensures refused { IfErr result (RefusesBy version_text text.now at.now) }
+    ensures refused { IfErr result (RefusesBy version_text text.now) }
 {
     match parse_version(alloc, text) {
         Ok(version) => Ok(version),
-        Err(kind) => Err(ReadFault::new(alloc, at, kind)),
+        Err(kind) => Err(ValueFault::new(alloc, kind)),
     }
 }
 

@@ -13,9 +13,10 @@ use Rattle.nextest_config_values.specs.Duration.Grammar.{AreAll, AreFittingDigit
 use Rattle.nextest_config_values.specs.Duration.Steps.{IsFaultAt}
 use Rattle.nextest_config_values.specs.Duration.Laws.{covers, never_duration_and_fault, one_duration, one_duration_fault, one_next, Stops}
 use Rattle.nextest_config_values.specs.Once.{HasMeaningOrFault, HasOneMeaningOrFault}
-use Rattle.nextest_config_values.specs.Read.Fault.{wrong_value}
+use Rattle.nextest_config_values.specs.Read.Fault.{duration_expected, fault_here, no_duration}
 use Rattle.nextest_config_values.specs.Read.FromToml.{Reading}
 use Rattle.nextest_config_values.specs.Read.Readings.{kind, one_that, wrong_kind}
+use Rattle.nextest_config_values.specs.Read.Text.{found_text}
 use Rattle.nextest_config_values.specs.declared.duration.DurationFault.{DurationFault}
 use Rattle.nextest_config_values.specs.declared.duration.DurationFault.TheVariants as faults
 
@@ -90,7 +91,7 @@ item_or_fault (d ∷ digits) gap word = elim (cases_lt (digits_value 10 (d ∷ d
 
 -- ---- the longest front
 
--- the way through a text: items, and behind them nothing, or what has a fault
+-- the way through a text: items, and after them nothing, or what has a fault
 pub record IsPassed (text : List ℕ) : Type 0 where
   pub front : List ℕ
   pub behind : List ℕ
@@ -110,7 +111,7 @@ ends_within [] c cs h = h
 ends_within (x ∷ []) c cs h = h
 ends_within (x ∷ y ∷ here) c cs h = ends_within (y ∷ here) c cs h
 
--- behind an item no word goes on
+-- after an item no word goes on
 uncut_item : (here front behind rest : List ℕ) → rest ≡ front ++ behind
     → ¬ BeginsWith is_in_word rest → IsUncut front behind → IsUncut (here ++ front) behind
 uncut_item here [] behind rest whole over uncut =
@@ -135,7 +136,7 @@ shorter text space after digits gap word rest whole next some = omega (
 
 module _ (text space after digits gap word rest : List ℕ) (whole : text ≡ space ++ after)
     (run : IsRun is_whitespace space after) (next : IsNext after digits gap word rest) where
-  -- no item behind the white space
+  -- no item after the white space
   stopped : HasFaultNext digits gap word → IsPassed text
   stopped fault = record {
     front = space;
@@ -152,7 +153,7 @@ module _ (text space after digits gap word rest : List ℕ) (whole : text ≡ sp
         (told.0, (digits, gap, word, rest, next, told.1));
   }
 
-  -- an item, and the way through what stands behind it
+  -- an item, and the way through what comes after it
   one_more : (unit : ℕ) → IsUnit digits word unit → IsPassed rest → IsPassed text
   one_more unit is inner =
       let here = space ++ (digits ++ (gap ++ word)) in
@@ -294,10 +295,6 @@ one_duration_or_fault = record {
 
 -- ---- the reading
 
--- what a refusal expects
-abbrev pub duration_expected : List ℕ
-duration_expected = codes "a duration"
-
 duration_found : (text : List ℕ) → HasMeaningOrFault (IsDuration text) (IsDurationFault text)
     → IsFoundOrNone (IsDuration text)
 duration_found text (inl found) = inl found
@@ -310,7 +307,7 @@ duration_or_none text = duration_found text (duration_or_fault text)
 -- a text that is a duration
 abbrev pub duration_in : List ℕ → Reading Data ℕ
 duration_in held = one_that (IsDuration held) (one_duration held) (duration_or_none held)
-    (λ value at. wrong_value value at duration_expected)
+    (λ value. fault_here (no_duration (found_text value)))
 
 -- that many nanoseconds
 abbrev pub duration_reading : Reading Data ℕ

@@ -66,7 +66,7 @@ EndsWith kind [] = ⊥
 EndsWith kind (c ∷ []) = IsTrue (kind c)
 EndsWith kind (c ∷ d ∷ cs) = EndsWith kind (d ∷ cs)
 
--- a run of characters of this kind, as long as can be, and what stands behind it
+-- a run of characters of this kind, as long as can be, and what comes after it
 pub record IsRun (kind : ℕ → Bool) (run behind : List ℕ) : Type 0 where
   pub inside : AreAll kind run
   pub over : ¬ BeginsWith kind behind
@@ -92,7 +92,7 @@ pub record IsItemText (text : List ℕ) (item : Item) : Type 0 where
   pub gap_is_white : AreAll is_whitespace gap
   pub unit_is : unit_length word ≡ Some item.unit
 
--- one item behind the other, and white space behind the last
+-- one item after the other, and white space after the last
 abbrev pub Spells : List Item → List ℕ → Type 0
 Spells [] text = AreAll is_whitespace text
 Spells (item ∷ items) text = (here behind : List ℕ) × (text ≡ here ++ behind) × IsItemText here item
@@ -149,7 +149,7 @@ pub record IsNext (text digits gap word behind : List ℕ) : Type 0 where
 abbrev pub AreFittingDigits : List ℕ → Type 0
 AreFittingDigits digits = (digits ≢ []) × (digits_value 10 digits < 2 ^ 64)
 
--- the offset in bytes of what stands behind these characters
+-- the offset in bytes of what comes after these characters
 abbrev pub offset : List ℕ → ℕ
 offset front = length (encode_utf8_all front)
 
@@ -170,13 +170,13 @@ IsNextFault place digits gap word (faults.UnitUnknown at) = AreFittingDigits dig
     × (unit_length word ≡ None) × (at ≡ place + offset (digits ++ gap))
 IsNextFault place digits gap word _ = ⊥
 
--- the fault behind the longest front: nothing follows, or something that is no item
-abbrev pub IsFaultBehind : List ℕ → List ℕ → List Item → DurationFault → Type 0
-IsFaultBehind front [] items fault = IsEndFault items fault
-IsFaultBehind front (c ∷ cs) items fault = (digits gap word behind : List ℕ)
+-- the fault after the longest front: nothing follows, or something that is no item
+abbrev pub IsFaultAfter : List ℕ → List ℕ → List Item → DurationFault → Type 0
+IsFaultAfter front [] items fault = IsEndFault items fault
+IsFaultAfter front (c ∷ cs) items fault = (digits gap word behind : List ℕ)
     × IsNext (c ∷ cs) digits gap word behind × IsNextFault (offset front) digits gap word fault
 
 -- the fault of a text that is no duration
 abbrev pub IsDurationFault : List ℕ → DurationFault → Type 0
 IsDurationFault text fault = (front behind : List ℕ) × (items : List Item)
-    × IsLongestFront (chars text) front behind items × IsFaultBehind front behind items fault
+    × IsLongestFront (chars text) front behind items × IsFaultAfter front behind items fault

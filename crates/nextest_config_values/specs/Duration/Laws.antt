@@ -8,7 +8,7 @@ use Rattle.std.specs.Cmp.Lexicographic.{pointwise, same_text}
 use Rattle.std.specs.Duration.{FitsDuration}
 use Rattle.std.specs.List.{AllByRecursion}
 use Rattle.std.specs.Str.Parse.{digits_value}
-use Rattle.nextest_config_values.specs.Duration.Grammar.{AreAll, BeginsWith, EndsWith, IsDuration, IsDurationFault, IsEndFault, IsFaultBehind, IsFront, IsItemText, IsLongestFront, IsNext, IsNextFault, IsRun, IsUncut, Item, Spells, is_in_word, length_in, offset, total, unit_length, units}
+use Rattle.nextest_config_values.specs.Duration.Grammar.{AreAll, BeginsWith, EndsWith, IsDuration, IsDurationFault, IsEndFault, IsFaultAfter, IsFront, IsItemText, IsLongestFront, IsNext, IsNextFault, IsRun, IsUncut, Item, Spells, is_in_word, length_in, offset, total, unit_length, units}
 use Rattle.nextest_config_values.specs.declared.duration.DurationFault.{DurationFault}
 
 -- ---- characters
@@ -98,12 +98,12 @@ module _ (kind other : ℕ → Bool) (apart : (c : ℕ) → IsTrue (kind c) → 
   run_apart [] behind some h = absurd (some refl)
   run_apart (c ∷ run) behind some h = apart c h.0
 
-  behind_apart : (run behind : List ℕ) → AreAll kind run → ¬ BeginsWith other behind
+  after_apart : (run behind : List ℕ) → AreAll kind run → ¬ BeginsWith other behind
       → ¬ BeginsWith other (run ++ behind)
-  behind_apart [] behind h none = none
-  behind_apart (c ∷ run) behind h none = apart c h.0
+  after_apart [] behind h none = none
+  after_apart (c ∷ run) behind h none = apart c h.0
 
--- behind the white space of an item stand its digits, white space and word, each as long as can be
+-- after the white space of an item stand its digits, white space and word, each as long as can be
 next_of_item : (text : List ℕ) (item : Item) (behind : List ℕ) (h : IsItemText text item)
     → ¬ BeginsWith is_in_word behind
     → IsNext (h.digits ++ (h.gap ++ (h.word ++ behind))) h.digits h.gap h.word behind
@@ -114,7 +114,7 @@ next_of_item text item behind h over =
       whole = refl;
       of_digits = record {
         inside = h.digits_are;
-        over = behind_apart is_whitespace is_ascii_digit never_white_and_digit h.gap
+        over = after_apart is_whitespace is_ascii_digit never_white_and_digit h.gap
             (h.word ++ behind) h.gap_is_white
             (begins_apart is_in_word is_ascii_digit never_word_and_digit (h.word ++ behind) begins);
       };
@@ -161,22 +161,22 @@ item_whole text item behind h =
       append_assoc h.gap h.word behind,
     ) refl
 
-ends_behind : (here text : List ℕ) → EndsWith is_in_word text → EndsWith is_in_word (here ++ text)
-ends_behind [] text h = h
-ends_behind (x ∷ []) [] h = elim h [ ]
-ends_behind (x ∷ []) (c ∷ text) h = h
-ends_behind (x ∷ y ∷ here) text h = ends_behind (y ∷ here) text h
+ends_after : (here text : List ℕ) → EndsWith is_in_word text → EndsWith is_in_word (here ++ text)
+ends_after [] text h = h
+ends_after (x ∷ []) [] h = elim h [ ]
+ends_after (x ∷ []) (c ∷ text) h = h
+ends_after (x ∷ y ∷ here) text h = ends_after (y ∷ here) text h
 
-uncut_behind : (here text behind : List ℕ) → IsUncut (here ++ text) behind → IsUncut text behind
-uncut_behind here text behind uncut = λ ends. uncut (ends_behind here text ends)
+uncut_after : (here text behind : List ℕ) → IsUncut (here ++ text) behind → IsUncut text behind
+uncut_after here text behind uncut = λ ends. uncut (ends_after here text ends)
 
 item_ends : (here : List ℕ) (item : Item) → IsItemText here item → EndsWith is_in_word here
 item_ends here item h = subst (EndsWith is_in_word) (sym h.whole)
-    (ends_behind h.space (h.digits ++ (h.gap ++ h.word))
-    (ends_behind h.digits (h.gap ++ h.word)
+    (ends_after h.space (h.digits ++ (h.gap ++ h.word))
+    (ends_after h.digits (h.gap ++ h.word)
     (word_ends h.gap h.word (word_of_unit h.word item.unit h.unit_is))))
 
--- no word goes on behind an item, where the cut behind all of them isn't inside a word
+-- no word goes on after an item, where the cut after all of them isn't inside a word
 item_over : (here : List ℕ) (item : Item) (items : List Item) (text behind : List ℕ)
     → IsItemText here item → Spells items text → IsUncut (here ++ text) behind
     → ¬ BeginsWith is_in_word (text ++ behind)
@@ -188,7 +188,7 @@ item_over here item (next ∷ items) text behind h (there, rest, whole, k, spell
     let parts : text ++ behind ≡ k.space ++ (k.digits ++ (k.gap ++ (k.word ++ (rest ++ behind)))) =
     rw (whole, append_assoc there rest behind) (item_whole there next (rest ++ behind) k) in
     subst (λ t. ¬ BeginsWith is_in_word t) (sym parts)
-    (behind_apart is_whitespace is_in_word (λ c white word. never_word_and_white c word white)
+    (after_apart is_whitespace is_in_word (λ c white word. never_word_and_white c word white)
     k.space (k.digits ++ (k.gap ++ (k.word ++ (rest ++ behind)))) k.space_is_white
     (run_apart is_ascii_digit is_in_word (λ c digit word. never_word_and_digit c word digit)
     k.digits (k.gap ++ (k.word ++ (rest ++ behind))) k.some_digits k.digits_are))
@@ -293,8 +293,8 @@ covers P (item ∷ items) (other_item ∷ others) front behind other rest (
     let same = one_next (h.digits ++ (h.gap ++ (h.word ++ (text ++ behind)))) h.digits h.gap h.word
     (text ++ behind) k.digits k.gap k.word (tail ++ rest) next (rw (← run.1) at other_next) in
     let inner = covers P items others text behind tail rest spelled also same.3
-    (uncut_behind here text behind (rw whole at uncut))
-    (uncut_behind there tail rest (rw other_whole at uncut_too)) stops holds.1 in
+    (uncut_after here text behind (rw whole at uncut))
+    (uncut_after there tail rest (rw other_whole at uncut_too)) stops holds.1 in
     let also_same = same_parts here there item other_item h k run.0 same.0 same.1 same.2 in
     record {
       more = inner.more;
@@ -381,10 +381,10 @@ one_next_fault : (place : ℕ) (digits gap word : List ℕ) (f g : DurationFault
     → IsNextFault place digits gap word f → IsNextFault place digits gap word g → f ≡ g
 one_next_fault place digits gap word f g a b = search rules
 
-one_fault_behind : (front behind : List ℕ) (items : List Item) (f g : DurationFault)
-    → IsFaultBehind front behind items f → IsFaultBehind front behind items g → f ≡ g
-one_fault_behind front [] items f g a b = one_end_fault items f g a b
-one_fault_behind front (c ∷ cs) items f g (digits, gap, word, behind, next, told)
+one_fault_from : (front behind : List ℕ) (items : List Item) (f g : DurationFault)
+    → IsFaultAfter front behind items f → IsFaultAfter front behind items g → f ≡ g
+one_fault_from front [] items f g a b = one_end_fault items f g a b
+one_fault_from front (c ∷ cs) items f g (digits, gap, word, behind, next, told)
     (other_digits, other_gap, other_word, rest, other_next, also) =
     let same = one_next (c ∷ cs) digits gap word behind other_digits other_gap other_word rest next
     other_next in
@@ -395,16 +395,16 @@ pub one_duration_fault : (text : List ℕ) (f g : DurationFault) → IsDurationF
 one_duration_fault text f g (front, behind, items, longest, told)
     (other, rest, others, also_longest, also) =
     let same = one_longest (chars text) front behind other rest items others longest also_longest in
-    one_fault_behind front behind items f g told (rw (same.0, same.1, same.2) also)
+    one_fault_from front behind items f g told (rw (same.0, same.1, same.2) also)
 
 no_end_fault : (items : List Item) (fault : DurationFault) → items ≢ [] → FitsDuration (total items)
     → IsEndFault items fault → ⊥
 no_end_fault items fault some fits told = search rules
 
-no_fault_behind : (front behind : List ℕ) (items : List Item) (fault : DurationFault)
+no_fault_after : (front behind : List ℕ) (items : List Item) (fault : DurationFault)
     → length front + length behind ≤ length front → items ≢ [] → FitsDuration (total items)
-    → IsFaultBehind front behind items fault → ⊥
-no_fault_behind front behind items fault whole some fits told = search (rules, no_end_fault)
+    → IsFaultAfter front behind items fault → ⊥
+no_fault_after front behind items fault whole some fits told = search (rules, no_end_fault)
 
 whole_front : (text : List ℕ) (nanoseconds : ℕ) (d : IsDuration text nanoseconds)
     → IsFront (chars text) (chars text) [] d.items
@@ -425,6 +425,6 @@ never_duration_and_fault text nanoseconds fault d (front, behind, items, longest
     (sym longest.is_front.whole ∙ sym (append-nil (chars text))) (omega (arith, long, all)) in
     let items_are : items ≡ d.items =
     one_spelling (chars text) items d.items (rw same.0 at longest.is_front.spelled) d.spelled in
-    no_fault_behind front behind items fault (omega (arith, long, all))
+    no_fault_after front behind items fault (omega (arith, long, all))
     (λ e. d.some (sym items_are ∙ e))
     (subst FitsDuration (sym (ap total items_are ∙ d.sum)) d.sum_fits) told

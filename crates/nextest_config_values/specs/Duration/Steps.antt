@@ -6,7 +6,7 @@ use Rattle.nextest_config_values.specs.Duration.Grammar.{BeginsWith, HasNumberTh
 use Rattle.nextest_config_values.specs.declared.duration.DurationFault.{DurationFault}
 
 -- a text in two parts, of which the first is a run of characters of this kind
-pub record IsCutBehind (kind : ℕ → Bool) (text run behind : List ℕ) : Type 0 where
+pub record IsCutAfter (kind : ℕ → Bool) (text run behind : List ℕ) : Type 0 where
   pub whole : text ≡ run ++ behind
   pub characters : chars text ≡ chars run ++ chars behind
   pub is_run : IsRun kind (chars run) (chars behind)
@@ -14,7 +14,7 @@ pub record IsCutBehind (kind : ℕ → Bool) (text run behind : List ℕ) : Type
   pub behind_utf8 : IsUtf8 behind
 
 -- the text begins with an item of that many nanoseconds whose number fits, and no word goes on
--- behind it
+-- after it
 pub record IsReadItem (text : List ℕ) (nanoseconds : ℕ) (behind : List ℕ) : Type 0 where
   pub item : Item
   pub here : List ℕ

@@ -6,7 +6,7 @@ use Rattle.nextest_config_values.specs.Characters.{hyphen}
 use Rattle.nextest_config_values.specs.declared.helpers.identifiers.InvalidIdentifierKind.{InvalidIdentifierKind}
 use Rattle.nextest_config_values.specs.declared.helpers.identifiers.InvalidIdentifierKind.TheVariants as flaws
 
--- a character behind the first one: XID_Continue (UAX 31), or '-'
+-- a character after the first one: XID_Continue (UAX 31), or '-'
 abbrev pub GoesOn : ℕ → Type 0
 GoesOn c = IsTrue ((c == hyphen) || is_xid_continue c)
 

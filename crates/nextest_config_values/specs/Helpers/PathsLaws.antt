@@ -88,10 +88,10 @@ parent_first after (inl end) = ([], rw end refl)
 parent_first after (inr slash) =
     (segments slash.0, rw slash.1 (segments_joined (codes "..") slash.0))
 
-behind_front : (before rest : List ℕ) → IsFront before
+after_front : (before rest : List ℕ) → IsFront before
     → (fronts : List (List ℕ)) × (segments (before ++ rest) ≡ fronts ++ segments rest)
-behind_front before rest (inl start) = ([], rw start refl)
-behind_front before rest (inr slash) = (
+after_front before rest (inl start) = ([], rw start refl)
+after_front before rest (inr slash) = (
   segments slash.0,
   rw (slash.1, append_assoc slash.0 (47 ∷ []) rest)
       (segments_joined slash.0 rest),
@@ -105,7 +105,7 @@ not_parent (front ∷ fronts) name more h = not_parent fronts name more h.1
 no_parent : (text : List ℕ) → AreNames (segments text) → ¬ (HasParentSegment text)
 no_parent text names h =
     let first = parent_first h.after h.ends in
-    let whole = behind_front h.before (codes ".." ++ h.after) h.begins in
+    let whole = after_front h.before (codes ".." ++ h.after) h.begins in
     not_parent whole.0 (codes "..") first.0 (rw (h.whole, whole.1, first.1) at names) refl
 
 -- no segment is `..`, said of the segments and of the text
@@ -148,7 +148,7 @@ abbrev pub relative_path_in : List ℕ → Reading Data (List ℕ)
 relative_path_in held =
     in_memory (one_that (λ path. (path ≡ held) × IsRelativePath held) (λ x y a b. a.0 ∙ sym b.0)
     (path_or_none held)
-    (λ value at. wrong_value value at (codes "a relative path with no parent components")))
+    (λ value. wrong_value value (codes "a relative path with no parent components")))
 
 abbrev pub relative_path_reading : Reading Data (List ℕ)
 relative_path_reading = kind as_str relative_path_in (wrong_kind text_expected)

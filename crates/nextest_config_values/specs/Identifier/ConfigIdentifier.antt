@@ -39,7 +39,7 @@ abbrev pub AreFlawed : List ℕ → List ℕ → InvalidIdentifierKind → Type 
 AreFlawed tool name kind = IsPlainFlaw tool kind ⊎ (IsPlainIdentifier tool × IsPlainFlaw name kind)
 
 -- characters that are no identifier: unmarked, and flawed as a whole; marked, and with no colon
--- behind the mark; or marked, and the first part that is flawed
+-- after the mark; or marked, and the first part that is flawed
 abbrev pub IsIdentifierFlaw : List ℕ → IdentifierFlaw → Type 0
 IsIdentifierFlaw cs (Whole kind) = IsUnmarked cs × IsPlainFlaw cs kind
 IsIdentifierFlaw cs OneComponent = (rest : List ℕ) × (cs ≡ tool_mark ++ rest) × HasNoColon rest

@@ -12,7 +12,7 @@ use Rattle.nextest_config_values.specs.Identifier.Normal.{IsNormalFault, IsNorma
 use Rattle.nextest_config_values.specs.Identifier.ToolName.{IsToolNameFlaw}
 use Rattle.nextest_config_values.specs.Decisions.{both_decided, IsDecided, IsFoundOrNone, same_decided, true_decided}
 use Rattle.nextest_config_values.specs.Once.{HasMeaningOrFault, HasOneMeaningOrFault}
-use Rattle.nextest_config_values.specs.Read.Fault.{Reason, fault_at, identifier, tool_name}
+use Rattle.nextest_config_values.specs.Read.Fault.{Always, as_told, fault_here, identifier, Reason, tool_name}
 use Rattle.nextest_config_values.specs.Read.FromToml.{Reading}
 use Rattle.nextest_config_values.specs.Read.Plain.{text_expected}
 use Rattle.nextest_config_values.specs.Read.Readings.{kind, wrong_kind}
@@ -25,18 +25,18 @@ use Rattle.nextest_config_values.specs.declared.identifier.error.ToolNameFlaw.Th
 true_not_false : (b : Bool) → b ≡ true → b ≡ false → ⊥
 true_not_false b holds fails = cc (holds, fails)
 
-no_colon_behind : (cs : List ℕ) → AllByRecursion GoesOn cs → HasNoColon cs
-no_colon_behind [] h = tt
-no_colon_behind (c ∷ cs) h = (
+no_colon_after : (cs : List ℕ) → AllByRecursion GoesOn cs → HasNoColon cs
+no_colon_after [] h = tt
+no_colon_after (c ∷ cs) h = (
   λ e. true_not_false _ (subst GoesOn e h.0) (is_xid_continue-ascii 58 (lit< tt)),
-  no_colon_behind cs h.1,
+  no_colon_after cs h.1,
 )
 
 pub plain_no_colon : (cs : List ℕ) → IsPlainIdentifier cs → HasNoColon cs
 plain_no_colon [] h = absurd h
 plain_no_colon (c ∷ cs) h = (
   λ e. true_not_false (is_xid_start c) h.0 (ap is_xid_start e ∙ is_xid_start-ascii 58 (lit< tt)),
-  no_colon_behind cs h.1,
+  no_colon_after cs h.1,
 )
 
 pub plain_no_at_sign : (cs rest : List ℕ) → IsPlainIdentifier cs → cs ≢ 64 ∷ rest
@@ -66,8 +66,8 @@ same_cut text x y u v cut other = one_cut x u y v cut.first other.first (sym cut
 pub uncut : (text x y : List ℕ) → HasNoColon text → IsCutAtColon text x y → ⊥
 uncut text x y none cut = no_colon_uncut x y (subst HasNoColon cut.cut none)
 
-pub behind_mark : (a b cs : List ℕ) → cs ≡ tool_mark ++ a → cs ≡ tool_mark ++ b → a ≡ b
-behind_mark a b cs e f = ap (drop 6) (sym e ∙ f)
+pub after_mark : (a b cs : List ℕ) → cs ≡ tool_mark ++ a → cs ≡ tool_mark ++ b → a ≡ b
+after_mark a b cs e f = ap (drop 6) (sym e ∙ f)
 
 -- ---- flaws
 
@@ -87,12 +87,12 @@ same_components : (cs : List ℕ) (r : List ℕ) (x y : List ℕ) (s : List ℕ)
     → cs ≡ tool_mark ++ r → IsCutAtColon r x y → cs ≡ tool_mark ++ s → IsCutAtColon s u v → (x ≡ u)
     × (y ≡ v)
 same_components cs r x y s u v e cut f other =
-    one_cut x u y v cut.first other.first (sym cut.cut ∙ behind_mark r s cs e f ∙ other.cut)
+    one_cut x u y v cut.first other.first (sym cut.cut ∙ after_mark r s cs e f ∙ other.cut)
 
 one_component_no_cut : (cs rest s x y : List ℕ) → cs ≡ tool_mark ++ rest → HasNoColon rest
     → cs ≡ tool_mark ++ s → IsCutAtColon s x y → ⊥
 one_component_no_cut cs rest s x y e none f cut =
-    no_colon_uncut x y (subst HasNoColon (behind_mark rest s cs e f ∙ cut.cut) none)
+    no_colon_uncut x y (subst HasNoColon (after_mark rest s cs e f ∙ cut.cut) none)
 
 pub one_identifier_flaw : (cs : List ℕ) (f g : IdentifierFlaw) → IsIdentifierFlaw cs f
     → IsIdentifierFlaw cs g → f ≡ g
@@ -241,11 +241,12 @@ tool_name_or_flaw cs = elim (plain_decided cs) [
 -- ---- texts that are kept in their normal form
 
 pub named_fault : {X Flaw : Type 0} {means : X → Type 0} {is_fault : NameFault Flaw → Type 0}
-    (at : List ℕ) (reason : NameFault Flaw → Reason) → HasMeaningOrFault means is_fault
+    (reason : NameFault Flaw → Reason) → HasMeaningOrFault means is_fault
     → HasMeaningOrFault means (λ fault. (told : NameFault Flaw) × is_fault told
-    × (fault ≡ fault_at at (reason told)))
-named_fault at reason (inl meant) = inl meant
-named_fault at reason (inr (told, wrong)) = inr (fault_at at (reason told), (told, wrong, refl))
+    × (fault ≡ fault_here (as_told (reason told))))
+named_fault reason (inl meant) = inl meant
+named_fault reason (inr (told, wrong)) =
+    inr (fault_here (as_told (reason told)), (told, wrong, refl))
 
 module _ {Flaw : Type 0} (IsInGrammar : List ℕ → Type 0) (IsFlaw : List ℕ → Flaw → Type 0)
     (grammar_or_flaw : (cs : List ℕ) → IsInGrammar cs ⊎ ((f : Flaw) × IsFlaw cs f))
@@ -282,15 +283,16 @@ module _ {Flaw : Type 0} (IsInGrammar : List ℕ → Type 0) (IsFlaw : List ℕ 
   abbrev pub name_in : (NameFault Flaw → Reason) → List ℕ → Reading Data (List ℕ)
   name_in reason text = record {
     means = λ value. IsNormalText IsInGrammar text;
-    faults = λ value at fault. (told : NameFault Flaw) × IsNormalFault IsFlaw text told
-        × (fault ≡ fault_at at (reason told));
-    takes_memory = λ value. Unit {0};
+    faults = λ value fault. (told : NameFault Flaw) × IsNormalFault IsFlaw text told
+        × (fault ≡ fault_here (as_told (reason told)));
+    takes_memory = λ value. Always;
     law = record {
-      meaning_or_fault = λ value at. named_fault at reason (normal_or_fault text);
+      meaning_or_fault = λ value. named_fault reason (normal_or_fault text);
       one_meaning = λ value x y a b. a.1 ∙ sym b.1;
-      one_fault = λ value at f g a b. a.2
-          ∙ ap (λ r. fault_at at (reason r)) (one_normal_fault text a.0 b.0 a.1 b.1) ∙ sym b.2;
-      never_both = λ value at x f a b. no_normal_fault text x b.0 a b.1;
+      one_fault = λ value f g a b. a.2
+          ∙ ap (λ r. fault_here (as_told (reason r))) (one_normal_fault text a.0 b.0 a.1 b.1)
+          ∙ sym b.2;
+      never_both = λ value x f a b. no_normal_fault text x b.0 a b.1;
     };
   }
 

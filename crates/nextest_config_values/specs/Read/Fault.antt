@@ -1,13 +1,17 @@
 -- A refused TOML value without where it lies in memory, and how it prints.
-use Rattle.std.specs.Prelude.{ℕ, ◌≡◌, ℤ, List, [], ◌∷◌, ◌++◌, codes, string_bytes, Option, Some, None, option_map}
+use Rattle.std.specs.Prelude.{ℕ, ◌≡◌, ℤ, List, [], ◌∷◌, ◌++◌, codes, map, string_bytes, Option, Some, None, option_map}
 use Rattle.std.specs.Fmt.{signed_decimal}
 use Rattle.semver.specs.Identifiers.{parts_of, parts_text}
 use Rattle.semver.specs.Parse.{Parts}
 use Rattle.toml.specs.Data.{Data}
 use Rattle.nextest_config_values.specs.Identifier.Error.{IdentifierFlaw, NameFault, ToolNameFlaw, identifier_fault, identifier_fault_text, tool_name_fault, tool_name_fault_text}
+use Rattle.nextest_config_values.specs.Read.Step.{path_along, path_of, PathStep, step_of}
 use Rattle.nextest_config_values.specs.Read.Text.{FaultOrMemory, found_text, quoted_text, told_text}
 use Rattle.nextest_config_values.specs.declared.read.fault.ReadFault.{ReadFault}
 use Rattle.nextest_config_values.specs.declared.read.fault.FaultKind.{FaultKind}
+use Rattle.nextest_config_values.specs.declared.read.value_fault.FaultCause.{FaultCause}
+use Rattle.nextest_config_values.specs.declared.read.value_fault.FaultCause.TheVariants as causes
+use Rattle.nextest_config_values.specs.declared.read.value_fault.ValueFault.{ValueFault}
 use Rattle.nextest_config_values.specs.declared.read.fault.FaultKind.TheVariants as kinds
 use Rattle.nextest_config_values.specs.declared.read.fault.Rule.{Rule}
 use Rattle.nextest_config_values.specs.declared.read.fault.Rule.TheVariants as rules_of
@@ -38,10 +42,22 @@ pub data Reason : Type 0 where
   identifier : NameFault IdentifierFlaw → Reason
   tool_name : NameFault ToolNameFlaw → Reason
 
--- a refused value
-pub record Fault : Type 0 where
+-- what is told of a refused value at a path
+pub record ToldFault : Type 0 where
   pub path : List ℕ
   pub reason : Reason
+
+-- why a value is refused: it is no duration; it lacks a key; or for a reason that is told alike at
+-- every path
+pub data Cause : Type 0 where
+  no_duration : List ℕ → Cause
+  missing_key : List ℕ → Cause
+  as_told : Reason → Cause
+
+-- a refused value: the steps from it to what is wrong, and why that is refused
+pub record Fault : Type 0 where
+  pub steps : List PathStep
+  pub cause : Cause
 
 -- the rule that is broken
 abbrev pub broken_rule : Rule → BrokenRule
@@ -73,17 +89,49 @@ reason_of (kinds.Identifier error) = option_map identifier (identifier_fault err
 reason_of (kinds.ToolName error) = option_map tool_name (tool_name_fault error)
 reason_of kinds.Memory = None
 
--- this reason, at this path
-abbrev pub fault_at : List ℕ → Reason → Fault
-fault_at path reason = record { path = path; reason = reason }
+-- what a cause says, unless memory was refused
+abbrev pub cause_of : FaultCause → Option Cause
+cause_of (causes.NoDuration found) = Some (no_duration (string_bytes found))
+cause_of (causes.Missing key) = Some (missing_key (string_bytes key))
+cause_of (causes.Told kind) = option_map as_told (reason_of kind)
+
+abbrev pub fault_with : List PathStep → Cause → Fault
+fault_with steps cause = record { steps = steps; cause = cause }
 
 -- what a fault says, unless memory was refused
-abbrev pub fault_of : ReadFault → Option Fault
-fault_of fault = option_map (fault_at (string_bytes fault.path)) (reason_of fault.kind)
+abbrev pub fault_of : ValueFault → Option Fault
+fault_of fault = option_map (fault_with (map step_of fault.steps.items)) (cause_of fault.cause)
+
+-- memory was refused
+abbrev pub IsMemory : ValueFault → Type 0
+IsMemory fault = fault.cause ≡ causes.Told kinds.Memory
+
+-- this reason, told at this path
+abbrev pub told_with : List ℕ → Reason → ToldFault
+told_with path reason = record { path = path; reason = reason }
+
+-- what a fault tells, unless memory was refused
+abbrev pub told_of : ReadFault → Option ToldFault
+told_of fault = option_map (told_with (string_bytes fault.path)) (reason_of fault.kind)
 
 -- memory was refused, and nothing else is told
-abbrev pub IsMemory : ReadFault → Type 0
-IsMemory fault = (string_bytes fault.path ≡ []) × (fault.kind ≡ kinds.Memory)
+abbrev pub TellsMemory : ReadFault → Type 0
+TellsMemory fault = (string_bytes fault.path ≡ []) × (fault.kind ≡ kinds.Memory)
+
+-- ---- what is told of a fault
+
+abbrev pub duration_expected : List ℕ
+duration_expected = codes "a duration"
+
+-- a cause, as it is told at a path
+abbrev pub reason_at : List ℕ → Cause → Reason
+reason_at path (no_duration found) = invalid_value found duration_expected
+reason_at path (missing_key key) = missing_field (path_of path key)
+reason_at path (as_told reason) = reason
+
+-- what is told of the fault of a value at a path
+abbrev pub told_at : List ℕ → Fault → ToldFault
+told_at at fault = told_with (path_along at fault.steps) (reason_at (path_along at fault.steps) fault.cause)
 
 -- ---- how they print
 
@@ -133,9 +181,9 @@ abbrev pub path_text : List ℕ → List ℕ
 path_text [] = []
 path_text (b ∷ rest) = (b ∷ rest) ++ codes ": "
 
--- how a fault prints
-abbrev pub fault_text : Fault → List ℕ
-fault_text fault = path_text fault.path ++ reason_text fault.reason
+-- how what is told prints
+abbrev pub fault_text : ToldFault → List ℕ
+fault_text told = path_text told.path ++ reason_text told.reason
 
 -- how a kind of fault prints
 abbrev pub kind_text : FaultKind → List ℕ
@@ -152,52 +200,64 @@ abbrev pub styled_kind_text : FaultKind → Option (List ℕ)
 styled_kind_text (kinds.Custom rule) = styled_rule_text (broken_rule rule)
 styled_kind_text kind = Some (kind_text kind)
 
--- ---- the faults of a value at a path
+-- ---- the faults of a value
+
+-- the value itself is refused
+abbrev pub fault_here : Cause → Fault
+fault_here cause = fault_with [] cause
+
+-- the fault of what stands at a step, as one of the whole value
+abbrev pub fault_below : PathStep → Fault → Fault
+fault_below step fault = fault_with (step ∷ fault.steps) fault.cause
 
 -- a value whose kind isn't the expected one
-abbrev pub wrong_type : Data → List ℕ → List ℕ → Fault
-wrong_type value at expected = fault_at at (invalid_type (found_text value) expected)
+abbrev pub wrong_type : Data → List ℕ → Fault
+wrong_type value expected = fault_here (as_told (invalid_type (found_text value) expected))
 
 -- a value of the right kind that isn't the expected one
-abbrev pub wrong_value : Data → List ℕ → List ℕ → Fault
-wrong_value value at expected = fault_at at (invalid_value (found_text value) expected)
+abbrev pub wrong_value : Data → List ℕ → Fault
+wrong_value value expected = fault_here (as_told (invalid_value (found_text value) expected))
 
 -- a text that is none of the expected words
-abbrev pub unknown_word : List ℕ → List ℕ → List ℕ → Fault
-unknown_word text at expected = fault_at at (unknown_variant text expected)
+abbrev pub unknown_word : List ℕ → List ℕ → Fault
+unknown_word text expected = fault_here (as_told (unknown_variant text expected))
 
 -- a key of a table that is none of the expected ones
-abbrev pub unknown_key : List ℕ → List ℕ → List ℕ → Fault
-unknown_key key at expected = fault_at at (unknown_field key expected)
-
--- the path of a key in the table at a path
-abbrev pub path_of : List ℕ → List ℕ → List ℕ
-path_of [] key = key
-path_of (b ∷ at) key = (b ∷ at) ++ (codes "." ++ key)
+abbrev pub unknown_key : List ℕ → List ℕ → Fault
+unknown_key key expected = fault_here (as_told (unknown_field key expected))
 
 -- a table that lacks this key
-abbrev pub missing : List ℕ → List ℕ → Fault
-missing key at = fault_at at (missing_field (path_of at key))
+abbrev pub missing : List ℕ → Fault
+missing key = fault_here (missing_key key)
 
 -- ---- refusals
 
+-- memory is refused whatever the value is
+abbrev pub Always : Type 0
+Always = Unit {0}
+
 -- the refusal is a fault of which this holds; or memory was refused, and that only where it was
 -- wanted
-abbrev pub Refuses : (Fault → Type 0) → Type 0 → ReadFault → Type 0
+abbrev pub Refuses : (Fault → Type 0) → Type 0 → ValueFault → Type 0
 Refuses IsFault wanted fault = FaultOrMemory (fault_of fault) (IsMemory fault × wanted) IsFault
 
 -- the refusal is this fault, or memory was refused
-abbrev pub RefusesAs : Fault → ReadFault → Type 0
-RefusesAs expected = Refuses (λ fault. fault ≡ expected) (Unit {0})
+abbrev pub RefusesAs : Fault → ValueFault → Type 0
+RefusesAs expected = Refuses (λ fault. fault ≡ expected) Always
 
 -- the refusal is one of these faults, or memory was refused though there is one
-abbrev pub RefusesOne : (Fault → Type 0) → ReadFault → Type 0
+abbrev pub RefusesOne : (Fault → Type 0) → ValueFault → Type 0
 RefusesOne IsFault = Refuses IsFault ((fault : Fault) × IsFault fault)
 
--- the refusal of this kind at a path
-abbrev pub RefusesKind : List ℕ → FaultKind → ReadFault → Type 0
-RefusesKind at kind fault =
-    FaultOrMemory (reason_of kind) (IsMemory fault) (λ reason. RefusesAs (fault_at at reason) fault)
+-- the refusal of this kind
+abbrev pub RefusesKind : FaultKind → ValueFault → Type 0
+RefusesKind kind fault = FaultOrMemory (reason_of kind) (IsMemory fault)
+    (λ reason. RefusesAs (fault_here (as_told reason)) fault)
+
+-- this is told, or that memory was refused
+abbrev pub TellsAs : ToldFault → ReadFault → Type 0
+TellsAs expected fault =
+    FaultOrMemory (told_of fault) (TellsMemory fault) (λ told. told ≡ expected)
 
 -- the kind of the refusal of a name: running out of memory is that of the whole
 abbrev pub IsNameKind : {Flaw : Type 0} → (NameFault Flaw → Reason) → Option (NameFault Flaw)

@@ -43,7 +43,7 @@ number_or_none IsIn decided (negsuc below) = inr (λ x meant. cc meant.0)
 abbrev pub in_range : (IsIn : ℕ → Type 0) → ((number : ℕ) → IsDecided (IsIn number)) → List ℕ → ℤ
     → Reading Data ℕ
 in_range IsIn decided expected held = one_that (MeansNumber IsIn held) (one_number IsIn held)
-    (number_or_none IsIn decided held) (λ value at. wrong_value value at expected)
+    (number_or_none IsIn decided held) (λ value. wrong_value value expected)
 
 abbrev pub number_reading : (IsIn : ℕ → Type 0) → ((number : ℕ) → IsDecided (IsIn number)) → List ℕ
     → Reading Data ℕ

@@ -66,7 +66,7 @@ module _ {X : Type 0} (all : List X) (word : X → List ℕ)
   -- the value whose word is the text
   abbrev pub with_word : List ℕ → Reading Data X
   with_word held = one_that (λ x. word x ≡ held) (λ x y a b. one_value x y (a ∙ sym b))
-      (value_or_none held) (λ value at. unknown_word held at (words_text (map word all)))
+      (value_or_none held) (λ value. unknown_word held (words_text (map word all)))
 
   -- a text that is one of these words
   abbrev pub word_reading : Reading Data X

@@ -34,7 +34,7 @@ pub fn is_valid_identifier_unicode(s: &str) -> Result<(), InvalidIdentifierKind>
     }
 }
 
-// Whether the text may stand behind the first character of an identifier.
+// Whether the text may come after the first character of an identifier.
 fn may_follow(rest: &str) -> bool
     ensures { IsTrue result ↔ AllByRecursion GoesOn (chars rest.now) }
 {

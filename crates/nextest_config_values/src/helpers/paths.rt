@@ -4,9 +4,9 @@ ghost use Rattle.std.specs.Prelude.{◌≡◌, ◌↔◌, IfErr, IfOk, IsTrue, s
 ghost use Rattle.toml.specs.View.{view};
 ghost use Rattle.nextest_config_values.specs.Helpers.Paths.{IsRelativePath, joined_path};
 ghost use Rattle.nextest_config_values.specs.Helpers.PathsLaws.{relative_path_reading};
-ghost use Rattle.nextest_config_values.specs.Read.{RefusesBy};
+ghost use Rattle.nextest_config_values.specs.Read.{RefusesAt, RefusesBy};
 
-use crate::read::{FromToml, ReadFault};
+use crate::read::{FromToml, ReadFault, ValueFault};
 use std::alloc::{AllocError, Global};
 use std::path::Path;
 use toml::Value;
@@ -20,14 +20,25 @@ pub fn deserialize_relative_path(
 ) -> Result<String, ReadFault>
     ensures meant { IfOk result (λ path.
         relative_path_reading.means (view value.now) (string_bytes path)) }
-    ensures refused { IfErr result (RefusesBy relative_path_reading (view value.now) at.now) }
+    ensures refused { IfErr result (RefusesAt relative_path_reading (view value.now) at.now) }
 {
-    let path = String::read(alloc, value, at)?;
+    match read_relative_path(alloc, value) {
+        Ok(path) => Ok(path),
+        Err(fault) => Err(fault.at(alloc, at)),
+    }
+}
+
+fn read_relative_path(alloc: Global, value: &Value) -> Result<String, ValueFault>
+    ensures meant { IfOk result (λ path.
+        relative_path_reading.means (view value.now) (string_bytes path)) }
+    ensures refused { IfErr result (RefusesBy relative_path_reading (view value.now)) }
+{
+    let path = String::read_value(alloc, value)?;
     if is_relative_path(path.as_str()) {
         Ok(path)
     } else {
         let expected = "a relative path with no parent components";
-        Err(ReadFault::invalid_value(alloc, value, at, expected))
+        Err(ValueFault::invalid_value(alloc, value, expected))
     }
 }
 

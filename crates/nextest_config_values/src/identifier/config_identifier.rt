@@ -10,7 +10,7 @@ ghost use Rattle.nextest_config_values.specs.declared.identifier.error.InvalidId
 use super::error::{IdentifierFlaw, InvalidIdentifier};
 use super::kept_text::KeptText;
 use crate::helpers::{InvalidIdentifierKind, is_valid_identifier_unicode};
-use crate::read::{FaultKind, FromToml, ReadFault, held_text};
+use crate::read::{FaultKind, FromToml, ValueFault, held_text};
 use std::alloc::{AllocError, Global};
 use std::fmt;
 use std::marker::Model;
@@ -67,7 +67,7 @@ impl ConfigIdentifier {
         self.tool_components().is_some()
     }
 
-    /// The tool's name and the identifier behind it, if this is a tool identifier.
+    /// The tool's name and the identifier after it, if this is a tool identifier.
     #[tactic(auto, using(crate::proofs::Texts::strip_text, crate::proofs::Components::unmarked_plain))]
     pub fn tool_components(&self) -> Option<(&str, &str)>
         ensures { MatchOption result (IsPlainIdentifier (chars self.now))
@@ -79,7 +79,6 @@ impl ConfigIdentifier {
         }
     }
 
-    /// The text of the identifier.
     pub fn as_str(&self) -> &str
         ensures value { result.now ≡ self.now }
         ensures kept { IsKeptText IsIdentifierForm self.now }
@@ -87,7 +86,6 @@ impl ConfigIdentifier {
         self.text.as_str()
     }
 
-    /// A copy of the identifier.
     pub fn clone(&self, alloc: Global) -> Result<Self, AllocError>
         ensures value { IfOk result (λ it. it ≡ self.now) }
         ensures inline { FitsInline self.now → IsOk result }
@@ -111,7 +109,7 @@ fn judge(text: &str) -> Result<(), IdentifierFlaw>
     }
 }
 
-// Judges what stands behind the mark of a tool identifier.
+// Judges what comes after the mark of a tool identifier.
 fn judge_components(components: &str) -> Result<(), IdentifierFlaw>
     ensures accepted { OnOk result (IsIdentifierForm (tool_mark ++ chars components.now)) }
     ensures refused { IfErr result (IsIdentifierFlaw (tool_mark ++ chars components.now)) }
@@ -142,11 +140,11 @@ impl FromToml for ConfigIdentifier {
 
     ghost reading = { identifier_reading };
 
-    fn read(alloc: Global, value: &Value, at: &str) -> Result<Self, ReadFault> {
-        let text = held_text(alloc, value, at)?;
+    fn read_value(alloc: Global, value: &Value) -> Result<Self, ValueFault> {
+        let text = held_text(alloc, value)?;
         match ConfigIdentifier::new(alloc, text) {
             Ok(identifier) => Ok(identifier),
-            Err(error) => Err(ReadFault::new(alloc, at, FaultKind::from(error))),
+            Err(error) => Err(ValueFault::new(alloc, FaultKind::from(error))),
         }
     }
 }

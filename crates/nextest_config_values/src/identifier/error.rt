@@ -11,6 +11,7 @@ ghost use Rattle.nextest_config_values.specs.declared.identifier.error.ToolNameF
 use crate::helpers::InvalidIdentifierKind;
 use crate::read::QuotedText;
 use std::alloc::AllocError;
+use std::error::Error;
 use std::fmt::{self, Display};
 
 /// Why a text is no identifier. The text that is named is in Normalization Form C.
@@ -20,7 +21,7 @@ pub enum InvalidIdentifier {
     Empty,
     /// The text isn't marked as a tool identifier, and isn't of the form of UAX 31.
     InvalidXid(String),
-    /// The text begins with `@tool:`, and there is no colon behind that.
+    /// The text begins with `@tool:`, and there is no colon after that.
     ToolIdentifierInvalidFormat(String),
     /// One of the two components of a tool identifier is empty.
     ToolComponentEmpty(String),
@@ -160,6 +161,10 @@ impl fmt::Display for InvalidToolName {
         }
     }
 }
+
+impl Error for InvalidIdentifier {}
+
+impl Error for InvalidToolName {}
 
 impl From<AllocError> for InvalidIdentifier {
     ghost use Rattle.nextest_config_values.specs.declared.identifier.error.InvalidIdentifier.TheVariants.{Memory};

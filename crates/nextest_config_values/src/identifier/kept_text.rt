@@ -83,7 +83,6 @@ impl KeptText {
         }
     }
 
-    /// The text.
     pub(super) fn as_str(&self) -> &str
         ensures { result.now ≡ self.now }
     {
@@ -93,26 +92,20 @@ impl KeptText {
         }
     }
 
-    /// The text as a String.
     pub(super) fn into_string(self, alloc: Global) -> Result<String, AllocError>
         ensures { IfOk result (λ text. string_bytes text ≡ self) }
     {
         match self.place {
-            Place::Inline(ref text) => {
-                let text = String::from_str(alloc, text.as_str())?;
-                Ok(text)
-            }
+            Place::Inline(ref text) => String::from_str(alloc, text.as_str()),
             Place::Heap(text) => Ok(text),
         }
     }
 
-    /// A copy of the text.
     pub(super) fn clone(&self, alloc: Global) -> Result<Self, AllocError>
         ensures value { IfOk result (λ kept. kept ≡ self.now) }
         ensures inline { FitsInline self.now → IsOk result }
     {
-        let copy = KeptText::from_str(alloc, self.as_str())?;
-        Ok(copy)
+        KeptText::from_str(alloc, self.as_str())
     }
 }
 

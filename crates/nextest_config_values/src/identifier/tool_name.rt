@@ -10,7 +10,7 @@ ghost use Rattle.nextest_config_values.specs.declared.identifier.error.InvalidTo
 use super::error::{InvalidToolName, ToolNameFlaw};
 use super::kept_text::KeptText;
 use crate::helpers::{InvalidIdentifierKind, is_valid_identifier_unicode};
-use crate::read::{FaultKind, FromToml, ReadFault, held_text};
+use crate::read::{FaultKind, FromToml, ValueFault, held_text};
 use std::alloc::{AllocError, Global};
 use std::fmt;
 use std::marker::Model;
@@ -58,7 +58,6 @@ impl ToolName {
         }
     }
 
-    /// The text of the name.
     pub fn as_str(&self) -> &str
         ensures value { result.now ≡ self.now }
         ensures kept { IsKeptText IsPlainIdentifier self.now }
@@ -66,7 +65,6 @@ impl ToolName {
         self.text.as_str()
     }
 
-    /// A copy of the name.
     pub fn clone(&self, alloc: Global) -> Result<Self, AllocError>
         ensures value { IfOk result (λ it. it ≡ self.now) }
         ensures inline { FitsInline self.now → IsOk result }
@@ -99,12 +97,11 @@ impl FromToml for ToolName {
 
     ghost reading = { tool_name_reading };
 
-    #[tactic(auto, using(crate::proofs::Faults::refused_name))]
-    fn read(alloc: Global, value: &Value, at: &str) -> Result<Self, ReadFault> {
-        let text = held_text(alloc, value, at)?;
+    fn read_value(alloc: Global, value: &Value) -> Result<Self, ValueFault> {
+        let text = held_text(alloc, value)?;
         match ToolName::new(alloc, text) {
             Ok(name) => Ok(name),
-            Err(error) => Err(ReadFault::new(alloc, at, FaultKind::from(error))),
+            Err(error) => Err(ValueFault::new(alloc, FaultKind::from(error))),
         }
     }
 }

@@ -1,18 +1,17 @@
 //! Why a TOML value was refused, and where.
 
-ghost use Rattle.std.specs.Prelude.{◌≡◌, ◌++◌, IfOk, is_none, option_map, Some, string_bytes};
+ghost use Rattle.std.specs.Prelude.{◌≡◌, ◌++◌, is_none, option_map, Some, string_bytes};
 ghost use Rattle.std.specs.Fmt.{WritesOnOk, WritesStyledOnOk};
-ghost use Rattle.toml.specs.View.{view};
 ghost use Rattle.nextest_config_values.specs.Identifier.Error.{identifier_fault, tool_name_fault};
-ghost use Rattle.nextest_config_values.specs.Read.{broken_rule, fault_of, identifier, IsMemory, IsNameKind, kind_text, missing, path_of, path_text, reason_of, RefusesAs, RefusesKind, rule_text, styled_kind_text, styled_rule_text, tool_name, unknown_key, unknown_word, wrong_type, wrong_value};
+ghost use Rattle.nextest_config_values.specs.Read.{broken_rule, identifier, IsNameKind, kind_text, path_text, reason_of, rule_text, styled_kind_text, styled_rule_text, TellsMemory, told_of, tool_name};
 ghost use Rattle.nextest_config_values.specs.declared.read.fault.FaultKind.TheVariants.{Memory};
 
-use super::text::{QuotedText, found_text};
+use super::text::QuotedText;
 use crate::identifier::{InvalidIdentifier, InvalidToolName};
 use semver::Version;
 use std::alloc::{AllocError, Global};
+use std::error::Error;
 use std::fmt::{self, Display};
-use toml::Value;
 
 /// A refused TOML value: the path of its key, empty for the value that was handed in, and the
 /// reason.
@@ -83,9 +82,9 @@ pub enum Rule {
     CountZero,
     /// No delay, with exponential backoff.
     DelayZero,
-    /// A greatest delay of zero, with exponential backoff.
+    /// A maximum delay of zero, with exponential backoff.
     MaxDelayZero,
-    /// A greatest delay below the first one, with exponential backoff.
+    /// A maximum delay below the first one, with exponential backoff.
     MaxDelayBelowDelay,
     /// A priority outside of -100 to 100.
     Priority {
@@ -94,86 +93,16 @@ pub enum Rule {
 }
 
 impl ReadFault {
-    /// The fault of this kind at this path, or `Memory` where the kind says that memory was refused
-    /// or the path finds no room.
-    pub fn new(alloc: Global, at: &str, kind: FaultKind) -> ReadFault
-        ensures { RefusesKind at.now kind result }
-    {
-        if kind.is_memory() {
-            return ReadFault::memory(alloc);
-        }
-        match String::from_str(alloc, at) {
-            Ok(path) => ReadFault { path, kind },
-            Err(AllocError) => ReadFault::memory(alloc),
-        }
-    }
-
-    /// The fault of a value whose kind the setting doesn't take.
-    pub fn invalid_type(alloc: Global, value: &Value, at: &str, expected: &'static str) -> ReadFault
-        ensures { RefusesAs (wrong_type (view value.now) at.now expected.now) result }
-    {
-        match found_text(alloc, value) {
-            Ok(found) => ReadFault::new(alloc, at, FaultKind::InvalidType { found, expected }),
-            Err(AllocError) => ReadFault::memory(alloc),
-        }
-    }
-
-    /// The fault of a value of the right kind, outside of what the setting takes.
-    pub fn invalid_value(
-        alloc: Global,
-        value: &Value,
-        at: &str,
-        expected: &'static str,
-    ) -> ReadFault
-        ensures { RefusesAs (wrong_value (view value.now) at.now expected.now) result }
-    {
-        match found_text(alloc, value) {
-            Ok(found) => ReadFault::new(alloc, at, FaultKind::InvalidValue { found, expected }),
-            Err(AllocError) => ReadFault::memory(alloc),
-        }
-    }
-
-    /// The fault of a text that is none of the setting's words.
-    pub fn unknown_variant(alloc: Global, text: &str, at: &str, expected: &'static str) -> ReadFault
-        ensures { RefusesAs (unknown_word text.now at.now expected.now) result }
-    {
-        match String::from_str(alloc, text) {
-            Ok(found) => ReadFault::new(alloc, at, FaultKind::UnknownVariant { found, expected }),
-            Err(AllocError) => ReadFault::memory(alloc),
-        }
-    }
-
-    /// The fault of a table at this path with a key that the setting doesn't know.
-    pub fn unknown_field(alloc: Global, key: &str, at: &str, expected: &'static str) -> ReadFault
-        ensures { RefusesAs (unknown_key key.now at.now expected.now) result }
-    {
-        match String::from_str(alloc, key) {
-            Ok(found) => ReadFault::new(alloc, at, FaultKind::UnknownField { found, expected }),
-            Err(AllocError) => ReadFault::memory(alloc),
-        }
-    }
-
-    /// The fault of a table at this path that lacks this key.
-    pub fn missing_field(alloc: Global, key: &str, at: &str) -> ReadFault
-        ensures { RefusesAs (missing key.now at.now) result }
-    {
-        match field_path(alloc, at, key) {
-            Ok(key) => ReadFault::new(alloc, at, FaultKind::MissingField { key }),
-            Err(AllocError) => ReadFault::memory(alloc),
-        }
-    }
-
     /// Whether a request for memory was refused.
     pub fn is_memory(&self) -> bool
-        ensures { result ≡ is_none (fault_of self.now) }
+        ensures { result ≡ is_none (told_of self.now) }
     {
         self.kind.is_memory()
     }
 
-    /// The fault of a value whose reading was refused memory, at the empty path: it says nothing of
-    /// the value.
-    pub fn memory(alloc: Global) -> ReadFault
-        ensures { IsMemory result }
+    /// The fault of a value whose reading was refused memory: nothing is said of it.
+    pub(crate) fn memory(alloc: Global) -> ReadFault
+        ensures { TellsMemory result }
     {
         ReadFault {
             path: String::new(alloc),
@@ -200,17 +129,6 @@ impl FaultKind {
             | FaultKind::Identifier(_)
             | FaultKind::ToolName(_) => false,
         }
-    }
-}
-
-/// The path of a key in the table at a path.
-pub(crate) fn field_path(alloc: Global, at: &str, key: &str) -> Result<String, AllocError>
-    ensures { IfOk result (λ path. string_bytes path ≡ path_of at.now key.now) }
-{
-    if at.is_empty() {
-        String::from_str(alloc, key)
-    } else {
-        format!(in alloc; "{at}.{key}")
     }
 }
 
@@ -243,6 +161,10 @@ impl From<InvalidToolName> for FaultKind {
         }
     }
 }
+
+impl Error for ReadFault {}
+
+impl Error for FaultKind {}
 
 impl fmt::Display for ReadFault {
     ghost output = { λ fault. Some (path_text (string_bytes fault.path) ++ kind_text fault.kind) };
@@ -309,7 +231,7 @@ impl fmt::Display for FaultKind {
     }
 }
 
-// What was found and what was expected, behind these texts.
+// What was found and what was expected, each after one of these texts.
 fn write_found<W: fmt::Write>(
     f: &mut fmt::Formatter<W>,
     reason: &str,

@@ -1,16 +1,17 @@
 //! The fields of a table.
 
 ghost use Rattle.std.specs.Prelude.{◌≡◌, IfOk, IfErr, option_map};
-ghost use Rattle.toml.specs.Data.{get_member};
+ghost use Rattle.toml.specs.Data.{get_member, Members};
 ghost use Rattle.toml.specs.View.{table_view, view};
-ghost use Rattle.nextest_config_values.specs.Read.{optional, or_default, path_of, RefusesBy, required};
+ghost use Rattle.nextest_config_values.specs.Read.{at_key, optional, or_default, RefusesAt, RefusesBy, required};
 
-use super::fault::{ReadFault, field_path};
+use super::fault::ReadFault;
 use super::from_toml::FromToml;
-use std::alloc::{AllocError, Global};
+use super::value_fault::ValueFault;
+use std::alloc::Global;
 use toml::{Table, Value};
 
-/// The value at a key of the table at the path `at`; none where the key is missing.
+/// The value at a key of the table at the path `at`; `None` where the key is missing.
 pub fn optional_field<T: FromToml>(
     alloc: Global,
     table: &Table,
@@ -20,14 +21,11 @@ pub fn optional_field<T: FromToml>(
     ensures meant { IfOk result (λ x.
         (optional key.now T.reading).means (table_view table.now) (option_map T.seen x)) }
     ensures refused { IfErr result
-        (RefusesBy (optional key.now T.reading) (table_view table.now) at.now) }
+        (RefusesAt (optional key.now T.reading) (table_view table.now) at.now) }
 {
-    match value_at(table, key) {
-        Some(value) => {
-            let x = read_field(alloc, value, key, at)?;
-            Ok(Some(x))
-        }
-        None => Ok(None),
+    match optional(alloc, table, key) {
+        Ok(x) => Ok(x),
+        Err(fault) => Err(fault.at(alloc, at)),
     }
 }
 
@@ -41,11 +39,11 @@ pub fn required_field<T: FromToml>(
     ensures meant { IfOk result (λ x.
         (required key.now T.reading).means (table_view table.now) (T.seen x)) }
     ensures refused { IfErr result
-        (RefusesBy (required key.now T.reading) (table_view table.now) at.now) }
+        (RefusesAt (required key.now T.reading) (table_view table.now) at.now) }
 {
-    match value_at(table, key) {
-        Some(value) => read_field(alloc, value, key, at),
-        None => Err(ReadFault::missing_field(alloc, key, at)),
+    match required(alloc, table, key) {
+        Ok(x) => Ok(x),
+        Err(fault) => Err(fault.at(alloc, at)),
     }
 }
 
@@ -60,42 +58,82 @@ pub fn field_or<T: FromToml + Drop>(
     ensures meant { IfOk result (λ x.
         (or_default key.now (T.seen default) T.reading).means (table_view table.now) (T.seen x)) }
     ensures refused { IfErr result
-        (RefusesBy (or_default key.now (T.seen default) T.reading) (table_view table.now) at.now) }
+        (RefusesAt (or_default key.now (T.seen default) T.reading) (table_view table.now) at.now) }
+{
+    match or_default(alloc, table, key, default) {
+        Ok(x) => Ok(x),
+        Err(fault) => Err(fault.at(alloc, at)),
+    }
+}
+
+/// The value at a key of a table; `None` where the key is missing.
+pub fn optional<T: FromToml>(
+    alloc: Global,
+    table: &Table,
+    key: &str,
+) -> Result<Option<T>, ValueFault>
+    ensures meant { IfOk result (λ x.
+        (optional key.now T.reading).means (table_view table.now) (option_map T.seen x)) }
+    ensures refused { IfErr result
+        (RefusesBy (optional key.now T.reading) (table_view table.now)) }
 {
     match value_at(table, key) {
-        Some(value) => read_field(alloc, value, key, at),
+        Some(value) => {
+            let x = read_at_key(alloc, value, key)?;
+            Ok(Some(x))
+        }
+        None => Ok(None),
+    }
+}
+
+/// The value at a key of a table. A missing key is a fault of the table.
+pub fn required<T: FromToml>(alloc: Global, table: &Table, key: &str) -> Result<T, ValueFault>
+    ensures meant { IfOk result (λ x.
+        (required key.now T.reading).means (table_view table.now) (T.seen x)) }
+    ensures refused { IfErr result
+        (RefusesBy (required key.now T.reading) (table_view table.now)) }
+{
+    match value_at(table, key) {
+        Some(value) => read_at_key(alloc, value, key),
+        None => Err(ValueFault::missing_field(alloc, key)),
+    }
+}
+
+/// The value at a key of a table, or `default` where the key is missing.
+pub fn or_default<T: FromToml + Drop>(
+    alloc: Global,
+    table: &Table,
+    key: &str,
+    default: T,
+) -> Result<T, ValueFault>
+    ensures meant { IfOk result (λ x.
+        (or_default key.now (T.seen default) T.reading).means (table_view table.now) (T.seen x)) }
+    ensures refused { IfErr result
+        (RefusesBy (or_default key.now (T.seen default) T.reading) (table_view table.now)) }
+{
+    match value_at(table, key) {
+        Some(value) => read_at_key(alloc, value, key),
         None => Ok(default),
     }
 }
 
-// The value at a key of the table.
+/// The value at a key of a table.
 #[tactic(auto, using(toml::proofs::Views::table_get))]
-fn value_at<'v>(table: &'v Table, key: &str) -> Option<&'v Value>
+pub fn value_at<'v>(table: &'v Table, key: &str) -> Option<&'v Value>
     ensures { option_map (λ value. view value.now) result
         ≡ get_member key.now (table_view table.now) }
 {
     table.get(key)
 }
 
-// Reads the value of a key. The path is put together only after a fault, and only where it isn't
-// the key itself.
-#[tactic(auto, using(crate::proofs::Faults::refused_again))]
-fn read_field<T: FromToml>(
-    alloc: Global,
-    value: &Value,
-    key: &str,
-    at: &str,
-) -> Result<T, ReadFault>
+// Reads the value of a key: its fault is one of the table.
+fn read_at_key<T: FromToml>(alloc: Global, value: &Value, key: &str) -> Result<T, ValueFault>
     ensures meant { IfOk result (λ x. T.reading.means (view value.now) (T.seen x)) }
-    ensures refused { IfErr result
-        (RefusesBy T.reading (view value.now) (path_of at.now key.now)) }
+    ensures refused { IfErr result (λ fault. (members : Members)
+        → RefusesBy (at_key key.now T.reading (view value.now)) members fault) }
 {
-    match T::read(alloc, value, key) {
+    match T::read_value(alloc, value) {
         Ok(x) => Ok(x),
-        Err(fault) if at.is_empty() => Err(fault),
-        Err(_) => match field_path(alloc, at, key) {
-            Ok(path) => T::read(alloc, value, path.as_str()),
-            Err(AllocError) => Err(ReadFault::memory(alloc)),
-        },
+        Err(fault) => Err(fault.below_key(alloc, key)),
     }
 }

@@ -5,8 +5,8 @@ ghost use Rattle.toml.specs.Data.{as_integer, as_str};
 ghost use Rattle.toml.specs.View.{view};
 ghost use Rattle.nextest_config_values.specs.Read.{bool_reading, count_reading, IsCount, MeansNumber, RefusesAs, text_expected, text_reading, u32_reading, wrong_type};
 
-use super::fault::ReadFault;
 use super::from_toml::FromToml;
+use super::value_fault::ValueFault;
 use std::alloc::{AllocError, Global};
 use std::marker::Model;
 use toml::Value;
@@ -18,10 +18,10 @@ impl FromToml for bool {
 
     ghost reading = { bool_reading };
 
-    fn read(alloc: Global, value: &Value, at: &str) -> Result<Self, ReadFault> {
+    fn read_value(alloc: Global, value: &Value) -> Result<Self, ValueFault> {
         match value.as_bool() {
             Some(truth) => Ok(truth),
-            None => Err(ReadFault::invalid_type(alloc, value, at, "a boolean")),
+            None => Err(ValueFault::invalid_type(alloc, value, "a boolean")),
         }
     }
 }
@@ -33,11 +33,11 @@ impl FromToml for u32 {
 
     ghost reading = { u32_reading };
 
-    fn read(alloc: Global, value: &Value, at: &str) -> Result<Self, ReadFault> {
-        let number = held_integer(alloc, value, at, "u32")?;
+    fn read_value(alloc: Global, value: &Value) -> Result<Self, ValueFault> {
+        let number = held_integer(alloc, value, "u32")?;
         match u32::try_from(number) {
             Ok(number) => Ok(number),
-            Err(_) => Err(ReadFault::invalid_value(alloc, value, at, "u32")),
+            Err(_) => Err(ValueFault::invalid_value(alloc, value, "u32")),
         }
     }
 }
@@ -49,11 +49,11 @@ impl FromToml for String {
 
     ghost reading = { text_reading };
 
-    fn read(alloc: Global, value: &Value, at: &str) -> Result<Self, ReadFault> {
-        let text = held_text(alloc, value, at)?;
+    fn read_value(alloc: Global, value: &Value) -> Result<Self, ValueFault> {
+        let text = held_text(alloc, value)?;
         match String::from_str(alloc, text) {
             Ok(text) => Ok(text),
-            Err(AllocError) => Err(ReadFault::memory(alloc)),
+            Err(AllocError) => Err(ValueFault::memory(alloc)),
         }
     }
 }
@@ -87,7 +87,6 @@ impl NonZeroCount {
         }
     }
 
-    /// The count.
     pub fn get(self) -> usize
         ensures value { result ≡ self }
         ensures positive { 0 < result }
@@ -103,11 +102,11 @@ impl FromToml for NonZeroCount {
 
     ghost reading = { count_reading };
 
-    fn read(alloc: Global, value: &Value, at: &str) -> Result<Self, ReadFault> {
-        let number = held_integer(alloc, value, at, "a nonzero usize")?;
+    fn read_value(alloc: Global, value: &Value) -> Result<Self, ValueFault> {
+        let number = held_integer(alloc, value, "a nonzero usize")?;
         match count_of(number) {
             Some(count) => Ok(count),
-            None => Err(ReadFault::invalid_value(alloc, value, at, "a nonzero usize")),
+            None => Err(ValueFault::invalid_value(alloc, value, "a nonzero usize")),
         }
     }
 }
@@ -124,30 +123,25 @@ fn count_of(number: i64) -> Option<NonZeroCount>
 }
 
 /// The text that the value is.
-pub(crate) fn held_text<'v>(alloc: Global, value: &'v Value, at: &str) -> Result<&'v str, ReadFault>
+pub(crate) fn held_text<'v>(alloc: Global, value: &'v Value) -> Result<&'v str, ValueFault>
     ensures held { IfOk result (λ text. as_str (view value.now) ≡ Some text.now) }
     ensures refused { IfErr result (λ fault. (as_str (view value.now) ≡ None)
-        × RefusesAs (wrong_type (view value.now) at.now text_expected) fault) }
+        × RefusesAs (wrong_type (view value.now) text_expected) fault) }
 {
     match value.as_str() {
         Some(text) => Ok(text),
-        None => Err(ReadFault::invalid_type(alloc, value, at, "a string")),
+        None => Err(ValueFault::invalid_type(alloc, value, "a string")),
     }
 }
 
 // The integer that the value is.
-fn held_integer(
-    alloc: Global,
-    value: &Value,
-    at: &str,
-    expected: &'static str,
-) -> Result<i64, ReadFault>
+fn held_integer(alloc: Global, value: &Value, expected: &'static str) -> Result<i64, ValueFault>
     ensures held { IfOk result (λ number. as_integer (view value.now) ≡ Some number) }
     ensures refused { IfErr result (λ fault. (as_integer (view value.now) ≡ None)
-        × RefusesAs (wrong_type (view value.now) at.now expected.now) fault) }
+        × RefusesAs (wrong_type (view value.now) expected.now) fault) }
 {
     match value.as_integer() {
         Some(number) => Ok(number),
-        None => Err(ReadFault::invalid_type(alloc, value, at, expected)),
+        None => Err(ValueFault::invalid_type(alloc, value, expected)),
     }
 }

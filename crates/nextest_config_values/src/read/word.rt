@@ -3,9 +3,9 @@
 ghost use Rattle.std.specs.Prelude.{◌≡◌, ◌≢◌, ℕ, List, Some, map, MatchOption};
 ghost use Rattle.nextest_config_values.specs.Read.{value_of, word_reading, words_text};
 
-use super::fault::ReadFault;
 use super::from_toml::FromToml;
 use super::plain::held_text;
+use super::value_fault::ValueFault;
 use std::alloc::Global;
 use toml::Value;
 
@@ -23,7 +23,6 @@ pub trait Word: Copy + 'static {
     fn all() -> &'static [Self]
         ensures { result.now ≡ all };
 
-    /// The word of the value.
     fn as_word(self) -> &'static str
         ensures { result.now ≡ word self };
 
@@ -32,18 +31,18 @@ pub trait Word: Copy + 'static {
         ensures { result.now ≡ words_text (map word all) };
 }
 
-impl<T: Word> FromToml for T {
+impl<T: Word + 'static> FromToml for T {
     ghost Seen = { Self };
 
     ghost seen = { λ x. x };
 
     ghost reading = { word_reading T.all T.word T.reads_back };
 
-    fn read(alloc: Global, value: &Value, at: &str) -> Result<Self, ReadFault> {
-        let text = held_text(alloc, value, at)?;
+    fn read_value(alloc: Global, value: &Value) -> Result<Self, ValueFault> {
+        let text = held_text(alloc, value)?;
         match find_word(text) {
             Some(word) => Ok(word),
-            None => Err(ReadFault::unknown_variant(alloc, text, at, T::expected())),
+            None => Err(ValueFault::unknown_variant(alloc, text, T::expected())),
         }
     }
 }

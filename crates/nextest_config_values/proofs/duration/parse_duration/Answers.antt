@@ -24,7 +24,7 @@ returns-in_err-item-clause-refused c =
 pub loop-rest-preserved : goal.loop-rest-preserved
 loop-rest-preserved c =
     let trim = trimmed _ _ c.trim_start-rest-in-loop-rest.utf8 c.trim_start-rest-in-loop-rest.ensures.trim in
-    (c.trim_start-rest-in-loop-rest.utf8, search rules, rw c.saturating_add-nanoseconds.ensures (read_more _ (chars c.loop-rest.rest.now) (chars c.in_ok-item.behind.now) _ trim.0 c.loop-rest.nanoseconds c.in_ok-item.item c.loop-rest.invariant.2 c.in_ok-item.ensures.read trim.1))
+    (c.trim_start-rest-in-loop-rest.utf8, search rules, rw c.saturating_add-nanoseconds.ensures (read_more _ (chars c.loop-rest.rest.now) (chars c.in_ok-item.after.now) _ trim.0 c.loop-rest.nanoseconds c.in_ok-item.item c.loop-rest.invariant.2 c.in_ok-item.ensures.read trim.1))
 
 pub returns-then-nanoseconds-as_nanos-clause-refused : goal.returns-then-nanoseconds-as_nanos-clause-refused
 returns-then-nanoseconds-as_nanos-clause-refused c =

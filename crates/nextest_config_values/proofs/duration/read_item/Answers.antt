@@ -19,21 +19,21 @@ returns-in_default-clause-refused c =
 
 pub returns-then-is_empty-2-clause-refused : goal.returns-then-is_empty-2-clause-refused
 returns-then-is_empty-2-clause-refused c =
-    unit_missing c.args.at c.utf8.text c.trim_start-behind.utf8
-    (c.split_run.ensures.run is_ascii_digit (search (rules, answers_always))) c.trim_start-behind.ensures.trim
+    unit_missing c.args.at c.utf8.text c.trim_start-after.utf8
+    (c.split_run.ensures.run is_ascii_digit (search (rules, answers_always))) c.trim_start-after.ensures.trim
     (c.split_run-2.ensures.run is_in_word (search (rules, answers_always, ends_word))) c.parse.result c.parse.ensures.value.0
     c.in-Ok.number c.in-Ok.is (search rules)
 
 pub returns-in-None-clause-refused : goal.returns-in-None-clause-refused
 returns-in-None-clause-refused c =
-    unit_unknown c.args.at c.utf8.text c.trim_start-behind.utf8
-    (c.split_run.ensures.run is_ascii_digit (search (rules, answers_always))) c.trim_start-behind.ensures.trim
+    unit_unknown c.args.at c.utf8.text c.trim_start-after.utf8
+    (c.split_run.ensures.run is_ascii_digit (search (rules, answers_always))) c.trim_start-after.ensures.trim
     (c.split_run-2.ensures.run is_in_word (search (rules, answers_always, ends_word))) c.parse.result c.parse.ensures.value.0
     c.in-Ok.number c.in-Ok.is (search rules) (sym c.unit_length.ensures ∙ c.in-None.is)
 
 pub returns-in-Some-clause-read : goal.returns-in-Some-clause-read
 returns-in-Some-clause-read c = rw (c.from.ensures, c.from-in-Some.ensures)
-    (read c.args.at c.utf8.text c.trim_start-behind.utf8
-    (c.split_run.ensures.run is_ascii_digit (search (rules, answers_always))) c.trim_start-behind.ensures.trim
+    (read c.args.at c.utf8.text c.trim_start-after.utf8
+    (c.split_run.ensures.run is_ascii_digit (search (rules, answers_always))) c.trim_start-after.ensures.trim
     (c.split_run-2.ensures.run is_in_word (search (rules, answers_always, ends_word))) c.parse.result c.parse.ensures.value.0
     c.in-Ok.number c.in-Ok.is c.in-Some.unit (sym c.unit_length.ensures ∙ c.in-Some.is))

@@ -5,7 +5,7 @@ use Rattle.nextest_config_sources.proofs.nextest_version.experimental_deserializ
 pub returns-in_err-read_switch-clause-refused : goal.returns-in_err-read_switch-clause-refused
 returns-in_err-read_switch-clause-refused c =
     passed_on _ c.from_residual.result _ c.from_residual.ensures.1
-    (refuses_switches c.args.at.now c.in_err-read_switch.field-0.0 c.loop-feature.invariant c.in-Some.ensures.steps c.in_err-read_switch.ensures.refused)
+    (refuses_switches c.in_err-read_switch.field-0.0 c.loop-feature.invariant c.in-Some.ensures.steps c.in_err-read_switch.ensures.refused)
 
 pub loop-feature-preserved-then-not-branch : goal.loop-feature-preserved-then-not-branch
 loop-feature-preserved-then-not-branch c =

@@ -2,12 +2,12 @@ use Rattle.std.proofs.Common.{map, refl, string_bytes}
 use Rattle.std.proofs.lemmas.Map.Iter.{iter_end}
 use Rattle.std.specs.Map.Iter.{deref}
 use Rattle.nextest_config_sources.specs.NextestVersion.{features_of}
-use Rattle.nextest_config_sources.proofs.Members.{none_behind, seen_holds}
+use Rattle.nextest_config_sources.proofs.Members.{none_after, seen_holds}
 use Rattle.nextest_config_sources.proofs.Naming.{all_names, seen_key}
 use Rattle.nextest_config_sources.proofs.nextest_version.experimental_deserialize.ExperimentalDeserialize.feature_names.Goals as goal
 
 pub loop-name-init : goal.loop-name-init
-loop-name-init c = (c.in_ok-names.ensures.in_order, none_behind (map string_bytes c.in_ok-names.names.keys))
+loop-name-init c = (c.in_ok-names.ensures.in_order, none_after (map string_bytes c.in_ok-names.names.keys))
 
 pub loop-name-preserved : goal.loop-name-preserved
 loop-name-preserved c = (

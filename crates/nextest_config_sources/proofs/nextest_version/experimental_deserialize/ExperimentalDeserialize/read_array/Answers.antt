@@ -9,7 +9,7 @@ pub returns-in_err-read_item-clause-refused : goal.returns-in_err-read_item-clau
 returns-in_err-read_item-clause-refused c =
     let here = item_here c.deref-value-items.result.now c.args.array.now.items c.loop-index.index c.value-item.result c.deref-value-items.ensures.value c.loop-index-test.true c.value-item.is in
     passed_on _ c.from_residual.result _ c.from_residual.ensures.1
-    (refuses_array c.args.at.now c.in_err-read_item.field-0.0 c.loop-index.invariant here c.in_err-read_item.ensures.refused)
+    (refuses_array c.in_err-read_item.field-0.0 c.loop-index.invariant here c.in_err-read_item.ensures.refused)
 
 pub loop-index-init : goal.loop-index-init
 loop-index-init c =

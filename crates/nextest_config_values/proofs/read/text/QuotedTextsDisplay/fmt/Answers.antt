@@ -4,7 +4,7 @@ use Rattle.std.proofs.lemmas.Map.Iter.{iter_end}
 use Rattle.std.proofs.lemmas.Simd.{map-map}
 use Rattle.std.specs.Map.Iter.{deref}
 use Rattle.nextest_config_values.proofs.Styled.{plainly, styled_more, styled_then}
-use Rattle.nextest_config_values.proofs.Joined.{joined_more, separator_behind, separator_more}
+use Rattle.nextest_config_values.proofs.Joined.{joined_more, separator_after, separator_more}
 use Rattle.nextest_config_values.specs.Read.{comma_list, quoted_text, quoted_texts}
 use Rattle.nextest_config_values.proofs.read.text.QuotedTextsDisplay.fmt.Goals as goal
 
@@ -12,7 +12,7 @@ use Rattle.nextest_config_values.proofs.read.text.QuotedTextsDisplay.fmt.Goals a
 abbrev quoted : Bor (String Global) → List ℕ
 quoted text = quoted_text (string_bytes text.now)
 
-one_more : (xs : List (Bor (String Global))) (x : Bor (String Global)) (separator : List ℕ) → separator ≡ separator_behind xs
+one_more : (xs : List (Bor (String Global))) (x : Bor (String Global)) (separator : List ℕ) → separator ≡ separator_after xs
     → comma_list (map quoted xs) ++ (separator ++ quoted x) ≡ comma_list (map quoted (xs ++ (x ∷ [])))
 one_more xs x separator is = rw is (sym (joined_more quoted xs x))
 
