@@ -50,7 +50,7 @@ at_the_seam {X} (z ∷ xs) ys (y ∷ before) x after whole =
     let rest : xs ++ ys ≡ before ++ (x ∷ after) = cc whole in
     ⊎_elim (λ (more, is). inl (more, rw (head, is) refl)) (λ (more, is, behind). inr (more, rw (head, is) refl, behind)) (at_the_seam xs ys before x after rest)
 
--- a refused position of parts stands as far on behind one more part that reads
+-- a refused position of parts stands as far on after one more part that reads
 one_part_before : (part : List Source) (parts : List (List Source)) (position : ℕ) (refusal : Refusal) → Reads part → IsFirstRefusedAmong parts position refusal
     → IsFirstRefusedAmong (part ∷ parts) (length part + position) refusal
 one_part_before part parts position refusal reads first = record {

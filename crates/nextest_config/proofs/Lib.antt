@@ -1,3 +1,4 @@
+pub mod Borrowed
 pub mod Cuts
 pub mod Readings
 pub mod Refusals

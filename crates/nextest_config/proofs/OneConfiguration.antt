@@ -4,7 +4,7 @@ use mathlib.Core.Logic.Iff as iff
 use Rattle.std.specs.List.{AllByRecursion}
 use Rattle.semver.specs.Parse.{Parts}
 use Rattle.nextest_config_sources.specs.NextestVersion.Source.{Source}
-use Rattle.nextest_config_sources.specs.NextestVersion.{Ask, features_in_one_order, IsBelow, Place}
+use Rattle.nextest_config_sources.specs.NextestVersion.{Ask, features_in_one_order, IsBelow, SourcePlace}
 use Rattle.nextest_config_sources.specs.NextestVersion.ExperimentalLaws.{same_truth}
 use Rattle.nextest_config_sources.specs.declared.nextest_version.experimental.ConfigExperimental.{ConfigExperimental}
 use Rattle.nextest_config.specs.NextestVersion.{AreRead, AsksNoGreater, AsksNone, AsksOther, Configuration, IsGreatest, Kept, seen_configuration, SeenConfiguration, SourceAsk, StandsFor, StandsForAsks, StandsIn}
@@ -35,7 +35,7 @@ module _ (role : Ask → Option Parts) where
   one_greatest asked kept other plain h k =
       let version : kept.version ≡ other.version = one_greatest_version asked asked kept other plain plain h k k.none_greater h.none_greater in
       let last : h.last ≡ k.last = one_last (AsksOther role kept.version) (AsksOther role other.version) h.last k.last h.before k.before h.after k.after (λ apart. apart (k.version ∙ ap Some (sym version))) (λ apart. apart (h.version ∙ ap Some version)) (sym h.whole ∙ k.whole) h.others_later k.others_later in
-      ap₂ (λ (version : Parts) (place : Place). record { version = version; place = place }) version (sym h.place ∙ ap (λ (a : SourceAsk). a.place) last ∙ k.place)
+      ap₂ (λ (version : Parts) (place : SourcePlace). record { version = version; place = place }) version (sym h.place ∙ ap (λ (a : SourceAsk). a.place) last ∙ k.place)
 
   pub one_kept : (asked : List SourceAsk) (kept other : Option Kept) → AllByRecursion (λ a. IsPlainVersion (role a.ask)) asked → StandsIn role asked kept → StandsIn role asked other → kept ≡ other
   one_kept asked kept other plain h k = search (rules, none_kept, one_greatest)

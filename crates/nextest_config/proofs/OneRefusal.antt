@@ -10,11 +10,11 @@ none_refused before source after asked refusal read refused =
     let found = zip_middle IsReadAs before source after asked read in
     read_not_refused source found.0.ask refusal found.1.read refused
 
-reads_behind : (source : Source) (sources : List Source) → Reads (source ∷ sources) → Reads sources
-reads_behind source sources ([], read) = absurd read
-reads_behind source sources (a ∷ asked, read) = (asked, read.1)
+reads_after : (source : Source) (sources : List Source) → Reads (source ∷ sources) → Reads sources
+reads_after source sources ([], read) = absurd read
+reads_after source sources (a ∷ asked, read) = (asked, read.1)
 
--- two refused sources behind sources that read are one
+-- two refused sources after sources that read are one
 one_place : (b c : List Source) (s t : Source) (a d : List Source) (r q : Refusal) → b ++ (s ∷ a) ≡ c ++ (t ∷ d) → Reads b → Reads c → IsRefused s r → IsRefused t q → (b ≡ c) × (s ≡ t)
 one_place [] [] s t a d r q same h k refused also = (refl, cc same)
 one_place [] (y ∷ c) s t a d r q same h k refused also =
@@ -26,7 +26,7 @@ one_place (x ∷ b) [] s t a d r q same h k refused also =
 one_place (x ∷ b) (y ∷ c) s t a d r q same h k refused also =
     let head : x ≡ y = cc same in
     let rest : b ++ (s ∷ a) ≡ c ++ (t ∷ d) = cc same in
-    let found = one_place b c s t a d r q rest (reads_behind x b h) (reads_behind y c k) refused also in
+    let found = one_place b c s t a d r q rest (reads_after x b h) (reads_after y c k) refused also in
     (rw (head, found.0) refl, found.1)
 
 pub refusal_once : (sources : List Source) (i k : ℕ) (refusal other : Refusal) → IsFirstRefused sources i refusal → IsFirstRefused sources k other → (i ≡ k) × (refusal ≡ other)
@@ -42,9 +42,9 @@ pub reads_not_refused : (sources : List Source) (position : ℕ) (refusal : Refu
 reads_not_refused sources position refusal (asked, read) first =
     none_refused first.before first.source first.after asked refusal (subst (λ (all : List Source). AreRead all asked) first.whole read) first.refused
 
-refused_behind : (source : Source) (a : SourceAsk) (sources : List Source) (position : ℕ) (refusal : Refusal) → IsReadAs source a → IsFirstRefused sources position refusal
+refused_after : (source : Source) (a : SourceAsk) (sources : List Source) (position : ℕ) (refusal : Refusal) → IsReadAs source a → IsFirstRefused sources position refusal
     → IsFirstRefused (source ∷ sources) (suc position) refusal
-refused_behind source a sources position refusal read first = record {
+refused_after source a sources position refusal read first = record {
   before = source ∷ first.before;
   source = first.source;
   after = first.after;
@@ -59,7 +59,7 @@ reads_or_refused [] = inl ([], tt)
 reads_or_refused (source ∷ sources) = elim (read_or_refused source) [
   | inl (a, read) ↦ elim (reads_or_refused sources) [
     | inl (asked, all) ↦ inl (a ∷ asked, (read, all))
-    | inr (position, refusal, first) ↦ inr (suc position, refusal, refused_behind source a sources position refusal read first)
+    | inr (position, refusal, first) ↦ inr (suc position, refusal, refused_after source a sources position refusal read first)
   ]
   | inr (refusal, refused) ↦ inr (0, refusal, record { before = []; source = source; after = sources; whole = refl; place = refl; read = ([], tt); refused = refused })
 ]

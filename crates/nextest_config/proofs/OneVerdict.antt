@@ -7,7 +7,7 @@ use Rattle.nextest_config_values.specs.Read.{either, optional}
 use Rattle.nextest_config_sources.specs.NextestVersion.Source.{Source}
 use Rattle.nextest_config.specs.NextestVersion.Verdict.{Verdict}
 use Rattle.nextest_config_sources.specs.NextestVersion.{Ask, AsksVersions, IsBelow, in_order, IsEnoughByNumbers, Numbers, plain, recommended_key, required_key, TextAsks, version_key, version_reading, version_table, Versions, versions, versions_reading}
-use Rattle.nextest_config.specs.NextestVersion.{alone, AreRead, asked_from, gravity, IsGravest, IsNoGraver, IsNoGreaterOfItsKind, IsOtherOfItsKind, IsSatisfied, IsSelected, IsSelectedFor, judged, Kept, named_version, NamesNoGreater, SourceAsk, unmet}
+use Rattle.nextest_config.specs.NextestVersion.{alone, AreRead, gravity, IsGravest, IsNoGraver, IsNoGreaterOfItsKind, IsOtherOfItsKind, IsSatisfied, IsSelected, IsSelectedFor, Kept, named_version, NamesNoGreater, not_met, role_from, SourceAsk, verdict_by}
 use Rattle.nextest_config.specs.NextestVersion.VersionOnlyLaws.{read_once}
 use Rattle.nextest_config_values.proofs.Elements.{one_last}
 use Rattle.nextest_config_lists.proofs.Lists.{all_mapped}
@@ -77,8 +77,8 @@ all_plain (source ∷ sources) (a ∷ asked) h = (text_plain source.edition sour
 abbrev NamesPlain : Verdict → Type 0
 NamesPlain v = IsPlainVersion (named_version v)
 
-judged_plain : (current : Parts) (overridden : Bool) (a : SourceAsk) (r m : Option Kept) → IsPlainAsked a → unmet (asked_from a.place a.ask.versions.required) current ≡ r → unmet (asked_from a.place a.ask.versions.recommended) current ≡ m
-    → NamesPlain (judged r m current overridden)
+judged_plain : (current : Parts) (overridden : Bool) (a : SourceAsk) (r m : Option Kept) → IsPlainAsked a → not_met (role_from a.place a.ask.versions.required) current ≡ r → not_met (role_from a.place a.ask.versions.recommended) current ≡ m
+    → NamesPlain (verdict_by r m current overridden)
 judged_plain current overridden a r m h r_is m_is = search (rules, unmet_alone)
 
 selected_plain : (asked : List SourceAsk) (current : Parts) (overridden : Bool) (v : Verdict) → AllByRecursion IsPlainAsked asked → IsSelected (map (alone current overridden) asked) v → NamesPlain v

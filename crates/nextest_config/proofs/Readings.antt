@@ -3,11 +3,13 @@ use Rattle.std.proofs.Common.{rules, ◌≡◌, ℕ, List, ◌∷◌, map, Optio
 use Rattle.std.proofs.lemmas.List.{length-map, map-append}
 use Rattle.nextest_config_sources.specs.NextestVersion.Source.{Source}
 use Rattle.nextest_config_lists.specs.Merge.{IsFirstWrong, IsRefusalOfOne, IsRefusalOfPieces}
-use Rattle.nextest_config_sources.specs.NextestVersion.{IsWrong, RefusesSource, Wrong, wrong_of}
-use Rattle.nextest_config.specs.NextestVersion.{AreRead, Configuration, IsErrorOf, IsErrorOfList, IsFirstRefused, IsKindOf, IsRefusalOf, IsRefusedSo, kind_of, Reads, Refusal, refusal_at, refusal_of, StandsForOne}
+use Rattle.nextest_config_sources.specs.NextestVersion.{IsWrong, IsWrongTable, RefusesSource, Wrong, wrong_of}
+use Rattle.nextest_config.specs.NextestVersion.{AreRead, Configuration, document_members, document_place, IsErrorOf, IsErrorOfDocument, IsErrorOfList, IsErrorOfReading, IsFirstRefused, IsKindOf, IsRefusalOf, IsRefusedReading, IsRefusedSo, kind_of, Reads, Refusal, refusal_at, refusal_of, StandsForOne}
 use Rattle.nextest_config_lists.specs.declared.merge.PieceRefusal.{PieceRefusal}
 use Rattle.nextest_config_lists.specs.declared.merge.PieceRefusal.TheVariants as pieces
+use Rattle.nextest_config.specs.declared.nextest_version.document.SourceDocument.{SourceDocument}
 use Rattle.nextest_config.specs.declared.nextest_version.error.ConfigParseError.{ConfigParseError}
+use Rattle.nextest_config_sources.specs.declared.nextest_version.edition.Edition.{Edition}
 use Rattle.nextest_config_sources.specs.declared.nextest_version.error_kind.ConfigParseErrorKind.{ConfigParseErrorKind}
 use Rattle.nextest_config_sources.specs.declared.nextest_version.error_kind.ConfigParseErrorKind.TheVariants as kinds
 use Rattle.nextest_config_sources.proofs.Refusals.{told_twice}
@@ -24,6 +26,15 @@ refusal_of_one source kind r is_wrong refused =
     told_twice (wrong_of kind) is_wrong refused (λ memory of_memory. rw (of_memory memory) tt) (λ wrong wrong_so so. by_refusal wrong wrong_so r so)
   where
     by_refusal : (wrong : Wrong) → IsWrong source.edition source.place.kind source.contents wrong → (refusal : PieceRefusal ConfigParseError) → IsRefusedSo (refusal_at source.place wrong) refusal → IsRefusalOfOne refusal_of IsErrorOf source refusal
+    by_refusal wrong wrong_so refusal so = search rules
+
+-- what is wrong with a document is its refusal
+pub refusal_of_document : (edition : Edition) (document : SourceDocument) (kind : ConfigParseErrorKind) (r : PieceRefusal ConfigParseError) → RefusesSource (IsWrongTable edition (document_place document).kind (document_members document)) kind → IsKindOf (document_place document) kind r
+    → IsRefusalOfOne refusal_of (IsErrorOfDocument edition) document r
+refusal_of_document edition document kind r is_wrong refused =
+    told_twice (wrong_of kind) is_wrong refused (λ memory of_memory. rw (of_memory memory) tt) (λ wrong wrong_so so. by_refusal wrong wrong_so r so)
+  where
+    by_refusal : (wrong : Wrong) → IsWrongTable edition (document_place document).kind (document_members document) wrong → (refusal : PieceRefusal ConfigParseError) → IsRefusedSo (refusal_at (document_place document) wrong) refusal → IsRefusalOfOne refusal_of (IsErrorOfDocument edition) document refusal
     by_refusal wrong wrong_so refusal so = search rules
 
 -- the first source that is refused of those that are read one by one is the first of their list
@@ -50,12 +61,13 @@ module _ {X Y : Type 0} (source_of : X → Source) (configuration_of : Y → Con
   refusal_of_list xs r first = search (rules, first_refused)
 
 -- a list that reads is refused only where memory runs out
-pub only_memory : {X : Type 0} (sources : List Source) (result : Result X (PieceRefusal ConfigParseError)) → Reads sources → IfErr result (IsRefusalOf sources) → IfErr result (λ refusal. refusal ≡ pieces.Memory)
-only_memory sources (Ok x) reads first = tt
-only_memory sources (Err (pieces.Refused position error)) reads first = absurd (reads_not_refused sources position first.0 reads first.2)
-only_memory sources (Err pieces.Memory) reads first = refl
+pub refused_reading : (sources : List Source) (r : PieceRefusal ConfigParseError) → IsRefusalOf sources r → IsRefusedReading sources r
+refused_reading sources (pieces.Refused position error) first = record { only = λ reads. absurd (reads_not_refused sources position first.0 reads first.2); refused = first }
+refused_reading sources pieces.Memory first = record { only = λ reads. refl; refused = first }
 
--- a list that reads has no error but that memory ran out
-pub no_error_but_memory : (sources : List Source) (error : ConfigParseError) → Reads sources → IsErrorOfList sources error → kind_of error ≡ kinds.Memory
-no_error_but_memory sources error reads refused =
-    told_twice (refusal_of error) refused refused (λ memory _. memory) (λ refusal found _. absurd (reads_not_refused sources found.0 refusal reads found.1))
+-- a refused reading without its position
+pub error_of_reading : (sources : List Source) (position : ℕ) (error : ConfigParseError) → IsRefusedReading sources (pieces.Refused position error) → IsErrorOfReading sources error
+error_of_reading sources position error reading = record {
+  only = λ reads. absurd (reads_not_refused sources position reading.refused.0 reads reading.refused.2);
+  refused = rw reading.refused.1 (position, reading.refused.2);
+}

@@ -6,8 +6,8 @@ use Rattle.std.proofs.lemmas.Slice.Zip.{AllZip-long}
 use Rattle.std.specs.List.{AllByRecursion, AllZip, swap}
 use Rattle.semver.specs.Parse.{Parts}
 use Rattle.nextest_config_lists.specs.Merge.{IsReordering}
-use Rattle.nextest_config_sources.specs.NextestVersion.{Ask, features_in_one_order, Place}
-use Rattle.nextest_config.specs.NextestVersion.{Agree, array_of, AsksNoGreater, AsksNone, Configuration, entry_of, IsEnabledBySome, IsReadAs, judged, Kept, kept_version, Reads, SaysTheSame, SourceAsk, StandsFor, StandsForAsks, StandsIn, Unknown, unmet}
+use Rattle.nextest_config_sources.specs.NextestVersion.{Ask, features_in_one_order, SourcePlace}
+use Rattle.nextest_config.specs.NextestVersion.{Agree, array_of, AsksNoGreater, AsksNone, Configuration, entry_of, IsEnabledBySome, IsReadAs, Kept, kept_version, not_met, Reads, SaysTheSame, SourceAsk, StandsFor, StandsForAsks, StandsIn, Unknown, verdict_by}
 use Rattle.nextest_config_sources.specs.NextestVersion.Source.{Source}
 use Rattle.nextest_config_sources.specs.declared.nextest_version.experimental.ConfigExperimental.{ConfigExperimental}
 use Rattle.nextest_config_values.proofs.Elements.{all_weaker}
@@ -95,10 +95,10 @@ reads_reordered sources reordered order (asked, read) =
 abbrev AreAlike : Option Kept → Option Kept → Type 0
 AreAlike kept other = option_map kept_version kept ≡ option_map kept_version other
 
-unmet_alike : (kept other : Option Kept) (current : Parts) → AreAlike kept other → AreAlike (unmet kept current) (unmet other current)
+unmet_alike : (kept other : Option Kept) (current : Parts) → AreAlike kept other → AreAlike (not_met kept current) (not_met other current)
 unmet_alike kept other current same = search rules
 
-judged_alike : (r m s n : Option Kept) (current : Parts) (overridden : Bool) → AreAlike r s → AreAlike m n → SaysTheSame (judged r m current overridden) (judged s n current overridden)
+judged_alike : (r m s n : Option Kept) (current : Parts) (overridden : Bool) → AreAlike r s → AreAlike m n → SaysTheSame (verdict_by r m current overridden) (verdict_by s n current overridden)
 judged_alike r m s n current overridden same other = search rules
 
 -- ---- what stands for both
@@ -126,8 +126,8 @@ asks_agree asked others c d order plain h k =
         λ known. (h.known.of_some feature).1 (enabled_reordered others asked feature (IsPermutation-sym asked others order) ((k.known.of_some feature).0 known)),
       ));
       unknown = subst (λ (us : List Unknown). IsReordering us d.experimental.unknown) (sym h.unknown) (subst (IsReordering (flat_map entry_of asked)) (sym k.unknown) (flat_map_reordered entry_of asked others order));
-      arrays = subst (λ (ps : List Place). IsReordering ps d.experimental.arrays) (sym h.arrays) (subst (IsReordering (flat_map array_of asked)) (sym k.arrays) (flat_map_reordered array_of asked others order));
-      verdicts = λ current overridden. judged_alike (unmet c.roles.required current) (unmet c.roles.recommended current) (unmet d.roles.required current) (unmet d.roles.recommended current) current overridden
+      arrays = subst (λ (ps : List SourcePlace). IsReordering ps d.experimental.arrays) (sym h.arrays) (subst (IsReordering (flat_map array_of asked)) (sym k.arrays) (flat_map_reordered array_of asked others order));
+      verdicts = λ current overridden. judged_alike (not_met c.roles.required current) (not_met c.roles.recommended current) (not_met d.roles.required current) (not_met d.roles.recommended current) current overridden
           (unmet_alike c.roles.required d.roles.required current required) (unmet_alike c.roles.recommended d.roles.recommended current recommended);
     }
 

@@ -5,8 +5,8 @@ use Rattle.std.proofs.lemmas.List.{map-append}
 use Rattle.std.specs.List.{AllByRecursion}
 use Rattle.semver.specs.Parse.{Parts}
 use Rattle.nextest_config.specs.NextestVersion.Verdict.{Verdict}
-use Rattle.nextest_config_sources.specs.NextestVersion.{Ask, is_below, IsBelow, Place}
-use Rattle.nextest_config.specs.NextestVersion.{alone, asked_from, AsksNoGreater, AsksNone, AsksOther, Configuration, error, gravity, IsGravest, IsGreatest, IsNoGraver, IsNoGreaterOfItsKind, IsOtherOfItsKind, IsSatisfied, IsSelected, judged, Kept, named_version, Roles, satisfied, SelectsFor, short_of, Shortfall, SourceAsk, StandsFor, StandsIn, unmet, warn}
+use Rattle.nextest_config_sources.specs.NextestVersion.{Ask, is_below, IsBelow, SourcePlace}
+use Rattle.nextest_config.specs.NextestVersion.{alone, AsksNoGreater, AsksNone, AsksOther, Configuration, error, gravity, IsConfigurationOf, IsGravest, IsGreatest, IsNoGraver, IsNoGreaterOfItsKind, IsOtherOfItsKind, IsSatisfied, IsSelected, Kept, named_version, not_met, role_from, Roles, satisfied, SelectsFor, short_of, Shortfall, SourceAsk, StandsFor, StandsIn, verdict_by, warn}
 use Rattle.nextest_config_sources.specs.NextestVersion.Source.{Source}
 use Rattle.nextest_config_lists.proofs.Lists.{all_mapped, map_agrees}
 use Rattle.nextest_config_values.proofs.Elements.{all_always, all_both, all_weaker}
@@ -18,20 +18,20 @@ abbrev tier : (Shortfall → Verdict) → Option Kept → Parts → Bool → Ver
 tier tell (Some kept) current overridden lower = tell (short_of kept current overridden)
 tier tell None current overridden lower = lower
 
-judged-tiers : (required recommended : Option Kept) (current : Parts) (overridden : Bool)
-    → judged required recommended current overridden ≡ tier error required current overridden (tier warn recommended current overridden satisfied)
-judged-tiers required recommended current overridden = search rules
+verdict_by-tiers : (required recommended : Option Kept) (current : Parts) (overridden : Bool)
+    → verdict_by required recommended current overridden ≡ tier error required current overridden (tier warn recommended current overridden satisfied)
+verdict_by-tiers required recommended current overridden = search rules
 
 -- what the tier tells of a place that asks this
-abbrev told : (Shortfall → Verdict) → Parts → Bool → Place → Option Parts → Verdict → Verdict
-told tell current overridden place asked lower = tier tell (unmet (asked_from place asked) current) current overridden lower
+abbrev told : (Shortfall → Verdict) → Parts → Bool → SourcePlace → Option Parts → Verdict → Verdict
+told tell current overridden place asked lower = tier tell (not_met (role_from place asked) current) current overridden lower
 
 module _ (tell : Shortfall → Verdict) (severity : ℕ) (grave : (s : Shortfall) → gravity (tell s) ≡ severity) (names : (s : Shortfall) → named_version (tell s) ≡ Some s.asked) (current : Parts) (overridden : Bool) where
   record IsInTier (asked : Option Parts) (v : Verdict) : Type 0 where
     no_graver : gravity v ≤ severity
     names_asked : gravity v ≡ severity → named_version v ≡ asked
 
-  in_tier : (place : Place) (asked : Option Parts) (lower : Verdict) → gravity lower < severity → IsInTier asked (told tell current overridden place asked lower)
+  in_tier : (place : SourcePlace) (asked : Option Parts) (lower : Verdict) → gravity lower < severity → IsInTier asked (told tell current overridden place asked lower)
   in_tier place None lower below = record { no_graver = omega arith; names_asked = λ e. absurd (omega arith) }
   in_tier place (Some v) lower below = elim (cases_Bool (is_below current v)) [
     | inl short ↦
@@ -74,21 +74,21 @@ module _ (tell : Shortfall → Verdict) (severity : ℕ) (grave : (s : Shortfall
 
 -- ---- a role that is met is met for each source alone
 
-pub not_short : (kept : Kept) (current : Parts) → unmet (Some kept) current ≡ None → ¬ IsBelow current kept.version
+pub not_short : (kept : Kept) (current : Parts) → not_met (Some kept) current ≡ None → ¬ IsBelow current kept.version
 not_short kept current met short = cc (rw short at met)
 
-pub enough_met : (kept : Kept) (current : Parts) → ¬ IsBelow current kept.version → unmet (Some kept) current ≡ None
+pub enough_met : (kept : Kept) (current : Parts) → ¬ IsBelow current kept.version → not_met (Some kept) current ≡ None
 enough_met kept current enough = search rules
 
-no_greater_met : (kept : Kept) (current : Parts) (place : Place) (more : Option Parts) → ¬ IsBelow current kept.version → IfSome more (λ greater. ¬ IsBelow kept.version greater)
-    → unmet (asked_from place more) current ≡ None
+no_greater_met : (kept : Kept) (current : Parts) (place : SourcePlace) (more : Option Parts) → ¬ IsBelow current kept.version → IfSome more (λ greater. ¬ IsBelow kept.version greater)
+    → not_met (role_from place more) current ≡ None
 no_greater_met kept current place None enough none = refl
 no_greater_met kept current place (Some v) enough none = enough_met (record { version = v; place = place }) current (not_below_trans current kept.version v enough none)
 
 abbrev IsMetAlone : (Ask → Option Parts) → Parts → SourceAsk → Type 0
-IsMetAlone role current a = unmet (asked_from a.place (role a.ask)) current ≡ None
+IsMetAlone role current a = not_met (role_from a.place (role a.ask)) current ≡ None
 
-met_alone : (role : Ask → Option Parts) (asked : List SourceAsk) (kept : Option Kept) (current : Parts) → StandsIn role asked kept → unmet kept current ≡ None
+met_alone : (role : Ask → Option Parts) (asked : List SourceAsk) (kept : Option Kept) (current : Parts) → StandsIn role asked kept → not_met kept current ≡ None
     → AllByRecursion (IsMetAlone role current) asked
 met_alone role asked None current h met = all_weaker (AsksNone role) (IsMetAlone role current) (λ a none. rw none refl) asked h
 met_alone role asked (Some kept) current h met =
@@ -107,7 +107,7 @@ alone-met : (current : Parts) (overridden : Bool) (a : SourceAsk) → IsMetAlone
     → alone current overridden a ≡ told warn current overridden a.place a.ask.versions.recommended satisfied
 alone-met current overridden a met = search rules
 
-pub unmet_is : (o : Option Kept) (current : Parts) (kept : Kept) → unmet o current ≡ Some kept → (o ≡ Some kept) × (is_below current kept.version ≡ true)
+pub unmet_is : (o : Option Kept) (current : Parts) (kept : Kept) → not_met o current ≡ Some kept → (o ≡ Some kept) × (is_below current kept.version ≡ true)
 unmet_is o current kept e = search rules
 
 below_error : (o : Option Kept) (current : Parts) (overridden : Bool) → gravity (tier warn o current overridden satisfied) < 2
@@ -117,10 +117,10 @@ below_error o current overridden = search (rules, arith)
 selects_error : (asked : List SourceAsk) (kept : Kept) (current : Parts) (overridden : Bool) → IsGreatest required asked kept → is_below current kept.version ≡ true
     → IsGravest (map (alone current overridden) asked) (error (short_of kept current overridden))
 selects_error asked kept current overridden greatest short =
-    let lower : SourceAsk → Verdict = λ a. tier warn (unmet (asked_from a.place a.ask.versions.recommended) current) current overridden satisfied in
+    let lower : SourceAsk → Verdict = λ a. tier warn (not_met (role_from a.place a.ask.versions.recommended) current) current overridden satisfied in
     let tells : SourceAsk → Verdict = λ a. told error current overridden a.place a.ask.versions.required (lower a) in
     let same : map (alone current overridden) asked ≡ map tells asked =
-    map_agrees (alone current overridden) tells asked (all_always (λ a. judged-tiers (unmet (asked_from a.place a.ask.versions.required) current) _ current overridden) asked) in
+    map_agrees (alone current overridden) tells asked (all_always (λ a. verdict_by-tiers (not_met (role_from a.place a.ask.versions.required) current) _ current overridden) asked) in
     rw same (gravest_in_tier error 2 (λ s. refl) (λ s. refl) current overridden required lower asked kept (λ a. below_error _ current overridden) greatest short)
 
 -- an unmet recommended version, where the required one is met
@@ -139,8 +139,8 @@ selects_satisfied asked current overridden met also =
     (λ a both. rw (both.0, both.1) refl) asked (all_both (IsMetAlone required current) (IsMetAlone recommended current) asked met also)
 
 pub selects_by : (asked : List SourceAsk) (roles : Roles) (current : Parts) (overridden : Bool) (r m : Option Kept)
-    → StandsIn required asked roles.required → StandsIn recommended asked roles.recommended → unmet roles.required current ≡ r → unmet roles.recommended current ≡ m
-    → IsSelected (map (alone current overridden) asked) (judged r m current overridden)
+    → StandsIn required asked roles.required → StandsIn recommended asked roles.recommended → not_met roles.required current ≡ r → not_met roles.recommended current ≡ m
+    → IsSelected (map (alone current overridden) asked) (verdict_by r m current overridden)
 selects_by asked roles current overridden (Some kept) m h k r_is m_is =
     let is = unmet_is roles.required current kept r_is in
     inr (selects_error asked kept current overridden (subst (StandsIn required asked) is.0 h) is.1)
@@ -153,3 +153,7 @@ selects_by asked roles current overridden None None h k r_is m_is =
 
 pub selects_for : (sources : List Source) (c : Configuration) → StandsFor sources c → SelectsFor sources c.roles
 selects_for sources c (asked, read, stands) = (asked, read, λ current overridden. selects_by asked c.roles current overridden _ _ stands.required stands.recommended refl refl)
+
+-- what stands for a list is what reading it gives
+pub configured : (sources : List Source) (c : Configuration) → StandsFor sources c → IsConfigurationOf sources c
+configured sources c stands = record { reads = (stands.0, stands.1); stands = stands; selected = selects_for sources c stands }

@@ -5,13 +5,13 @@ use Rattle.std.proofs.lemmas.List.{append_assoc, get_or_at, length_push}
 use Rattle.semver.specs.Identifiers.{parts_of}
 use Rattle.semver.specs.Parse.{Parts}
 use Rattle.semver.specs.declared.Version.{Version}
-use Rattle.nextest_config.specs.Board.RolePair.{asked_in, later_asked, later_pair, no_pair, pair_in, version_at}
-use Rattle.nextest_config.specs.Board.Slots.{AreHeld, asked_at, board_list, BoardState, IsFrom, IsHeld, kept_in, roles_in, slot_of, slots_of}
+use Rattle.nextest_config.specs.Board.RolePair.{later_asked, later_pair, no_pair, pair_in, slot_version, version_at}
+use Rattle.nextest_config.specs.Board.Slots.{AreHeld, ask_of_versions, board_list, BoardState, IsFrom, IsHeld, kept_in, roles_in, slot_of, slots_of}
 use Rattle.nextest_config_lists.specs.Merge.{total}
 use Rattle.nextest_config.specs.NextestVersion.Verdict.{Verdict}
 use Rattle.nextest_config_sources.specs.NextestVersion.{place_of, plain, Versions, versions, versions_of}
-use Rattle.nextest_config.specs.NextestVersion.{alone, asked_from, IsSelected, join_kept, join_roles, Kept, no_roles, Roles, roles_from, SourceAsk, StandsIn, unmet, verdict}
-use Rattle.nextest_config.specs.declared.board.role_pair.AskedAt.{AskedAt}
+use Rattle.nextest_config.specs.NextestVersion.{alone, IsSelected, join_kept, join_roles, Kept, no_roles, not_met, role_from, Roles, roles_from, SourceAsk, StandsIn, verdict}
+use Rattle.nextest_config.specs.declared.board.role_pair.SlotVersion.{SlotVersion}
 use Rattle.nextest_config.specs.declared.board.role_pair.RolePair.{RolePair}
 use Rattle.nextest_config_sources.specs.declared.nextest_version.nextest_version_deserialize.NextestVersionDeserialize.{NextestVersionDeserialize}
 use Rattle.nextest_config_sources.specs.declared.nextest_version.source.ConfigSource.{ConfigSource}
@@ -58,10 +58,10 @@ no_slots (suc n) = ap (λ slots. None ∷ slots) (no_slots n)
 
 -- ---- a source that is put into a slot
 
-pub from_in : (slot : ℕ) (asked : Option Version) → IsFrom slot (option_map (asked_in slot) asked)
+pub from_in : (slot : ℕ) (asked : Option Version) → IsFrom slot (option_map (slot_version slot) asked)
 from_in slot asked = search rules
 
-same_version : (slot : ℕ) (asked : Option Version) → IsPlainVersion (option_map parts_of asked) → option_map version_at (option_map (asked_in slot) asked) ≡ option_map parts_of asked
+same_version : (slot : ℕ) (asked : Option Version) → IsPlainVersion (option_map parts_of asked) → option_map version_at (option_map (slot_version slot) asked) ≡ option_map parts_of asked
 same_version slot None plain = refl
 same_version slot (Some version) (numbers, is) = ap Some (ap (λ (v : Parts). plain (v.0, v.1, v.2)) is ∙ sym is)
 
@@ -73,18 +73,18 @@ same_versions slot asked are = ap₂ versions (same_version slot asked.required 
 
 module _ (whole : List (Option ConfigSource)) where
   -- this is kept of what is asked
-  abbrev IsKept : Option AskedAt → Option Kept → Type 0
+  abbrev IsKept : Option SlotVersion → Option Kept → Type 0
   IsKept None kept = kept ≡ None
   IsKept (Some asked) kept = (one : Kept) × (kept ≡ Some one) × (one.version ≡ version_at asked) × (kept_in whole (Some asked) ≡ Some one)
 
-  kept_is : (asked : Option AskedAt) (kept : Option Kept) → IsKept asked kept → kept_in whole asked ≡ kept
+  kept_is : (asked : Option SlotVersion) (kept : Option Kept) → IsKept asked kept → kept_in whole asked ≡ kept
   kept_is None kept is = sym is
   kept_is (Some asked) kept (one, is, version, found) = found ∙ sym is
 
-  joined : (a b : Option AskedAt) (k l : Option Kept) → IsKept a k → IsKept b l → IsKept (later_asked a b) (join_kept k l)
+  joined : (a b : Option SlotVersion) (k l : Option Kept) → IsKept a k → IsKept b l → IsKept (later_asked a b) (join_kept k l)
   joined a b k l h m = search rules
 
-  from_slot : (source : ConfigSource) (slot : ℕ) (asked : Option AskedAt) → get_or whole slot None ≡ Some source → IsFrom slot asked → IsKept asked (asked_from (place_of source) (option_map version_at asked))
+  from_slot : (source : ConfigSource) (slot : ℕ) (asked : Option SlotVersion) → get_or whole slot None ≡ Some source → IsFrom slot asked → IsKept asked (role_from (place_of source) (option_map version_at asked))
   from_slot source slot None here is = refl
   from_slot source slot (Some asked) here is = (record { version = version_at asked; place = place_of source }, refl, refl, rw (is, here) refl)
 
@@ -110,7 +110,7 @@ module _ (whole : List (Option ConfigSource)) where
       let rest = all_kept (before ++ (Some source ∷ [])) sources pairs (parts ∙ sym (append_assoc before (Some source ∷ []) sources)) (subst (λ n. AreHeld n sources pairs) (sym (one_more before (Some source))) held.1) in
       let here : get_or whole (length before) None ≡ Some source = ap (λ xs. get_or xs (length before) None) parts ∙ get_or_at before (Some source) sources None (length before) refl in
       let asks : Versions = versions (option_map version_at pair.required) (option_map version_at pair.recommended) in
-      let one : SourceAsk = asked_at (place_of source) asks in
+      let one : SourceAsk = ask_of_versions (place_of source) asks in
       let kept : Roles = roles_from (place_of source) asks in
       record {
         roles = join_roles kept rest.roles;
@@ -126,7 +126,7 @@ module _ (whole : List (Option ConfigSource)) where
   board_selects pairs held chosen is current overridden =
       let kept = all_kept [] whole pairs refl held in
       let roles : Roles = kept.roles in
-      let selected = selects_by (board_list (slots_of whole pairs)) roles current overridden (unmet roles.required current) (unmet roles.recommended current) kept.stands_required kept.stands_recommended refl refl in
+      let selected = selects_by (board_list (slots_of whole pairs)) roles current overridden (not_met roles.required current) (not_met roles.recommended current) kept.stands_required kept.stands_recommended refl refl in
       rw (is, kept_is (total later_pair no_pair pairs).required roles.required kept.required, kept_is (total later_pair no_pair pairs).recommended roles.recommended kept.recommended) selected
 
 -- ---- what is told

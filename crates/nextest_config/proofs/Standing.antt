@@ -10,8 +10,8 @@ use Rattle.std.specs.List.{AllByRecursion, AllZip}
 use Rattle.std.specs.List.Sorted.{IsStrictlySortedBy}
 use Rattle.semver.specs.Parse.{Parts}
 use Rattle.nextest_config_lists.specs.Merge.{HavePieces, IsJoinOfPieces, total}
-use Rattle.nextest_config_sources.specs.NextestVersion.{Ask, FeaturesInOrder, is_below, nothing, IsBelow, Place}
-use Rattle.nextest_config.specs.NextestVersion.{Adds, AreRead, array_of, asked_from, AsksNoGreater, AsksNone, AsksOther, Configuration, configuration_from, entry_of, IsEnabledBySome, IsGreatest, IsRead, IsReadAs, IsSeenAs, join_configurations, join_kept, Kept, neutral, neutral_seen, Reads, seen_configuration, SeenConfiguration, SourceAsk, StandsFor, StandsForAsks, StandsForOne, StandsIn, Unknown}
+use Rattle.nextest_config_sources.specs.NextestVersion.{Ask, FeaturesInOrder, is_below, nothing, IsBelow, SourcePlace}
+use Rattle.nextest_config.specs.NextestVersion.{AreRead, array_of, AsksNoGreater, AsksNone, AsksOther, Configuration, configuration_from, entry_of, IsEnabledBySome, IsGreatest, IsRead, IsReadAs, IsSeenAs, join_configurations, join_kept, Kept, neutral, neutral_seen, Reads, role_from, seen_configuration, SeenConfiguration, SourceAsk, StandsFor, StandsForAsks, StandsForOne, StandsIn, Unknown}
 use Rattle.nextest_config_sources.specs.NextestVersion.PrecedenceLaws.{below_trans, not_below_itself, not_below_trans}
 use Rattle.nextest_config_sources.specs.NextestVersion.Source.{Source}
 use Rattle.nextest_config_lists.proofs.Lists.{zip_joined}
@@ -23,7 +23,7 @@ use Rattle.nextest_config.proofs.Orders.{has_feature_iff}
 -- ---- one role
 
 module _ (role : Ask → Option Parts) where
-  -- the greatest of a list stays it among asks in front of which none is greater, and behind which none is as great
+  -- the greatest of a list stays it among asks before which none is greater, and after which none is as great
   stays : (front xs back : List SourceAsk) (kept : Kept) → AllByRecursion (AsksNoGreater role kept.version) front → IsGreatest role xs kept → AllByRecursion (AsksOther role kept.version) back
       → AllByRecursion (AsksNoGreater role kept.version) back → IsGreatest role (front ++ (xs ++ back)) kept
   stays front xs back kept below h others also_below = record {
@@ -63,7 +63,7 @@ module _ (role : Ask → Option Parts) where
         rw above (takes_over xs ys later no_greater k)
   ]
 
-  pub stands_alone : (a : SourceAsk) (found : Option Parts) → role a.ask ≡ found → StandsIn role (a ∷ []) (asked_from a.place found)
+  pub stands_alone : (a : SourceAsk) (found : Option Parts) → role a.ask ≡ found → StandsIn role (a ∷ []) (role_from a.place found)
   stands_alone a None asks = (asks, tt)
   stands_alone a (Some v) asks = record { before = []; last = a; after = []; whole = refl; version = asks; place = refl; others_later = tt; none_greater = (rw asks (not_below_itself v), tt) }
 
@@ -127,23 +127,26 @@ seen_both xs ys a b h k = record {
             (Contains-append_cases xs ys one there),
       );
   unknown = ap₂ (λ (us vs : List Unknown). us ++ vs) h.unknown k.unknown ∙ sym (flat_map-append entry_of xs ys);
-  arrays = ap₂ (λ (ps qs : List Place). ps ++ qs) h.arrays k.arrays ∙ sym (flat_map-append array_of xs ys);
+  arrays = ap₂ (λ (ps qs : List SourcePlace). ps ++ qs) h.arrays k.arrays ∙ sym (flat_map-append array_of xs ys);
 }
 
 -- ---- the configuration
 
--- what a source adds to nothing stands for it
-pub stands_added : (source : Source) (none new : Configuration) → none ≡ neutral → Adds source none new → StandsForOne source new
-stands_added source none new is adds =
-    let a : SourceAsk = record { place = source.place; ask = adds.ask } in
+-- what an ask adds to nothing stands for it
+pub stands_for_ask : (a : SourceAsk) (none new : Configuration) → none ≡ neutral → IsSeenAs (join_configurations (seen_configuration none) (seen_configuration (configuration_from a.place a.ask))) new → StandsForAsks (a ∷ []) new
+stands_for_ask a none new is joined =
     let seen : SeenConfiguration = seen_configuration (configuration_from a.place a.ask) in
-    let joined : IsSeenAs seen new = subst (λ (c : Configuration). IsSeenAs (join_configurations (seen_configuration c) seen) new) is adds.joined in
-    (a ∷ [], (record { place = refl; read = adds.read }, tt), stands_as (a ∷ []) seen new (seen_alone a) joined)
+    stands_as (a ∷ []) seen new (seen_alone a) (subst (λ (c : Configuration). IsSeenAs (join_configurations (seen_configuration c) seen) new) is joined)
+
+-- what stands for the ask of a source stands for the source
+pub stands_for_read : (source : Source) (ask : Ask) (c : Configuration) → IsRead source ask → StandsForAsks (record { place = source.place; ask = ask } ∷ []) c → StandsForOne source c
+stands_for_read source ask c read stands = (record { place = source.place; ask = ask } ∷ [], (record { place = refl; read = read }, tt), stands)
 
 -- the neutral configuration stands for a source that asks nothing
 pub stands_for_nothing : (source : Source) (none : Configuration) → none ≡ neutral → IsRead source nothing → StandsForOne source none
 unfolding IsStrictlySortedBy
-stands_for_nothing source none is read = stands_added source none none is (record { ask = nothing; read = read; joined = rw is (record { roles = refl; experimental = record { same = refl; in_order = tt } }) })
+stands_for_nothing source none is read =
+    stands_for_read source nothing none read (stands_for_ask (record { place = source.place; ask = nothing }) none none is (rw is (record { roles = refl; experimental = record { same = refl; in_order = tt } })))
 
 -- ---- lists in a row
 

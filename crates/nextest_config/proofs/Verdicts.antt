@@ -4,8 +4,8 @@ use Rattle.std.proofs.lemmas.Bool.{false≢true}
 use Rattle.std.specs.List.{AllByRecursion}
 use Rattle.semver.specs.Parse.{Parts}
 use Rattle.nextest_config.specs.NextestVersion.Verdict.{Verdict}
-use Rattle.nextest_config_sources.specs.NextestVersion.{IsBelow, Place}
-use Rattle.nextest_config.specs.NextestVersion.{alone, asked_from, gravity, IsFromSource, IsGravest, IsNoGraver, IsSatisfied, IsSelected, judged, Kept, named_place, Roles, roles_from, satisfied, Shortfall, SourceAsk, unmet, verdict, warn}
+use Rattle.nextest_config_sources.specs.NextestVersion.{IsBelow, SourcePlace}
+use Rattle.nextest_config.specs.NextestVersion.{alone, gravity, IsFromSource, IsGravest, IsNoGraver, IsSatisfied, IsSelected, Kept, named_place, not_met, role_from, Roles, roles_from, satisfied, Shortfall, SourceAsk, verdict, verdict_by, warn}
 use Rattle.nextest_config_lists.proofs.Lists.{all_mapped}
 use Rattle.nextest_config_values.proofs.Elements.{all_middle, all_weaker}
 use Rattle.nextest_config_sources.specs.NextestVersion.PrecedenceLaws.{not_below_trans}
@@ -14,11 +14,11 @@ use Rattle.nextest_config.proofs.Selection.{enough_met, not_short, unmet_is}
 -- ---- whence a verdict comes
 
 -- an unmet version of a source is the one that it asks, at its place
-pub unmet_alone : (place : Place) (asked : Option Parts) (current : Parts) (kept : Kept) → unmet (asked_from place asked) current ≡ Some kept → (asked ≡ Some kept.version) × (kept.place ≡ place)
+pub unmet_alone : (place : SourcePlace) (asked : Option Parts) (current : Parts) (kept : Kept) → not_met (role_from place asked) current ≡ Some kept → (asked ≡ Some kept.version) × (kept.place ≡ place)
 unmet_alone place asked current kept e = search (rules, unmet_is)
 
-names_its_place : (current : Parts) (overridden : Bool) (a : SourceAsk) (r m : Option Kept) → unmet (asked_from a.place a.ask.versions.required) current ≡ r → unmet (asked_from a.place a.ask.versions.recommended) current ≡ m
-    → judged r m current overridden ≢ satisfied → named_place (judged r m current overridden) ≡ Some a.place
+names_its_place : (current : Parts) (overridden : Bool) (a : SourceAsk) (r m : Option Kept) → not_met (role_from a.place a.ask.versions.required) current ≡ r → not_met (role_from a.place a.ask.versions.recommended) current ≡ m
+    → verdict_by r m current overridden ≢ satisfied → named_place (verdict_by r m current overridden) ≡ Some a.place
 names_its_place current overridden a r m r_is m_is told = search (rules, unmet_alone)
 
 -- a verdict among those of the sources alone, unless it is satisfied
@@ -63,18 +63,18 @@ no_warning required recommended current overridden s lower e =
 
 -- ---- a greater current version
 
-still_met : (kept : Option Kept) (lesser greater : Parts) → ¬ IsBelow greater lesser → unmet kept lesser ≡ None → unmet kept greater ≡ None
+still_met : (kept : Option Kept) (lesser greater : Parts) → ¬ IsBelow greater lesser → not_met kept lesser ≡ None → not_met kept greater ≡ None
 still_met None lesser greater above met = refl
 still_met (Some kept) lesser greater above met = enough_met kept greater (not_below_trans greater lesser kept.version above (not_short kept lesser met))
 
 at_most_error : (v : Verdict) → gravity v ≤ 2
 at_most_error v = search (rules, arith)
 
-at_most_warning : (m : Option Kept) (current : Parts) (overridden : Bool) → gravity (judged None m current overridden) ≤ 1
+at_most_warning : (m : Option Kept) (current : Parts) (overridden : Bool) → gravity (verdict_by None m current overridden) ≤ 1
 at_most_warning m current overridden = search (rules, arith)
 
-no_graver_by : (roles : Roles) (lesser greater : Parts) (overridden : Bool) (r m : Option Kept) → ¬ IsBelow greater lesser → unmet roles.required lesser ≡ r → unmet roles.recommended lesser ≡ m
-    → IsNoGraver (judged r m lesser overridden) (verdict roles greater overridden)
+no_graver_by : (roles : Roles) (lesser greater : Parts) (overridden : Bool) (r m : Option Kept) → ¬ IsBelow greater lesser → not_met roles.required lesser ≡ r → not_met roles.recommended lesser ≡ m
+    → IsNoGraver (verdict_by r m lesser overridden) (verdict roles greater overridden)
 no_graver_by roles lesser greater overridden r m above r_is m_is = search (rules, arith, at_most_error, at_most_warning, still_met)
 
 pub no_graver_greater : (roles : Roles) (lesser greater : Parts) (overridden : Bool) → ¬ IsBelow greater lesser → IsNoGraver (verdict roles lesser overridden) (verdict roles greater overridden)

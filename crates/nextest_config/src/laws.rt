@@ -5,7 +5,7 @@ ghost use Rattle.std.specs.List.{AllByRecursion, AllZip};
 ghost use Rattle.std.specs.Ordering.{nat_cmp};
 ghost use Rattle.semver.specs.Parse.{Parts};
 ghost use Rattle.nextest_config_lists.specs.Choice.{halvings};
-ghost use Rattle.nextest_config.specs.Board.Commands.{ChangesInTurn, Command, empty_board, HoldsLast, present, slot_in, sources_after};
+ghost use Rattle.nextest_config.specs.Board.Commands.{BoardCommand, ChangesInTurn, empty_board, HoldsLast, present, slot_in, sources_after};
 ghost use Rattle.nextest_config.specs.Board.Slots.{board_list, BoardState};
 ghost use Rattle.nextest_config_lists.specs.Merge.{IsCut, IsMonoid, IsReordering};
 ghost use Rattle.nextest_config.specs.NextestVersion.Verdict.{Verdict};
@@ -155,12 +155,13 @@ pub fn law_added_source()
 /// that was put into it last, or none where it was left empty since or never changed; and the
 /// choices that are counted are those of the last change.
 pub fn law_board_follows()
-    ensures slots { (n : ℕ) (commands : List Command) (board : BoardState)
+    ensures slots { (n : ℕ) (commands : List BoardCommand) (board : BoardState)
         → ChangesInTurn commands (empty_board n) board → length board.slots ≡ n }
-    ensures holds { (n : ℕ) (commands : List Command) (board : BoardState)
+    ensures holds { (n : ℕ) (commands : List BoardCommand) (board : BoardState)
         → ChangesInTurn commands (empty_board n) board
         → (slot : ℕ) → HoldsLast commands slot (get_or board.slots slot None) }
-    ensures selections { (n : ℕ) (commands : List Command) (last : Command) (board : BoardState)
+    ensures selections { (n : ℕ) (commands : List BoardCommand) (last : BoardCommand)
+        (board : BoardState)
         → ChangesInTurn (commands ++ (last ∷ [])) (empty_board n) board
         → board.selections ≡ halvings n (slot_in last) }
 {}
@@ -168,7 +169,7 @@ pub fn law_board_follows()
 /// The verdict of a board is that of the sources that its slots hold, read as one list in the order
 /// of the slots.
 pub fn law_board_verdict()
-    ensures { (n : ℕ) (commands : List Command) (board : BoardState) (current : Parts)
+    ensures { (n : ℕ) (commands : List BoardCommand) (board : BoardState) (current : Parts)
         (overridden : Bool) (v : Verdict) → ChangesInTurn commands (empty_board n) board
         → IsSelected (map (alone current overridden) (board_list board.slots)) v
         ↔ IsSelectedFor (present (sources_after commands (replicate n None))) current overridden v }

@@ -1,6 +1,8 @@
 //! The part of the configuration that is read before any other: which nextest version it needs, and
 //! which experimental features it names.
 
+mod borrowed_source;
+mod document;
 mod error;
 mod experimental_config;
 mod file;
@@ -8,6 +10,7 @@ mod kept_versions;
 mod verdict;
 mod version_only;
 
+pub use document::SourceDocument;
 pub use error::{ConfigParseError, ListRefusal};
 pub use experimental_config::{ArraySources, ExperimentalConfig, SourceErrors};
 pub use kept_versions::{NextestVersionConfig, NextestVersionReq};

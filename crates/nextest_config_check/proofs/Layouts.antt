@@ -5,8 +5,9 @@ use Rattle.std.proofs.Math.Logic.{⊎_elim, ⊎_map}
 use Rattle.std.proofs.lemmas.Bool.{cond_both}
 use Rattle.std.proofs.lemmas.List.{append_cancel_right}
 use Rattle.nextest_config_sources.specs.NextestVersion.Source.{Given}
-use Rattle.nextest_config_sources.specs.NextestVersion.{Place}
-use Rattle.nextest_config_check.specs.Layout.{line_feed, carriage_return, line_number, mark, trimmed, AreBlocks, AreSourcesBefore, EndsLine, IsBlock, IsCut, IsFaultyBlock, IsFaultyLine, IsFirstLine, IsInLine, HasNoMarkedLine, HasNoMarkedLineBelow}
+use Rattle.nextest_config_sources.specs.NextestVersion.{SourcePlace}
+use Rattle.nextest_config_positions.specs.Line.{line_after}
+use Rattle.nextest_config_check.specs.Layout.{line_feed, carriage_return, mark, trimmed, AreBlocks, AreSourcesBefore, IsEmptyOrEndsLine, IsBlock, IsBlockCut, IsFaultyBlock, IsFaultyLine, IsFirstLine, IsInLine, HasNoMarkedLine, HasNoMarkedLineBelow}
 use Rattle.nextest_config_check.proofs.Lines.{first_line_of_cut, not_in_line}
 use Rattle.nextest_config_check.proofs.Blocks.{ends_line_rest}
 use Rattle.nextest_config_check.proofs.SourceLines.{place_once}
@@ -35,7 +36,7 @@ first_line_once text line rest other after (inr first) (inr second) = (first.lin
 block_once : (text : List ℕ) (source other : Given) → IsBlock text source → IsBlock text other → source ≡ other
 block_once text source other block another =
     let same = first_line_once text block.line block.contents another.line another.contents block.first another.first in
-    let made : Place → Option (List ℕ) → Given = λ (p : Place) (c : Option (List ℕ)). record { place = p; contents = c } in
+    let made : SourcePlace → Option (List ℕ) → Given = λ (p : SourcePlace) (c : Option (List ℕ)). record { place = p; contents = c } in
     ap₂ made (place_once another.line source.place other.place (rw (← same.0) block.names) another.names) (block.holds ∙ ap Some same.1 ∙ sym another.holds)
 
 abbrev IsMarked : List ℕ → Type 0
@@ -63,7 +64,7 @@ block_some text source block =
     omega (arith, ap length marked.1, length-append mark marked.0)
 
 -- what follows a line feed of a text begins a line of what follows the text's first line feed
-feed_below : (bytes contents front rest : List ℕ) → AllByRecursion IsInLine bytes → bytes ++ (line_feed ∷ contents) ≡ front ++ (line_feed ∷ rest) → (before : List ℕ) × (contents ≡ before ++ rest) × EndsLine before
+feed_below : (bytes contents front rest : List ℕ) → AllByRecursion IsInLine bytes → bytes ++ (line_feed ∷ contents) ≡ front ++ (line_feed ∷ rest) → (before : List ℕ) × (contents ≡ before ++ rest) × IsEmptyOrEndsLine before
 feed_below [] contents [] rest one_line e = ([], cc e, inl refl)
 feed_below [] contents (byte ∷ front) rest one_line e = (front ++ (line_feed ∷ []), cc (e, append_assoc front (line_feed ∷ []) rest), inr (front, refl))
 feed_below (byte ∷ bytes) contents [] rest one_line e = absurd (one_line.0 (cc e))
@@ -90,7 +91,7 @@ append_cut (byte ∷ front) rest (other ∷ longer) after e =
     (λ (shorter : IsFront longer after front rest). (shorter.0, ap₂ (λ b l. b ∷ l) head shorter.1, shorter.2)) (append_cut front rest longer after (cc e))
 
 -- a front of a text with the mark is marked itself, where it is the text or ends a line: what ends a line is no part of the mark
-front_marked : (byte : ℕ) (front after more : List ℕ) → mark ++ more ≡ (byte ∷ front) ++ after → (after ≡ []) ⊎ EndsLine (byte ∷ front) → IsMarked (byte ∷ front)
+front_marked : (byte : ℕ) (front after more : List ℕ) → mark ++ more ≡ (byte ∷ front) ++ after → (after ≡ []) ⊎ IsEmptyOrEndsLine (byte ∷ front) → IsMarked (byte ∷ front)
 front_marked byte front after more e (inl empty) = (more, cc (e, empty, append-nil (byte ∷ front)))
 front_marked byte front after more e (inr (inl empty)) = absurd (cc empty)
 front_marked byte front after more e (inr (inr (before, ended))) =
@@ -99,22 +100,22 @@ front_marked byte front after more e (inr (inr (before, ended))) =
     absurd (not_in_line before shorter.0 (subst (AllByRecursion IsInLine) whole (omega arith))) in
     ⊎_elim (λ (longer : IsFront mark more (byte ∷ front) after). (longer.0, longer.1)) within (append_cut mark more (byte ∷ front) after e)
 
--- behind the end of a line in a block no mark follows
-mark_below : (block more : List ℕ) → 0 < length block → EndsLine block → IsMarked more → HasNoMarkedLineBelow (block ++ more) → ⊥
+-- after the end of a line in a block no mark follows
+mark_below : (block more : List ℕ) → 0 < length block → IsEmptyOrEndsLine block → IsMarked more → HasNoMarkedLineBelow (block ++ more) → ⊥
 mark_below block more some (inl empty) marked unmarked = absurd (omega (arith, ap length empty))
 mark_below block more some (inr ends) marked unmarked = unmarked ends.0 marked.0 (cc (ends.1, marked.1, append_assoc ends.0 (line_feed ∷ []) more))
 
 -- where a text is cut, the block goes on by nothing
-cut_front : (text block rest longer after : List ℕ) → IsCut text block rest → IsCut text longer after → IsFront block rest longer after → (block ≡ longer) × (rest ≡ after)
+cut_front : (text block rest longer after : List ℕ) → IsBlockCut text block rest → IsBlockCut text longer after → IsFront block rest longer after → (block ≡ longer) × (rest ≡ after)
 cut_front text block rest longer after cut other ([], longer_is, rest_is) = (cc (longer_is, append-nil block), rest_is)
 cut_front text block rest longer after cut other (byte ∷ more, longer_is, rest_is) =
     let some : 0 < length block = cut.some (omega (arith, ap length cut.whole, length-append block rest, ap length rest_is)) in
-    let going : IsCut text (block ++ (byte ∷ more)) after = rw longer_is at other in
-    let ends : (after ≡ []) ⊎ EndsLine (byte ∷ more) = ⊎_map (λ e. e) (λ ends. ends_line_rest block (byte ∷ more) ends.0) going.ended in
+    let going : IsBlockCut text (block ++ (byte ∷ more)) after = rw longer_is at other in
+    let ends : (after ≡ []) ⊎ IsEmptyOrEndsLine (byte ∷ more) = ⊎_map (λ e. e) (λ ends. ends_line_rest block (byte ∷ more) ends.0) going.ended in
     let marked = λ (next : IsMarked rest). front_marked byte more after next.0 (sym next.1 ∙ rest_is) ends in
     absurd (⊎_elim (λ empty. omega (arith, ap length (sym rest_is ∙ empty))) (λ ended. mark_below block (byte ∷ more) some ended.0 (marked ended.1) going.unmarked) cut.ended)
 
-cut_once : (text block rest other after : List ℕ) → IsCut text block rest → IsCut text other after → (block ≡ other) × (rest ≡ after)
+cut_once : (text block rest other after : List ℕ) → IsBlockCut text block rest → IsBlockCut text other after → (block ≡ other) × (rest ≡ after)
 cut_once text block rest other after cut another =
     let back : IsFront other after block rest → (block ≡ other) × (rest ≡ after) = λ front.
     let same = cut_front text other after block rest another cut front in (sym same.0, sym same.1) in
@@ -126,13 +127,13 @@ cut_once text block rest other after cut another =
 record IsFirstBlock (text : List ℕ) (source : Given) (sources : List Given) (rest : List ℕ) : Type 0 where
   block : List ℕ
   after : List ℕ
-  cut : IsCut text block after
+  cut : IsBlockCut text block after
   is_block : IsBlock block source
   others : AreSourcesBefore after sources rest
 
 -- a block is cut off from other blocks and a rest
-cut_off : (sources : List Given) (block others rest : List ℕ) → AreBlocks sources others → (others ≡ []) ⊎ EndsLine block → EndsLine (block ++ others) ⊎ (rest ≡ []) → IsMarked rest ⊎ (rest ≡ []) → (others ++ rest ≡ []) ⊎ (EndsLine block × IsMarked (others ++ rest))
-cut_off sources block [] rest blocks ended (inl ends) (inl marked) = inr (subst EndsLine (append-nil block) ends, marked)
+cut_off : (sources : List Given) (block others rest : List ℕ) → AreBlocks sources others → (others ≡ []) ⊎ IsEmptyOrEndsLine block → IsEmptyOrEndsLine (block ++ others) ⊎ (rest ≡ []) → IsMarked rest ⊎ (rest ≡ []) → (others ++ rest ≡ []) ⊎ (IsEmptyOrEndsLine block × IsMarked (others ++ rest))
+cut_off sources block [] rest blocks ended (inl ends) (inl marked) = inr (subst IsEmptyOrEndsLine (append-nil block) ends, marked)
 cut_off sources block [] rest blocks ended (inr empty) marked = inl empty
 cut_off sources block [] rest blocks ended ends (inr empty) = inl empty
 cut_off sources block (byte ∷ others) rest blocks (inl none) ends marked = absurd (cc none)
@@ -212,7 +213,7 @@ pub line_once : (input : List ℕ) (number other : ℕ) → IsFaultyLine input n
 line_once input number other fault another =
     let same = stops_once fault.sources another.sources input fault.rest another.rest (faulty_stop input number fault) (faulty_stop input other another) in
     let same_front = append_cancel_right fault.front another.front another.rest (cc (same.1, fault.whole, another.whole)) in
-    fault.counted ∙ ap line_number same_front ∙ sym another.counted
+    fault.counted ∙ ap line_after same_front ∙ sym another.counted
 
 pub blocks_or_line : (input : List ℕ) (sources : List Given) (number : ℕ) → AreBlocks sources input → IsFaultyLine input number → ⊥
 blocks_or_line input sources number blocks fault =

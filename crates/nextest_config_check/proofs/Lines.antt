@@ -9,7 +9,7 @@ use Rattle.std.proofs.lemmas.List.{take_more, length-take, length-drop, drop-dro
 use Rattle.std.proofs.lemmas.List.Elements.{recursion_from_All}
 use Rattle.std.proofs.lemmas.List.Prefix.{front_fits, front_rest}
 use Rattle.nextest_config_values.proofs.Elements.{all_right}
-use Rattle.nextest_config_check.specs.Layout.{line_feed, carriage_return, mark, trimmed, EndsLine, IsInLine, IsFirstLine, IsLastLine, HasNoMarkedLine, HasNoMarkedLineBelow, IsCut}
+use Rattle.nextest_config_check.specs.Layout.{line_feed, carriage_return, mark, trimmed, IsEmptyOrEndsLine, IsInLine, IsFirstLine, IsLastLine, HasNoMarkedLine, HasNoMarkedLineBelow, IsBlockCut}
 
 pub in_line_from_reads : (text : List ℕ) → ((i : ℕ) → i < length text → get_or text i 0 ≢ line_feed) → AllByRecursion IsInLine text
 in_line_from_reads text reads = recursion_from_All IsInLine text (λ i byte within e. reads i within (sym (get_or_default_zero text i byte within) ∙ e))
@@ -39,12 +39,12 @@ unmarked_below_first text line contents (inl ended) unmarked front rest is_front
 unmarked_below_first text line contents (inr last) unmarked front rest is_front ends =
     absurd (omega (arith, ap length (sym last.no_rest ∙ is_front), length-append front (mark ++ rest)))
 
-last_ends : (text line rest : List ℕ) → IsLastLine text line rest → 0 < length text → ¬ EndsLine text
+last_ends : (text line rest : List ℕ) → IsLastLine text line rest → 0 < length text → ¬ IsEmptyOrEndsLine text
 last_ends text line rest last some (inl empty) = omega (arith, ap length empty)
 last_ends text line rest last some (inr ends) = not_in_line ends.0 [] (subst (AllByRecursion IsInLine) ends.1 last.one_line)
 
 -- the first line of a block is that of the text from which the block is cut
-pub first_line_of_cut : (text block rest line more : List ℕ) → IsCut text block rest → 0 < length block → IsFirstLine block line more → (after : List ℕ) × IsFirstLine text line after
+pub first_line_of_cut : (text block rest line more : List ℕ) → IsBlockCut text block rest → 0 < length block → IsFirstLine block line more → (after : List ℕ) × IsFirstLine text line after
 first_line_of_cut text block rest line more cut some (inl ended) =
     let whole : text ≡ ended.bytes ++ (line_feed ∷ (more ++ rest)) = cc (cut.whole, ended.whole, append_assoc ended.bytes (line_feed ∷ more) rest) in
     (more ++ rest, inl (record { bytes = ended.bytes; whole = whole; one_line = ended.one_line; line_is = ended.line_is }))
@@ -55,12 +55,12 @@ first_line_of_cut text block rest line more cut some (inr last) =
 abbrev next_mark : List ℕ
 next_mark = line_feed ∷ mark
 
-pub cut_nowhere : (text : List ℕ) → FindsText next_mark text None → IsCut text text []
+pub cut_nowhere : (text : List ℕ) → FindsText next_mark text None → IsBlockCut text text []
 cut_nowhere text lacks =
     let unmarked : HasNoMarkedLineBelow text = λ front rest e. lacks (length front) (front_fits text front (next_mark ++ rest) e) rest (front_rest text front (next_mark ++ rest) e) in
     record { whole = sym (append-nil text); some = λ some. some; ended = inl refl; unmarked = unmarked }
 
-pub cut_at : (text : List ℕ) (at end : ℕ) → FindsText next_mark text (Some (at, end)) → IsCut text (take (at + 1) text) (drop (at + 1) text)
+pub cut_at : (text : List ℕ) (at end : ℕ) → FindsText next_mark text (Some (at, end)) → IsBlockCut text (take (at + 1) text) (drop (at + 1) text)
 cut_at text at end finds =
     let within : at < length text = omega (arith, ap length finds.1.split, length-drop at text, length-append next_mark (drop end text)) in
     let feed : get_or text at 0 ≡ line_feed = rw (sym (add-zero at)) (sym (get_or-drop at text 0 0) ∙ ap (λ l. get_or l 0 0) finds.1.split) in

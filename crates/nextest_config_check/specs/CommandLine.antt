@@ -1,10 +1,12 @@
--- The words of the command line.
+-- The words of the line line.
 use Rattle.std.specs.Prelude.{◌≡◌, ℕ, Bool, true, false, ◌&&◌, List, [], ◌∷◌, ◌++◌, codes, map, string_bytes, Option, Some, None, Result, Ok, Err, String, nat_eq, if◌then◌else◌}
 use Rattle.std.specs.Cmp.Lexicographic.{pointwise}
 use Rattle.std.specs.declared.alloc.Global.{Global}
 use Rattle.semver.specs.Identifiers.{parts_of}
 use Rattle.semver.specs.Parse.{Parts, version_parts}
 use Rattle.semver.specs.declared.error.Error.{Error}
+use Rattle.nextest_config_report.specs.declared.exit_status.ExitStatus.{ExitStatus}
+use Rattle.nextest_config_report.specs.declared.exit_status.ExitStatus.TheVariants.{NoOutcome, Refused}
 use Rattle.nextest_config_sources.specs.declared.nextest_version.edition.Edition.{Edition}
 use Rattle.nextest_config_sources.specs.declared.nextest_version.edition.Edition.TheVariants.{ArrayAllowed, TableOnly}
 use Rattle.nextest_config_check.specs.declared.command_line.Check.{Check}
@@ -13,16 +15,16 @@ use Rattle.nextest_config_check.specs.declared.command_line.WordsFault.TheVarian
 
 -- what the words ask for: a check of the current version, with the check overridden or not, under
 -- an edition; or they are refused with a text
-pub data Command : Type 0 where
-  check : Parts → Bool → Edition → Command
-  complain : List ℕ → Command
+pub data CommandLine : Type 0 where
+  check : Parts → Bool → Edition → CommandLine
+  complain : List ℕ → CommandLine
 
 -- how the program is called
 abbrev pub usage_text : List ℕ
 usage_text = codes "usage: nextest_config_check CURRENT [--override] [--table-only]"
 
 -- words that are no call of it
-abbrev pub usage : Command
+abbrev pub usage : CommandLine
 usage = complain (usage_text ++ codes "\n")
 
 -- a word that is no version
@@ -30,7 +32,7 @@ abbrev pub not_version_text : List ℕ → List ℕ
 not_version_text word = codes "not a version: " ++ word
 
 -- what a word asks for, by the version that it spells, if it spells one
-abbrev pub check_of : List ℕ → Bool → Edition → Result Parts Error → Command
+abbrev pub check_of : List ℕ → Bool → Edition → Result Parts Error → CommandLine
 check_of word overridden edition (Ok current) = check current overridden edition
 check_of word overridden edition (Err e) = complain (not_version_text word ++ codes "\n")
 
@@ -48,27 +50,27 @@ flags_of (first ∷ second ∷ []) = if is_word first (codes "--override")
 flags_of arguments = None
 
 -- what a word and what its flags ask for is
-abbrev pub check_with : List ℕ → Option (Bool × Edition) → Command
+abbrev pub check_with : List ℕ → Option (Bool × Edition) → CommandLine
 check_with current None = usage
 check_with current (Some (overridden, edition)) =
     check_of current overridden edition (version_parts current)
 
--- the words of the command line, without the program's name
-abbrev pub command_of : List (List ℕ) → Command
-command_of [] = usage
-command_of (current ∷ flags) = check_with current (flags_of flags)
+-- the words of the line line, without the program's name
+abbrev pub command_line_from : List (List ℕ) → CommandLine
+command_line_from [] = usage
+command_line_from (current ∷ flags) = check_with current (flags_of flags)
 
 -- what these words ask for
-abbrev pub asked_by : List (String Global) → Command
-asked_by words = command_of (map string_bytes words)
+abbrev pub command_line_of : List (String Global) → CommandLine
+command_line_of words = command_line_from (map string_bytes words)
 
 -- for words that are refused with a text
-abbrev pub IfComplaint : Command → (List ℕ → Type 0) → Type 0
+abbrev pub IfComplaint : CommandLine → (List ℕ → Type 0) → Type 0
 IfComplaint (check current overridden edition) fact = Unit {0}
 IfComplaint (complain text) fact = fact text
 
 -- for words that ask for a check
-abbrev pub IfCheck : Command → (Parts → Bool → Edition → Type 0) → Type 0
+abbrev pub IfCheck : CommandLine → (Parts → Bool → Edition → Type 0) → Type 0
 IfCheck (check current overridden edition) fact = fact current overridden edition
 IfCheck (complain text) fact = Unit {0}
 
@@ -79,19 +81,19 @@ words_fault_text (words.NotVersion word) = not_version_text word.now
 words_fault_text words.Memory = codes "out of memory"
 
 -- the words are refused with this fault; memory runs out only where they ask for a check
-abbrev pub IsWordsFault : Command → WordsFault → Type 0
-IsWordsFault command words.Usage = command ≡ usage
-IsWordsFault command (words.NotVersion word) =
-    command ≡ complain (not_version_text word.now ++ codes "\n")
-IsWordsFault command words.Memory = IfComplaint command (λ text. ⊥)
+abbrev pub IsWordsFault : CommandLine → WordsFault → Type 0
+IsWordsFault line words.Usage = line ≡ usage
+IsWordsFault line (words.NotVersion word) =
+    line ≡ complain (not_version_text word.now ++ codes "\n")
+IsWordsFault line words.Memory = IfComplaint line (λ text. ⊥)
 
 -- the words ask for this check
-abbrev pub AsksCheck : Command → Check → Type 0
-AsksCheck command asked = command ≡ check (parts_of asked.current) asked.override_version_check
+abbrev pub AsksCheck : CommandLine → Check → Type 0
+AsksCheck line asked = line ≡ check (parts_of asked.current) asked.override_version_check
     asked.edition
 
--- the status after a fault of the words
-abbrev pub words_status : WordsFault → ℕ
-words_status words.Usage = 2
-words_status (words.NotVersion word) = 2
-words_status words.Memory = 3
+-- how the program ends after a fault of the words
+abbrev pub words_status : WordsFault → ExitStatus
+words_status words.Usage = Refused
+words_status (words.NotVersion word) = Refused
+words_status words.Memory = NoOutcome

@@ -1,11 +1,12 @@
 -- How the input is laid out: blocks, one after the other, each a source line and the contents of
 -- that source.
-use Rattle.std.specs.Prelude.{◌≡◌, ◌≢◌, ℕ, ◌+◌, ◌<◌, ◌==◌, List, [], ◌∷◌, ◌++◌, length, codes, count_by, Option, Some, MatchOption, ◌⊎◌, if◌then◌else◌}
+use Rattle.std.specs.Prelude.{◌≡◌, ◌≢◌, ℕ, ◌<◌, ◌==◌, List, [], ◌∷◌, ◌++◌, length, codes, Option, Some, MatchOption, ◌⊎◌, if◌then◌else◌}
 use Rattle.std.specs.List.{AllByRecursion}
 pub use Rattle.nextest_config_values.specs.Characters.{carriage_return, line_feed}
 use Rattle.nextest_config_values.specs.ToolConfig.{IsToolArgument}
+use Rattle.nextest_config_positions.specs.Line.{EndsLine, line_after}
 use Rattle.nextest_config_sources.specs.NextestVersion.Source.{Given}
-use Rattle.nextest_config_sources.specs.NextestVersion.{Place, place_of}
+use Rattle.nextest_config_sources.specs.NextestVersion.{SourcePlace, place_of}
 use Rattle.nextest_config_sources.specs.declared.nextest_version.source.ConfigSource.{ConfigSource}
 use Rattle.nextest_config_sources.specs.declared.nextest_version.source.ConfigSourceKind.{ConfigSourceKind}
 use Rattle.nextest_config_sources.specs.declared.nextest_version.source.ConfigSourceKind.TheVariants.{Tool, ExplicitRepository, DiscoveredRepository}
@@ -20,9 +21,9 @@ mark = codes "=== "
 abbrev pub IsInLine : ℕ → Type 0
 IsInLine byte = byte ≢ line_feed
 
--- the text, if it isn't empty, ends in a line feed, so that a line begins behind it
-abbrev pub EndsLine : List ℕ → Type 0
-EndsLine text = (text ≡ []) ⊎ ((front : List ℕ) × (text ≡ front ++ (line_feed ∷ [])))
+-- a line begins after the text: it is empty, or ends in a line feed
+abbrev pub IsEmptyOrEndsLine : List ℕ → Type 0
+IsEmptyOrEndsLine text = (text ≡ []) ⊎ EndsLine text
 
 -- below its first line, no line of the text begins with the mark
 abbrev pub HasNoMarkedLineBelow : List ℕ → Type 0
@@ -30,7 +31,7 @@ HasNoMarkedLineBelow text = (front rest : List ℕ) → text ≢ front ++ (line_
 
 -- no line of the text begins with the mark
 abbrev pub HasNoMarkedLine : List ℕ → Type 0
-HasNoMarkedLine text = (front rest : List ℕ) → text ≡ front ++ (mark ++ rest) → ¬ EndsLine front
+HasNoMarkedLine text = (front rest : List ℕ) → text ≡ front ++ (mark ++ rest) → ¬ IsEmptyOrEndsLine front
 
 -- the text without one carriage return at its end
 abbrev pub trimmed : List ℕ → List ℕ
@@ -72,20 +73,20 @@ NamesKindAndPath text (Tool name) path = IsWordAndArgument text name path
 NamesKindAndPath text ExplicitRepository path = IsWordAndPath (codes "explicit ") text path
 NamesKindAndPath text DiscoveredRepository path = IsWordAndPath (codes "repository ") text path
 
--- a text behind the mark names this place
-abbrev pub NamesPlace : List ℕ → Place → Type 0
+-- a text after the mark names this place
+abbrev pub NamesPlace : List ℕ → SourcePlace → Type 0
 NamesPlace text place = NamesKindAndPath text place.kind place.path
 
 -- the line is the mark and a text that names this place
-pub record IsSourceLine (line : List ℕ) (place : Place) : Type 0 where
+pub record IsSourceLine (line : List ℕ) (place : SourcePlace) : Type 0 where
   pub named : List ℕ
   pub whole : line ≡ mark ++ named
   pub names : NamesPlace named place
 
 -- the source is at such a place; or there is no source, and no such place
-abbrev pub IsSourceIfAny : (Place → Type 0) → Option ConfigSource → Type 0
+abbrev pub IsSourceIfAny : (SourcePlace → Type 0) → Option ConfigSource → Type 0
 IsSourceIfAny IsSuch source =
-    MatchOption source ((place : Place) → ¬ IsSuch place) (λ source. IsSuch (place_of source))
+    MatchOption source ((place : SourcePlace) → ¬ IsSuch place) (λ source. IsSuch (place_of source))
 
 -- the text is a source line and the contents of that source, in which no line is marked
 pub record IsBlock (text : List ℕ) (source : Given) : Type 0 where
@@ -101,15 +102,11 @@ abbrev pub AreBlocks : List Given → List ℕ → Type 0
 AreBlocks [] text = text ≡ []
 AreBlocks (source ∷ sources) text =
     (block : List ℕ) × (rest : List ℕ) × (text ≡ block ++ rest) × IsBlock block source
-    × ((rest ≡ []) ⊎ EndsLine block) × AreBlocks sources rest
+    × ((rest ≡ []) ⊎ IsEmptyOrEndsLine block) × AreBlocks sources rest
 
 -- the text's first line is marked, or it is the first line of the input
 abbrev pub OwesSourceLine : List ℕ → List ℕ → Type 0
 OwesSourceLine front rest = (front ≡ []) ⊎ ((more : List ℕ) × (rest ≡ mark ++ more))
-
--- the number, counted from 1, of the line that begins behind the text
-abbrev pub line_number : List ℕ → ℕ
-line_number front = count_by (λ byte. byte == line_feed) front + 1
 
 -- the line with this number, counted from 1, is the first that is no source line where one has to
 -- be
@@ -122,28 +119,28 @@ pub record IsFaultyLine (input : List ℕ) (number : ℕ) : Type 0 where
   pub whole : input ≡ front ++ rest
   pub some : 0 < length rest
   pub blocks : AreBlocks sources front
-  pub ended : EndsLine front
+  pub ended : IsEmptyOrEndsLine front
   pub owed : OwesSourceLine front rest
   pub first : IsFirstLine rest line more
-  pub faulty : (place : Place) → ¬ IsSourceLine line place
-  pub counted : number ≡ line_number front
+  pub faulty : (place : SourcePlace) → ¬ IsSourceLine line place
+  pub counted : number ≡ line_after front
 
 -- the input is refused for this: a faulty line, or memory ran out
 abbrev pub IsFaultyInput : List ℕ → LayoutFault → Type 0
 IsFaultyInput input (faults.Line number) = IsFaultyLine input number
 IsFaultyInput input faults.Memory = Unit {0}
 
--- the text is cut before its next marked line, the first line aside, or behind its end
-pub record IsCut (text block rest : List ℕ) : Type 0 where
+-- the text is cut before its next marked line, the first line aside, or at its end
+pub record IsBlockCut (text block rest : List ℕ) : Type 0 where
   pub whole : text ≡ block ++ rest
   pub some : 0 < length text → 0 < length block
-  pub ended : (rest ≡ []) ⊎ (EndsLine block × ((more : List ℕ) × (rest ≡ mark ++ more)))
+  pub ended : (rest ≡ []) ⊎ (IsEmptyOrEndsLine block × ((more : List ℕ) × (rest ≡ mark ++ more)))
   pub unmarked : HasNoMarkedLineBelow block
 
 -- the first line of the text is no source line
 abbrev pub IsFaultyBlock : List ℕ → Type 0
 IsFaultyBlock text = (line : List ℕ) × (more : List ℕ) × IsFirstLine text line more
-    × ((place : Place) → ¬ IsSourceLine line place)
+    × ((place : SourcePlace) → ¬ IsSourceLine line place)
 
 -- the input up to the rest is blocks of these sources, and a source line is owed where the rest
 -- begins, if it isn't empty
@@ -151,5 +148,5 @@ pub record AreSourcesBefore (input : List ℕ) (sources : List Given) (rest : Li
   pub front : List ℕ
   pub whole : input ≡ front ++ rest
   pub blocks : AreBlocks sources front
-  pub ended : EndsLine front ⊎ (rest ≡ [])
+  pub ended : IsEmptyOrEndsLine front ⊎ (rest ≡ [])
   pub owed : OwesSourceLine front rest ⊎ (rest ≡ [])

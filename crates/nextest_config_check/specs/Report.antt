@@ -8,7 +8,10 @@ use Rattle.nextest_config.specs.NextestVersion.{Configuration, error, IsFirstRef
 use Rattle.nextest_config.specs.NextestVersion.ExperimentalConfig.{Experimental}
 use Rattle.nextest_config_sources.specs.NextestVersion.Source.{Given, under}
 use Rattle.nextest_config_sources.specs.declared.nextest_version.edition.Edition.{Edition}
+use Rattle.nextest_config_report.specs.ExitStatus.{exit_code}
 use Rattle.nextest_config_report.specs.Lines.{read_text}
+use Rattle.nextest_config_report.specs.declared.exit_status.ExitStatus.{ExitStatus}
+use Rattle.nextest_config_report.specs.declared.exit_status.ExitStatus.TheVariants as exits
 use Rattle.nextest_config_check.specs.Layout.{AreBlocks, IsFaultyLine}
 use Rattle.nextest_config_check.specs.declared.report.Outcome.{Outcome}
 use Rattle.nextest_config_check.specs.declared.report.Report.{Report}
@@ -54,11 +57,15 @@ abbrev pub IsReportOn : List Given → Parts → Bool → Edition → List ℕ �
 IsReportOn sources current overridden edition text outcome = (input : List ℕ) → IsUtf8 input
     → AreBlocks sources input → IsReport input current overridden edition text outcome
 
--- the status that the program ends with
+-- how the program ends
+abbrev pub exit_status_of : Outcome → ExitStatus
+exit_status_of Passed = exits.Success
+exit_status_of Failed = exits.Failure
+exit_status_of Refused = exits.Refused
+
+-- the number that it ends with
 abbrev pub status_of : Outcome → ℕ
-status_of Passed = 0
-status_of Failed = 1
-status_of Refused = 2
+status_of outcome = exit_code (exit_status_of outcome)
 
 -- the report is the one on this input
 abbrev pub IsReportFor : List ℕ → Parts → Bool → Edition → Report → Type 0

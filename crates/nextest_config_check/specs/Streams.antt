@@ -30,17 +30,17 @@ WritesReport known current overridden edition status old new =
     × IfSome known (λ input. (text : List ℕ)
     × IsReport input current overridden edition text outcome × Appends old new text)
 
--- what stands of the input and the output after this fault: nothing was written; or all was read,
--- and a write failed
-abbrev pub Leaves : RunFault → Option (List ℕ) → Type 0 → Option (List ℕ) → Option (List ℕ) → Type 0
-Leaves faults.Read left unwritten old new = Keeps old new
-Leaves faults.Write left unwritten old new = IsAtEnd left × unwritten
-Leaves faults.Memory left unwritten old new = Keeps old new
+-- what a fault leaves of the input and the output: nothing was written; or all was read, and a
+-- write failed
+abbrev pub StreamsAfter : RunFault → Option (List ℕ) → Type 0 → Option (List ℕ) → Option (List ℕ) → Type 0
+StreamsAfter faults.Read left unwritten old new = Keeps old new
+StreamsAfter faults.Write left unwritten old new = IsAtEnd left × unwritten
+StreamsAfter faults.Memory left unwritten old new = Keeps old new
 
 -- a fault ended the check: what stands of the input and the output, and the line that says so, or
 -- the front of it that was said where that failed
 abbrev pub IsCutShort : Option (List ℕ) → Type 0 → Option (List ℕ) → Option (List ℕ) → Type 0
     → Option (List ℕ) → Option (List ℕ) → Type 0
 IsCutShort left unwritten old new unsaid said says =
-    (fault : RunFault) × Leaves fault left unwritten old new
+    (fault : RunFault) × StreamsAfter fault left unwritten old new
     × AddsOrFails unsaid said says (run_fault_text fault ++ codes "\n")

@@ -3,11 +3,12 @@
 ghost use Rattle.std.specs.Prelude.{◌≡◌, ◌↔◌, ◌≢◌, ◌++◌, [], ◌∷◌, map, MatchResult, string_bytes};
 ghost use Rattle.std.specs.IoError.{error_kind};
 ghost use Rattle.semver.specs.Parse.{version_parts};
-ghost use Rattle.nextest_config_check.specs.CommandLine.{AsksCheck, IsWordsFault, asked_by, check_of, flags_of, words_fault_text, words_status};
+ghost use Rattle.nextest_config_check.specs.CommandLine.{AsksCheck, IsWordsFault, command_line_of, check_of, flags_of, words_fault_text, words_status};
 ghost use Rattle.nextest_config_check.specs.declared.command_line.WordsFault.TheVariants.{Memory, Usage};
 
 use nextest_config::nextest_version::Edition;
-use nextest_config_report::streams::{NO_OUTCOME, NOT_VERSION, OUT_OF_MEMORY};
+use nextest_config_report::exit_status::ExitStatus;
+use nextest_config_report::streams::{NOT_VERSION, OUT_OF_MEMORY};
 use semver::Version;
 use std::alloc::{AllocError, Global};
 use std::io::{self, ErrorKind};
@@ -49,7 +50,7 @@ impl<'a> WordsFault<'a> {
         }
     }
 
-    /// What the program says of it, and the word that it is about, empty where it is about none.
+    /// What the program says of it, and the word that it is about: empty where it is about none.
     pub fn text(self) -> (&'static str, &'a str)
         ensures { result.0.now ++ result.1.now ≡ words_fault_text self.entry }
     {
@@ -60,21 +61,21 @@ impl<'a> WordsFault<'a> {
         }
     }
 
-    /// The status that the program ends with.
-    pub fn status(self) -> u8
+    /// How the program ends.
+    pub fn status(self) -> ExitStatus
         ensures { result ≡ words_status self.entry }
     {
         match self {
-            WordsFault::Usage | WordsFault::NotVersion(_) => 2,
-            WordsFault::Memory => NO_OUTCOME,
+            WordsFault::Usage | WordsFault::NotVersion(_) => ExitStatus::Refused,
+            WordsFault::Memory => ExitStatus::NoOutcome,
         }
     }
 }
 
 /// The check that the words ask for.
 pub(crate) fn parse_words<'a>(alloc: Global, words: &'a [String]) -> Result<Check, WordsFault<'a>>
-    ensures { MatchResult result (AsksCheck (asked_by words.now))
-        (IsWordsFault (asked_by words.now)) }
+    ensures { MatchResult result (AsksCheck (command_line_of words.now))
+        (IsWordsFault (command_line_of words.now)) }
 {
     let [current, flags @ ..] = words else {
         return Err(WordsFault::Usage);
@@ -123,9 +124,9 @@ fn parse_check<'a>(
     override_version_check: bool,
     edition: Edition,
 ) -> Result<Check, WordsFault<'a>>
-    ensures { let command = check_of word.now override_version_check edition
+    ensures { let line = check_of word.now override_version_check edition
         (version_parts word.now) in
-        MatchResult result (AsksCheck command) (IsWordsFault command) }
+        MatchResult result (AsksCheck line) (IsWordsFault line) }
 {
     match Version::parse(alloc, word) {
         Ok(current) => Ok(Check {

@@ -2,10 +2,12 @@
 //! line is `=== tool NAME:PATH`, `=== explicit PATH` or `=== repository PATH`.
 
 ghost use Rattle.std.specs.Prelude.{◌≡◌, ◌+◌, ◌-◌, ◌<◌, ◌≤◌, ◌++◌, ℕ, List, codes, length, map, take, IfOk, IfErr, MatchOption};
+ghost use Rattle.nextest_config_positions.specs.Line.{line_after};
 ghost use Rattle.nextest_config_sources.specs.NextestVersion.{given_of};
-ghost use Rattle.nextest_config_check.specs.Layout.{AreBlocks, IsBlock, IsCut, IsFaultyBlock, IsFaultyInput, IsFirstLine, IsSourceIfAny, IsSourceLine, HasNoMarkedLineBelow, IsWordAndPath, NamesPlace, line_number, trimmed};
+ghost use Rattle.nextest_config_check.specs.Layout.{AreBlocks, IsBlock, IsBlockCut, IsFaultyBlock, IsFaultyInput, IsFirstLine, IsSourceIfAny, IsSourceLine, HasNoMarkedLineBelow, IsWordAndPath, NamesPlace, trimmed};
 
 use nextest_config::nextest_version::{ConfigSource, ConfigSourceKind, SourceText};
+use nextest_config_positions::line_after;
 use nextest_config_values::tool_config::{ToolConfigFile, ToolConfigFileParseError};
 use std::alloc::{AllocError, Global};
 
@@ -52,7 +54,7 @@ pub(crate) fn sources(alloc: Global, input: &str) -> Result<Vec<SourceText>, Lay
 
 // The text up to the next line that begins with the mark, the first line aside, and the rest.
 fn split_block(text: &str) -> (&str, &str)
-    ensures { IsCut text.now result.0.now result.1.now }
+    ensures { IsBlockCut text.now result.0.now result.1.now }
 {
     match text.find("\n=== ") {
         Some(at) => text.split_at(at + 1),
@@ -64,10 +66,9 @@ fn split_block(text: &str) -> (&str, &str)
 fn line_number(input: &str, left: usize) -> usize
     requires some { 0 < left }
     requires within { left ≤ length input.now }
-    ensures { result ≡ line_number (take (length input.now - left) input.now) }
+    ensures { result ≡ line_after (take (length input.now - left) input.now) }
 {
-    let front = &input.as_bytes()[..input.len() - left];
-    front.iter().filter(|byte| **byte == b'\n').count() + 1
+    line_after(&input.as_bytes()[..input.len() - left])
 }
 
 // The source of a block, if the block begins with a source line.
@@ -111,16 +112,16 @@ fn source_line(alloc: Global, line: &str) -> Result<Option<ConfigSource>, AllocE
     }
 }
 
-// The source that a text behind the mark names, if it names one.
+// The source that a text after the mark names, if it names one.
 fn named_source(alloc: Global, named: &str) -> Result<Option<ConfigSource>, AllocError>
     ensures { IfOk result (IsSourceIfAny (NamesPlace named.now)) }
 {
     if let Some(argument) = named.strip_prefix("tool ") {
         return tool_source(alloc, argument);
     }
-    let (kind, path) = if let Some(path) = path_behind(named, "explicit ") {
+    let (kind, path) = if let Some(path) = path_after(named, "explicit ") {
         (ConfigSourceKind::ExplicitRepository, path)
-    } else if let Some(path) = path_behind(named, "repository ") {
+    } else if let Some(path) = path_after(named, "repository ") {
         (ConfigSourceKind::DiscoveredRepository, path)
     } else {
         return Ok(None);
@@ -143,8 +144,8 @@ fn tool_source(alloc: Global, argument: &str) -> Result<Option<ConfigSource>, Al
     }
 }
 
-// The path behind the word that the text begins with, if it does and the path isn't empty.
-fn path_behind<'a>(named: &'a str, word: &str) -> Option<&'a str>
+// The path after the word that the text begins with, if it does and the path isn't empty.
+fn path_after<'a>(named: &'a str, word: &str) -> Option<&'a str>
     ensures { MatchOption result ((path : List ℕ) → ¬ IsWordAndPath word.now named.now path)
         (λ path. IsWordAndPath word.now named.now path.now) }
 {

@@ -4,13 +4,14 @@ ghost use Rattle.std.specs.Prelude.{◌≡◌, IfOk, map};
 ghost use Rattle.semver.specs.Identifiers.{parts_of};
 ghost use Rattle.nextest_config_sources.specs.NextestVersion.{given_of};
 ghost use Rattle.nextest_config.specs.NextestVersion.{configuration_of, experimental_of, verdict, verdict_of};
-ghost use Rattle.nextest_config_check.specs.Report.{IsReportFor, IsReportForSources, IsReportOf, outcome_of, status_of};
+ghost use Rattle.nextest_config_check.specs.Report.{IsReportFor, IsReportForSources, IsReportOf, exit_status_of, outcome_of, status_of};
 
 use crate::layout::{self, LayoutFault};
 use nextest_config::nextest_version::{
     Edition, ExperimentalConfig, ListRefusal, NextestVersionEval, SourceText, UnmetVersion,
     VersionOnlyConfig, VersionRole,
 };
+use nextest_config_report::exit_status::ExitStatus;
 use nextest_config_report::lines::report_text;
 use semver::Version;
 use std::alloc::{AllocError, Global};
@@ -28,14 +29,21 @@ pub enum Outcome {
 }
 
 impl Outcome {
-    /// The status that the program ends with.
+    /// The number that the program ends with.
     pub fn status(self) -> u8
         ensures { result ≡ status_of self }
     {
+        self.exit_status().code()
+    }
+
+    // How the program ends.
+    fn exit_status(self) -> ExitStatus
+        ensures { result ≡ exit_status_of self }
+    {
         match self {
-            Outcome::Passed => 0,
-            Outcome::Failed => 1,
-            Outcome::Refused => 2,
+            Outcome::Passed => ExitStatus::Success,
+            Outcome::Failed => ExitStatus::Failure,
+            Outcome::Refused => ExitStatus::Refused,
         }
     }
 }
@@ -138,7 +146,7 @@ fn report_on_eval(
 fn verdict_outcome(eval: &NextestVersionEval) -> Outcome
     ensures { result ≡ outcome_of (verdict_of eval.now) }
 {
-    match eval.unmet() {
+    match eval.unmet_version() {
         Some(
             UnmetVersion {
                 role: VersionRole::Required,

@@ -4,8 +4,9 @@ ghost use Rattle.std.specs.Prelude.{◌≡◌, ◌≢◌, ◌↔◌, ◌⊎◌, 
 ghost use Rattle.std.specs.IoError.{error_kind};
 ghost use Rattle.std.specs.Io.KnownBytes.{Appends, IsAtEnd, Keeps};
 ghost use Rattle.semver.specs.Identifiers.{parts_of};
+ghost use Rattle.nextest_config_report.specs.ExitStatus.{exit_code};
 ghost use Rattle.nextest_config_report.specs.Streams.{AddsOrFails};
-ghost use Rattle.nextest_config_check.specs.CommandLine.{IfCheck, IfComplaint, asked_by, words_fault_text, words_status};
+ghost use Rattle.nextest_config_check.specs.CommandLine.{IfCheck, IfComplaint, command_line_of, words_fault_text, words_status};
 ghost use Rattle.nextest_config_check.specs.Streams.{WritesReport, IsCutShort, Writes, run_fault_text};
 ghost use Rattle.nextest_config_check.specs.Report.{IsReport};
 
@@ -13,9 +14,8 @@ use crate::command_line::{Check, WordsFault, parse_words};
 pub use crate::report::Outcome;
 use crate::report::report_on;
 use nextest_config::nextest_version::Edition;
-use nextest_config_report::streams::{
-    CANNOT_WRITE, NO_OUTCOME, OUT_OF_MEMORY, Stream, complain, write_report,
-};
+use nextest_config_report::exit_status::ExitStatus;
+use nextest_config_report::streams::{CANNOT_WRITE, OUT_OF_MEMORY, Stream, complain, write_report};
 use semver::Version;
 use std::alloc::{AllocError, Global};
 use std::fmt;
@@ -90,24 +90,24 @@ pub fn serve<R: Read, W: Stream, E: Stream>(
     faults: &mut E,
 ) -> u8
     // Words that are refused.
-    ensures complaint { IfComplaint (asked_by words.now) (λ _. result ≡ 2) }
-    ensures told { IfComplaint (asked_by words.now) (λ text.
+    ensures complaint { IfComplaint (command_line_of words.now) (λ _. result ≡ 2) }
+    ensures told { IfComplaint (command_line_of words.now) (λ text.
         AddsOrFails (E.may_have_failed faults.new) (E.contents faults.old)
         (E.contents faults.new) text) }
-    ensures unread { IfComplaint (asked_by words.now) (λ _.
+    ensures unread { IfComplaint (command_line_of words.now) (λ _.
         Keeps (R.remaining reader.old) (R.remaining reader.new)) }
-    ensures unwritten { IfComplaint (asked_by words.now) (λ _.
+    ensures unwritten { IfComplaint (command_line_of words.now) (λ _.
         Keeps (W.contents writer.old) (W.contents writer.new)) }
 
     // Words that ask for a check.
-    ensures checked { IfCheck (asked_by words.now) (λ current overridden edition. (result ≡ 3)
+    ensures checked { IfCheck (command_line_of words.now) (λ current overridden edition. (result ≡ 3)
         ⊎ WritesReport (R.remaining reader.old) current overridden edition result
         (W.contents writer.old) (W.contents writer.new)) }
-    ensures drained { result ≢ 3 → IfCheck (asked_by words.now)
+    ensures drained { result ≢ 3 → IfCheck (command_line_of words.now)
         (λ _ _ _. IsAtEnd (R.remaining reader.new)) }
-    ensures quiet { result ≢ 3 → IfCheck (asked_by words.now)
+    ensures quiet { result ≢ 3 → IfCheck (command_line_of words.now)
         (λ _ _ _. Keeps (E.contents faults.old) (E.contents faults.new)) }
-    ensures cut_short { result ≡ 3 → IfCheck (asked_by words.now) (λ _ _ _. IsCutShort
+    ensures cut_short { result ≡ 3 → IfCheck (command_line_of words.now) (λ _ _ _. IsCutShort
         (R.remaining reader.new) (W.may_have_failed writer.new) (W.contents writer.old)
         (W.contents writer.new) (E.may_have_failed faults.new) (E.contents faults.old)
         (E.contents faults.new)) }
@@ -148,7 +148,7 @@ fn make<R: Read, W: Stream, E: Stream>(
         Ok(outcome) => outcome.status(),
         Err(fault) => {
             let _ = complain(faults, fault.as_str(), "");
-            NO_OUTCOME
+            ExitStatus::NoOutcome.code()
         }
     }
 }
@@ -156,13 +156,13 @@ fn make<R: Read, W: Stream, E: Stream>(
 /// Says why the words of the command line are refused, and answers the status that the program ends
 /// with.
 pub(crate) fn refuse<E: Stream>(faults: &mut E, fault: WordsFault<'_>) -> u8
-    ensures status { result ≡ words_status fault.entry }
+    ensures status { result ≡ exit_code (words_status fault.entry) }
     ensures told { AddsOrFails (E.may_have_failed faults.new) (E.contents faults.old)
         (E.contents faults.new) (words_fault_text fault.entry ++ codes "\n") }
 {
     let (complaint, word) = fault.text();
     let _ = complain(faults, complaint, word);
-    fault.status()
+    fault.status().code()
 }
 
 /// Reads the whole input, its sources under the edition, and then writes the report on it.

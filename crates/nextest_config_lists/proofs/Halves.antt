@@ -2,10 +2,10 @@
 use Rattle.std.proofs.Common.{◌≡◌, ℕ, ◌+◌, ◌<◌, List, [], ◌∷◌, ◌++◌, length, length-append, take, drop, map, refl, sym, ap, ap₂, ◌∙◌, subst, append_assoc, arith, get_or, Result, Ok, Err, IfErr}
 use Rattle.std.proofs.lemmas.List.{drop_more, length-take, map-append, take-append-drop, take_more}
 use Rattle.std.specs.List.{AllZip}
-use Rattle.nextest_config_lists.specs.Merge.{behind, HavePieces, IsFirstWrong, IsJoinOfPieces, IsMonoid, IsReadingOne, IsRefusalOfOne, IsRefusalOfPieces, total}
+use Rattle.nextest_config_lists.specs.Merge.{HavePieces, IsFirstWrong, IsJoinOfPieces, IsMonoid, IsReadingOne, IsRefusalOfOne, IsRefusalOfPieces, shifted, total}
 use Rattle.nextest_config_lists.specs.declared.merge.PieceRefusal.{PieceRefusal}
 use Rattle.nextest_config_lists.specs.declared.merge.PieceRefusal.TheVariants as refusals
-use Rattle.nextest_config_lists.proofs.Lists.{zip_joined, zip_middle}
+use Rattle.nextest_config_lists.proofs.Lists.{zip_around, zip_joined, zip_middle}
 
 -- the join of lists in a row
 pub total_joined : {X : Type 0} (join : X → X → X) (neutral : X) → IsMonoid join neutral → (xs ys : List X) → total join neutral (xs ++ ys) ≡ join (total join neutral xs) (total join neutral ys)
@@ -68,13 +68,13 @@ module _ {Source Piece Error Told : Type 0} (told : Error → Told) (piece : Sou
   refused_in_first xs ys (refusals.Refused position error) first = wrong_in_first piece wrong xs ys position (told error) first
   refused_in_first xs ys refusals.Memory first = tt
 
-  pub refused_in_second : (xs ys : List Source) (r : PieceRefusal Error) → HavePieces piece xs → IsRefusalOfPieces told piece wrong ys r → IsRefusalOfPieces told piece wrong (xs ++ ys) (behind (length xs) r)
+  pub refused_in_second : (xs ys : List Source) (r : PieceRefusal Error) → HavePieces piece xs → IsRefusalOfPieces told piece wrong ys r → IsRefusalOfPieces told piece wrong (xs ++ ys) (shifted (length xs) r)
   refused_in_second xs ys (refusals.Refused position error) read first = wrong_in_second piece wrong xs ys position (told error) read first
   refused_in_second xs ys refusals.Memory read first = tt
 
   -- the sources so far are read, and the next one is refused
   pub refused_next : (sources : List Source) (i : ℕ) (source : Source) (r : PieceRefusal Error) → i < length sources → source ≡ get_or sources i source
-      → HavePieces piece (take i sources) → IsRefusalOfOne told wrong source r → IsRefusalOfPieces told piece wrong sources (behind i r)
+      → HavePieces piece (take i sources) → IsRefusalOfOne told wrong source r → IsRefusalOfPieces told piece wrong sources (shifted i r)
   refused_next sources i source (refusals.Refused position error) within here read refused = record {
     before = take i sources;
     source = source;
@@ -92,3 +92,34 @@ module _ {Source Piece Error Told : Type 0} (told : Error → Told) (piece : Sou
   only_memory seen laws sources (Ok x) read first = tt
   only_memory seen laws sources (Err (refusals.Refused position error)) read first = absurd (none_wrong seen piece wrong laws sources position (told error) read first)
   only_memory seen laws sources (Err refusals.Memory) read first = refl
+
+-- ---- what is read of sources, as what is read of others that are the same
+
+module _ {Source Other Piece : Type 0} (AreSame : Other → Source → Type 0) (piece : Source → Piece → Type 0) (other_piece : Other → Piece → Type 0) (same_piece : (other : Other) (source : Source) (a : Piece) → AreSame other source → piece source a → other_piece other a) where
+  pub same_pieces : (others : List Other) (sources : List Source) (pieces : List Piece) → AllZip AreSame others sources → AllZip piece sources pieces → AllZip other_piece others pieces
+  same_pieces [] [] pieces same read = read
+  same_pieces [] (source ∷ sources) pieces same read = absurd same
+  same_pieces (other ∷ others) [] pieces same read = absurd same
+  same_pieces (other ∷ others) (source ∷ sources) [] same read = absurd read
+  same_pieces (other ∷ others) (source ∷ sources) (a ∷ pieces) same read = (same_piece other source a same.0 read.0, same_pieces others sources pieces same.1 read.1)
+
+  pub same_join : {Seen : Type 0} (join : Seen → Seen → Seen) (neutral : Seen) (seen : Piece → Seen) (others : List Other) (sources : List Source) (joined : Seen) → AllZip AreSame others sources
+      → IsJoinOfPieces join neutral seen piece sources joined → IsJoinOfPieces join neutral seen other_piece others joined
+  same_join join neutral seen others sources joined same (pieces, read, is) = (pieces, same_pieces others sources pieces same read, is)
+
+  pub same_refusal : {Error Told : Type 0} (told : Error → Told) (wrong : Source → Told → Type 0) (other_wrong : Other → Told → Type 0)
+      → ((other : Other) (source : Source) (error : Told) → AreSame other source → wrong source error → other_wrong other error)
+      → (others : List Other) (sources : List Source) (r : PieceRefusal Error) → AllZip AreSame others sources
+      → IsRefusalOfPieces told piece wrong sources r → IsRefusalOfPieces told other_piece other_wrong others r
+  same_refusal told wrong other_wrong same_wrong others sources (refusals.Refused position error) same first =
+      let found = zip_around AreSame others first.before first.source first.after (subst (λ xs. AllZip AreSame others xs) first.whole same) in
+      record {
+        before = found.front;
+        source = found.x;
+        after = found.back;
+        whole = found.whole;
+        place = found.long ∙ first.place;
+        read = (first.read.0, same_pieces found.front first.before first.read.0 found.of_front first.read.1);
+        refused = same_wrong found.x first.source (told error) found.of_one first.refused;
+      }
+  same_refusal told wrong other_wrong same_wrong others sources refusals.Memory same first = tt

@@ -1,5 +1,5 @@
 -- Mapped lists, and two lists element by element.
-use Rattle.std.proofs.Common.{◌≡◌, ℕ, ◌+◌, ◌<◌, List, [], ◌∷◌, ◌++◌, length, get_or, take, drop, map, refl, sym, ap, ◌∙◌}
+use Rattle.std.proofs.Common.{◌≡◌, ℕ, suc, ◌+◌, ◌<◌, List, [], ◌∷◌, ◌++◌, length, get_or, take, drop, map, refl, sym, ap, ◌∙◌}
 use Rattle.std.proofs.lemmas.List.{drop_more, map-append, take-append-drop}
 use Rattle.std.specs.List.{AllByRecursion, AllZip}
 
@@ -39,3 +39,21 @@ zip_joined R [] [] ys vs h k = k
 zip_joined R [] (u ∷ us) ys vs h k = absurd h
 zip_joined R (x ∷ xs) [] ys vs h k = absurd h
 zip_joined R (x ∷ xs) (u ∷ us) ys vs h k = (h.0, zip_joined R xs us ys vs h.1 k)
+
+-- where the second list has an element between others, the first has its partner between theirs
+pub record IsCutBefore {X Y : Type 0} (R : X → Y → Type 0) (xs : List X) (before : List Y) (y : Y) : Type 0 where
+  pub front : List X
+  pub x : X
+  pub back : List X
+  pub whole : xs ≡ front ++ (x ∷ back)
+  pub long : length front ≡ length before
+  pub of_front : AllZip R front before
+  pub of_one : R x y
+
+pub zip_around : {X Y : Type 0} (R : X → Y → Type 0) (xs : List X) (before : List Y) (y : Y) (after : List Y) → AllZip R xs (before ++ (y ∷ after)) → IsCutBefore R xs before y
+zip_around R [] [] y after h = absurd h
+zip_around R [] (z ∷ before) y after h = absurd h
+zip_around R (x ∷ xs) [] y after h = record { front = []; x = x; back = xs; whole = refl; long = refl; of_front = tt; of_one = h.0 }
+zip_around R (x ∷ xs) (z ∷ before) y after h =
+    let later = zip_around R xs before y after h.1 in
+    record { front = x ∷ later.front; x = later.x; back = later.back; whole = ap (λ rest. x ∷ rest) later.whole; long = ap suc later.long; of_front = (h.0, later.of_front); of_one = later.of_one }

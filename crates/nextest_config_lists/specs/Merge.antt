@@ -66,14 +66,14 @@ IsRefusalOfPieces told piece wrong sources (refusals.Refused position error) =
 IsRefusalOfPieces told piece wrong sources refusals.Memory = Unit {0}
 
 -- so many sources in front leave the position in the range of a `usize`
-abbrev pub FitsBehind : {Error : Type 0} → ℕ → PieceRefusal Error → Type 0
-FitsBehind front (refusals.Refused position error) = front + position < 2 ^ 64
-FitsBehind front refusals.Memory = Unit {0}
+abbrev pub FitsShifted : {Error : Type 0} → ℕ → PieceRefusal Error → Type 0
+FitsShifted front (refusals.Refused position error) = front + position < 2 ^ 64
+FitsShifted front refusals.Memory = Unit {0}
 
 -- the same refusal, where so many sources stand in front
-abbrev pub behind : {Error : Type 0} → ℕ → PieceRefusal Error → PieceRefusal Error
-behind front (refusals.Refused position error) = refusals.Refused (front + position) error
-behind front refusals.Memory = refusals.Memory
+abbrev pub shifted : {Error : Type 0} → ℕ → PieceRefusal Error → PieceRefusal Error
+shifted front (refusals.Refused position error) = refusals.Refused (front + position) error
+shifted front refusals.Memory = refusals.Memory
 
 -- ---- lists
 

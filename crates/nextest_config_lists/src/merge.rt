@@ -3,7 +3,7 @@
 ghost use Rattle.std.specs.Prelude.{◌≡◌, ◌++◌, ◌^◌, ◌<◌, IfErr, IfOk, length, map, OnErr, OnOk};
 ghost use Rattle.std.specs.List.{AllByRecursion};
 ghost use Rattle.std.specs.Mem.{FitsInMemory};
-ghost use Rattle.nextest_config_lists.specs.Merge.{behind, FitsBehind, HavePieces, IsJoinOfPieces, IsMonoid, IsReadingOne, IsRefusalOfOne, IsRefusalOfPieces, total};
+ghost use Rattle.nextest_config_lists.specs.Merge.{FitsShifted, HavePieces, IsJoinOfPieces, IsMonoid, IsReadingOne, IsRefusalOfOne, IsRefusalOfPieces, shifted, total};
 ghost use Rattle.nextest_config_lists.specs.declared.merge.PieceRefusal.TheVariants.{Memory};
 
 use std::alloc::{AllocError, Global};
@@ -77,9 +77,9 @@ impl<E> From<AllocError> for PieceRefusal<E> {
 
 impl<E> PieceRefusal<E> {
     // The same refusal, where so many sources stand in front.
-    fn behind(self, front: usize) -> Self
-        requires { FitsBehind front self }
-        ensures { result ≡ behind front self }
+    fn shift(self, front: usize) -> Self
+        requires { FitsShifted front self }
+        ensures { result ≡ shifted front self }
     {
         match self {
             PieceRefusal::Refused { position, error } => PieceRefusal::Refused {
@@ -177,7 +177,7 @@ fn read_few<T: ReadPiece + Drop>(
     for (position, source) in sources.iter().enumerate() {
         match T::read_one(alloc, context, source) {
             Ok(mut later) => piece.merge(&mut later)?,
-            Err(refusal) => return Err(refusal.behind(position)),
+            Err(refusal) => return Err(refusal.shift(position)),
         }
     }
     Ok(piece)
@@ -207,6 +207,6 @@ fn read_both<T: ReadPiece + Drop>(
             merge_all(&mut piece, slice::from_mut(&mut later))?;
             Ok(piece)
         }
-        Err(refusal) => Err(refusal.behind(first.len())),
+        Err(refusal) => Err(refusal.shift(first.len())),
     }
 }

@@ -1,2 +1,3 @@
+pub mod ExitStatus
 pub mod Lines
 pub mod Streams

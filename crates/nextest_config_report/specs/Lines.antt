@@ -5,7 +5,7 @@ use Rattle.semver.specs.Parse.{Parts}
 use Rattle.nextest_config_values.specs.Read.{comma_list, quoted_texts}
 use Rattle.nextest_config.specs.NextestVersion.ExperimentalConfig.{Experimental}
 use Rattle.nextest_config.specs.NextestVersion.Verdict.{Verdict}
-use Rattle.nextest_config_sources.specs.NextestVersion.{Place, place_text, word_of}
+use Rattle.nextest_config_sources.specs.NextestVersion.{SourcePlace, place_text, word_of}
 use Rattle.nextest_config.specs.NextestVersion.{error, satisfied, Unknown, warn}
 use Rattle.nextest_config_sources.specs.declared.nextest_version.experimental.ConfigExperimental.{ConfigExperimental}
 
@@ -15,7 +15,7 @@ verdict_word says true = says ++ codes " (overridden)"
 verdict_word says false = says
 
 -- the current version isn't enough for the one that a place asks in this role
-abbrev pub shortfall_text : List ℕ → Parts → List ℕ → Place → Parts → List ℕ
+abbrev pub shortfall_text : List ℕ → Parts → List ℕ → SourcePlace → Parts → List ℕ
 shortfall_text says asked role place current =
     says ++ (codes ": " ++ (parts_text asked
     ++ (codes " " ++ (role
@@ -43,7 +43,7 @@ unknown_line unknown =
     ++ (codes ": " ++ (quoted_texts unknown.names ++ codes "\n")))
 
 -- the line of a source that names its features in an array
-abbrev pub array_line : Place → List ℕ
+abbrev pub array_line : SourcePlace → List ℕ
 array_line place = codes "deprecated array form in " ++ (place_text place ++ codes "\n")
 
 -- the lines of the features: the known ones, the sources that have unknown feature names, and those

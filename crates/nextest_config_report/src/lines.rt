@@ -42,7 +42,7 @@ fn verdict_line(
     ensures { IfOk result (λ text. string_bytes text
         ≡ verdict_text (parts_of current.now) (verdict_of eval.now)) }
 {
-    let Some(unmet) = eval.unmet() else {
+    let Some(unmet) = eval.unmet_version() else {
         return format!(in alloc; "satisfied: {current}");
     };
     match (unmet.role, unmet.overridden) {

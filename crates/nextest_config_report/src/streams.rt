@@ -1,5 +1,4 @@
-//! How reports and complaints are written to streams, and the texts and the status that programs
-//! have in common.
+//! How reports and complaints are written to streams, and the texts that programs have in common.
 
 ghost use Rattle.std.specs.Prelude.{◌≡◌, ◌<◌, ◌++◌, ℕ, List, Option, codes, IfOk, length, OnErr, OnOk};
 ghost use Rattle.std.specs.Io.{WritesAtMost};
@@ -7,10 +6,6 @@ ghost use Rattle.std.specs.Io.KnownBytes.{Appends, Keeps, WriteAppends};
 ghost use Rattle.nextest_config_report.specs.Streams.{AddsFront};
 
 use std::io::{self, ErrorKind, Write};
-
-/// The status of a program that gives no outcome: its input can't be read, its output can't be
-/// written, or memory ran out.
-pub const NO_OUTCOME: u8 = 3;
 
 /// What a program says before a word of its command line that is no version.
 pub const NOT_VERSION: &str = "not a version: ";

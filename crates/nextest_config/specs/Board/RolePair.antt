@@ -7,29 +7,29 @@ use Rattle.nextest_config_lists.specs.Merge.{IsMonoid}
 use Rattle.nextest_config_sources.specs.NextestVersion.VersionText.{plain}
 use Rattle.nextest_config.specs.NextestVersion.Later.{later_joins, later_of}
 use Rattle.nextest_config.specs.NextestVersion.Parts.{parts_join}
-use Rattle.nextest_config.specs.declared.board.role_pair.AskedAt.{AskedAt}
+use Rattle.nextest_config.specs.declared.board.role_pair.SlotVersion.{SlotVersion}
 use Rattle.nextest_config.specs.declared.board.role_pair.RolePair.{RolePair}
 use Rattle.nextest_config_sources.specs.declared.nextest_version.nextest_version_deserialize.NextestVersionDeserialize.{NextestVersionDeserialize}
 
 -- the version that is asked
-abbrev pub version_at : AskedAt → Parts
+abbrev pub version_at : SlotVersion → Parts
 version_at asked = plain asked.numbers
 
 -- the numbers of a version, asked from this slot
-abbrev pub asked_in : ℕ → Version → AskedAt
-asked_in slot version =
+abbrev pub slot_version : ℕ → Version → SlotVersion
+slot_version slot version =
     record { numbers = (version.major, version.minor, version.patch); slot = slot }
 
 -- what a source asks, from this slot
 abbrev pub pair_in : ℕ → NextestVersionDeserialize → RolePair
 pair_in slot asked =
     record {
-      required = option_map (asked_in slot) asked.required;
-      recommended = option_map (asked_in slot) asked.recommended;
+      required = option_map (slot_version slot) asked.required;
+      recommended = option_map (slot_version slot) asked.recommended;
     }
 
 -- the later one, unless its version is below the earlier one's
-abbrev pub later_asked : Option AskedAt → Option AskedAt → Option AskedAt
+abbrev pub later_asked : Option SlotVersion → Option SlotVersion → Option SlotVersion
 later_asked = later_of version_at
 
 -- the same in each role

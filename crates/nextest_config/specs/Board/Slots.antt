@@ -5,16 +5,16 @@ use Rattle.nextest_config.specs.Board.RolePair.{no_pair, version_at}
 use Rattle.nextest_config_sources.specs.NextestVersion.ExperimentalDeserialize.{no_features}
 use Rattle.nextest_config_sources.specs.NextestVersion.NextestVersionDeserialize.{Versions, versions}
 use Rattle.nextest_config.specs.NextestVersion.KeptVersions.{Kept, Roles}
-use Rattle.nextest_config_sources.specs.NextestVersion.Source.{Place, Source, place_of}
+use Rattle.nextest_config_sources.specs.NextestVersion.Source.{SourcePlace, Source, place_of}
 use Rattle.nextest_config.specs.NextestVersion.VersionOnly.{IsRead, SourceAsk}
 use Rattle.nextest_config_sources.specs.NextestVersion.VersionOnlyDeserialize.{Ask}
-use Rattle.nextest_config.specs.declared.board.role_pair.AskedAt.{AskedAt}
+use Rattle.nextest_config.specs.declared.board.role_pair.SlotVersion.{SlotVersion}
 use Rattle.nextest_config.specs.declared.board.role_pair.RolePair.{RolePair}
 use Rattle.nextest_config_sources.specs.declared.nextest_version.source.ConfigSource.{ConfigSource}
 
 -- the versions that a source at this place asks; a board keeps no features
-abbrev pub asked_at : Place → Versions → SourceAsk
-asked_at place versions =
+abbrev pub ask_of_versions : SourcePlace → Versions → SourceAsk
+ask_of_versions place versions =
     record {
       place = place;
       ask = record { versions = versions; features = no_features; array = false };
@@ -34,7 +34,7 @@ board_list (Some asked ∷ slots) = asked ∷ board_list slots
 -- what a slot with this source and this pair holds
 abbrev pub slot_of : Option ConfigSource → RolePair → Option SourceAsk
 slot_of source pair =
-    option_map (λ s. asked_at (place_of s)
+    option_map (λ s. ask_of_versions (place_of s)
     (versions (option_map version_at pair.required) (option_map version_at pair.recommended)))
     source
 
@@ -45,7 +45,7 @@ slots_of (source ∷ sources) [] = []
 slots_of (source ∷ sources) (pair ∷ pairs) = slot_of source pair ∷ slots_of sources pairs
 
 -- what is asked, if anything, is asked from this slot
-abbrev pub IsFrom : ℕ → Option AskedAt → Type 0
+abbrev pub IsFrom : ℕ → Option SlotVersion → Type 0
 IsFrom slot None = Unit {0}
 IsFrom slot (Some asked) = asked.slot ≡ slot
 
@@ -63,7 +63,7 @@ AreHeld slot (source ∷ sources) (pair ∷ pairs) = IsHeld slot source pair
     × AreHeld (suc slot) sources pairs
 
 -- what is asked, with the place of the source in its slot
-abbrev pub kept_in : List (Option ConfigSource) → Option AskedAt → Option Kept
+abbrev pub kept_in : List (Option ConfigSource) → Option SlotVersion → Option Kept
 kept_in sources None = None
 kept_in sources (Some asked) =
     option_map (λ source. record { version = version_at asked; place = place_of source })
@@ -78,21 +78,21 @@ roles_in sources pair =
     }
 
 -- the slot now holds this, and the other slots what they held; the choices are counted anew
-pub record IsChanged (slot : ℕ) (held : Option SourceAsk) (old new : BoardState) : Type 0 where
+pub record IsChanged (slot : ℕ) (occupant : Option SourceAsk) (old new : BoardState) : Type 0 where
   pub within : slot < length old.slots
-  pub slots : new.slots ≡ set old.slots slot held
+  pub slots : new.slots ≡ set old.slots slot occupant
   pub selections : new.selections ≡ halvings (length old.slots) slot
 
 -- the slot now holds the versions that the source asks
 pub record IsPut (slot : ℕ) (source : Source) (old new : BoardState) : Type 0 where
   pub ask : Ask
   pub read : IsRead source ask
-  pub changed : IsChanged slot (Some (asked_at source.place ask.versions)) old new
+  pub changed : IsChanged slot (Some (ask_of_versions source.place ask.versions)) old new
 
 -- what is kept of the source in this slot is what the source asks
 pub record IsReadInto (slot : ℕ) (source : Source) (place : ConfigSource) (pair : RolePair) : Type 0
   where
     pub ask : Ask
     pub read : IsRead source ask
-    pub held : IsHeld slot (Some place) pair
-    pub kept : slot_of (Some place) pair ≡ Some (asked_at source.place ask.versions)
+    pub of_slot : IsHeld slot (Some place) pair
+    pub kept : slot_of (Some place) pair ≡ Some (ask_of_versions source.place ask.versions)

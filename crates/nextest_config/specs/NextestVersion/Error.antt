@@ -2,7 +2,7 @@
 use Rattle.std.specs.Prelude.{◌≡◌, ℕ, List, [], ◌++◌, codes, Option, Some, None, option_map}
 use Rattle.nextest_config_values.specs.Read.{FaultOrMemory}
 use Rattle.nextest_config_sources.specs.NextestVersion.ErrorKind.{Wrong, error_kind_text, wrong_of, wrong_text}
-use Rattle.nextest_config_sources.specs.NextestVersion.Source.{Place, place_of, place_text}
+use Rattle.nextest_config_sources.specs.NextestVersion.Source.{SourcePlace, place_of, place_text}
 use Rattle.nextest_config_lists.specs.declared.merge.PieceRefusal.{PieceRefusal}
 use Rattle.nextest_config_lists.specs.declared.merge.PieceRefusal.TheVariants as pieces
 use Rattle.nextest_config.specs.declared.nextest_version.error.ConfigParseError.{ConfigParseError}
@@ -11,11 +11,11 @@ use Rattle.nextest_config_sources.specs.declared.nextest_version.error_kind.Conf
 
 -- what is wrong, and with which source
 pub record Refusal : Type 0 where
-  pub place : Place
+  pub place : SourcePlace
   pub wrong : Wrong
 
 -- this is wrong with the source of that place
-abbrev pub refusal_at : Place → Wrong → Refusal
+abbrev pub refusal_at : SourcePlace → Wrong → Refusal
 refusal_at place wrong = record { place = place; wrong = wrong }
 
 -- what `kind()` tells
@@ -23,11 +23,11 @@ abbrev pub kind_of : ConfigParseError → ConfigParseErrorKind
 kind_of error = error.kind
 
 -- where the source is that `source()` tells
-abbrev pub source_place : ConfigParseError → Option Place
+abbrev pub source_place : ConfigParseError → Option SourcePlace
 source_place error = option_map place_of error.source
 
 -- both, unless memory was refused
-abbrev pub told_refusal : Option Place → Option Wrong → Option Refusal
+abbrev pub told_refusal : Option SourcePlace → Option Wrong → Option Refusal
 told_refusal (Some place) wrong = option_map (refusal_at place) wrong
 told_refusal None wrong = None
 
@@ -45,7 +45,7 @@ IsRefusedSo refusal (pieces.Refused position error) = (position ≡ 0)
 IsRefusedSo refusal pieces.Memory = Unit {0}
 
 -- the same for this kind of error of the source of that place
-abbrev pub IsKindOf : Place → ConfigParseErrorKind → PieceRefusal ConfigParseError → Type 0
+abbrev pub IsKindOf : SourcePlace → ConfigParseErrorKind → PieceRefusal ConfigParseError → Type 0
 IsKindOf place kind refusal =
     FaultOrMemory (wrong_of kind) (kind ≡ kinds.Memory → refusal ≡ pieces.Memory)
     (λ wrong. IsRefusedSo (refusal_at place wrong) refusal)
@@ -53,7 +53,7 @@ IsKindOf place kind refusal =
 -- ---- how they print
 
 -- the source before what is wrong with it
-abbrev pub source_text : Option Place → List ℕ
+abbrev pub source_text : Option SourcePlace → List ℕ
 source_text None = []
 source_text (Some place) = place_text place ++ codes ": "
 

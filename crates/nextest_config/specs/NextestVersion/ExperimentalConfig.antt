@@ -7,7 +7,7 @@ use Rattle.std.specs.Set.{is_member}
 use Rattle.std.specs.declared.alloc.Global.{Global}
 use Rattle.nextest_config_sources.specs.NextestVersion.Experimental.{feature_cmp, FeaturesInOrder}
 use Rattle.nextest_config_sources.specs.NextestVersion.ExperimentalDeserialize.{FeatureSetting}
-use Rattle.nextest_config_sources.specs.NextestVersion.Source.{Place, place_of}
+use Rattle.nextest_config_sources.specs.NextestVersion.Source.{SourcePlace, place_of}
 use Rattle.nextest_config_sources.specs.declared.nextest_version.experimental.ConfigExperimental.{ConfigExperimental}
 use Rattle.nextest_config.specs.declared.nextest_version.experimental_config.ArraySources.{ArraySources}
 use Rattle.nextest_config.specs.declared.nextest_version.experimental_config.ExperimentalConfig.{ExperimentalConfig}
@@ -17,7 +17,7 @@ use Rattle.nextest_config_sources.specs.declared.nextest_version.source.ConfigSo
 
 -- unknown feature names, and the place of the source that names them
 pub record Unknown : Type 0 where
-  pub place : Place
+  pub place : SourcePlace
   pub names : List (List ℕ)
 
 -- the features that are enabled, the unknown names of each source that has some, and the sources
@@ -25,7 +25,7 @@ pub record Unknown : Type 0 where
 pub record Experimental : Type 0 where
   pub known : List ConfigExperimental
   pub unknown : List Unknown
-  pub arrays : List Place
+  pub arrays : List SourcePlace
 
 -- these names, at the place of this source
 abbrev pub unknown_from : ConfigSource → BTreeSet (String Global) → Unknown
@@ -49,17 +49,17 @@ abbrev pub no_experimental : Experimental
 no_experimental = record { known = []; unknown = []; arrays = [] }
 
 -- the entry of a source with these names, none where there are none
-abbrev pub entry_at : Place → List (List ℕ) → List Unknown
+abbrev pub entry_at : SourcePlace → List (List ℕ) → List Unknown
 entry_at place [] = []
 entry_at place (name ∷ names) = record { place = place; names = name ∷ names } ∷ []
 
 -- the place of a source that names its features in an array, none of any other
-abbrev pub array_at : Place → Bool → List Place
+abbrev pub array_at : SourcePlace → Bool → List SourcePlace
 array_at place true = place ∷ []
 array_at place false = []
 
 -- what a source at this place names, on its own
-abbrev pub features_from : Place → FeatureSetting → Experimental
+abbrev pub features_from : SourcePlace → FeatureSetting → Experimental
 features_from place named =
     record {
       known = named.features.known;
@@ -74,7 +74,7 @@ features_from place named =
 pub record SeenFeatures : Type 0 where
   pub enables : ConfigExperimental → Bool
   pub unknown : List Unknown
-  pub arrays : List Place
+  pub arrays : List SourcePlace
 
 -- whether the feature is in the list
 abbrev pub has_feature : List ConfigExperimental → ConfigExperimental → Bool
@@ -94,7 +94,7 @@ abbrev pub no_features_seen : SeenFeatures
 no_features_seen = seen_features no_experimental
 
 -- the join: a feature is enabled where either side enables it, and the later unknown names and
--- arrays come behind the earlier ones
+-- arrays come after the earlier ones
 abbrev pub join_features : SeenFeatures → SeenFeatures → SeenFeatures
 join_features earlier later = record {
   enables = λ feature. earlier.enables feature || later.enables feature;
@@ -108,7 +108,7 @@ pub record AreSeenAs (seen : SeenFeatures) (features : Experimental) : Type 0 wh
   pub in_order : FeaturesInOrder features.known
 
 -- the second is the first one joined with what a source at this place names
-abbrev pub AddsFeatures : Place → FeatureSetting → Experimental → Experimental → Type 0
+abbrev pub AddsFeatures : SourcePlace → FeatureSetting → Experimental → Experimental → Type 0
 AddsFeatures place named before =
     AreSeenAs (join_features (seen_features before) (seen_features (features_from place named)))
 
@@ -123,5 +123,5 @@ abbrev pub errors_left : SourceErrors → List Unknown
 errors_left errors = map unknown_of errors.unknown.rest.now
 
 -- the places of the sources that come from the iterator
-abbrev pub arrays_left : ArraySources → List Place
+abbrev pub arrays_left : ArraySources → List SourcePlace
 arrays_left arrays = map place_of arrays.sources.rest.now

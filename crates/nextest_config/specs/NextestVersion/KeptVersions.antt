@@ -4,7 +4,7 @@ use Rattle.semver.specs.Identifiers.{parts_of}
 use Rattle.semver.specs.Parse.{Parts}
 use Rattle.semver.specs.declared.Version.{Version}
 use Rattle.nextest_config_sources.specs.NextestVersion.NextestVersionDeserialize.{Versions}
-use Rattle.nextest_config_sources.specs.NextestVersion.Source.{Place, place_of}
+use Rattle.nextest_config_sources.specs.NextestVersion.Source.{SourcePlace, place_of}
 use Rattle.nextest_config_sources.specs.declared.nextest_version.source.ConfigSource.{ConfigSource}
 use Rattle.nextest_config.specs.NextestVersion.Later.{later_of}
 use Rattle.nextest_config.specs.declared.nextest_version.kept_versions.NextestVersionReq.{NextestVersionReq}
@@ -14,7 +14,7 @@ use Rattle.nextest_config.specs.declared.nextest_version.kept_versions.NextestVe
 -- a version that is kept, and the place that asked for it
 pub record Kept : Type 0 where
   pub version : Parts
-  pub place : Place
+  pub place : SourcePlace
 
 -- the two roles of a version
 pub record Roles : Type 0 where
@@ -46,15 +46,15 @@ abbrev pub no_roles : Roles
 no_roles = record { required = None; recommended = None }
 
 -- the version that is asked, if any, with its place
-abbrev pub asked_from : Place → Option Parts → Option Kept
-asked_from place asked = option_map (λ version. record { version = version; place = place }) asked
+abbrev pub role_from : SourcePlace → Option Parts → Option Kept
+role_from place asked = option_map (λ version. record { version = version; place = place }) asked
 
 -- the roles that one source asks, from its place
-abbrev pub roles_from : Place → Versions → Roles
+abbrev pub roles_from : SourcePlace → Versions → Roles
 roles_from place versions =
     record {
-      required = asked_from place versions.required;
-      recommended = asked_from place versions.recommended;
+      required = role_from place versions.required;
+      recommended = role_from place versions.recommended;
     }
 
 -- the join of two kept versions: the later one, unless its version is below the earlier one's
@@ -68,7 +68,7 @@ join_roles earlier later = record {
   recommended = join_kept earlier.recommended later.recommended;
 }
 
--- the raised requirement is what is kept once it is joined; none where nothing changes
-abbrev pub IsRaised : Option Kept → Option Kept → Option NextestVersionReq → Type 0
-IsRaised kept joined None = joined ≡ kept
-IsRaised kept joined (Some req) = kept_of req ≡ joined
+-- the replacement is what is kept once it is joined; none where nothing changes
+abbrev pub IsReplacement : Option Kept → Option Kept → Option NextestVersionReq → Type 0
+IsReplacement kept joined None = joined ≡ kept
+IsReplacement kept joined (Some req) = kept_of req ≡ joined

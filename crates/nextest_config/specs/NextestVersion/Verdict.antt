@@ -5,7 +5,7 @@ use Rattle.semver.specs.Identifiers.{parts_of}
 use Rattle.semver.specs.Parse.{Parts}
 use Rattle.nextest_config_sources.specs.NextestVersion.Precedence.{is_enough, IsBelow}
 use Rattle.nextest_config.specs.NextestVersion.KeptVersions.{Kept, Roles}
-use Rattle.nextest_config_sources.specs.NextestVersion.Source.{Place, place_of}
+use Rattle.nextest_config_sources.specs.NextestVersion.Source.{SourcePlace, place_of}
 use Rattle.semver.specs.declared.Version.{Version}
 use Rattle.nextest_config_sources.specs.declared.nextest_version.source.ConfigSource.{ConfigSource}
 use Rattle.nextest_config.specs.declared.nextest_version.verdict.NextestVersionEval.{NextestVersionEval}
@@ -21,7 +21,7 @@ use Rattle.nextest_config.specs.declared.nextest_version.verdict.VersionRole.The
 pub record Shortfall : Type 0 where
   pub asked : Parts
   pub current : Parts
-  pub place : Place
+  pub place : SourcePlace
   pub overridden : Bool
 
 -- what a current version is told
@@ -62,9 +62,9 @@ verdict_of_unmet (Some unmet) = verdict_in unmet.role
     (shortfall unmet.version.now unmet.current.now unmet.source.now unmet.overridden)
 
 -- the kept version that the current one isn't enough for
-abbrev pub unmet : Option Kept → Parts → Option Kept
-unmet None current = None
-unmet (Some kept) current = if is_enough current kept.version then None else Some kept
+abbrev pub not_met : Option Kept → Parts → Option Kept
+not_met None current = None
+not_met (Some kept) current = if is_enough current kept.version then None else Some kept
 
 -- the current version isn't enough for the kept one
 abbrev pub short_of : Kept → Parts → Bool → Shortfall
@@ -72,15 +72,15 @@ short_of kept current overridden =
     record { asked = kept.version; current = current; place = kept.place; overridden = overridden }
 
 -- an unmet required version is an error; else an unmet recommended one is a warning
-abbrev pub judged : Option Kept → Option Kept → Parts → Bool → Verdict
-judged (Some required) recommended current overridden = error (short_of required current overridden)
-judged None (Some recommended) current overridden = warn (short_of recommended current overridden)
-judged None None current overridden = satisfied
+abbrev pub verdict_by : Option Kept → Option Kept → Parts → Bool → Verdict
+verdict_by (Some required) recommended current overridden = error (short_of required current overridden)
+verdict_by None (Some recommended) current overridden = warn (short_of recommended current overridden)
+verdict_by None None current overridden = satisfied
 
 -- the verdict of two roles
 abbrev pub verdict : Roles → Parts → Bool → Verdict
 verdict roles current overridden =
-    judged (unmet roles.required current) (unmet roles.recommended current) current overridden
+    verdict_by (not_met roles.required current) (not_met roles.recommended current) current overridden
 
 -- how grave a verdict is, overridden or not
 abbrev pub severity_of : Verdict → Severity
@@ -105,7 +105,7 @@ named_version (warn shortfall) = Some shortfall.asked
 named_version (error shortfall) = Some shortfall.asked
 
 -- the place that a verdict names
-abbrev pub named_place : Verdict → Option Place
+abbrev pub named_place : Verdict → Option SourcePlace
 named_place satisfied = None
 named_place (warn shortfall) = Some shortfall.place
 named_place (error shortfall) = Some shortfall.place
@@ -151,8 +151,8 @@ IsSelected verdicts v = (AllByRecursion IsSatisfied verdicts × (v ≡ satisfied
 -- that it names may be another
 abbrev pub SaysTheSame : Verdict → Verdict → Type 0
 SaysTheSame satisfied v = v ≡ satisfied
-SaysTheSame (warn shortfall) v = (place : Place) × (v ≡ warn (record shortfall { place = place }))
-SaysTheSame (error shortfall) v = (place : Place) × (v ≡ error (record shortfall { place = place }))
+SaysTheSame (warn shortfall) v = (place : SourcePlace) × (v ≡ warn (record shortfall { place = place }))
+SaysTheSame (error shortfall) v = (place : SourcePlace) × (v ≡ error (record shortfall { place = place }))
 
 -- the shortfall, with the check overridden
 abbrev pub override_of : Shortfall → Shortfall

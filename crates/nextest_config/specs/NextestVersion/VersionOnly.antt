@@ -3,18 +3,21 @@ use Rattle.std.specs.Prelude.{◌≡◌, ◌≢◌, ◌↔◌, ◌+◌, ℕ, Lis
 use Rattle.std.specs.List.{AllByRecursion, AllZip}
 use Rattle.semver.specs.Parse.{Parts}
 use Rattle.nextest_config_lists.specs.Merge.{in_a_row, IsFirstWrong, IsReordering, total}
-use Rattle.nextest_config.specs.NextestVersion.Error.{Refusal, RefusesBy, refusal_of}
+use Rattle.nextest_config.specs.NextestVersion.Error.{kind_of, Refusal, RefusesBy, refusal_of}
 use Rattle.nextest_config_sources.specs.NextestVersion.Experimental.{FeaturesInOrder}
 use Rattle.nextest_config.specs.NextestVersion.ExperimentalConfig.{AreSeenAs, Experimental, SeenFeatures, Unknown, array_at, entry_at, experimental_of, features_from, join_features, no_experimental, seen_features}
 use Rattle.nextest_config_sources.specs.NextestVersion.Precedence.{IsBelow}
 use Rattle.nextest_config.specs.NextestVersion.KeptVersions.{Kept, Roles, kept_version, no_roles, roles_of, roles_from, join_roles}
-use Rattle.nextest_config_sources.specs.NextestVersion.Source.{Place, Source}
+use Rattle.nextest_config_sources.specs.NextestVersion.Source.{SourcePlace, Source, place_of}
 use Rattle.nextest_config.specs.NextestVersion.Verdict.{Verdict, verdict, named_place, IsSelected, SaysTheSame}
-use Rattle.nextest_config_sources.specs.NextestVersion.VersionOnlyDeserialize.{Ask, IsWrong, TextAsks}
+use Rattle.nextest_config_sources.specs.NextestVersion.VersionOnlyDeserialize.{Ask, ask_of, IsWrong, TextAsks}
 use Rattle.nextest_config.specs.declared.nextest_version.error.ConfigParseError.{ConfigParseError}
 use Rattle.nextest_config_lists.specs.declared.merge.PieceRefusal.{PieceRefusal}
 use Rattle.nextest_config_lists.specs.declared.merge.PieceRefusal.TheVariants as refusals
+use Rattle.nextest_config_sources.specs.declared.nextest_version.error_kind.ConfigParseErrorKind.TheVariants as kinds
 use Rattle.nextest_config_sources.specs.declared.nextest_version.experimental.ConfigExperimental.{ConfigExperimental}
+use Rattle.nextest_config_sources.specs.declared.nextest_version.source.ConfigSource.{ConfigSource}
+use Rattle.nextest_config_sources.specs.declared.nextest_version.version_only_deserialize.VersionOnlyDeserialize.{VersionOnlyDeserialize}
 use Rattle.nextest_config.specs.declared.nextest_version.version_only.VersionOnlyConfig.{VersionOnlyConfig}
 
 -- ---- one source
@@ -37,8 +40,12 @@ IsErrorOf source None = ⊥
 
 -- what a source asks, with its place
 pub record SourceAsk : Type 0 where
-  pub place : Place
+  pub place : SourcePlace
   pub ask : Ask
+
+-- what was read of a source, with its place
+abbrev pub source_ask : ConfigSource → VersionOnlyDeserialize → SourceAsk
+source_ask source asked = record { place = place_of source; ask = ask_of asked }
 
 -- the source asks this, at its place
 pub record IsReadAs (source : Source) (asked : SourceAsk) : Type 0 where
@@ -118,7 +125,7 @@ abbrev pub entry_of : SourceAsk → List Unknown
 entry_of asked = entry_at asked.place asked.ask.features.unknown
 
 -- the place of a position that names its features in an array
-abbrev pub array_of : SourceAsk → List Place
+abbrev pub array_of : SourceAsk → List SourcePlace
 array_of asked = array_at asked.place asked.ask.array
 
 -- what reading a list gives
@@ -199,6 +206,25 @@ abbrev pub IsErrorOfList : List Source → ConfigParseError → Type 0
 IsErrorOfList sources =
     RefusesBy (λ refusal. (position : ℕ) × IsFirstRefused sources position refusal)
 
+-- ---- what reading a list gives
+
+-- the sources read, the configuration stands for them, and its verdicts are selected from theirs
+pub record IsConfigurationOf (sources : List Source) (configuration : Configuration) : Type 0 where
+  pub reads : Reads sources
+  pub stands : StandsFor sources configuration
+  pub selected : SelectsFor sources configuration.roles
+
+-- reading the sources ends in this refusal, which is want of memory where they all read
+pub record IsRefusedReading (sources : List Source) (refusal : PieceRefusal ConfigParseError)
+    : Type 0 where
+  pub only : Reads sources → refusal ≡ refusals.Memory
+  pub refused : IsRefusalOf sources refusal
+
+-- the same for an error, which tells no position
+pub record IsErrorOfReading (sources : List Source) (error : ConfigParseError) : Type 0 where
+  pub only : Reads sources → kind_of error ≡ kinds.Memory
+  pub refused : IsErrorOfList sources error
+
 -- the two keep the same versions, know the same features and have the same entries of unknown names
 -- and the same arrays in some order; and on each current version both verdicts say the same
 pub record Agree (configuration other : Configuration) : Type 0 where
@@ -216,7 +242,7 @@ pub record Agree (configuration other : Configuration) : Type 0 where
 -- ---- the join of configurations
 
 -- what a source at this place asks, on its own
-abbrev pub configuration_from : Place → Ask → Configuration
+abbrev pub configuration_from : SourcePlace → Ask → Configuration
 configuration_from place ask =
     record {
       roles = roles_from place ask.versions;
@@ -253,11 +279,3 @@ pub record IsSeenAs (seen : SeenConfiguration) (configuration : Configuration) :
 abbrev pub IsJoinOf : List Configuration → Configuration → Type 0
 IsJoinOf configurations =
     IsSeenAs (total join_configurations neutral_seen (map seen_configuration configurations))
-
--- the new configuration is the old one joined with what the source asks
-pub record Adds (source : Source) (old new : Configuration) : Type 0 where
-  pub ask : Ask
-  pub read : IsRead source ask
-  pub joined : IsSeenAs
-      (join_configurations (seen_configuration old)
-      (seen_configuration (configuration_from source.place ask))) new

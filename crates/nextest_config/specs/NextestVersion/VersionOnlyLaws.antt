@@ -8,10 +8,10 @@ use Rattle.nextest_config_sources.specs.NextestVersion.ErrorKind.{Wrong}
 use Rattle.nextest_config.specs.NextestVersion.ExperimentalConfig.{Experimental, join_features, no_features_seen}
 use Rattle.nextest_config.specs.NextestVersion.ExperimentalConfigLaws.{features_join}
 use Rattle.nextest_config_sources.specs.NextestVersion.ExperimentalLaws.{features_in_one_order}
-use Rattle.nextest_config.specs.NextestVersion.KeptVersions.{asked_from, join_roles, Kept, no_roles, Roles}
+use Rattle.nextest_config.specs.NextestVersion.KeptVersions.{join_roles, Kept, no_roles, role_from, Roles}
 use Rattle.nextest_config.specs.NextestVersion.KeptVersionsLaws.{roles_join}
 use Rattle.nextest_config.specs.NextestVersion.Parts.{parts_join}
-use Rattle.nextest_config_sources.specs.NextestVersion.Source.{Place, Source}
+use Rattle.nextest_config_sources.specs.NextestVersion.Source.{SourcePlace, Source}
 use Rattle.nextest_config.specs.NextestVersion.VersionOnly.{Configuration, IsErrorOf, IsRead, IsReadAs, IsRefused, join_configurations, neutral_seen, seen_configuration, SeenConfiguration, SourceAsk, StandsForAsks, StandsForOne, StandsIn}
 use Rattle.nextest_config_sources.specs.NextestVersion.VersionOnlyDeserialize.{Ask, IsWrong}
 use Rattle.nextest_config_sources.specs.NextestVersion.VersionOnlyDeserializeLaws.{one_wrong, ask_or_error, text_asks_once, text_not_wrong}
@@ -25,13 +25,13 @@ configurations_join = parts_join (λ (seen : SeenConfiguration). (seen.roles, se
 -- ---- one source
 
 pub read_once : (source : Source) (a b : SourceAsk) → IsReadAs source a → IsReadAs source b → a ≡ b
-read_once source a b h k = ap₂ (λ (place : Place) (ask : Ask). record { place = place; ask = ask })
+read_once source a b h k = ap₂ (λ (place : SourcePlace) (ask : Ask). record { place = place; ask = ask })
     (h.place ∙ sym k.place)
     (text_asks_once source.edition source.place.kind source.contents a.ask b.ask h.read k.read)
 
 pub one_error : (source : Source) (a b : Refusal) → IsRefused source a → IsRefused source b → a ≡ b
 one_error source a b h k =
-    ap₂ (λ (place : Place) (wrong : Wrong). record { place = place; wrong = wrong })
+    ap₂ (λ (place : SourcePlace) (wrong : Wrong). record { place = place; wrong = wrong })
     (h.named ∙ sym k.named)
     (one_wrong source.edition source.place.kind source.contents a.wrong b.wrong h.wrong k.wrong)
 
@@ -63,13 +63,13 @@ only_one a (y ∷ z ∷ before) x after whole = cc whole
 
 -- what stands in a role for one ask is what it asks, from its place
 role_alone : (role : Ask → Option Parts) (a : SourceAsk) (kept : Option Kept)
-    → StandsIn role (a ∷ []) kept → asked_from a.place (role a.ask) ≡ kept
-role_alone role a None none = ap (asked_from a.place) none.0
+    → StandsIn role (a ∷ []) kept → role_from a.place (role a.ask) ≡ kept
+role_alone role a None none = ap (role_from a.place) none.0
 role_alone role a (Some kept) h =
     let here : a ≡ h.last = only_one a h.before h.last h.after h.whole in
-    ap (λ (b : SourceAsk). asked_from b.place (role b.ask)) here ∙ ap₂ asked_from h.place h.version
+    ap (λ (b : SourceAsk). role_from b.place (role b.ask)) here ∙ ap₂ role_from h.place h.version
 
-alone_once : (a : SourceAsk) (c d : Configuration) → StandsForAsks (a ∷ []) c
+pub alone_once : (a : SourceAsk) (c d : Configuration) → StandsForAsks (a ∷ []) c
     → StandsForAsks (a ∷ []) d → c ≡ d
 alone_once a c d h k =
     let required = sym (role_alone (λ ask. ask.versions.required) a c.roles.required h.required)
@@ -91,7 +91,7 @@ alone_once a c d h k =
     ap₂ (λ (r : Roles) (e : Experimental). record { roles = r; experimental = e }) roles
     experimental
 
-one_alone : (source : Source) (c d : Configuration) → StandsForOne source c → StandsForOne source d
+pub one_alone : (source : Source) (c d : Configuration) → StandsForOne source c → StandsForOne source d
     → c ≡ d
 one_alone source c d ([], read, stands) k = absurd read
 one_alone source c d (a ∷ b ∷ asked, read, stands) k = absurd read.1
@@ -102,13 +102,13 @@ one_alone source c d (a ∷ [], read, stands) (x ∷ [], more_read, more) =
     (subst (λ (b : SourceAsk). StandsForAsks (b ∷ []) d)
     (read_once source x a more_read.0 read.0) more)
 
-one_told : (source : Source) (a b : Option Refusal) → IsErrorOf source a → IsErrorOf source b
+pub one_told : (source : Source) (a b : Option Refusal) → IsErrorOf source a → IsErrorOf source b
     → a ≡ b
 one_told source None b h k = absurd h
 one_told source (Some a) None h k = absurd k
 one_told source (Some a) (Some b) h k = ap Some (one_error source a b h k)
 
-none_alone : (source : Source) (c : Configuration) (told : Option Refusal) → StandsForOne source c
+pub none_alone : (source : Source) (c : Configuration) (told : Option Refusal) → StandsForOne source c
     → IsErrorOf source told → ⊥
 none_alone source c None stands h = h
 none_alone source c (Some refusal) ([], read, stands) h = read

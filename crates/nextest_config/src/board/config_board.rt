@@ -7,10 +7,10 @@ ghost use Rattle.nextest_config.specs.Board.RolePair.{pair_in};
 ghost use Rattle.nextest_config.specs.Board.Slots.{AreHeld, board_list, BoardState, IsChanged, IsHeld, IsPut, IsReadInto, kept_in, slot_of, slots_of};
 ghost use Rattle.nextest_config.specs.Board.Refusals.{IsNoSlot, IsRefusedPut, IsRefusedSource};
 ghost use Rattle.nextest_config_sources.specs.NextestVersion.{source_of};
-ghost use Rattle.nextest_config.specs.NextestVersion.{alone, IsSatisfied, IsSelected, kept_from, unmet, verdict_of};
+ghost use Rattle.nextest_config.specs.NextestVersion.{alone, IsSatisfied, IsSelected, kept_from, not_met, verdict_of};
 
 use super::refusal::BoardRefusal;
-use super::role_pair::{AskedAt, RolePair, Tally};
+use super::role_pair::{RolePair, SlotVersion, Tally};
 use crate::nextest_version::{ConfigParseError, NextestVersionEval};
 use nextest_config_lists::choice::{ChoiceTree, Choose};
 use nextest_config_lists::merge::PieceRefusal;
@@ -82,10 +82,10 @@ impl ConfigBoard {
         let chosen = tree.whole();
         let required = unmet_in(sources, chosen.required, current);
         let recommended = unmet_in(sources, chosen.recommended, current);
-        NextestVersionEval::judged(
+        NextestVersionEval::judge(
             alloc,
-            borrowed(&required),
-            borrowed(&recommended),
+            borrow_unmet(&required),
+            borrow_unmet(&recommended),
             current,
             override_version_check,
         )
@@ -125,7 +125,7 @@ impl ConfigBoard {
         Ok(())
     }
 
-    /// How many choices the last change took.
+    /// Number of choices that the last change took.
     pub fn selections(&self) -> usize
         ensures { result ≡ self.now.selections }
     {
@@ -143,7 +143,7 @@ impl ConfigBoard {
     #[tactic(auto, using(crate::proofs::Slots::held_set))]
     fn change(&mut self, slot: usize, source: Option<ConfigSource>, pair: RolePair)
         requires within { slot < length self.old.slots }
-        requires held { IsHeld slot source pair }
+        requires of_slot { IsHeld slot source pair }
         ensures { IsChanged slot (slot_of source pair) self.old self.new }
     {
         let mut tally = Tally { choices: 0 };
@@ -192,19 +192,19 @@ fn pair_of(slot: usize, asked: &NextestVersionDeserialize) -> RolePair
     ensures { result ≡ pair_in slot asked.now }
 {
     RolePair {
-        required: AskedAt::of(slot, &asked.required),
-        recommended: AskedAt::of(slot, &asked.recommended),
+        required: SlotVersion::of(slot, &asked.required),
+        recommended: SlotVersion::of(slot, &asked.recommended),
     }
 }
 
 // The version that is asked and its source, if the current version isn't enough for it.
 fn unmet_in<'a>(
     sources: &'a [Option<ConfigSource>],
-    asked: Option<AskedAt>,
+    asked: Option<SlotVersion>,
     current: &Version,
 ) -> Option<(Version, &'a ConfigSource)>
     ensures { option_map (λ kept. kept_from kept.0 kept.1.now) result
-        ≡ unmet (kept_in sources.now asked) (parts_of current.now) }
+        ≡ not_met (kept_in sources.now asked) (parts_of current.now) }
 {
     let asked = asked?;
     let version = asked.version();
@@ -218,7 +218,7 @@ fn unmet_in<'a>(
 }
 
 // The version and its source, if any, as a verdict borrows them.
-fn borrowed<'a>(
+fn borrow_unmet<'a>(
     unmet: &'a Option<(Version, &'a ConfigSource)>,
 ) -> Option<(&'a Version, &'a ConfigSource)>
     ensures { option_map (λ kept. kept_from kept.0.now kept.1.now) result

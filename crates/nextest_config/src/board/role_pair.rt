@@ -2,7 +2,7 @@
 
 ghost use Rattle.std.specs.Prelude.{◌≡◌, ◌+◌, ◌<◌, None, option_map, Some};
 ghost use Rattle.semver.specs.Identifiers.{parts_of};
-ghost use Rattle.nextest_config.specs.Board.RolePair.{asked_in, later_asked, later_pair, no_pair, pairs_join};
+ghost use Rattle.nextest_config.specs.Board.RolePair.{later_asked, later_pair, no_pair, pairs_join, slot_version};
 ghost use Rattle.nextest_config_sources.specs.NextestVersion.{plain};
 
 use nextest_config_lists::choice::Choose;
@@ -11,18 +11,18 @@ use std::cmp::Ordering;
 
 /// A version by its numbers, and the slot of the source that asks for it.
 #[derive(Clone, Copy, Debug)]
-pub(super) struct AskedAt {
+pub(super) struct SlotVersion {
     pub numbers: (u64, u64, u64),
     pub slot: usize,
 }
 
-impl AskedAt {
+impl SlotVersion {
     /// The version, if one is asked, from this slot. Only its three numbers are kept.
     pub fn of(slot: usize, asked: &Option<Version>) -> Option<Self>
-        ensures { result ≡ option_map (asked_in slot) asked.now }
+        ensures { result ≡ option_map (slot_version slot) asked.now }
     {
         match asked {
-            Some(version) => Some(AskedAt {
+            Some(version) => Some(SlotVersion {
                 numbers: (version.major, version.minor, version.patch),
                 slot,
             }),
@@ -30,7 +30,6 @@ impl AskedAt {
         }
     }
 
-    /// The version.
     pub fn version(self) -> Version
         ensures { parts_of result ≡ plain self.numbers }
     {
@@ -39,7 +38,7 @@ impl AskedAt {
 }
 
 // The later one, unless its version is below the earlier one's.
-fn later_of(earlier: Option<AskedAt>, later: Option<AskedAt>) -> Option<AskedAt>
+fn later_of(earlier: Option<SlotVersion>, later: Option<SlotVersion>) -> Option<SlotVersion>
     ensures { result ≡ later_asked earlier later }
 {
     match (earlier, later) {
@@ -57,11 +56,11 @@ fn later_of(earlier: Option<AskedAt>, later: Option<AskedAt>) -> Option<AskedAt>
 /// What is chosen in each role.
 #[derive(Clone, Copy, Debug)]
 pub(super) struct RolePair {
-    pub required: Option<AskedAt>,
-    pub recommended: Option<AskedAt>,
+    pub required: Option<SlotVersion>,
+    pub recommended: Option<SlotVersion>,
 }
 
-/// How many choices were made.
+/// Number of choices that were made.
 #[derive(Debug, Drop)]
 pub(super) struct Tally {
     pub choices: usize,

@@ -7,6 +7,7 @@ ghost use Rattle.nextest_config_sources.specs.declared.nextest_version.error_kin
 use nextest_config_lists::merge::PieceRefusal;
 use nextest_config_sources::nextest_version::{ConfigParseErrorKind, ConfigSource};
 use std::alloc::{AllocError, Global};
+use std::error::Error;
 use std::fmt;
 
 /// Why a configuration source was refused, and which.
@@ -20,7 +21,7 @@ pub struct ConfigParseError {
 impl ConfigParseError {
     ghost use Rattle.std.specs.Prelude.{List};
     ghost use Rattle.nextest_config.specs.NextestVersion.Error.{IsKindOf, kind_of, refusal_at, refusal_of, source_place};
-    ghost use Rattle.nextest_config.specs.NextestVersion.VersionOnly.{IsErrorOfList, IsRefusalOf};
+    ghost use Rattle.nextest_config.specs.NextestVersion.VersionOnly.{IsErrorOfReading, IsRefusedReading};
     ghost use Rattle.nextest_config_sources.specs.NextestVersion.Source.{place_of, Source};
 
     // The error that says nothing of any source.
@@ -66,8 +67,8 @@ impl ConfigParseError {
 
     // The error of the source that is refused, without its position.
     pub(crate) fn of_list(refusal: ListRefusal) -> Self
-        ensures { (sources : List Source) → IsRefusalOf sources refusal
-            → IsErrorOfList sources result }
+        ensures { (sources : List Source) → IsRefusedReading sources refusal
+            → IsErrorOfReading sources result }
     {
         match refusal {
             PieceRefusal::Refused { position: _, error } => error,
@@ -82,7 +83,7 @@ impl ConfigParseError {
         &self.kind
     }
 
-    /// The source that is refused; none where a request for memory was refused.
+    /// The source that is refused. `None`: a request for memory was refused.
     pub fn source(&self) -> Option<&ConfigSource>
         ensures place { option_map (λ source. place_of source.now) result ≡ source_place self.now }
         ensures none { IsNone result ↔ (kind_of self.now ≡ Memory) }
@@ -113,6 +114,8 @@ impl fmt::Display for ConfigParseError {
         write!(f, "{}", self.kind)
     }
 }
+
+impl Error for ConfigParseError {}
 
 /// Why a list of sources was refused.
 pub type ListRefusal = PieceRefusal<ConfigParseError>;

@@ -46,7 +46,6 @@ impl ExperimentalConfig {
         }
     }
 
-    /// A copy of the configuration.
     pub fn clone(&self, alloc: Global) -> Result<Self, AllocError>
         ensures { IfOk result (λ config. experimental_of config ≡ experimental_of self.now) }
     {
@@ -138,7 +137,7 @@ impl Merge for ExperimentalConfig {
     ghost neutral = { no_features_seen };
 
     /// Joins with the features that later sources name: those that either side enables, and the
-    /// unknown names and the arrays of the later ones behind those of the earlier ones.
+    /// unknown names and the arrays of the later ones after those of the earlier ones.
     fn merge(&mut self, later: &mut Self) -> Result<(), AllocError> {
         let known = (&self.known | &later.known)?;
         self.array_sources.reserve(later.array_sources.len())?;

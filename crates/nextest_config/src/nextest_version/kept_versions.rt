@@ -57,11 +57,11 @@ impl Default for NextestVersionConfig {
 }
 
 impl NextestVersionReq {
-    ghost use Rattle.nextest_config.specs.NextestVersion.KeptVersions.{IsRaised, asked_from, join_kept, kept_from, kept_of, kept_version};
+    ghost use Rattle.nextest_config.specs.NextestVersion.KeptVersions.{IsReplacement, join_kept, kept_from, kept_of, kept_version, role_from};
     ghost use Rattle.nextest_config_sources.specs.NextestVersion.Source.{place_of};
-    ghost use Rattle.nextest_config.specs.NextestVersion.Verdict.{unmet};
+    ghost use Rattle.nextest_config.specs.NextestVersion.Verdict.{not_met};
 
-    /// The version, if a source asked for one.
+    /// The version. `None`: no source asked for one.
     pub fn version(&self) -> Option<&Version>
         ensures { option_map (λ v. parts_of v.now) result
             ≡ option_map kept_version (kept_of self.now) }
@@ -72,7 +72,6 @@ impl NextestVersionReq {
         }
     }
 
-    /// A copy of what is kept.
     pub fn clone(&self, alloc: Global) -> Result<Self, AllocError>
         ensures { IfOk result (λ req. kept_of req ≡ kept_of self.now) }
     {
@@ -88,19 +87,19 @@ impl NextestVersionReq {
 
     // What is kept instead once this version is asked from this source; `None` where nothing
     // changes.
-    fn raised(
+    fn replacement(
         &self,
         alloc: Global,
         asked: Option<Version>,
         source: &ConfigSource,
     ) -> Result<Option<NextestVersionReq>, AllocError>
-        ensures { IfOk result (IsRaised (kept_of self.now) (join_kept (kept_of self.now)
-            (asked_from (place_of source.now) (option_map parts_of asked)))) }
+        ensures { IfOk result (IsReplacement (kept_of self.now) (join_kept (kept_of self.now)
+            (role_from (place_of source.now) (option_map parts_of asked)))) }
     {
         let Some(version) = asked else {
             return Ok(None);
         };
-        if self.unmet(&version).is_some() {
+        if self.not_met_by(&version).is_some() {
             return Ok(None);
         }
         let source = source.clone(alloc)?;
@@ -113,15 +112,15 @@ impl NextestVersionReq {
             ≡ if result then kept_of later.now else kept_of self.now }
     {
         match later.version() {
-            Some(version) => self.unmet(version).is_none(),
+            Some(version) => self.not_met_by(version).is_none(),
             None => false,
         }
     }
 
     // The kept version and its source, if the version isn't enough for it.
-    fn unmet(&self, version: &Version) -> Option<(&Version, &ConfigSource)>
+    fn not_met_by(&self, version: &Version) -> Option<(&Version, &ConfigSource)>
         ensures { option_map (λ kept. kept_from kept.0.now kept.1.now) result
-            ≡ unmet (kept_of self.now) (parts_of version.now) }
+            ≡ not_met (kept_of self.now) (parts_of version.now) }
     {
         match self {
             NextestVersionReq::Version {
@@ -193,8 +192,7 @@ impl Merge for NextestVersionConfig {
         ensures no_memory { IsOk result }
     {
         self.required.merge(&mut later.required)?;
-        self.recommended.merge(&mut later.recommended)?;
-        Ok(())
+        self.recommended.merge(&mut later.recommended)
     }
 
     ghost laws = { roles_join };
@@ -222,8 +220,8 @@ impl NextestVersionConfig {
             required,
             recommended,
         } = v;
-        let required = self.required.raised(alloc, required, source)?;
-        let recommended = self.recommended.raised(alloc, recommended, source)?;
+        let required = self.required.replacement(alloc, required, source)?;
+        let recommended = self.recommended.replacement(alloc, recommended, source)?;
         if let Some(req) = required {
             self.required = req;
         }
@@ -233,7 +231,6 @@ impl NextestVersionConfig {
         Ok(())
     }
 
-    /// A copy of the versions that are kept.
     pub fn clone(&self, alloc: Global) -> Result<Self, AllocError>
         ensures { IfOk result (λ config. roles_of config ≡ roles_of self.now) }
     {
@@ -258,10 +255,10 @@ impl NextestVersionConfig {
             override_version_check
             ≡ satisfied → IsOk result }
     {
-        NextestVersionEval::judged(
+        NextestVersionEval::judge(
             alloc,
-            self.required.unmet(current),
-            self.recommended.unmet(current),
+            self.required.not_met_by(current),
+            self.recommended.not_met_by(current),
             current,
             override_version_check,
         )

@@ -70,22 +70,22 @@ pub struct UnmetVersion<'a> {
 }
 
 impl NextestVersionEval {
-    ghost use Rattle.nextest_config.specs.NextestVersion.Verdict.{judged, satisfied, severity_of, verdict_of, verdict_of_unmet};
+    ghost use Rattle.nextest_config.specs.NextestVersion.Verdict.{satisfied, severity_of, verdict_by, verdict_of, verdict_of_unmet};
 
     /// The verdict on the current version, of the versions that it isn't enough for in the two
     /// roles, each with the source that asks it.
-    pub(crate) fn judged(
+    pub(crate) fn judge(
         alloc: Global,
         required: Option<(&Version, &ConfigSource)>,
         recommended: Option<(&Version, &ConfigSource)>,
         current: &Version,
         overridden: bool,
     ) -> Result<Self, AllocError>
-        ensures value { IfOk result (λ eval. verdict_of eval ≡ judged
+        ensures value { IfOk result (λ eval. verdict_of eval ≡ verdict_by
             (option_map (λ unmet. kept_from unmet.0.now unmet.1.now) required.entry)
             (option_map (λ unmet. kept_from unmet.0.now unmet.1.now) recommended.entry)
             (parts_of current.now) overridden) }
-        ensures satisfied { judged
+        ensures satisfied { verdict_by
             (option_map (λ unmet. kept_from unmet.0.now unmet.1.now) required.entry)
             (option_map (λ unmet. kept_from unmet.0.now unmet.1.now) recommended.entry)
             (parts_of current.now) overridden ≡ satisfied → IsOk result }
@@ -95,7 +95,7 @@ impl NextestVersionEval {
             (None, Some((version, source))) => (VersionRole::Recommended, version, source),
             (None, None) => return Ok(NextestVersionEval::Satisfied),
         };
-        NextestVersionEval::told(
+        NextestVersionEval::of_unmet(
             alloc,
             UnmetVersion {
                 role,
@@ -108,7 +108,7 @@ impl NextestVersionEval {
     }
 
     // The verdict that tells this.
-    fn told(alloc: Global, unmet: UnmetVersion<'_>) -> Result<Self, AllocError>
+    fn of_unmet(alloc: Global, unmet: UnmetVersion<'_>) -> Result<Self, AllocError>
         ensures { IfOk result (λ eval. verdict_of eval ≡ verdict_of_unmet (Some unmet.entry)) }
     {
         let (version, current) = (unmet.version.clone()?, unmet.current.clone()?);
@@ -138,7 +138,7 @@ impl NextestVersionEval {
     }
 
     /// The version that the current one isn't enough for, unless the verdict is satisfied.
-    pub fn unmet(&self) -> Option<UnmetVersion<'_>>
+    pub fn unmet_version(&self) -> Option<UnmetVersion<'_>>
         ensures { verdict_of_unmet result ≡ verdict_of self.now }
     {
         let (role, version, current, source, overridden) = match self {
@@ -173,12 +173,11 @@ impl NextestVersionEval {
         })
     }
 
-    /// A copy of the verdict.
     pub fn clone(&self, alloc: Global) -> Result<Self, AllocError>
         ensures { IfOk result (λ eval. verdict_of eval ≡ verdict_of self.now) }
     {
-        match self.unmet() {
-            Some(unmet) => NextestVersionEval::told(alloc, unmet),
+        match self.unmet_version() {
+            Some(unmet) => NextestVersionEval::of_unmet(alloc, unmet),
             None => Ok(NextestVersionEval::Satisfied),
         }
     }
@@ -187,7 +186,7 @@ impl NextestVersionEval {
     pub fn severity(&self) -> Severity
         ensures { result ≡ severity_of (verdict_of self.now) }
     {
-        let Some(unmet) = self.unmet() else {
+        let Some(unmet) = self.unmet_version() else {
             return Severity::Satisfied;
         };
         match unmet.role {

@@ -1,22 +1,21 @@
 //! The configuration of a list of sources.
 
-ghost use Rattle.std.specs.Prelude.{◌≡◌, IfOk, IfErr, IsTrue, OnOk, map, option_map, string_bytes};
+ghost use Rattle.std.specs.Prelude.{◌≡◌, IfOk, IfErr, IsTrue, List, [], ◌∷◌, map, option_map, string_bytes};
 ghost use Rattle.nextest_config_lists.specs.Merge.{IsRefusalOfOne};
-ghost use Rattle.nextest_config_sources.specs.NextestVersion.{given_at, IsWrong, nothing, RefusesSource, source_of, source_under, TextAsks, under};
-ghost use Rattle.nextest_config.specs.NextestVersion.{Adds, configuration_of, experimental_of, IsErrorOf, IsErrorOfList, IsRefusalOf, kind_of, neutral, Reads, refusal_of, roles_of, SelectsFor, sources_of, sources_under, StandsFor, StandsForOne};
-ghost use Rattle.nextest_config_lists.specs.declared.merge.PieceRefusal.TheVariants.{Memory};
+ghost use Rattle.nextest_config_sources.specs.NextestVersion.{given_at, nothing, source_of, source_under, TextAsks, under};
+ghost use Rattle.nextest_config_sources.specs.NextestVersion.Source.{Given};
+ghost use Rattle.nextest_config.specs.NextestVersion.{AreDocumentsOf, configuration_of, experimental_of, IsConfigurationOf, IsErrorOf, IsErrorOfDocument, IsErrorOfReading, IsRefusedReading, neutral, refusal_of, roles_of, source_ask, sources_of, sources_under, StandsForAsks, StandsForDocument, StandsForOne};
 ghost use Rattle.nextest_config_sources.specs.declared.nextest_version.edition.Edition.{Edition};
 ghost use Rattle.nextest_config_sources.specs.declared.nextest_version.source.ConfigSourceKind.{ConfigSourceKind};
-ghost use Rattle.nextest_config_sources.specs.declared.nextest_version.error_kind.ConfigParseErrorKind.TheVariants as kinds;
 
+use super::borrowed_source::BorrowedSource;
+use super::document::SourceDocument;
 use super::error::{ConfigParseError, ListRefusal};
 use super::experimental_config::ExperimentalConfig;
-use super::file::{File, FileConfig};
 use super::kept_versions::NextestVersionConfig;
 use nextest_config_lists::merge::{Merge, PieceRefusal, ReadPiece, read_halves};
 use nextest_config_sources::nextest_version::{
-    ConfigParseErrorKind, ConfigSource, Edition, RepositoryText, SourceText, ToolText,
-    VersionOnlyDeserialize,
+    ConfigSource, Edition, RepositoryText, SourceText, ToolText, VersionOnlyDeserialize,
 };
 use std::alloc::{AllocError, Global};
 
@@ -39,7 +38,6 @@ impl VersionOnlyConfig {
         }
     }
 
-    /// A copy of the configuration.
     pub fn clone(&self, alloc: Global) -> Result<Self, AllocError>
         ensures { IfOk result (λ config. configuration_of config ≡ configuration_of self.now) }
     {
@@ -53,14 +51,9 @@ impl VersionOnlyConfig {
 
     /// Reads the sources, lowest priority first, up to the first one that is refused.
     pub fn from_list(alloc: Global, sources: &[SourceText]) -> Result<Self, ListRefusal>
-        ensures reads { OnOk result (Reads (map source_of sources.now)) }
-        ensures stands { IfOk result (λ config.
-            StandsFor (map source_of sources.now) (configuration_of config)) }
-        ensures selected { IfOk result (λ config.
-            SelectsFor (map source_of sources.now) (configuration_of config).roles) }
-        ensures only { Reads (map source_of sources.now)
-            → IfErr result (λ refusal. refusal ≡ Memory) }
-        ensures refused { IfErr result (IsRefusalOf (map source_of sources.now)) }
+        ensures read { IfOk result (λ config.
+            IsConfigurationOf (map source_of sources.now) (configuration_of config)) }
+        ensures refused { IfErr result (IsRefusedReading (map source_of sources.now)) }
     {
         VersionOnlyConfig::from_list_with(alloc, Edition::ArrayAllowed, sources)
     }
@@ -72,14 +65,9 @@ impl VersionOnlyConfig {
         edition: Edition,
         sources: &[SourceText],
     ) -> Result<Self, ListRefusal>
-        ensures reads { OnOk result (Reads (map (source_under edition) sources.now)) }
-        ensures stands { IfOk result (λ config.
-            StandsFor (map (source_under edition) sources.now) (configuration_of config)) }
-        ensures selected { IfOk result (λ config.
-            SelectsFor (map (source_under edition) sources.now) (configuration_of config).roles) }
-        ensures only { Reads (map (source_under edition) sources.now)
-            → IfErr result (λ refusal. refusal ≡ Memory) }
-        ensures refused { IfErr result (IsRefusalOf (map (source_under edition) sources.now)) }
+        ensures read { IfOk result (λ config.
+            IsConfigurationOf (map (source_under edition) sources.now) (configuration_of config)) }
+        ensures refused { IfErr result (IsRefusedReading (map (source_under edition) sources.now)) }
     {
         read_halves::<VersionOnlyConfig>(alloc, &edition, sources)
     }
@@ -92,14 +80,9 @@ impl VersionOnlyConfig {
         repository: &RepositoryText,
         tools: &[ToolText],
     ) -> Result<Self, ConfigParseError>
-        ensures reads { OnOk result (Reads (sources_of repository.now tools.now)) }
-        ensures stands { IfOk result (λ config.
-            StandsFor (sources_of repository.now tools.now) (configuration_of config)) }
-        ensures selected { IfOk result (λ config.
-            SelectsFor (sources_of repository.now tools.now) (configuration_of config).roles) }
-        ensures only { Reads (sources_of repository.now tools.now)
-            → IfErr result (λ error. kind_of error ≡ kinds.Memory) }
-        ensures refused { IfErr result (IsErrorOfList (sources_of repository.now tools.now)) }
+        ensures read { IfOk result (λ config.
+            IsConfigurationOf (sources_of repository.now tools.now) (configuration_of config)) }
+        ensures refused { IfErr result (IsErrorOfReading (sources_of repository.now tools.now)) }
     {
         VersionOnlyConfig::from_sources_with(alloc, Edition::ArrayAllowed, repository, tools)
     }
@@ -112,21 +95,35 @@ impl VersionOnlyConfig {
         repository: &RepositoryText,
         tools: &[ToolText],
     ) -> Result<Self, ConfigParseError>
-        ensures reads { OnOk result (Reads (sources_under edition repository.now tools.now)) }
-        ensures stands { IfOk result (λ config.
-            StandsFor (sources_under edition repository.now tools.now) (configuration_of config)) }
-        ensures selected { IfOk result (λ config. SelectsFor
-            (sources_under edition repository.now tools.now) (configuration_of config).roles) }
-        ensures only { Reads (sources_under edition repository.now tools.now)
-            → IfErr result (λ error. kind_of error ≡ kinds.Memory) }
+        ensures read { IfOk result (λ config. IsConfigurationOf
+            (sources_under edition repository.now tools.now) (configuration_of config)) }
         ensures refused { IfErr result
-            (IsErrorOfList (sources_under edition repository.now tools.now)) }
+            (IsErrorOfReading (sources_under edition repository.now tools.now)) }
     {
-        let files = File::in_order(alloc, repository, tools)?;
-        match read_halves::<FileConfig>(alloc, &edition, files.as_slice()) {
-            Ok(files) => Ok(files.into_config()),
+        let files = BorrowedSource::of_files(alloc, repository, tools)?;
+        match BorrowedSource::read_all(alloc, edition, files.as_slice()) {
+            Ok(config) => Ok(config),
             Err(refusal) => Err(ConfigParseError::of_list(refusal)),
         }
+    }
+
+    /// Reads the sources of documents that are at hand under the edition, lowest priority first, up
+    /// to the first one that is refused: as [`VersionOnlyConfig::from_list_with`] reads texts of
+    /// which `toml` reads these documents.
+    pub fn from_documents(
+        alloc: Global,
+        edition: Edition,
+        documents: &[SourceDocument<'_>],
+    ) -> Result<Self, ListRefusal>
+        ensures read { IfOk result (λ config. (givens : List Given)
+            → AreDocumentsOf givens documents.now
+            → IsConfigurationOf (map (under edition) givens) (configuration_of config)) }
+        ensures refused { IfErr result (λ refusal. (givens : List Given)
+            → AreDocumentsOf givens documents.now
+            → IsRefusedReading (map (under edition) givens) refusal) }
+    {
+        let sources = BorrowedSource::of_documents(alloc, documents)?;
+        BorrowedSource::read_all(alloc, edition, sources.as_slice())
     }
 
     /// The versions that are kept.
@@ -144,7 +141,7 @@ impl VersionOnlyConfig {
     }
 
     // The configuration of one source with these contents.
-    #[tactic(auto, using(crate::proofs::Readings::refusal_of_one, crate::proofs::Standing::stands_added))]
+    #[tactic(auto, using(crate::proofs::Readings::refusal_of_one, crate::proofs::Standing::stands_for_read))]
     pub(super) fn of_source(
         alloc: Global,
         edition: Edition,
@@ -156,35 +153,50 @@ impl VersionOnlyConfig {
         ensures refused { IfErr result (IsRefusalOfOne refusal_of IsErrorOf
             (under edition (given_at source.now contents.now))) }
     {
-        let mut config = VersionOnlyConfig::new(alloc);
-        match config.add(alloc, edition, source, contents) {
-            Ok(()) => Ok(config),
+        match VersionOnlyDeserialize::read(alloc, edition, &source.kind, contents) {
+            Ok(asked) => Ok(VersionOnlyConfig::of_ask(alloc, source, asked)?),
             Err(kind) => Err(ConfigParseError::of_source(alloc, source, kind)),
         }
     }
 
-    // Takes in what the contents of a later source ask.
-    fn add(
-        &mut self,
+    // The configuration of the source of a document.
+    #[tactic(auto, using(crate::proofs::Readings::refusal_of_document))]
+    pub(super) fn of_document(
         alloc: Global,
         edition: Edition,
-        source: &ConfigSource,
-        contents: &Option<String>,
-    ) -> Result<(), ConfigParseErrorKind>
-        ensures added { OnOk result (Adds (under edition (given_at source.now contents.now))
-            (configuration_of self.old) (configuration_of self.new)) }
-        ensures refused { IfErr result (RefusesSource
-            (IsWrong edition source.now.kind (option_map string_bytes contents.now))) }
+        document: SourceDocument<'_>,
+    ) -> Result<Self, PieceRefusal<ConfigParseError>>
+        ensures stands { IfOk result (λ config.
+            StandsForDocument edition document.entry (configuration_of config)) }
+        ensures refused { IfErr result
+            (IsRefusalOfOne refusal_of (IsErrorOfDocument edition) document.entry) }
     {
-        let asked = VersionOnlyDeserialize::read(alloc, edition, &source.kind, contents)?;
+        let kind = &document.source.kind;
+        match VersionOnlyDeserialize::of_table(alloc, edition, kind, document.document) {
+            Ok(asked) => Ok(VersionOnlyConfig::of_ask(alloc, document.source, asked)?),
+            Err(kind) => Err(ConfigParseError::of_source(alloc, document.source, kind)),
+        }
+    }
+
+    // The configuration of one source that asks this.
+    fn of_ask(
+        alloc: Global,
+        source: &ConfigSource,
+        asked: VersionOnlyDeserialize,
+    ) -> Result<Self, AllocError>
+        ensures { IfOk result (λ config.
+            StandsForAsks (source_ask source.now asked ∷ []) (configuration_of config)) }
+    {
         let VersionOnlyDeserialize {
             nextest_version,
             experimental,
         } = asked;
-        self.nextest_version
+        let mut config = VersionOnlyConfig::new(alloc);
+        config
+            .nextest_version
             .accumulate(alloc, nextest_version, source)?;
-        self.experimental.accumulate(alloc, experimental, source)?;
-        Ok(())
+        config.experimental.accumulate(alloc, experimental, source)?;
+        Ok(config)
     }
 }
 

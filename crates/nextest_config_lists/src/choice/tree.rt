@@ -79,7 +79,7 @@ fn set_within<K: Choose>(
 ) -> K
     requires slot_within { slot < length leaves.old }
     requires enough_nodes { length leaves.old ≤ length nodes.old + 1 }
-    requires held { HoldsChoices K.choice K.nothing leaves.old nodes.old }
+    requires choices { HoldsChoices K.choice K.nothing leaves.old nodes.old }
     requires countable { K.number count.old + halvings (length leaves.old) slot ≤ usize.MAX }
     ensures replaced { leaves.new ≡ slice_set leaves.old slot leaf }
     ensures holds { HoldsChoices K.choice K.nothing leaves.new nodes.new }
@@ -113,7 +113,7 @@ fn set_within<K: Choose>(
 // The choice over all leaves.
 fn whole_of<K: Choose>(leaves: &[K], nodes: &[K]) -> K
     requires enough_nodes { length leaves.now ≤ length nodes.now + 1 }
-    requires held { HoldsChoices K.choice K.nothing leaves.now nodes.now }
+    requires choices { HoldsChoices K.choice K.nothing leaves.now nodes.now }
     ensures { result ≡ total K.choice K.nothing leaves.now }
 {
     match leaves {

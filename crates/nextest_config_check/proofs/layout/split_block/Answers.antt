@@ -1,4 +1,4 @@
--- The text is cut one byte behind the line feed that the search found, or nowhere.
+-- The text is cut one byte after the line feed that the search found, or nowhere.
 use Rattle.nextest_config_check.proofs.Lines.{cut_at, cut_nowhere}
 use Rattle.nextest_config_check.proofs.layout.split_block.Goals as goal
 

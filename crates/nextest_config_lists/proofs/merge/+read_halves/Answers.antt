@@ -23,7 +23,7 @@ read_both-returns-in-Err-clause-refused g t c =
 pub read_both-returns-in-Err-read_halves-clause-refused : goal.read_both-returns-in-Err-read_halves-clause-refused
 read_both-returns-in-Err-read_halves-clause-refused g t c =
     let read = c.in-Ok.ensures.joined in
-    rw c.behind.ensures (refused_in_second g.T.ReadPiece.told (g.T.ReadPiece.piece c.args.context.now) (g.T.ReadPiece.wrong c.args.context.now) c.args.first.now c.args.second.now c.in-Err-read_halves.refusal (read.0, read.1) c.in-Err-read_halves.ensures.refused)
+    rw c.shift.ensures (refused_in_second g.T.ReadPiece.told (g.T.ReadPiece.piece c.args.context.now) (g.T.ReadPiece.wrong c.args.context.now) c.args.first.now c.args.second.now c.in-Err-read_halves.refusal (read.0, read.1) c.in-Err-read_halves.ensures.refused)
 
 -- both halves are read
 pub read_both-returns-in_ok-merge_all-in-Ok-read_halves-clause-joined : goal.read_both-returns-in_ok-merge_all-in-Ok-read_halves-clause-joined

@@ -14,15 +14,15 @@ seen_around seen pieces i piece within =
     ∙ ap (λ n. map seen (take i pieces) ++ (seen piece ∷ map seen (drop n pieces))) (sym (add-one i))
 
 module _ {A X : Type 0} (seen : A → X) (join : X → X → X) (neutral : X) (laws : IsMonoid join neutral) where
-  behind_neutral : (before after : List X) → AllByRecursion (λ x. x ≡ neutral) before → total join neutral (before ++ after) ≡ total join neutral after
-  behind_neutral [] after none = refl
-  behind_neutral (x ∷ before) after none =
-      ap (λ y. join y (total join neutral (before ++ after))) none.0 ∙ laws.neutral_first (total join neutral (before ++ after)) ∙ behind_neutral before after none.1
+  after_neutral : (before after : List X) → AllByRecursion (λ x. x ≡ neutral) before → total join neutral (before ++ after) ≡ total join neutral after
+  after_neutral [] after none = refl
+  after_neutral (x ∷ before) after none =
+      ap (λ y. join y (total join neutral (before ++ after))) none.0 ∙ laws.neutral_first (total join neutral (before ++ after)) ∙ after_neutral before after none.1
 
   -- the pieces before this place are neutral
   module _ (pieces : List A) (i : ℕ) (emptied : AllByRecursion (λ piece. seen piece ≡ neutral) (take i pieces)) where
     total_from : (x : X) → total join neutral (map seen (take i pieces) ++ (x ∷ map seen (drop (i + 1) pieces))) ≡ join x (total join neutral (map seen (drop (i + 1) pieces)))
-    total_from x = behind_neutral (map seen (take i pieces)) (x ∷ map seen (drop (i + 1) pieces)) (all_mapped (λ piece. seen piece ≡ neutral) (λ x. x ≡ neutral) seen (λ piece none. none) (take i pieces) emptied)
+    total_from x = after_neutral (map seen (take i pieces)) (x ∷ map seen (drop (i + 1) pieces)) (all_mapped (λ piece. seen piece ≡ neutral) (λ x. x ≡ neutral) seen (λ piece none. none) (take i pieces) emptied)
 
     -- the piece at the place is taken in and left neutral
     taken_in : (into joined : X) (piece left : A) → i < length pieces → piece ≡ get_or pieces i piece → joined ≡ join into (seen piece) → seen left ≡ neutral
@@ -42,7 +42,7 @@ module _ {A X : Type 0} (seen : A → X) (join : X → X → X) (neutral : X) (l
 
   all_taken_in : (into : X) (pieces : List A) → AllByRecursion (λ piece. seen piece ≡ neutral) pieces → into ≡ join into (total join neutral (map seen pieces))
   all_taken_in into pieces emptied =
-      let none = behind_neutral (map seen pieces) [] (all_mapped (λ piece. seen piece ≡ neutral) (λ x. x ≡ neutral) seen (λ piece none. none) pieces emptied) in
+      let none = after_neutral (map seen pieces) [] (all_mapped (λ piece. seen piece ≡ neutral) (λ x. x ≡ neutral) seen (λ piece none. none) pieces emptied) in
       sym (ap (join into) (ap (total join neutral) (sym (append-nil (map seen pieces))) ∙ none) ∙ laws.neutral_last into)
 
 emptied_up_to : {A : Type 0} (P : A → Type 0) (pieces : List A) (i : ℕ) (left : A) → i < length pieces → AllByRecursion P (take i pieces) → P left → AllByRecursion P (take (suc i) (set pieces i left))

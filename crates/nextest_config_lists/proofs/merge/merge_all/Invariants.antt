@@ -3,7 +3,7 @@ use Rattle.std.specs.List.{AllByRecursion}
 use Rattle.nextest_config_lists.specs.Merge.{total}
 use Rattle.nextest_config_lists.proofs.merge.merge_all.Given as goal
 
--- the pieces behind are neutral, and the join of all is what it was
+-- the pieces so far are neutral, and the join of all is what it was
 abbrev pub invariant-loop-piece : goal.invariant-loop-piece
 invariant-loop-piece g l = record {
   emptied : AllByRecursion (λ piece. g.T.Merge.seen piece ≡ g.T.Merge.neutral) (take l.piece-index l.pieces);

@@ -5,7 +5,7 @@ use Rattle.nextest_config_lists.proofs.merge.read_few.Goals as goal
 pub returns-in-Err-clause-refused : goal.returns-in-Err-clause-refused
 returns-in-Err-clause-refused g c =
     let read = c.loop-position.invariant in
-    rw c.behind.ensures (refused_next g.T.ReadPiece.told (g.T.ReadPiece.piece c.args.context.now) (g.T.ReadPiece.wrong c.args.context.now) c.args.sources.now c.loop-position.position c.index-sources-position.result c.in-Err.refusal
+    rw c.shift.ensures (refused_next g.T.ReadPiece.told (g.T.ReadPiece.piece c.args.context.now) (g.T.ReadPiece.wrong c.args.context.now) c.args.sources.now c.loop-position.position c.index-sources-position.result c.in-Err.refusal
     (omega arith) c.index-sources-position.is (read.0, read.1) c.in-Err.ensures.refused)
 
 pub loop-position-preserved : goal.loop-position-preserved

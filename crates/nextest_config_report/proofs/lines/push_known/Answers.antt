@@ -4,7 +4,7 @@ use Rattle.std.proofs.lemmas.Simd.{map-map}
 use Rattle.std.specs.Map.Iter.{deref}
 use Rattle.nextest_config_sources.specs.NextestVersion.{word_of}
 use Rattle.nextest_config_sources.specs.declared.nextest_version.experimental.ConfigExperimental.{ConfigExperimental}
-use Rattle.nextest_config_values.proofs.Joined.{joined_more, separator_behind, separator_more}
+use Rattle.nextest_config_values.proofs.Joined.{joined_more, separator_after, separator_more}
 use Rattle.nextest_config_values.specs.Read.{comma_list}
 use Rattle.nextest_config_report.specs.Lines.{known_text}
 use Rattle.nextest_config_report.proofs.lines.push_known.Goals as goal
@@ -12,10 +12,10 @@ use Rattle.nextest_config_report.proofs.lines.push_known.Goals as goal
 abbrev word : Bor ConfigExperimental → List ℕ
 word feature = word_of feature.now
 
-one_more : (text so_far separated more separator : List ℕ) (xs : List (Bor ConfigExperimental)) (x : Bor ConfigExperimental) → separator ≡ separator_behind xs → so_far ≡ text ++ comma_list (map word xs) → separated ≡ so_far ++ separator → more ≡ separated ++ word x → more ≡ text ++ comma_list (map word (xs ++ (x ∷ [])))
+one_more : (text so_far separated more separator : List ℕ) (xs : List (Bor ConfigExperimental)) (x : Bor ConfigExperimental) → separator ≡ separator_after xs → so_far ≡ text ++ comma_list (map word xs) → separated ≡ so_far ++ separator → more ≡ separated ++ word x → more ≡ text ++ comma_list (map word (xs ++ (x ∷ [])))
 one_more text so_far separated more separator xs x is first second third =
-    let both = append_assoc (text ++ comma_list (map word xs)) (separator_behind xs) (word x) in
-    cc (is, first, second, third, both, append_assoc text (comma_list (map word xs)) (separator_behind xs ++ word x), joined_more word xs x)
+    let both = append_assoc (text ++ comma_list (map word xs)) (separator_after xs) (word x) in
+    cc (is, first, second, third, both, append_assoc text (comma_list (map word xs)) (separator_after xs ++ word x), joined_more word xs x)
 
 some_known : (known : List ConfigExperimental) → known ≢ [] → comma_list (map word_of known) ≡ known_text known
 some_known [] some = absurd (some refl)

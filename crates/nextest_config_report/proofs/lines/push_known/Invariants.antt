@@ -2,12 +2,12 @@ use Rattle.std.proofs.Common.{◌≡◌, ◌++◌, map, string_bytes}
 use denote.Text.{Utf8}
 use denote.Shadow.{shadow}
 use Rattle.nextest_config_sources.specs.NextestVersion.{word_of}
-use Rattle.nextest_config_values.proofs.Joined.{separator_behind}
+use Rattle.nextest_config_values.proofs.Joined.{separator_after}
 use Rattle.nextest_config_values.specs.Read.{comma_list}
 use Rattle.nextest_config_report.proofs.lines.push_known.Given as goal
 
 abbrev pub invariant-loop-feature : goal.invariant-loop-feature
 invariant-loop-feature l =
     shadow (Utf8 l.separator)
-    × (l.separator ≡ separator_behind l.yielded)
+    × (l.separator ≡ separator_after l.yielded)
     × (string_bytes l.text ≡ string_bytes l.fn.text ++ comma_list (map (λ feature. word_of feature.now) l.yielded))

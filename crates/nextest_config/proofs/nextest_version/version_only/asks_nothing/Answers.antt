@@ -16,12 +16,12 @@ unfolding parse_document lines skip_bom skip_from
 empty_document = refl
 
 empty_asks : (edition : Edition) (kind : ConfigSourceKind) → TextAsks edition kind (Some []) nothing
-empty_asks ArrayAllowed (Tool name) = (no_members, empty_document, record { of_versions = search rules; of_form = tt; of_features = search rules; of_tool = refl })
-empty_asks ArrayAllowed ExplicitRepository = (no_members, empty_document, record { of_versions = search rules; of_form = tt; of_features = search rules; of_tool = tt })
-empty_asks ArrayAllowed DiscoveredRepository = (no_members, empty_document, record { of_versions = search rules; of_form = tt; of_features = search rules; of_tool = tt })
-empty_asks TableOnly (Tool name) = (no_members, empty_document, record { of_versions = search rules; of_form = refl; of_features = search rules; of_tool = refl })
-empty_asks TableOnly ExplicitRepository = (no_members, empty_document, record { of_versions = search rules; of_form = refl; of_features = search rules; of_tool = tt })
-empty_asks TableOnly DiscoveredRepository = (no_members, empty_document, record { of_versions = search rules; of_form = refl; of_features = search rules; of_tool = tt })
+empty_asks ArrayAllowed (Tool name) = (no_members, empty_document, record { of_versions = search rules; of_features = search rules; of_tool = refl })
+empty_asks ArrayAllowed ExplicitRepository = (no_members, empty_document, record { of_versions = search rules; of_features = search rules; of_tool = tt })
+empty_asks ArrayAllowed DiscoveredRepository = (no_members, empty_document, record { of_versions = search rules; of_features = search rules; of_tool = tt })
+empty_asks TableOnly (Tool name) = (no_members, empty_document, record { of_versions = search rules; of_features = search rules; of_tool = refl })
+empty_asks TableOnly ExplicitRepository = (no_members, empty_document, record { of_versions = search rules; of_features = search rules; of_tool = tt })
+empty_asks TableOnly DiscoveredRepository = (no_members, empty_document, record { of_versions = search rules; of_features = search rules; of_tool = tt })
 
 pub returns-in-Some : goal.returns-in-Some
 returns-in-Some c empty edition kind =

@@ -21,23 +21,23 @@ set_within-requires g t c κs within =
     let long = c.split_at_mut-first.ensures.front_len in
     let less = c.split_at_mut-first_nodes.ensures.front_len in
     let step = halvings_first (length c.args.leaves.now) c.args.slot (omega arith) c.if-slot-half.true in
-    let held = first_held g.K.Choose.choice g.K.Choose.nothing (omega arith) c.requires.held c.split_at_mut-first.ensures.front c.split_at_mut-first_nodes.ensures.front in
+    let held = first_held g.K.Choose.choice g.K.Choose.nothing (omega arith) c.requires.choices c.split_at_mut-first.ensures.front c.split_at_mut-first_nodes.ensures.front in
     (omega (arith, c.decreases, long), (within.0, (within.1, (omega (arith, long), (omega (arith, long, less), (held, rw long (omega (arith, step, c.requires.countable))))))))
 
-pub whole_of-requires-clause-held : goal.whole_of-requires-clause-held
-whole_of-requires-clause-held g t c =
-    second_held g.K.Choose.choice g.K.Choose.nothing (omega arith) c.requires.held c.split_at_mut-first.ensures.back c.split_at_mut-first_nodes.ensures.back c.split_at_mut-node.ensures.back
+pub whole_of-requires-clause-choices : goal.whole_of-requires-clause-choices
+whole_of-requires-clause-choices g t c =
+    second_held g.K.Choose.choice g.K.Choose.nothing (omega arith) c.requires.choices c.split_at_mut-first.ensures.back c.split_at_mut-first_nodes.ensures.back c.split_at_mut-node.ensures.back
 
-pub whole_of-requires-else-slot-half-clause-held : goal.whole_of-requires-else-slot-half-clause-held
-whole_of-requires-else-slot-half-clause-held g t c =
-    first_held g.K.Choose.choice g.K.Choose.nothing (omega arith) c.requires.held c.split_at_mut-first.ensures.front c.split_at_mut-first_nodes.ensures.front
+pub whole_of-requires-else-slot-half-clause-choices : goal.whole_of-requires-else-slot-half-clause-choices
+whole_of-requires-else-slot-half-clause-choices g t c =
+    first_held g.K.Choose.choice g.K.Choose.nothing (omega arith) c.requires.choices c.split_at_mut-first.ensures.front c.split_at_mut-first_nodes.ensures.front
 
 pub set_within-requires-else-slot-half : goal.set_within-requires-else-slot-half
 set_within-requires-else-slot-half g t c κs within =
     let long : length c.split_at_mut-first.result.1.now ≡ length c.args.leaves.now - length c.args.leaves.now / 2 = omega (arith, c.split_at_mut-first.ensures.back_len) in
     let less = c.split_at_mut-first_nodes.ensures.back_len in
     let step = halvings_second (length c.args.leaves.now) c.args.slot (omega arith) c.if-slot-half.false in
-    let held = second_held g.K.Choose.choice g.K.Choose.nothing (omega arith) c.requires.held c.split_at_mut-first.ensures.back c.split_at_mut-first_nodes.ensures.back c.split_at_mut-node.ensures.back in
+    let held = second_held g.K.Choose.choice g.K.Choose.nothing (omega arith) c.requires.choices c.split_at_mut-first.ensures.back c.split_at_mut-first_nodes.ensures.back c.split_at_mut-node.ensures.back in
     (omega (arith, c.decreases, long), (within.0, (within.1, (omega (arith, long), (omega (arith, long, less, c.split_at_mut-node.ensures.back_len), (held, rw long (omega (arith, step, c.requires.countable))))))))
 
 pub choose-chosen-requires : goal.choose-chosen-requires
@@ -83,9 +83,9 @@ returns-clause-holds g t c =
       | then-slot-half w ↦
           rw (w.leaves-is, w.first_nodes-is, w.second_nodes-is) (both_held g.K.Choose.choice g.K.Choose.nothing w.set_within.new.leaves c.split_at_mut-first.result.1.now w.set_within.new.nodes c.split_at_mut-node.result.0.now c.split_at_mut-node.result.1.now c.choose-chosen.result
           (length c.args.leaves.now) (omega arith) (w.set_within.auto.leaves ∙ first.front_len) (omega (arith, w.set_within.auto.leaves, first.front_len, first.back_len)) (w.set_within.auto.nodes ∙ first_nodes.front_len) node.front_len
-          (returns-clause-whole g t c ∙ ap (total g.K.Choose.choice g.K.Choose.nothing) w.leaves-is) w.set_within.ensures.holds (second_held g.K.Choose.choice g.K.Choose.nothing (omega arith) c.requires.held first.back first_nodes.back node.back))
+          (returns-clause-whole g t c ∙ ap (total g.K.Choose.choice g.K.Choose.nothing) w.leaves-is) w.set_within.ensures.holds (second_held g.K.Choose.choice g.K.Choose.nothing (omega arith) c.requires.choices first.back first_nodes.back node.back))
       | else-slot-half w ↦
           rw (w.leaves-is, w.first_nodes-is, w.second_nodes-is) (both_held g.K.Choose.choice g.K.Choose.nothing c.split_at_mut-first.result.0.now w.set_within-else-slot-half.new.leaves c.split_at_mut-first_nodes.result.0.now c.split_at_mut-node.result.0.now w.set_within-else-slot-half.new.nodes c.choose-chosen.result
           (length c.args.leaves.now) (omega arith) first.front_len (omega (arith, w.set_within-else-slot-half.auto.leaves, first.front_len, first.back_len)) first_nodes.front_len node.front_len
-          (returns-clause-whole g t c ∙ ap (total g.K.Choose.choice g.K.Choose.nothing) w.leaves-is) (first_held g.K.Choose.choice g.K.Choose.nothing (omega arith) c.requires.held first.front first_nodes.front) w.set_within-else-slot-half.ensures.holds)
+          (returns-clause-whole g t c ∙ ap (total g.K.Choose.choice g.K.Choose.nothing) w.leaves-is) (first_held g.K.Choose.choice g.K.Choose.nothing (omega arith) c.requires.choices first.front first_nodes.front) w.set_within-else-slot-half.ensures.holds)
     ]

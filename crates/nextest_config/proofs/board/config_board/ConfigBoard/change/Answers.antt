@@ -21,7 +21,7 @@ set-requires-clause-countable c =
 pub returns : goal.returns
 returns c =
     let seen = ap (λ (state : BoardState). state.slots) c.self.view_is in
-    let held = subst (λ (n : ℕ). IsHeld n c.args.source c.args.pair) (omega arith) c.requires.held in
+    let held = subst (λ (n : ℕ). IsHeld n c.args.source c.args.pair) (omega arith) c.requires.of_slot in
     let changed = held_set 0 c.args.slot c.self.inside.sources.items c.self.inside.tree c.args.source c.args.pair c.self.invariant held in
     record {
       within = c.requires.within;

@@ -1,0 +1,11 @@
+//! Documents that are at hand.
+
+use nextest_config_sources::nextest_version::ConfigSource;
+use toml::Table;
+
+/// A configuration source and its document, as `toml` read it.
+#[derive(Clone, Copy, Debug)]
+pub struct SourceDocument<'a> {
+    pub source: &'a ConfigSource,
+    pub document: &'a Table,
+}
