@@ -1,4 +1,4 @@
--- What the grammar reads of a text, it reads of the text cut behind it, and it leaves the text's end.
+-- What the grammar reads of a text, it reads of the text cut after it, and it leaves the text's end.
 pub mod Documents
 pub mod Lexical
 pub mod Reads
@@ -101,7 +101,7 @@ comma_end closing u rest is = elim (cases_Bool (first u == 44)) [
   ]
 ]
 
--- what stands behind an element of a list
+-- what stands after an element of a list
 pub after_element_end : (closing : ℕ) (text rest : List ℕ) → after_element closing text ≡ Some rest → (front : List ℕ) × (text ≡ front ++ rest)
 unfolding after_element
 after_element_end closing text rest is =
@@ -111,7 +111,7 @@ after_element_end closing text rest is =
 
 -- ---- what is read of a text alone
 
--- a statement is read so where the text is cut behind it
+-- a statement is read so where the text is cut after it
 pub line_cut : (t b r : List ℕ) (e : Expression) → line (t ++ b) ≡ Some (e, r ++ b) → line t ≡ Some (e, r)
 line_cut t b r e is =
     let (front, whole, on) = front_of e (r ++ b) (line_alone (t ++ b)) is in

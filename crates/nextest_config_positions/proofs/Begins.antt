@@ -13,18 +13,18 @@ pub record IsBetween (begins : List ℕ) (place low high : ℕ) : Type 0 where
   pub before : (low ≡ 0) ⊎ (place ≤ slice_index begins (low - 1))
   pub behind : (high ≡ length begins) ⊎ (slice_index begins high < place)
 
--- places that ascend do so behind a front of them, too
-ascends_behind : (low : ℕ) (front begins : List ℕ) → Ascends low (front ++ begins) → (high : ℕ) × Ascends high begins × (low ≤ high)
-ascends_behind low [] begins all = (low, all, omega arith)
-ascends_behind low (b ∷ front) begins all =
-    let behind = ascends_behind (suc b) front begins all.1 in
+-- places that ascend do so after a front of them, too
+ascends_after : (low : ℕ) (front begins : List ℕ) → Ascends low (front ++ begins) → (high : ℕ) × Ascends high begins × (low ≤ high)
+ascends_after low [] begins all = (low, all, omega arith)
+ascends_after low (b ∷ front) begins all =
+    let behind = ascends_after (suc b) front begins all.1 in
     (behind.0, behind.1, omega (arith, all.0, behind.2))
 
--- where one of them is less than the place sought, so are those before it, and the search goes on behind it
+-- where one of them is less than the place sought, so are those before it, and the search goes on after it
 passed_over : (place low last : ℕ) (front begins : List ℕ) → Ascends low (front ++ (last ∷ begins)) → last < place → begin_of place (front ++ (last ∷ begins)) ≡ begin_of place begins
 passed_over place low last [] begins all less = rw (lt-leb place last less) refl
 passed_over place low last (b ∷ front) begins all less =
-    let behind = ascends_behind (suc b) front (last ∷ begins) all.1 in
+    let behind = ascends_after (suc b) front (last ∷ begins) all.1 in
     let lower : b < place = omega (arith, behind.1.0, behind.2, less) in
     rw (lt-leb place b lower) (passed_over place (suc b) last front begins all.1 less)
 
@@ -40,9 +40,9 @@ reversed_at begins place within =
     ∙ append_assoc (reverse behind) (at ∷ []) (reverse front)
 
 -- where the place at an index is less, all from there on are, so what is sought is in the front before it
-found_behind : (begins : List ℕ) (place low least : ℕ) → Ascends least (reverse begins) → low ≤ length begins → (low ≡ length begins) ⊎ (slice_index begins low < place) → begin_of place (reverse begins) ≡ begin_of place (reverse (take low begins))
-found_behind begins place low least all within (inl end) = rw (take_all low begins (omega (arith, end))) refl
-found_behind begins place low least all within (inr less) = elim (cases_lt low (length begins)) [
+found_after : (begins : List ℕ) (place low least : ℕ) → Ascends least (reverse begins) → low ≤ length begins → (low ≡ length begins) ⊎ (slice_index begins low < place) → begin_of place (reverse begins) ≡ begin_of place (reverse (take low begins))
+found_after begins place low least all within (inl end) = rw (take_all low begins (omega (arith, end))) refl
+found_after begins place low least all within (inr less) = elim (cases_lt low (length begins)) [
   | inl some ↦
       let at = reversed_at begins low some in
       rw at (passed_over place least (slice_index begins low) (reverse (drop (suc low) begins)) (reverse (take low begins)) (rw at at all) less)
@@ -53,7 +53,7 @@ found_behind begins place low least all within (inr less) = elim (cases_lt low (
 pub none_before : (begins : List ℕ) (place low high least : ℕ) → IsBetween begins place low high → high ≤ low → low ≡ 0 → Ascends least (reverse begins) → 0 ≡ begin_of place (reverse begins)
 none_before begins place low high least so over none all =
     let zero : high ≡ 0 = omega (arith, over, none) in
-    sym (found_behind begins place 0 least all (omega arith) (rw zero at so.behind))
+    sym (found_after begins place 0 least all (omega arith) (rw zero at so.behind))
 
 -- and else it is the last one of that front
 pub last_before : (begins : List ℕ) (place low high least : ℕ) → IsBetween begins place low high → high ≤ low → 0 < low → Ascends least (reverse begins) → slice_index begins (low - 1) ≡ begin_of place (reverse begins)
@@ -68,4 +68,4 @@ last_before begins place low high least so over some all =
           rw one_less at (ap reverse (take_more begins (low - 1) 0 (omega (arith, some, within)))) ∙ reverse-append (take (low - 1) begins) (slice_index begins (low - 1) ∷ []) in
           rw (front, le-leb place (slice_index begins (low - 1)) up) refl
     ] in
-    last ∙ sym (found_behind begins place low least all within (rw same at so.behind))
+    last ∙ sym (found_after begins place low least all within (rw same at so.behind))

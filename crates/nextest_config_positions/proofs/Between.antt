@@ -1,6 +1,5 @@
 -- What stands between the parts of a value, and that of one text there is one walk.
 pub mod Elements
-pub mod Keys
 pub mod Marks
 pub mod Members
 pub mod Once

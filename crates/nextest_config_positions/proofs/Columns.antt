@@ -1,4 +1,4 @@
--- The column behind a front of a text, one byte more.
+-- The column after a front of a text, one byte more.
 use Rattle.std.proofs.Common.{◌≡◌, ℕ, suc, ◌+◌, ◌<◌, ◌≤◌, Bool, List, [], ◌∷◌, ◌++◌, append_assoc, append-nil, ap, arith, cond, count_by, get_or, if◌then◌else◌, inl, inr, length, refl, sym, take, ◌∙◌}
 use Rattle.std.proofs.lemmas.Bool.Decides.{eqb_tells, nat_tests}
 use Rattle.std.proofs.lemmas.Grind.{common_steps}
@@ -10,11 +10,11 @@ use Rattle.nextest_config_positions.specs.Front.{column_after}
 use Rattle.nextest_config_positions.specs.Offsets.{begins_character}
 use Rattle.nextest_config_positions.specs.Place.{IsColumn, IsInLine}
 
--- behind a byte in the line
+-- after a byte in the line
 next_in_line : (p : ℕ → Bool) (xs : List ℕ) (x column : ℕ) → column ≡ suc (count_by p xs) → (if p x then column + 1 else column) ≡ suc (count_by p (xs ++ (x ∷ [])))
 next_in_line p xs x column is = grind (arith, common_steps, sum_by_push (λ y. cond (p y) 1 0) xs x)
 
--- the column behind one byte more
+-- the column after one byte more
 pub column_more : (front : List ℕ) (byte column : ℕ) → IsColumn front column → IsColumn (front ++ (byte ∷ [])) (column_after column byte)
 column_more front byte column is = elim (eqb_tells byte line_feed) [
   | inl told ↦ rw told.0 (record {

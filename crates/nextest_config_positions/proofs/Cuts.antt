@@ -6,7 +6,7 @@ use Rattle.toml.specs.Data.{Members, no_members}
 use Rattle.toml.specs.Parse.{parse_document}
 use Rattle.nextest_config_positions.specs.Line.{found_in, HasNoLine, LeadsIn}
 use Rattle.nextest_config_positions.specs.Step.{PathStep, index, key, step_of}
-use Rattle.nextest_config_positions.specs.declared.step.Step.{Step}
+use Rattle.nextest_config_values.specs.declared.read.step.Step.{Step}
 
 -- of two fronts of one list, the shorter is a front of the longer
 pub front_of_front : {A : Type 0} (xs ys us vs : List A) → xs ++ ys ≡ us ++ vs → length xs ≤ length us → (between : List A) × (us ≡ xs ++ between) × (ys ≡ between ++ vs)

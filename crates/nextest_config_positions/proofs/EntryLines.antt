@@ -11,10 +11,10 @@ use Rattle.nextest_config_positions.specs.Entry.{array, first_piece, inline, Pie
 use Rattle.nextest_config_positions.specs.EntryViews.{branches_of}
 use Rattle.nextest_config_positions.specs.Index.{IsIndexOf}
 use Rattle.nextest_config_positions.specs.IndexViews.{IsFirstOf}
-use Rattle.nextest_config_positions.specs.Line.{IsLine, IsLineOf, IsReadFront, LeadsIn, line_behind}
+use Rattle.nextest_config_positions.specs.Line.{IsLine, IsLineOf, IsReadFront, LeadsIn, line_after}
 use Rattle.nextest_config_positions.specs.Step.{PathStep, step_of}
 use Rattle.nextest_config_positions.specs.declared.index.Index.{Index}
-use Rattle.nextest_config_positions.specs.declared.step.Step.{Step}
+use Rattle.nextest_config_values.specs.declared.read.step.Step.{Step}
 use Rattle.nextest_config_positions.proofs.Alone.{part_alone, value_alone}
 use Rattle.nextest_config_positions.proofs.Growth.Promises.{line_of_entry}
 use Rattle.nextest_config_positions.proofs.LongerCuts.{leads_in_longer}
@@ -58,7 +58,7 @@ module _ (text : List ℕ) (index : Index) (of_text : IsIndexOf text index) wher
 
   -- what the path leads to stands in the statement that begins first before its first piece
   pub line_found : (path : List Step) (ps : Pieces) (first : ℕ) → false ≡ (length path == 0) → option_map pieces_of (tree_at (branches_of index.root) (map step_of path)) ≡ Some ps → IsFirstOf ps first
-      → IsLine text (map step_of path) (line_behind (take (length text - begin_of first (reverse index.begins.items)) text))
+      → IsLine text (map step_of path) (line_after (take (length text - begin_of first (reverse index.begins.items)) text))
   line_found path ps first some found is_first =
       let (rest, walks, over) = of_text.walked in
       map_some pieces_of (tree_at (branches_of index.root) (map step_of path)) ps found (λ t t_is pieces.

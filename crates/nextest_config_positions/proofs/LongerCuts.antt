@@ -1,31 +1,22 @@
 -- Where a path leads to a value in a cut that is read, it leads to one in each longer cut that is read.
-use Rattle.std.proofs.Common.{◌≡◌, ℕ, ◌≤◌, ◌==◌, ◌&&◌, List, [], ◌∷◌, ◌++◌, length, Some, IsSome, refl, sym, ap, ◌∙◌, inl, inr, arith, append_assoc, append-nil, length-append}
-use Rattle.std.proofs.lemmas.Bool.{cases_Bool}
+use Rattle.std.proofs.Common.{◌≡◌, ℕ, ◌≤◌, List, [], ◌∷◌, ◌++◌, length, Some, IsSome, sym, ap, ◌∙◌, inl, inr, arith, append_assoc, append-nil, length-append}
 use Rattle.std.proofs.lemmas.List.{nil_from_length}
 use Rattle.std.proofs.NetLemmas.Options.{map_some}
 use Rattle.toml.specs.Data.{Members}
-use Rattle.toml.specs.Parse.{parse_document, skip_bom}
+use Rattle.toml.specs.Parse.{parse_document}
 use Rattle.toml.specs.Tables.{no_nodes}
 use Rattle.nextest_config_positions.specs.Line.{found_in, IsReadFront, LeadsIn}
 use Rattle.nextest_config_positions.specs.Step.{PathStep}
 use Rattle.nextest_config_positions.proofs.Cuts.{front_of_front}
 use Rattle.nextest_config_positions.proofs.Extension.Lexical.{ended}
+use Rattle.nextest_config_positions.proofs.Growth.Fronts.{mark_before}
 use Rattle.nextest_config_positions.proofs.Monotone.{kept_paths, lines_more_keep}
 
--- a byte order mark at the front of a text stands before its last line feed
-mark_ended : (s : List ℕ) → (t : List ℕ) × ((b : List ℕ) → skip_bom (ended s b) ≡ ended t b)
-unfolding skip_bom
-mark_ended [] = ([], λ b. refl)
-mark_ended (c ∷ []) = (c ∷ [], λ b. elim (cases_Bool (c == 0xEF)) [ inl is ↦ rw is refl | inr other ↦ rw other refl ])
-mark_ended (c ∷ d ∷ []) = (c ∷ d ∷ [], λ b. elim (cases_Bool (c == 0xEF && d == 0xBB)) [ inl is ↦ rw is refl | inr other ↦ rw other refl ])
-mark_ended (c ∷ d ∷ e ∷ s) =
-    elim (cases_Bool ((c == 0xEF && d == 0xBB) && e == 0xBF)) [ inl is ↦ (s, λ b. rw is refl) | inr other ↦ (c ∷ d ∷ e ∷ s, λ b. rw other refl) ]
-
--- a path that leads to a value in a text that ends in a line feed leads to one behind more statements
+-- a path that leads to a value in a text that ends in a line feed leads to one after more statements
 leads_longer : (s more : List ℕ) (a b : Members) (path : List PathStep) → parse_document (ended s []) ≡ Some a → parse_document (ended s more) ≡ Some b → IsSome (found_in a path) → IsSome (found_in b path)
 unfolding parse_document
 leads_longer s more a b path reads reads_on leads =
-    let (t, marked) = mark_ended s in
+    let (t, marked) = mark_before s in
     map_some _ _ a reads (λ first is closed. map_some _ _ b reads_on (λ second is_on closed_on.
     let kept = lines_more_keep _ _ (no_nodes, []) first second t more (rw (marked []) at is) (rw (marked more) at is_on) in
     rw (← closed_on) (kept_paths first.0 second.0 kept path (rw (← closed) at leads))))

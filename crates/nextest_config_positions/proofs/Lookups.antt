@@ -9,7 +9,7 @@ use Rattle.nextest_config_positions.specs.Ranges.{range_of}
 use Rattle.nextest_config_positions.specs.Step.{step_of}
 use Rattle.nextest_config_positions.specs.declared.entry.Entry.{Entry}
 use Rattle.nextest_config_positions.specs.declared.entry.Piece.{Piece}
-use Rattle.nextest_config_positions.specs.declared.step.Step.{Step}
+use Rattle.nextest_config_values.specs.declared.read.step.Step.{Step}
 use Rattle.nextest_config_positions.proofs.Views.{at_text, Pair, tree_of-lookup}
 
 -- the first of some steps, and the rest

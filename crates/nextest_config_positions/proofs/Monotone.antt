@@ -1,7 +1,8 @@
--- What a document holds, it still holds behind more statements.
-use Rattle.std.proofs.Common.{◌≡◌, ◌⊎◌, ℕ, zero, suc, ◌==◌, List, [], ◌∷◌, length, Option, Some, None, IsSome, IfSome, option_and_then, option_map, Ordering, Less, Equal, Greater, nat_cmp, refl, sym, inl, inr}
+-- What a document holds, it still holds after more statements.
+use Rattle.std.proofs.Common.{◌≡◌, ◌⊎◌, ℕ, zero, suc, ◌==◌, List, [], ◌∷◌, length, Option, Some, None, IsSome, IfSome, option_and_then, option_map, Ordering, Less, Equal, Greater, nat_cmp, refl, sym, inl, inr, eqb-true}
 use Rattle.std.proofs.lemmas.Bool.{cases_Bool, cond_both}
 use Rattle.std.proofs.lemmas.Cmp.{nat_list_cmp_total}
+use Rattle.std.proofs.lemmas.List.{nil_from_length}
 use Rattle.std.proofs.lemmas.Option.{none-some, option_and_then_some, same_Some}
 use Rattle.std.specs.Cmp.Lexicographic.{slice_cmp}
 use Rattle.std.specs.Ordering.{match_ordering}
@@ -79,7 +80,7 @@ later_either Less r s d e rest here = rest
 later_either Equal r s d e rest here = here
 later_either Greater r s d e rest here = rest
 
--- another node at the first key, and other nodes behind it
+-- another node at the first key, and other nodes after it
 kept_node : (m : List ℕ) (x y : Node) (a b : Nodes) → DataKept (close_node x) (close_node y) → Kept a b → Kept (node m x a) (node m y b)
 kept_node m x y a b here rest k = later_either (slice_cmp nat_cmp k m) _ _ _ _ (rest k) here
 
@@ -189,46 +190,46 @@ define_keeps document (k, key_value d) =
 define_keeps document (k, std_table) = document_kept _ document.0 (along_header k.0 (at_key k.1 std_table)) (header_keeps k.0 (at_key k.1 std_table) (at_key_keeps k.1 std_table))
 define_keeps document (k, array_table) = document_kept _ document.0 (along_header k.0 (at_key k.1 array_table)) (header_keeps k.0 (at_key k.1 array_table) (at_key_keeps k.1 array_table))
 
--- what a text that is read begins with: nothing but blanks, or a statement
-record IsStatement (n : ℕ) (document : Document) (text : List ℕ) (last : Document) : Type 0 where
-  e : Expression
-  after : List ℕ
-  read : line (skip_blank text) ≡ Some (e, after)
-  next : Document
-  defined : define document e ≡ Some next
-  later : lines n next after ≡ Some last
+-- a text that is read begins with a statement
+pub record Begins (n : ℕ) (document : Document) (text : List ℕ) (last : Document) : Type 0 where
+  pub expression : Expression
+  pub after : List ℕ
+  pub reads : line (skip_blank text) ≡ Some (expression, after)
+  pub next : Document
+  pub defines : define document expression ≡ Some next
+  pub later : lines n next after ≡ Some last
 
--- a text that is read is blank, or begins with a statement
-first_statement : (n : ℕ) (document last : Document) (text : List ℕ) → lines (suc n) document text ≡ Some last → (document ≡ last) ⊎ IsStatement n document text last
+-- or is blank
+pub first_of_lines : (n : ℕ) (document last : Document) (text : List ℕ) → lines (suc n) document text ≡ Some last → ((skip_blank text ≡ []) × (document ≡ last)) ⊎ Begins n document text last
 unfolding lines
-first_statement n document last text is =
+first_of_lines n document last text is =
     elim (cases_Bool (length (skip_blank text) == 0)) [
-      | inl none ↦ inl (same_Some document last (rw none at is))
-      | inr some ↦ option_and_then_some _ (line (skip_blank text)) last (rw some at is) (λ e read on. option_and_then_some _ (define document e.0) last on
-          (λ next defined later. inr (record { e = e.0; after = e.1; read = read; next = next; defined = defined; later = later })))
+      | inl none ↦ inl (nil_from_length (skip_blank text) (eqb-true (length (skip_blank text)) 0 none), same_Some document last (rw none at is))
+      | inr some ↦ option_and_then_some _ (line (skip_blank text)) last (rw some at is) (λ e reads on. option_and_then_some _ (define document e.0) last on
+          (λ next defines later. inr (record { expression = e.0; after = e.1; reads = reads; next = next; defines = defines; later = later })))
     ]
 
 -- all statements of a text keep what the document held before them
-lines_keep : (n : ℕ) (document last : Document) (text : List ℕ) → lines n document text ≡ Some last → Kept document.0 last.0
+pub lines_keep : (n : ℕ) (document last : Document) (text : List ℕ) → lines n document text ≡ Some last → Kept document.0 last.0
 unfolding lines
 lines_keep zero document last text is = absurd (none-some last is)
 lines_keep (suc n) document last text is =
-    elim (first_statement n document last text is) [
-      | inl same ↦ rw same (λ k. later_same _)
+    elim (first_of_lines n document last text is) [
+      | inl blank ↦ rw blank.1 (λ k. later_same _)
       | inr first ↦
-          let kept : Kept document.0 first.next.0 = rw first.defined at (define_keeps document first.e) in
+          let kept : Kept document.0 first.next.0 = rw first.defines at (define_keeps document first.expression) in
           λ k path leads. lines_keep n first.next last first.after first.later k path (kept k path leads)
     ]
 
--- what is read of a text that ends in a line feed is kept in what is read of it with more behind it
+-- what is read of a text that ends in a line feed is kept in what is read of it with more after it
 pub lines_more_keep : (n m : ℕ) (document between last : Document) (s more : List ℕ) → lines n document (ended s []) ≡ Some between → lines m document (ended s more) ≡ Some last → Kept between.0 last.0
 unfolding lines
 lines_more_keep zero m document between last s more is on = absurd (none-some between is)
 lines_more_keep (suc n) zero document between last s more is on = absurd (none-some last on)
 lines_more_keep (suc n) (suc m) document between last s more is on =
-    elim (first_statement n document between (ended s []) is) [
-      | inl same ↦ rw (← same) (lines_keep (suc m) document last (ended s more) on)
+    elim (first_of_lines n document between (ended s []) is) [
+      | inl blank ↦ rw (← blank.1) (lines_keep (suc m) document last (ended s more) on)
       | inr first ↦
-          let (rest, after_is, read_on) = statement_on s more first.e first.after first.read in
-          lines_more_keep n m first.next between last rest more (rw after_is at first.later) (rw (some_start (skip_blank (ended s more)) first.e (ended rest more) read_on, read_on, first.defined) at on)
+          let (rest, after_is, read_on) = statement_on s more first.expression first.after first.reads in
+          lines_more_keep n m first.next between last rest more (rw after_is at first.later) (rw (some_start (skip_blank (ended s more)) first.expression (ended rest more) read_on, read_on, first.defines) at on)
     ]

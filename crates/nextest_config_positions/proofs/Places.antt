@@ -10,7 +10,7 @@ use Rattle.std.specs.Coded.{×_prop, le_prop}
 use Rattle.std.specs.List.{AllByRecursion}
 use Rattle.std.specs.List.Sorted.{IsNonDecreasingBy, IsPartitionPoint}
 use Rattle.nextest_config_values.specs.Characters.{line_feed}
-use Rattle.nextest_config_positions.specs.Line.{EndsLine, line_behind}
+use Rattle.nextest_config_positions.specs.Line.{EndsLine, line_after}
 use Rattle.nextest_config_positions.specs.Offsets.{AreOffsets, AreOffsetsOf, begins_character, continues_character, ends_line, offsets_of}
 use Rattle.nextest_config_positions.specs.Place.{IsColumn, IsInLine}
 
@@ -121,7 +121,7 @@ offsets_ascend test first (x ∷ xs) =
 
 -- ---- how many come before an offset
 
--- the point between what passes and what doesn't comes behind as many as pass
+-- the point between what passes and what doesn't comes after as many as pass
 pub point_counts : (p : ℕ → Bool) (xs : List ℕ) (k : ℕ) → k ≤ length xs → IsPartitionPoint (λ y. p y ≡ true) (λ y. p y ≡ false) xs k → k ≡ count_by p xs
 point_counts p [] k within point = omega (arith, within)
 point_counts p (x ∷ xs) zero within point =
@@ -166,9 +166,9 @@ record IsCutAtLast (test : ℕ → Bool) (first : ℕ) (xs : List ℕ) : Type 0 
   pub none : count_by test last ≡ 0
   pub offset_is : (d : ℕ) → get_or (offsets_of test first xs) (count_by test xs - 1) d ≡ first + length front
 
--- behind a byte that one follows that passes
-offset_behind : (test : ℕ → Bool) (first x : ℕ) (xs : List ℕ) (d offset : ℕ) → 0 < count_by test xs → get_or (offsets_of test (suc first) xs) (count_by test xs - 1) d ≡ offset → get_or (offsets_of test first (x ∷ xs)) (count_by test (x ∷ xs) - 1) d ≡ offset
-offset_behind test first x xs d offset later is = elim (cases_Bool (test x)) [
+-- after a byte that one follows that passes
+offset_after : (test : ℕ → Bool) (first x : ℕ) (xs : List ℕ) (d offset : ℕ) → 0 < count_by test xs → get_or (offsets_of test (suc first) xs) (count_by test xs - 1) d ≡ offset → get_or (offsets_of test first (x ∷ xs)) (count_by test (x ∷ xs) - 1) d ≡ offset
+offset_after test first x xs d offset later is = elim (cases_Bool (test x)) [
   | inl passes ↦
       let behind : count_by test (x ∷ xs) - 1 ≡ suc (count_by test xs - 1) = omega (arith, count_yes test x xs passes, later) in
       rw (behind, passes) is
@@ -188,7 +188,7 @@ cut_at_last test first (x ∷ xs) some = elim (cases_lt 0 (count_by test xs)) [
         whole = ap (λ (l : List ℕ). x ∷ l) cut.whole;
         passes = cut.passes;
         none = cut.none;
-        offset_is = λ d. offset_behind test first x xs d (first + suc (length cut.front)) later (cut.offset_is d ∙ on_one first (length cut.front));
+        offset_is = λ d. offset_after test first x xs d (first + suc (length cut.front)) later (cut.offset_is d ∙ on_one first (length cut.front));
       }
   | inr none ↦
       let passes : test x ≡ true = true_from_ne_false (test x) (λ fails. absurd (omega (arith, some, none, count_no test x xs fails))) in
@@ -266,11 +266,11 @@ pub record TellsPlace (front : List ℕ) (n lines begin all before : ℕ) : Type
   pub begins : begin ≤ n
   pub fewer : before ≤ all
   pub in_line : all - before ≤ n - begin
-  pub line_is : lines ≡ line_behind front
+  pub line_is : lines ≡ line_after front
   pub column_is : IsColumn front (n - begin - (all - before) + 1)
 
 -- they do so where the last line begins there
-place_of_line : (front : List ℕ) (n lines begin all before : ℕ) → IsLastLine front begin → length front ≡ n → lines ≡ line_behind front → all ≡ count_by continues_character front → before ≡ count_by continues_character (take begin front) → TellsPlace front n lines begin all before
+place_of_line : (front : List ℕ) (n lines begin all before : ℕ) → IsLastLine front begin → length front ≡ n → lines ≡ line_after front → all ≡ count_by continues_character front → before ≡ count_by continues_character (take begin front) → TellsPlace front n lines begin all before
 place_of_line front n lines begin all before line size lines_are all_are before_are =
     let before_line : take begin front ≡ line.before = rw line.whole (take_at line.before line.last begin line.size) in
     let counts : count_by continues_character front ≡ count_by continues_character line.before + count_by continues_character line.last = ap (count_by continues_character) line.whole ∙ sum_by-append (λ y. cond (continues_character y) 1 0) line.before line.last in
@@ -302,7 +302,7 @@ place_read text line_begins continuations size n lines begin all before of withi
     let short : n ≤ length text = omega (arith, within, of.size_is) in
     let front_size : length (take n text) ≡ n = length-take-le n text short in
     let counted : count_by (λ it. nat_lt it (n + 1)) (offsets_of ends_line 1 text) ≡ count_by ends_line (take n text) = rw (add_comm 1 n) at (offsets_before ends_line 1 n text) in
-    let lines_told : lines ≡ line_behind (take n text) = lines_are ∙ rw (of.line_begins_are, count_yes (λ it. nat_lt it (n + 1)) 0 (offsets_of ends_line 1 text) (grind (arith, nat_tests)), counted) (omega arith) in
+    let lines_told : lines ≡ line_after (take n text) = lines_are ∙ rw (of.line_begins_are, count_yes (λ it. nat_lt it (n + 1)) 0 (offsets_of ends_line 1 text) (grind (arith, nat_tests)), counted) (omega arith) in
     let index : lines - 1 ≡ count_by ends_line (take n text) = omega (arith, lines_told) in
     let begin_told : get_or (0 ∷ offsets_of ends_line 1 text) (count_by ends_line (take n text)) begin ≡ begin = sym (rw (of.line_begins_are, index) at begin_is) in
     let line : IsLastLine (take n text) begin = rw begin_told at (last_line text n begin short) in

@@ -10,7 +10,7 @@ use Rattle.std.specs.Str.{IsCharBoundary, IsUtf8}
 use Rattle.toml.specs.Data.{Members}
 use Rattle.toml.specs.Parse.{parse_document}
 use Rattle.nextest_config_values.specs.Characters.{line_feed}
-use Rattle.nextest_config_positions.specs.Line.{EndsLine, found_in, IsLineFront, IsLineOf, IsReadFront, LeadsIn, line_behind}
+use Rattle.nextest_config_positions.specs.Line.{EndsLine, found_in, IsLineFront, IsLineOf, IsReadFront, LeadsIn, line_after}
 use Rattle.nextest_config_positions.specs.Search.{EndsFront, IsLastThatReads, IsLineEnd, NoLineEnds, NoneReads}
 use Rattle.nextest_config_positions.specs.Step.{PathStep}
 use Rattle.nextest_config_positions.proofs.Cuts.{leads_in_some, leads_not}
@@ -68,7 +68,7 @@ no_read_between text floor high none within other read above = elim (cases_lt (l
   | inr longer ↦ longer
 ]
 
--- behind the first place as behind the second one, none is a document
+-- after the first place as after the second one, none is a document
 none_reads_on : (text : List ℕ) (lower place end : ℕ) → NoneReads text lower place → NoneReads text place end → NoneReads text lower end
 none_reads_on text lower place end below above other read behind up_to = ⊎_elim (λ beyond. above other read beyond up_to) (below other read behind) (cases_lt place (length other))
 
@@ -92,8 +92,8 @@ read_at text path floor end place leads is_end behind up_to later is = map_some 
 })
 
 -- where the path leads to no value in the last front that is a document, it leads to none in a shorter one
-leads_behind : (text : List ℕ) (path : List PathStep) (floor end place : ℕ) → IsLastThatReads text path floor end place false → place ≤ length text → (other : List ℕ) → LeadsIn text path other → place < length other
-leads_behind text path floor end place found within other led = lt_of_not-le (λ up.
+leads_after : (text : List ℕ) (path : List PathStep) (floor end place : ℕ) → IsLastThatReads text path floor end place false → place ≤ length text → (other : List ℕ) → LeadsIn text path other → place < length other
+leads_after text path floor end place found within other led = lt_of_not-le (λ up.
     leads_not text (take place text) path found.read.members found.read.reads (λ some. cc (found.leads_is, some))
     (leads_in_longer text other (take place text) path led found.read (omega (arith, up, length-take-le place text within))))
 
@@ -104,7 +104,7 @@ cut_within text front cut = omega (arith, ap length cut.whole, length-append fro
 -- and in none at all
 pub leads_nowhere : (text : List ℕ) (path : List PathStep) (place : ℕ) → IsLastThatReads text path 0 (length text) place false → (front : List ℕ) → LeadsIn text path front → ⊥
 leads_nowhere text path place found front led =
-    found.is_last front led.read (leads_behind text path 0 (length text) place found found.up_to front led) (cut_within text front led.read.cut)
+    found.is_last front led.read (leads_after text path 0 (length text) place found found.up_to front led) (cut_within text front led.read.cut)
 
 -- an empty text holds nothing
 pub empty_nowhere : (text : List ℕ) (path : List PathStep) → length text ≡ 0 → (front : List ℕ) → LeadsIn text path front → ⊥
@@ -121,7 +121,7 @@ pub record IsLow (text : List ℕ) (path : List PathStep) (low : ℕ) : Type 0 w
   pub read : (take low text ≡ []) ⊎ IsReadFront text (take low text)
   pub nowhere : (other : List ℕ) → LeadsIn text path other → low < length other
 
--- None is a document behind there, up to the second place. Up to the last place the path leads to a value.
+-- None is a document after there, up to the second place. Up to the last place the path leads to a value.
 pub record IsSearch (text : List ℕ) (path : List PathStep) (low floor high : ℕ) : Type 0 where
   pub is_low : IsLow text path low
   pub low_within : low ≤ floor
@@ -149,7 +149,7 @@ module _ {text : List ℕ} {path : List PathStep} {low floor high : ℕ} (so : I
   -- it leads to none in a longer front
   pub search_above : (end place : ℕ) → IsLastThatReads text path floor end place false → end < high → IsSearch text path place end high
   search_above end place found below =
-      let is_low : IsLow text path place = record { read = inr found.read; nowhere = leads_behind text path floor end place found (omega (arith, found.up_to, below, so.within)) } in
+      let is_low : IsLow text path place = record { read = inr found.read; nowhere = leads_after text path floor end place found (omega (arith, found.up_to, below, so.within)) } in
       search arith
 
   -- no front up to there is a document
@@ -159,7 +159,7 @@ module _ {text : List ℕ} {path : List PathStep} {low floor high : ℕ} (so : I
       search arith
 
   -- where no line ends on the way, the next front that leads to a value is the last one found
-  pub search_over : NoLineEnds text floor high → IsLineOf text path (line_behind (take low text))
+  pub search_over : NoLineEnds text floor high → IsLineOf text path (line_after (take low text))
   search_over none =
       let top : length (take high text) ≡ high = length-take-le high text so.within in
       let bottom : length (take low text) ≡ low = length-take-le low text (omega (arith, so.low_within, so.order, so.within)) in

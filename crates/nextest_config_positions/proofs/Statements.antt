@@ -15,7 +15,7 @@ line_nil : line [] ≡ None
 unfolding line expression key_equals key_after simple_key
 line_nil = refl
 
--- a statement behind blanks, with more behind it
+-- a statement after blanks, with more after it
 pub statement_on : (s more : List ℕ) (e : Expression) (after : List ℕ) → line (skip_blank (ended s [])) ≡ Some (e, after)
     → (rest : List ℕ) × (after ≡ ended rest []) × (line (skip_blank (ended s more)) ≡ Some (e, ended rest more))
 statement_on s more e after read =

@@ -3,16 +3,16 @@ use Rattle.std.proofs.Common.{◌≡◌, ◌+◌, ◌<◌, ℕ, Bool, true, fals
 use Rattle.std.proofs.lemmas.Grind.{flat_map-append}
 use Rattle.std.proofs.lemmas.List.{map_more}
 use Rattle.nextest_config_positions.specs.Step.{PathStep, printed_path, step_of, step_text}
-use Rattle.nextest_config_positions.specs.declared.step.Step.{Step}
+use Rattle.nextest_config_values.specs.declared.read.step.Step.{Step}
 
--- whether a step stands behind others
+-- whether a step stands after others
 abbrev pub is_some_step : List PathStep → Bool
 is_some_step [] = false
 is_some_step (step ∷ steps) = true
 
-pub is_some_behind : (steps : List PathStep) (step : PathStep) → true ≡ is_some_step (steps ++ (step ∷ []))
-is_some_behind [] step = refl
-is_some_behind (first ∷ steps) step = refl
+pub is_some_after : (steps : List PathStep) (step : PathStep) → true ≡ is_some_step (steps ++ (step ∷ []))
+is_some_after [] step = refl
+is_some_after (first ∷ steps) step = refl
 
 printed_more : (steps : List PathStep) (step : PathStep) → printed_path (steps ++ (step ∷ [])) ≡ printed_path steps ++ step_text (is_some_step steps) step
 printed_more [] step = append-nil (step_text false step)

@@ -45,13 +45,13 @@ pub parts_zero : (path : List Part) (text : List ℕ) → parts_after 0 path tex
 unfolding parts_after
 parts_zero path text = refl
 
--- what comes behind a part
-abbrev pub behind_part : ℕ → List Part → List ℕ → List ℕ × List ℕ → Read Parts
-behind_part n path text read = cond (first (skip_ws read.1) == 46)
+-- what comes after a part
+abbrev pub after_part : ℕ → List Part → List ℕ → List ℕ × List ℕ → Read Parts
+after_part n path text read = cond (first (skip_ws read.1) == 46)
     (parts_after n (path ++ (read.0, piece text read.1) ∷ []) (skip_ws (drop 1 (skip_ws read.1))))
     (Some ((path, (read.0, piece text read.1)), skip_ws read.1))
 
-pub parts_turn : (n : ℕ) (path : List Part) (text : List ℕ) → 0 < n → parts_after n path text ≡ option_and_then (behind_part (n - 1) path text) (simple_key text)
+pub parts_turn : (n : ℕ) (path : List Part) (text : List ℕ) → 0 < n → parts_after n path text ≡ option_and_then (after_part (n - 1) path text) (simple_key text)
 unfolding parts_after
 parts_turn zero path text h = absurd (omega arith)
 parts_turn (suc n) path text h = let less : suc n - 1 ≡ n = omega arith in rw less

@@ -1,4 +1,4 @@
--- The statements of a document, one after the other, and what stands where behind each.
+-- The statements of a document, one after the other, and what stands where after each.
 use Rattle.std.specs.Prelude.{◌≡◌, ℕ, ◌==◌, ◌&&◌, if◌then◌else◌, List, [], ◌∷◌, ◌++◌, length, drop, slice_index, Option, Some, option_and_then, option_map}
 use Rattle.toml_parser.specs.Lexical.{first, left_bracket, Read, right_bracket, skip_blank, skip_ws}
 use Rattle.toml_parser.specs.Strings.{recursion_limit}
@@ -47,7 +47,7 @@ grown walk key (pair t) = option_map (λ root. (root, walk.section))
 grown walk key what = option_map (λ root. (root, key.0 ++ key.1 ∷ []))
     (along_header key.0 (at_part key.1 what) walk.root)
 
--- the walk behind one more statement, which begins at this text
+-- the walk after one more statement, which begins at this text
 unfoldable pub walk_on : Walk → List ℕ → Statement → Option Walk
 walk_on walk start s = option_map
     (λ new. record { root = new.0; section = new.1; begins = length start ∷ walk.begins })

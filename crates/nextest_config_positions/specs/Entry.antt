@@ -7,7 +7,7 @@ use Rattle.toml.specs.Data.{same_key}
 use Rattle.toml.specs.Tables.{header, Origin}
 use Rattle.nextest_config_positions.specs.Step.{index, key, PathStep}
 
--- a piece of a text: how many bytes stand from its beginning on, and how many behind its end
+-- a piece of a text: how many bytes stand from its beginning on, and how many after its end
 abbrev pub Piece : Type 0
 Piece = ℕ × ℕ
 
@@ -51,13 +51,13 @@ pieces_of (tables k done last bs) = record { of_key = Some k; of_value = None }
 abbrev pub first_piece : Pieces → Option Piece
 first_piece pieces = option_or pieces.of_key pieces.of_value
 
--- a value that was read, behind this key
-abbrev pub behind_key : Piece → Tree → Tree
-behind_key k (scalar _ v) = scalar (Some k) v
-behind_key k (array _ v ts) = array (Some k) v ts
-behind_key k (inline _ v bs) = inline (Some k) v bs
-behind_key k (table _ origin bs) = table k origin bs
-behind_key k (tables _ done last bs) = tables k done last bs
+-- a value that was read, after this key
+abbrev pub after_key : Piece → Tree → Tree
+after_key k (scalar _ v) = scalar (Some k) v
+after_key k (array _ v ts) = array (Some k) v ts
+after_key k (inline _ v bs) = inline (Some k) v bs
+after_key k (table _ origin bs) = table k origin bs
+after_key k (tables _ done last bs) = tables k done last bs
 
 -- ---- look-ups
 

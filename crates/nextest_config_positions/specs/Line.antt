@@ -53,9 +53,9 @@ pub record IsLastBefore (text front before : List ℕ) : Type 0 where
   pub is_last : (other : List ℕ) → IsReadFront text other → length other < length front
       → length other ≤ length before
 
--- the number of the line, from 1, that begins behind this front
-abbrev pub line_behind : List ℕ → ℕ
-line_behind front = suc (count_by (λ byte. byte == line_feed) front)
+-- the number of the line, from 1, that begins after this front
+abbrev pub line_after : List ℕ → ℕ
+line_after front = suc (count_by (λ byte. byte == line_feed) front)
 
 -- what a path's statement stands between: the last front that reads before the first one in which
 -- the path leads to a value, and that one
@@ -70,7 +70,7 @@ pub record IsLineOf (text : List ℕ) (path : List PathStep) (line : ℕ) : Type
   pub before : List ℕ
   pub front : List ℕ
   pub of_statement : IsStatementOf text path before front
-  pub line_is : line ≡ line_behind before
+  pub line_is : line ≡ line_after before
 
 -- the line of a path
 abbrev pub IsLine : List ℕ → List PathStep → ℕ → Type 0

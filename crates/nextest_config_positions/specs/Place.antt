@@ -2,7 +2,7 @@
 use Rattle.std.specs.Prelude.{◌≡◌, ◌≢◌, ◌⊎◌, ℕ, suc, List, [], ◌++◌, count_by, take}
 use Rattle.std.specs.List.{AllByRecursion}
 use Rattle.nextest_config_values.specs.Characters.{line_feed}
-use Rattle.nextest_config_positions.specs.Line.{EndsLine, line_behind}
+use Rattle.nextest_config_positions.specs.Line.{EndsLine, line_after}
 use Rattle.nextest_config_positions.specs.Offsets.{AreOffsetsOf, begins_character}
 use Rattle.nextest_config_positions.specs.declared.place.Place.{Place}
 use Rattle.nextest_config_positions.specs.declared.place.Places.{Places}
@@ -12,7 +12,7 @@ use Rattle.nextest_config_positions.specs.declared.place.Span.{Span}
 abbrev pub IsInLine : ℕ → Type 0
 IsInLine byte = byte ≢ line_feed
 
--- the column, from 1, of what stands behind this front of a text: in its last line, as many
+-- the column, from 1, of what comes after this front of a text: in its last line, as many
 -- characters further
 pub record IsColumn (front : List ℕ) (column : ℕ) : Type 0 where
   pub before : List ℕ
@@ -22,9 +22,9 @@ pub record IsColumn (front : List ℕ) (column : ℕ) : Type 0 where
   pub one_line : AllByRecursion IsInLine last
   pub column_is : column ≡ suc (count_by begins_character last)
 
--- the place of what stands behind this front of a text
+-- the place of what comes after this front of a text
 pub record IsPlace (front : List ℕ) (place : Place) : Type 0 where
-  pub line_is : place.line ≡ line_behind front
+  pub line_is : place.line ≡ line_after front
   pub column_is : IsColumn front place.column
 
 -- from one byte of a text up to another

@@ -59,13 +59,13 @@ LieWithinStatements text ranges = (path : List PathStep) (range : Range) (before
     → (length before ≤ range.0) × (range.1 ≤ length front)
 
 -- the last key among the steps of a path
-abbrev pub key_behind : List ℕ → List PathStep → List ℕ
-key_behind text [] = text
-key_behind text (key next ∷ rest) = key_behind next rest
-key_behind text (index place ∷ rest) = key_behind text rest
+abbrev pub last_key_from : List ℕ → List PathStep → List ℕ
+last_key_from text [] = text
+last_key_from text (key next ∷ rest) = last_key_from next rest
+last_key_from text (index place ∷ rest) = last_key_from text rest
 
 abbrev pub last_key : List PathStep → List ℕ
-last_key path = key_behind [] path
+last_key path = last_key_from [] path
 
 -- `toml_parser` reads a key's range as the path's last key
 abbrev pub KeysRead : List ℕ → Ranges → Type 0
@@ -91,22 +91,22 @@ pub record IsFrom (text : List ℕ) (place : ℕ) (behind : List ℕ) : Type 0 w
   pub whole : text ≡ before ++ behind
   pub begins : place ≡ length before
 
--- a value is written behind its key and `=`, and white space around that
-pub record IsBehindKey (text : List ℕ) (of_key of_value : Range) : Type 0 where
+-- a value is written after its key and `=`, and white space around that
+pub record IsAfterKey (text : List ℕ) (of_key of_value : Range) : Type 0 where
   pub behind : List ℕ
-  pub behind_key : IsFrom text of_key.1 behind
+  pub after_key : IsFrom text of_key.1 behind
   pub rest : List ℕ
   pub equals_sign : after_byte equals (skip_ws behind) ≡ Some rest
   pub begins : of_value.0 ≡ length text - length (skip_ws rest)
 
--- where `=` stands behind a key there is the range of a value, and it is behind that; where none
+-- where `=` stands after a key there is the range of a value, and it is after that; where none
 -- does, there is no such range
 abbrev pub AreWritten : List ℕ → Ranges → Type 0
 AreWritten text ranges = (path : List PathStep) (of_key : Range) (behind : List ℕ)
     → ranges.of_key path ≡ Some of_key → IsFrom text of_key.1 behind
     → ((first (skip_ws behind) ≡ equals) ↔ IsSome (ranges.of_value path))
     × ((of_value : Range) → ranges.of_value path ≡ Some of_value
-    → IsBehindKey text of_key of_value)
+    → IsAfterKey text of_key of_value)
 
 -- what stands below a value lies within it
 abbrev pub LieWithinValues : Ranges → Type 0
@@ -147,7 +147,7 @@ KeysComeFirst ranges = (path : List PathStep) (of_key of_value : Range)
 abbrev pub element : Ranges → List PathStep → ℕ → Option Range
 element ranges path i = ranges.of_value (path ++ (index i ∷ []))
 
--- The first element begins behind the array's bracket and each later one behind a comma, and behind
+-- The first element begins after the array's bracket and each later one after a comma, and after
 -- the last one, and a comma or none, the array ends with its bracket. Blanks and comments may stand
 -- between.
 pub record ElementsStand (text : List ℕ) (ranges : Ranges) : Type 0 where
@@ -167,15 +167,15 @@ pub record ElementsStand (text : List ℕ) (ranges : Ranges) : Type 0 where
       × (first (skip_blank rest) ≡ right_bracket)
       × IsFrom text whole.1 (drop 1 (skip_blank rest))
 
--- an array without elements ends with the bracket behind its first one, and blanks and comments
+-- an array without elements ends with the bracket after its first one, and blanks and comments
 abbrev pub EmptyArraysEnd : List ℕ → Ranges → Type 0
 EmptyArraysEnd text ranges = (path : List PathStep) (whole : Range) (inside : List ℕ)
     → ranges.of_value path ≡ Some whole → element ranges path 0 ≡ None
     → IsFrom text whole.0 (left_bracket ∷ inside)
     → (first (skip_blank inside) ≡ right_bracket) × IsFrom text whole.1 (drop 1 (skip_blank inside))
 
--- what begins there, behind a brace, a comma or a dot, and blanks and comments
-pub record IsBehindMark (text : List ℕ) (place : ℕ) : Type 0 where
+-- what begins there, after a brace, a comma or a dot, and blanks and comments
+pub record IsAfterMark (text : List ℕ) (place : ℕ) : Type 0 where
   pub before : List ℕ
   pub mark : ℕ
   pub behind : List ℕ
@@ -187,4 +187,4 @@ pub record IsBehindMark (text : List ℕ) (place : ℕ) : Type 0 where
 abbrev pub MembersStand : List ℕ → Ranges → Type 0
 MembersStand text ranges = (path rest : List PathStep) (step : PathStep) (whole one : Range)
     → ranges.of_value path ≡ Some whole → ranges.of_key (path ++ (step ∷ rest)) ≡ Some one
-    → IsBehindMark text one.0
+    → IsAfterMark text one.0

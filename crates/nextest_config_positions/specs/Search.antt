@@ -29,7 +29,7 @@ pub record IsLastLineEnd (text : List ℕ) (floor high place : ℕ) : Type 0 whe
   pub between : IsLineEndBetween text floor high place
   pub is_last : NoLineEnds text place high
 
--- no front that ends behind the first place, and no later than the second, is a document
+-- no front that ends after the first place, and no later than the second, is a document
 abbrev pub NoneReads : List ℕ → ℕ → ℕ → Type 0
 NoneReads text floor end = (other : List ℕ) → IsReadFront text other → floor < length other
     → length other ≤ end → ⊥

@@ -1,19 +1,9 @@
 -- Paths of values in a document, and how they print.
-use Rattle.std.specs.Prelude.{ℕ, Bool, true, false, not, ◌&&◌, ◌==◌, List, [], ◌∷◌, ◌++◌, length, flat_map, codes, decimal, string_bytes, if◌then◌else◌}
+use Rattle.std.specs.Prelude.{ℕ, Bool, true, false, not, ◌&&◌, ◌==◌, List, [], ◌∷◌, ◌++◌, length, flat_map, codes, decimal, if◌then◌else◌}
 use Rattle.std.specs.List.{list_all}
 use Rattle.toml_parser.specs.Lexical.{is_bare}
 use Rattle.nextest_config_values.specs.Read.{quoted_text}
-use Rattle.nextest_config_positions.specs.declared.step.Step.{Step}
-use Rattle.nextest_config_positions.specs.declared.step.Step.TheVariants.{Key, Index}
-
--- a step: a key of a table, or an index of an array
-pub data PathStep : Type 0 where
-  key : List ℕ → PathStep
-  index : ℕ → PathStep
-
-abbrev pub step_of : Step → PathStep
-step_of (Key text) = key (string_bytes text)
-step_of (Index place) = index place
+pub use Rattle.nextest_config_values.specs.Read.{index, key, PathStep, step_of}
 
 -- a key that needs no quotes: letters and digits of ASCII, `-` and `_`, at least one (TOML 1.1,
 -- "Keys")
@@ -23,7 +13,7 @@ is_bare_key text = not (length text == 0) && list_all is_bare text
 abbrev pub key_text : List ℕ → List ℕ
 key_text text = if is_bare_key text then text else quoted_text text
 
--- a step, which stands behind another one or not
+-- a step, which comes after another one or not
 abbrev pub step_text : Bool → PathStep → List ℕ
 step_text true (key text) = codes "." ++ key_text text
 step_text false (key text) = key_text text

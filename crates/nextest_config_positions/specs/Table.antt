@@ -1,7 +1,7 @@
 -- Where keys and headers put what they define: the rules of `toml`'s tables, over trees.
 use Rattle.std.specs.Prelude.{List, [], ◌∷◌, Option, Some, None, option_map}
 use Rattle.toml.specs.Tables.{dotted, header, implicit}
-use Rattle.nextest_config_positions.specs.Entry.{behind_key, Branches, get_branch, insert_branch, no_branches, no_trees, Piece, push_tree, replace_branch, table, tables, Tree}
+use Rattle.nextest_config_positions.specs.Entry.{after_key, Branches, get_branch, insert_branch, no_branches, no_trees, Piece, push_tree, replace_branch, table, tables, Tree}
 use Rattle.nextest_config_positions.specs.Key.{Part, Parts}
 
 -- a change of branches, which the rules may refuse
@@ -52,7 +52,7 @@ pub data Definition : Type 0 where
 
 -- what a part of a key holds that wasn't there
 abbrev pub new_tree : Piece → Definition → Tree
-new_tree k (pair t) = behind_key k t
+new_tree k (pair t) = after_key k t
 new_tree k std_table = table k header no_branches
 new_tree k array_table = tables k no_trees k no_branches
 

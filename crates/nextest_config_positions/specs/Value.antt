@@ -21,7 +21,7 @@ module _ (value_tree : List ℕ → Read Tree) where
   pair_tree text = option_and_then (λ k. read_map (λ t. (k.0, t)) (value_tree k.1))
       (parts_equals text)
 
-  -- the rest of an array, of at most n elements, behind those found
+  -- the rest of an array, of at most n elements, after those found
   unfoldable pub element_trees : ℕ → Trees → List ℕ → Read Trees
   element_trees zero found text = None
   element_trees (suc n) found text =

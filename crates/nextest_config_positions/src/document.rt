@@ -1,4 +1,4 @@
-//! The statements of a document, one after the other, and what stands where behind them.
+//! The statements of a document, one after the other, and what stands where after them.
 
 ghost use Rattle.std.specs.Prelude.{◌≡◌, ◌≤◌, [], ◌∷◌, ◌++◌, IfErr, IfOk, None, OnOk, length};
 ghost use Rattle.toml.specs.Parse as grammar;
@@ -23,7 +23,7 @@ use toml_parser::text::{byte_at, first, skip, skip_blank, skip_ws};
 /// Where a walk over the statements of a document stands.
 #[derive(Drop)]
 pub(crate) struct Walk {
-    /// What stands where behind them.
+    /// What stands where after them.
     pub(crate) root: Members,
     /// The key of the last header.
     pub(crate) section: Vec<Part>,
@@ -119,7 +119,6 @@ fn define_header(
     Ok(())
 }
 
-// A copy of a part.
 fn copy_of(part: &Part) -> Result<Part, AllocError>
     ensures { IfOk result (λ copy. part_of copy ≡ part_of part.now) }
 {

@@ -1,12 +1,12 @@
 //! What stands at the keys and the indexes of a document, and where.
 
 ghost use Rattle.std.specs.Prelude.{◌≡◌};
-ghost use Rattle.nextest_config_positions.specs.Entry.{behind_key, piece};
+ghost use Rattle.nextest_config_positions.specs.Entry.{after_key, piece};
 ghost use Rattle.nextest_config_positions.specs.EntryViews.{piece_of, tree_of};
 
 use std::collections::BTreeMap;
 
-/// A piece of a text: how many bytes stand from its beginning on, and how many behind its end.
+/// A piece of a text: how many bytes stand from its beginning on, and how many after its end.
 #[derive(Clone, Copy, Debug, PartialEq, Eq)]
 pub(crate) struct Piece {
     pub(crate) from: usize,
@@ -50,9 +50,9 @@ pub(crate) enum Entry {
 pub(crate) type Members = BTreeMap<String, Entry>;
 
 impl Entry {
-    /// A value that was read, behind this key.
+    /// A value that was read, after this key.
     pub(crate) fn behind(self, key: Piece) -> Entry
-        ensures { tree_of result ≡ behind_key (piece_of key) (tree_of self) }
+        ensures { tree_of result ≡ after_key (piece_of key) (tree_of self) }
     {
         match self {
             Entry::Scalar(_, value) => Entry::Scalar(Some(key), value),

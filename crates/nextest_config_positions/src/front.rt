@@ -1,24 +1,24 @@
-//! The place behind a front of a text.
+//! The place after a front of a text.
 
 ghost use Rattle.std.specs.Prelude.{◌≡◌, ◌<◌, ◌^◌};
 ghost use Rattle.nextest_config_positions.specs.Front.{column_after};
 ghost use Rattle.nextest_config_positions.specs.Place.{IsColumn, IsPlace};
 
-use crate::line::line_behind;
+use crate::line::line_after;
 use crate::place::Place;
 
-/// The place of what stands behind this front of a text.
-pub fn place_behind(front: &[u8]) -> Place
+/// The place of what comes after this front of a text.
+pub fn place_after(front: &[u8]) -> Place
     ensures { IsPlace front.now result }
 {
     Place {
-        line: line_behind(front),
-        column: column_behind(front),
+        line: line_after(front),
+        column: column_of_front(front),
     }
 }
 
-// The column, from 1, of what stands behind this front of a text.
-fn column_behind(front: &[u8]) -> usize
+// The column, from 1, of what comes after this front of a text.
+fn column_of_front(front: &[u8]) -> usize
     ensures { IsColumn front.now result }
 {
     let mut column = 1;
@@ -28,7 +28,7 @@ fn column_behind(front: &[u8]) -> usize
     column
 }
 
-// The column behind one byte more.
+// The column after one byte more.
 fn column_after(column: usize, byte: u8) -> usize
     requires { column < 2 ^ 63 }
     ensures { result ≡ column_after column byte }

@@ -19,7 +19,7 @@ use crate::document::{Walk, walk_over};
 use crate::entry::{Entry, Members, Piece};
 use crate::place::{Places, Span};
 use crate::refusal::Refusal;
-use crate::step::Step;
+use nextest_config_values::read::Step;
 use std::alloc::{AllocError, Global};
 
 /// Where the keys and the values of a document stand.
@@ -38,7 +38,7 @@ struct Pieces {
 }
 
 impl Index {
-    /// The index of a text. None where it is no TOML document.
+    /// The index of a text. `None` where it is no TOML document.
     pub fn of(alloc: Global, contents: &str) -> Result<Option<Index>, AllocError>
         ensures of_text { IfOk result (λ index. MatchOption index
             (parse_document contents.now ≡ None) (IsIndexOf contents.now)) }
@@ -78,7 +78,7 @@ impl Index {
     }
 
     /// Where the key stands that is a path's last step, as it is written. For an element that
-    /// double brackets made, that is the last part of its own header. None where the path leads to
+    /// double brackets made, that is the last part of its own header. `None` where the path leads to
     /// no value, or to one that has no key.
     pub fn key(&self, path: &[Step]) -> Option<Span>
         ensures { (text : List ℕ) → IsIndexOf text self.now
@@ -90,7 +90,7 @@ impl Index {
         }
     }
 
-    /// Where the value stands that a path leads to. None where it leads to none, or to one that
+    /// Where the value stands that a path leads to. `None` where it leads to none, or to one that
     /// isn't written as a value: a table or an array that headers or dotted keys made.
     pub fn value(&self, path: &[Step]) -> Option<Span>
         ensures { (text : List ℕ) → IsIndexOf text self.now
@@ -103,7 +103,7 @@ impl Index {
     }
 
     /// The line, from 1, on which the statement begins that holds what a path leads to, as
-    /// `line_of` tells it. None where the path leads to no value; the empty path has the first line.
+    /// `line_of` tells it. `None` where the path leads to no value; the empty path has the first line.
     pub fn line(&self, path: &[Step]) -> Option<usize>
         ensures { (text : List ℕ) → IsIndexOf text self.now → MatchOption result
             (HasNoLine text (map step_of path.now)) (IsLine text (map step_of path.now)) }
@@ -228,7 +228,6 @@ fn pieces_of_table(key: Piece, members: &Members, steps: &[Step]) -> Option<Piec
     }
 }
 
-// The pieces of an entry.
 fn pieces_of(entry: &Entry) -> Pieces
     ensures { pieces_from result ≡ trees.pieces_of (tree_of entry.now) }
 {

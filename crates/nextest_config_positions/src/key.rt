@@ -29,7 +29,7 @@ pub(crate) struct KeyParts {
     pub(crate) last: Part,
 }
 
-/// A key from the front of a text, and what follows the white space behind it.
+/// A key from the front of a text, and what follows the white space after it.
 pub(crate) fn parts(alloc: Global, text: &str) -> Result<(KeyParts, &str), Refusal>
     ensures value { Reads parts_of result (spec.parts text.now) }
     ensures shorter { Shortens text.now result }
@@ -75,7 +75,6 @@ fn one_line(alloc: Global, text: &str) -> Result<(String, &str), Refusal>
     Ok((key, rest))
 }
 
-// A bare key.
 fn bare(alloc: Global, text: &str) -> Result<(String, &str), Refusal>
     requires { grammar.starts_string text.now ≡ false }
     ensures value { Reads string_bytes result (grammar.simple_key text.now) }

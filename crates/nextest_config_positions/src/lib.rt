@@ -15,8 +15,9 @@ mod step;
 mod table;
 mod value;
 
-pub use front::place_behind;
+pub use front::place_after;
 pub use index::Index;
-pub use line::{line_behind, line_of};
+pub use line::{line_after, line_of};
+pub use nextest_config_values::read::Step;
 pub use place::{Place, Span};
-pub use step::{PathText, Step};
+pub use step::PathText;

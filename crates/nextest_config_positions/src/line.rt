@@ -6,18 +6,18 @@ ghost use Rattle.toml.specs.Data.{get_member};
 ghost use Rattle.toml.specs.Parse.{parse_document};
 ghost use Rattle.toml.specs.View.{table_view, view};
 ghost use Rattle.nextest_config_positions.specs.Line.{found_below, found_in, HasNoLine, IsLine};
-ghost use Rattle.nextest_config_positions.specs.Line.{IsLineOf, LeadsIn, line_behind};
+ghost use Rattle.nextest_config_positions.specs.Line.{IsLineOf, LeadsIn, line_after};
 ghost use Rattle.nextest_config_positions.specs.Search.{EndsFront, IsLastLineEnd, IsLastThatReads};
 ghost use Rattle.nextest_config_positions.specs.Search.{IsLineEndBetween, NoLineEnds, NoneReads};
 ghost use Rattle.nextest_config_positions.specs.Step.{step_of};
 
-use crate::step::Step;
+use nextest_config_values::read::Step;
 use std::alloc::{AllocError, Global};
 use toml::{Table, Value};
 
 /// The line, from 1, on which the value begins that a path leads to. Of the fronts of the contents
-/// that end behind a line feed, and of all of them, those count that are documents: the value
-/// begins behind the last one in which the path leads to no value. None where it leads to a value
+/// that end after a line feed, and of all of them, those count that are documents: the value
+/// begins after the last one in which the path leads to no value. `None` where it leads to a value
 /// in no such front; the empty path has the first line.
 pub fn line_of(alloc: Global, contents: &str, path: &[Step]) -> Result<Option<usize>, AllocError>
     ensures { IfOk result (λ line. MatchOption line (HasNoLine contents.now (map step_of path.now))
@@ -38,7 +38,7 @@ pub fn line_of(alloc: Global, contents: &str, path: &[Step]) -> Result<Option<us
 
 // The line of a path that leads to a value in the front that ends at the place. Where it leads to
 // one, it does so in each longer front that is a document, so the first of these is sought by
-// halves: the path leads to no value up to `low`, no front that ends behind `low` and up to `floor`
+// halves: the path leads to no value up to `low`, no front that ends after `low` and up to `floor`
 // is a document, and in the one up to `high` the path leads to a value. No front is read twice.
 fn line_by_halves(
     alloc: Global,
@@ -55,7 +55,7 @@ fn line_by_halves(
     let mut high = place;
     'halves: loop {
         let Some(end) = line_end_between(contents, floor, high) else {
-            return Ok(line_behind(&contents.as_bytes()[..low]));
+            return Ok(line_after(&contents.as_bytes()[..low]));
         };
         match last_that_reads(alloc, contents, path, floor, end)? {
             Some((front, true)) => high = front,
@@ -68,7 +68,7 @@ fn line_by_halves(
     }
 }
 
-// Of the fronts that end behind one place, and no later than another, the place of the last one
+// Of the fronts that end after one place, and no later than another, the place of the last one
 // that is a document, and whether the path leads to a value there.
 fn last_that_reads(
     alloc: Global,
@@ -132,9 +132,9 @@ fn last_line_end(contents: &str, floor: usize, high: usize) -> Option<usize>
     None
 }
 
-/// The number of the line, from 1, that goes on behind this front of a text.
-pub fn line_behind(front: &[u8]) -> usize
-    ensures { result ≡ line_behind front.now }
+/// The number of the line, from 1, that goes on after this front of a text.
+pub fn line_after(front: &[u8]) -> usize
+    ensures { result ≡ line_after front.now }
 {
     front.iter().filter(|byte| **byte == b'\n').count() + 1
 }

@@ -14,7 +14,7 @@ pub struct Place {
     pub column: usize,
 }
 
-/// Where something stands in a text: the place where it begins, and the one right behind it.
+/// Where something stands in a text: the place where it begins, and the one right after it.
 #[derive(Clone, Copy, Debug, PartialEq, Eq)]
 pub struct Span {
     pub begin: Place,
@@ -88,7 +88,7 @@ impl Places {
         })
     }
 
-    /// The place of the byte at this offset; behind the end of the text, that of the end.
+    /// The place of the byte at this offset; after the end of the text, that of the end.
     pub(crate) fn at(&self, offset: usize) -> Place
         ensures { (text : List ℕ) → ArePlacesOf text self.now → IsPlace (take offset text) result }
     {
@@ -103,7 +103,7 @@ impl Places {
         }
     }
 
-    /// The place behind which so many bytes stand.
+    /// The place after which so many bytes come.
     pub(crate) fn before(&self, bytes: usize) -> Place
         ensures { (text : List ℕ) → ArePlacesOf text self.now
             → IsPlace (take (length text - bytes) text) result }

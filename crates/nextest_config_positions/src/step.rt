@@ -4,16 +4,9 @@ ghost use Rattle.std.specs.Prelude.{◌≡◌, Some, map};
 ghost use Rattle.std.specs.Fmt.{WritesOnOk};
 ghost use Rattle.nextest_config_positions.specs.Step.{is_bare_key, key_text, printed_path, step_of, step_text};
 
-use nextest_config_values::read::QuotedText;
+use nextest_config_values::read::{QuotedText, Step};
 use std::fmt;
 use toml_parser::bytes::is_bare;
-
-/// A step of the path to a value: a key of a table, or an index of an array, from 0.
-#[derive(Debug, PartialEq, Eq, Drop)]
-pub enum Step {
-    Key(String),
-    Index(usize),
-}
 
 /// A path as it prints: keys parted by dots, those that aren't bare (TOML 1.1, "Keys") between
 /// quotes, and indexes between brackets.
@@ -33,7 +26,7 @@ impl fmt::Display for PathText<'_> {
     }
 }
 
-// A step, which stands behind another one or not.
+// A step, which comes after another one or not.
 fn write_step<W: fmt::Write>(f: &mut fmt::Formatter<W>, step: &Step, behind: bool) -> fmt::Result
     ensures { WritesOnOk W.write_str_gives f.old result (step_text behind (step_of step.now))
         f.new }

@@ -58,7 +58,7 @@ fn scalar(alloc: Global, text: &str) -> Result<(Entry, &str), Refusal>
     }
 }
 
-// The elements of an array, from behind its bracket.
+// The elements of an array, from after its bracket.
 #[cycle(value)]
 fn elements(alloc: Global, text: &str, depth: usize) -> Result<(Vec<Entry>, &str), Refusal>
     ensures value { (n : ℕ) → length text.now < n
@@ -74,11 +74,11 @@ fn elements(alloc: Global, text: &str, depth: usize) -> Result<(Vec<Entry>, &str
         }
         let (element, after) = value(alloc, start, depth)?;
         found.push(element)?;
-        rest = behind_element(after, b']')?;
+        rest = past_element(after, b']')?;
     }
 }
 
-// The members of an inline table, from behind its brace.
+// The members of an inline table, from after its brace.
 #[cycle(value)]
 fn members(alloc: Global, text: &str, depth: usize) -> Result<(Members, &str), Refusal>
     ensures value { (n : ℕ) → length text.now < n → Reads branches_of result
@@ -95,12 +95,12 @@ fn members(alloc: Global, text: &str, depth: usize) -> Result<(Members, &str), R
         let (key, at_value) = key_equals(alloc, start)?;
         let (member, after) = value(alloc, at_value, depth)?;
         put(alloc, &mut found, key, member)?;
-        rest = behind_element(after, b'}')?;
+        rest = past_element(after, b'}')?;
     }
 }
 
 // Behind a comma, or at the closing bracket.
-fn behind_element(text: &str, closing: u8) -> Result<&str, Refusal>
+fn past_element(text: &str, closing: u8) -> Result<&str, Refusal>
     ensures value { Gives (λ rest. rest.now) result (grammar.after_element closing text.now) }
     ensures within { IfOk result (λ rest. length rest.now ≤ length text.now) }
 {
@@ -114,7 +114,7 @@ fn behind_element(text: &str, closing: u8) -> Result<&str, Refusal>
     }
 }
 
-/// A key, `=` and the white space behind it.
+/// A key, `=` and the white space after it.
 pub(crate) fn key_equals(alloc: Global, text: &str) -> Result<(KeyParts, &str), Refusal>
     ensures value { Reads parts_of result (spec.parts_equals text.now) }
     ensures shorter { Shortens text.now result }

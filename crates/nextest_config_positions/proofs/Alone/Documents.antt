@@ -1,4 +1,4 @@
--- A front of a document that ends behind one of its statements is a document.
+-- A front of a document that ends after one of its statements is a document.
 use Rattle.std.proofs.Common.{◌≡◌, ℕ, zero, suc, ◌+◌, ◌<◌, ◌≤◌, Bool, true, false, ◌&&◌, ◌==◌, List, [], ◌∷◌, ◌++◌, length, take, drop, Some, refl, sym, ap, subst, ◌∙◌, inl, inr, arith, eqb-true, append_assoc, length-append, length-drop}
 use Rattle.std.proofs.lemmas.Bool.{and_parts, and_right, cases_Bool, cases_lt, ne_eqb}
 use Rattle.std.proofs.lemmas.List.{append_cancel_right, drop-append-le, nil_from_length, take-append-drop}
@@ -32,7 +32,7 @@ unmarked : (text : List ℕ) → is_marked text ≡ false → skip_bom text ≡ 
 unfolding skip_bom
 unmarked text is = rw is refl
 
--- what is left behind it is the end of the text
+-- what is left after it is the end of the text
 pub mark_end : (text : List ℕ) → (front : List ℕ) × (text ≡ front ++ skip_bom text)
 mark_end text = elim (cases_Bool (is_marked text)) [
   | inl is ↦ (take 3 text, sym (take-append-drop 3 text) ∙ ap (λ (u : List ℕ). take 3 text ++ u) (sym (marked text is)))
@@ -53,7 +53,7 @@ marked_cut (c ∷ []) b long is = absurd (omega (arith, long))
 marked_cut (c ∷ d ∷ []) b long is = absurd (omega (arith, long))
 marked_cut (c ∷ d ∷ e ∷ t) b long is = is
 
--- a mark, where the text is cut behind it
+-- a mark, where the text is cut after it
 mark_cut : (t b u : List ℕ) → skip_bom (t ++ b) ≡ u ++ b → skip_bom t ≡ u
 mark_cut t b u is = elim (cases_Bool (is_marked (t ++ b))) [
   | inr none ↦ unmarked t (unmarked_cut t b none) ∙ append_cancel_right t u b (sym (unmarked (t ++ b) none) ∙ is)
@@ -70,7 +70,7 @@ mark_cut t b u is = elim (cases_Bool (is_marked (t ++ b))) [
 
 -- ---- the statements
 
--- what is passed in a text is passed where it is cut behind there
+-- what is passed in a text is passed where it is cut after there
 pub passes_cut : (t b : List ℕ) {doc : Document} {rest : List ℕ} (u : List ℕ) → Passes (t ++ b) doc rest → rest ≡ u ++ b → Passes t doc u
 passes_cut t b u begins is = subst (λ (x : List ℕ). Passes t (no_nodes, []) x) (mark_cut t b u is) begins
 passes_cut t b u (goes_on doc next rest after e passed reads defines) is =
@@ -82,7 +82,7 @@ passes_cut t b u (goes_on doc next rest after e passed reads defines) is =
     let reads_there : line (front ++ u) ≡ Some (e, u) = line_cut (front ++ u) b u e (ap line (sym start) ∙ reads ∙ ap (λ (x : List ℕ). Some (e, x)) is) in
     goes_on doc next (skipped ++ (front ++ u)) u e (passes_cut t b (skipped ++ (front ++ u)) passed whole) (ap line blank ∙ reads_there) defines
 
--- a statement, and the ones behind it
+-- a statement, and the ones after it
 line_lines : (doc next last : Document) (rest after : List ℕ) (e : Expression) → line (skip_blank rest) ≡ Some (e, after) → define doc e ≡ Some next → ((n : ℕ) → length after < n → lines n next after ≡ Some last)
     → (n : ℕ) → length rest < n → lines n doc rest ≡ Some last
 unfolding lines
@@ -94,7 +94,7 @@ line_lines doc next last rest after e reads defines on (suc n) enough =
     let start : (length (skip_blank rest) == 0) ≡ false = ne_eqb (length (skip_blank rest)) 0 (λ none. omega (arith, none, ap length start_is, length-append front after, some)) in
     rw (start, reads, defines) (on n (omega (arith, enough, sizes, some)))
 
--- what the statements behind a place make of the document there, all of them make of none
+-- what the statements after a place make of the document there, all of them make of none
 pub lines_passed : (text : List ℕ) {doc : Document} {rest : List ℕ} (last : Document) → Passes text doc rest → ((n : ℕ) → length rest < n → lines n doc rest ≡ Some last) → (n : ℕ) → length (skip_bom text) < n → lines n (no_nodes, []) (skip_bom text) ≡ Some last
 lines_passed text last begins on = on
 lines_passed text last (goes_on doc next rest after e passed reads defines) on = lines_passed text last passed (λ n enough. line_lines doc next last rest after e reads defines on n enough)
@@ -107,7 +107,7 @@ blank_lines doc rest blank (suc n) enough = rw blank refl
 
 -- ---- documents
 
--- a front of a text that is blank behind the last statement passed has these statements alone
+-- a front of a text that is blank after the last statement passed has these statements alone
 pub document_lines : (t b r : List ℕ) (middle : Document) → Passes (t ++ b) middle (r ++ b) → skip_blank r ≡ [] → lines (suc (length t)) (no_nodes, []) (skip_bom t) ≡ Some middle
 document_lines t b r middle passed blank =
     let (front, whole) = mark_end t in

@@ -55,7 +55,7 @@ ws_alone s =
 
 -- ---- blanks and comments
 
--- what is left behind blanks begins with no line feed
+-- what is left after blanks begins with no line feed
 skip_stops : (comments inside : Bool) (s : List ℕ) → (first (skip_from comments inside s) == line_feed) ≡ false
 unfolding skip_from
 skip_stops comments inside [] = refl

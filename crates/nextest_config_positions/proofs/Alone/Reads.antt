@@ -20,7 +20,7 @@ pub record Tells {A : Type 0} (reader : List ℕ → Read A) (text : List ℕ) (
   pub told : reader text ≡ Some (value, rest)
   pub shorter : length rest < length text
 
--- two fronts in a row, and what is left behind them
+-- two fronts in a row, and what is left after them
 in_a_row : (x y z text rest : List ℕ) → text ≡ x ++ rest → rest ≡ y ++ z → text ≡ (x ++ y) ++ z
 in_a_row x y z text rest whole then = whole ∙ ap (λ (u : List ℕ). x ++ u) then ∙ sym (append_assoc x y z)
 
@@ -34,7 +34,7 @@ module _ {A : Type 0} {P : List ℕ → A → List ℕ → Type 0} {s : List ℕ
   as_read (refuses bad) f = refuses bad
   as_read (reads v front rest whole is on) f = reads v front rest whole is (λ r b cut. f (front ++ r) b v r (in_a_row front r b s rest whole cut) (no_longer front r) (on r b cut))
 
-  -- behind a byte
+  -- after a byte
   pub behind : {S : List ℕ → A → List ℕ → Type 0} (c : ℕ) → Alone P s x → ((t : List ℕ) (v : A) (r : List ℕ) → length r ≤ length t → P t v r → S (c ∷ t) v r) → Alone S (c ∷ s) x
   behind c (refuses bad) f = refuses bad
   behind c (reads v front rest whole is on) f = reads v (c ∷ front) rest (ap (λ (u : List ℕ). c ∷ u) whole) is (λ r b cut. f (front ++ r) v r (no_longer front r) (on r b cut))
@@ -75,14 +75,14 @@ alone_if false held failed = failed refl
 -- ---- what is skipped
 
 -- a byte more in front
-pub skips_behind : {Q S : List ℕ → List ℕ → Type 0} {s rest : List ℕ} (c : ℕ) → Skips Q s rest → ((t r : List ℕ) → Q t r → S (c ∷ t) r) → Skips S (c ∷ s) rest
-skips_behind c skipped f = record {
+pub skips_after : {Q S : List ℕ → List ℕ → Type 0} {s rest : List ℕ} (c : ℕ) → Skips Q s rest → ((t r : List ℕ) → Q t r → S (c ∷ t) r) → Skips S (c ∷ s) rest
+skips_after c skipped f = record {
   front = c ∷ skipped.front;
   whole = ap (λ (u : List ℕ). c ∷ u) skipped.whole;
   on = λ r b cut. f (skipped.front ++ r) r (skipped.on r b cut);
 }
 
--- a reader behind what is skipped
+-- a reader after what is skipped
 pub alone_skip : {B : Type 0} {Q : List ℕ → List ℕ → Type 0} {P S : List ℕ → B → List ℕ → Type 0} {s rest : List ℕ} (next : List ℕ → Read B)
     → Skips Q s rest → ((u : List ℕ) → Alone P u (next u)) → ((t t' : List ℕ) (w : B) (r : List ℕ) → length t' ≤ length t → Q t t' → P t' w r → S t w r) → Alone S s (next rest)
 alone_skip {s = s} {rest = rest} next skipped later join = elim (later rest) [

@@ -18,7 +18,7 @@ use Rattle.nextest_config_positions.proofs.Alone.Values.{byte_alone, pair_alone,
 none_skipped : (u : List ℕ) → Skips (λ t r. t ≡ r) u u
 none_skipped u = record { front = []; whole = refl; on = λ r b cut. refl }
 
--- a key and the bracket behind it
+-- a key and the bracket after it
 abbrev bracketed : List ℕ → Read Key
 bracketed u = option_and_then (λ k. option_map (λ rest. (k.0, rest)) (after_byte 93 k.1)) (key u)
 

@@ -12,7 +12,7 @@ use Rattle.toml_parser.specs.Lexical.{first, is_bare, is_ws, Read, skip_from, sk
 use Rattle.toml_parser.specs.Strings.{after_piece, at_delims, body, escape, escape_char, hex_escape, hex_len, is_plain, is_scalar, key, Key, key_after, one_line, quoted, simple_escape, simple_key, special, starts_string, trim_newline}
 use Rattle.toml.specs.Parse.{read_map}
 use Rattle.nextest_config_positions.proofs.Alone.Lexical.{first_cut, first_same, run_on, skip_alone, split_alone, ws_alone}
-use Rattle.nextest_config_positions.proofs.Alone.Reads.{Alone, alone_if, alone_map, alone_skip, alone_then, as_read, behind, reads, refuses, skipped_alone, Skips, skips_behind, Tells}
+use Rattle.nextest_config_positions.proofs.Alone.Reads.{Alone, alone_if, alone_map, alone_skip, alone_then, as_read, behind, reads, refuses, skipped_alone, Skips, skips_after, Tells}
 
 -- ---- escapes
 
@@ -54,7 +54,7 @@ record TellsEscape (t : List ℕ) (v : ℕ) (r : List ℕ) : Type 0 where
   told : escape_char t ≡ Some (v, r)
   in_line : starts_newline (skip_ws t) ≡ false
 
--- what stands for a character behind a backslash
+-- what stands for a character after a backslash
 escape_char_alone : (s : List ℕ) → Alone TellsEscape s (escape_char s)
 unfolding escape_char
 escape_char_alone [] = refuses refl
@@ -89,18 +89,18 @@ record TellsCut (t r : List ℕ) : Type 0 where
   skipped : skip_from false false t ≡ r
   ends : starts_newline (skip_ws t) ≡ true
 
--- behind the end of a line
+-- after the end of a line
 feed_alone : (c : ℕ) (s : List ℕ) → is_ws c ≡ false → starts_newline (c ∷ s) ≡ true → Skips TellsCut (c ∷ s) (skip_from false false (c ∷ s))
 feed_alone c s other ends = elim (cases_Bool (c == 10)) [
-  | inl feed ↦ rw (lines_feed c s ends) (skips_behind c (skip_alone false false s) (λ t r is. record { skipped = lines_feed c t (rw feed refl) ∙ is; ends = rw (skip_ws_none (c ∷ t) other, feed) refl }))
-  | inr none ↦ behind_return c s other none (rw none at ends) ends
+  | inl feed ↦ rw (lines_feed c s ends) (skips_after c (skip_alone false false s) (λ t r is. record { skipped = lines_feed c t (rw feed refl) ∙ is; ends = rw (skip_ws_none (c ∷ t) other, feed) refl }))
+  | inr none ↦ after_return c s other none (rw none at ends) ends
 ]
   where
-    behind_return : (c : ℕ) (s : List ℕ) → is_ws c ≡ false → (c == 10) ≡ false → (c == 13 && first s == 10) ≡ true → starts_newline (c ∷ s) ≡ true → Skips TellsCut (c ∷ s) (skip_from false false (c ∷ s))
-    behind_return c [] other none both ends = absurd (false≢true (sym (and_right (c == 13) false refl) ∙ both))
-    behind_return c (d ∷ s) other none both ends =
+    after_return : (c : ℕ) (s : List ℕ) → is_ws c ≡ false → (c == 10) ≡ false → (c == 13 && first s == 10) ≡ true → starts_newline (c ∷ s) ≡ true → Skips TellsCut (c ∷ s) (skip_from false false (c ∷ s))
+    after_return c [] other none both ends = absurd (false≢true (sym (and_right (c == 13) false refl) ∙ both))
+    after_return c (d ∷ s) other none both ends =
         let feed : (d == 10) ≡ true = (and_parts (c == 13) (d == 10) both).1 in
-        rw (lines_feed c (d ∷ s) ends, lines_feed d s (rw feed refl)) (skips_behind c (skips_behind {S = λ t r. (skip_from false false t ≡ r) × (first t ≡ d)} d (skip_alone false false s) (λ t r is. (lines_feed d t (rw feed refl) ∙ is, refl)))
+        rw (lines_feed c (d ∷ s) ends, lines_feed d s (rw feed refl)) (skips_after c (skips_after {S = λ t r. (skip_from false false t ≡ r) × (first t ≡ d)} d (skip_alone false false s) (λ t r is. (lines_feed d t (rw feed refl) ∙ is, refl)))
         (λ t r is. let pair : (c == 10 || (c == 13 && first t == 10)) ≡ true = rw (none, is.1) both in
         record { skipped = lines_feed c t pair ∙ is.0; ends = rw (skip_ws_none (c ∷ t) other) pair }))
 
@@ -109,7 +109,7 @@ cut_alone : (s : List ℕ) → starts_newline (skip_ws s) ≡ true → Skips Tel
 unfolding skip_ws
 cut_alone [] ends = absurd (false≢true ends)
 cut_alone (c ∷ s) ends = elim (cases_Bool (is_ws c)) [
-  | inl ws ↦ rw (lines_step c s ws) (skips_behind c (cut_alone s (rw (ws_step c s ws) at ends)) (λ t r is. record { skipped = lines_step c t ws ∙ is.skipped; ends = rw (ws_step c t ws) is.ends }))
+  | inl ws ↦ rw (lines_step c s ws) (skips_after c (cut_alone s (rw (ws_step c s ws) at ends)) (λ t r is. record { skipped = lines_step c t ws ∙ is.skipped; ends = rw (ws_step c t ws) is.ends }))
   | inr other ↦ feed_alone c s other (rw (skip_ws_none (c ∷ s) other) at ends)
 ]
 
@@ -143,7 +143,7 @@ module _ (delim : ℕ) (multi : Bool) where
     shorter : length r < length t
     run : delims t ≡ 0
 
-  -- what is told behind a piece
+  -- what is told after a piece
   record TellsAfter (piece : Option (List ℕ)) (t w r : List ℕ) : Type 0 where
     told : (m : ℕ) → length t ≤ m → after_piece (body delim multi m) piece t ≡ Some (w, r)
     shorter : length r ≤ length t
@@ -165,10 +165,10 @@ module _ (delim : ℕ) (multi : Bool) where
   told_behind c bytes t v r step on (suc m) enough = step m ∙ ap (read_map (λ (rest : List ℕ). bytes ++ rest)) (on m (omega (arith, enough)))
 
   -- such a byte in front of what is read alone
-  byte_behind : (c : ℕ) (bytes s : List ℕ) (x : Read (List ℕ)) → Alone (TellsBody s) s x
+  byte_after : (c : ℕ) (bytes s : List ℕ) (x : Read (List ℕ)) → Alone (TellsBody s) s x
       → ((t b v r : List ℕ) → s ≡ t ++ b → TellsBody s t v r → (m : ℕ) → body delim multi (suc m) (c ∷ t) ≡ read_map (λ (rest : List ℕ). bytes ++ rest) (body delim multi m t))
       → Alone (TellsBody (c ∷ s)) (c ∷ s) (read_map (λ (rest : List ℕ). bytes ++ rest) x)
-  byte_behind c bytes s x more step =
+  byte_after c bytes s x more step =
       let here : Alone (λ t v r. TellsBody s t v r × ((m : ℕ) → body delim multi (suc m) (c ∷ t) ≡ read_map (λ (rest : List ℕ). bytes ++ rest) (body delim multi m t))) s x = as_read more (λ t b v r whole up on. (on, step t b v r whole on)) in
       let mapped : Alone (λ t w r. TellsBody (c ∷ s) (c ∷ t) w r) s (read_map (λ (rest : List ℕ). bytes ++ rest) x) = alone_map (λ (rest : List ℕ). bytes ++ rest) here (λ t v r on. record {
         told = told_behind c bytes t v r on.1 on.0.told;
@@ -177,12 +177,12 @@ module _ (delim : ℕ) (multi : Bool) where
       }) in
       behind c mapped (λ t v r up on. on)
 
-  -- what comes behind a piece
+  -- what comes after a piece
   after_piece_alone : (n : ℕ) (piece : Option (List ℕ)) (s : List ℕ) → Alone (TellsBody s) s (body delim multi n s) → Alone (TellsAfter piece) s (after_piece (body delim multi n) piece s)
   after_piece_alone n None s more = reads [] [] s refl refl (λ r b cut. record { told = λ m enough. refl; shorter = omega arith })
   after_piece_alone n (Some bytes) s more = alone_map (λ (rest : List ℕ). bytes ++ rest) more (λ t v r on. record { told = λ m enough. ap (read_map (λ (rest : List ℕ). bytes ++ rest)) (on.told m enough); shorter = omega (arith, on.shorter) })
 
-  -- a piece that is no delimiter, and what comes behind it
+  -- a piece that is no delimiter, and what comes after it
   told_after : (t : List ℕ) (piece : Option (List ℕ)) (t' w r : List ℕ) → TellsPiece t piece t' → TellsAfter piece t' w r → (m : ℕ) → length t ≤ m → body delim multi m t ≡ Some (w, r)
   told_after t piece t' w r is after zero enough = absurd (omega (arith, enough, is.shorter))
   told_after t piece t' w r is after (suc m) enough = one_piece m t piece t' is.no_plain is.told ∙ after.told m (omega (arith, enough, is.shorter))
@@ -253,7 +253,7 @@ module _ (delim : ℕ) (multi : Bool) where
             | inr more_or_less ↦ elim (cases_Bool (nat_lt count 6)) [
               | inr many ↦ rw (several_delims c s is several, more_or_less, many) (refuses refl)
               | inl few ↦
-                  let here : Alone (TellsBody (c ∷ s)) (c ∷ s) (read_map (λ (rest : List ℕ). (delim ∷ []) ++ rest) (body delim multi n s)) = byte_behind c (delim ∷ []) s (body delim multi n s) (more s) (λ t b v r whole on m.
+                  let here : Alone (TellsBody (c ∷ s)) (c ∷ s) (read_map (λ (rest : List ℕ). (delim ∷ []) ++ rest) (body delim multi n s)) = byte_after c (delim ∷ []) s (body delim multi n s) (more s) (λ t b v r whole on m.
                   let same : delims (c ∷ t) ≡ count = ap (λ n. cond (c == delim) (1 + n) 0) (on.run several) in
                   one_piece m (c ∷ t) (Some (delim ∷ [])) t other (several_delims c t is several ∙ at_one (c ∷ t) count same more_or_less few)) in
                   rw (several_delims c s is several, at_one (c ∷ s) count refl more_or_less few) here
@@ -276,7 +276,7 @@ module _ (delim : ℕ) (multi : Bool) where
     unfolding special
     special_none c t other plain is = rw (other, plain, is) refl
 
-    -- a byte that doesn't stand for itself, and what comes behind it
+    -- a byte that doesn't stand for itself, and what comes after it
     special_alone : (n c : ℕ) (s : List ℕ) → ((u : List ℕ) → Alone (TellsBody u) u (body delim multi n u)) → is_plain delim multi c ≡ false
         → Alone (TellsBody (c ∷ s)) (c ∷ s) (option_and_then (λ p. after_piece (body delim multi n) p.0 p.1) (special delim multi (c ∷ s)))
     special_alone n c s more no_plain = elim (cases_Bool (c == delim)) [
@@ -288,7 +288,7 @@ module _ (delim : ℕ) (multi : Bool) where
             rw (special_escape c s other escapes) (piece_then n c s (read_map Some (escape multi s)) other more here)
         | inr plain ↦ elim (cases_Bool (multi && starts_newline (c ∷ s))) [
           | inl ends ↦
-              let here : Alone (TellsBody (c ∷ s)) (c ∷ s) (read_map (λ (rest : List ℕ). (c ∷ []) ++ rest) (body delim multi n s)) = byte_behind c (c ∷ []) s (body delim multi n s) (more s) (λ t b v r whole on m.
+              let here : Alone (TellsBody (c ∷ s)) (c ∷ s) (read_map (λ (rest : List ℕ). (c ∷ []) ++ rest) (body delim multi n s)) = byte_after c (c ∷ []) s (body delim multi n s) (more s) (λ t b v r whole on m.
               let same : first t ≡ first s = sym (ap first whole ∙ first_same t b (omega (arith, on.shorter))) in
               let ends_there : (multi && starts_newline (c ∷ t)) ≡ true = rw same ends in
               one_piece m (c ∷ t) (Some (c ∷ [])) t no_plain (special_newline c t other plain ends_there)) in
@@ -304,7 +304,7 @@ module _ (delim : ℕ) (multi : Bool) where
     body_alone zero s = refuses refl
     body_alone (suc n) [] = refuses (body_nil (suc n))
     body_alone (suc n) (c ∷ s) = alone_if (is_plain delim multi c)
-        (λ plain. byte_behind c (c ∷ []) s (body delim multi n s) (body_alone n s) (λ t b v r whole on m. one_plain m c t plain))
+        (λ plain. byte_after c (c ∷ []) s (body delim multi n s) (body_alone n s) (λ t b v r whole on m. one_plain m c t plain))
         (λ other. special_alone n c s (λ u. body_alone n u) other)
 
     -- no newline that is left out stands before a front of a text without one
@@ -319,27 +319,27 @@ module _ (delim : ℕ) (multi : Bool) where
         let return_there : (c == 13 && e == 10) ≡ false = rw more at return in
         rw (← same, feed, return_there) refl
 
-    -- what is told behind a newline that is left out
+    -- what is told after a newline that is left out
     record TellsTrimmed (t v r : List ℕ) : Type 0 where
       told : (m : ℕ) → length t ≤ m → body delim multi m (trim_newline t) ≡ Some (v, r)
       shorter : length r < length t
 
-    -- and behind a newline in front of it, which is left out
+    -- and after a newline in front of it, which is left out
     trimmed_alone : (n : ℕ) (s : List ℕ) → Alone TellsTrimmed s (body delim multi n (trim_newline s))
     trimmed_alone n [] = refuses (body_nil n)
     trimmed_alone n (c ∷ s) = elim (cases_Bool (c == 10)) [
       | inl feed ↦ rw feed (behind c (body_alone n s) (λ t v r up on. record { told = λ m enough. rw feed (on.told m (omega (arith, enough))); shorter = omega (arith, on.shorter) }))
       | inr other ↦ elim (cases_Bool (c == 13 && first s == 10)) [
-        | inl pair ↦ rw (other, pair) (behind_pair other s pair)
+        | inl pair ↦ rw (other, pair) (after_pair other s pair)
         | inr none ↦ rw (other, none) (as_read (body_alone n (c ∷ s)) (λ t b v r whole up on.
             let same : trim_newline t ≡ t = trim_cut c s t b whole (omega (arith, on.shorter)) other none in
             record { told = λ m enough. ap (body delim multi m) same ∙ on.told m enough; shorter = on.shorter }))
       ]
     ]
       where
-        behind_pair : (c == 10) ≡ false → (s : List ℕ) → (c == 13 && first s == 10) ≡ true → Alone TellsTrimmed (c ∷ s) (body delim multi n (drop 1 s))
-        behind_pair other [] pair = absurd (false≢true (sym (and_right (c == 13) false refl) ∙ pair))
-        behind_pair other (d ∷ s) pair = behind c (behind {S = λ t v r. TellsTrimmed (c ∷ t) v r} d (body_alone n s) (λ t v r up on. record { told = λ m enough. rw (other, pair) (on.told m (omega (arith, enough))); shorter = omega (arith, on.shorter) })) (λ t v r up on. on)
+        after_pair : (c == 10) ≡ false → (s : List ℕ) → (c == 13 && first s == 10) ≡ true → Alone TellsTrimmed (c ∷ s) (body delim multi n (drop 1 s))
+        after_pair other [] pair = absurd (false≢true (sym (and_right (c == 13) false refl) ∙ pair))
+        after_pair other (d ∷ s) pair = behind c (behind {S = λ t v r. TellsTrimmed (c ∷ t) v r} d (body_alone n s) (λ t v r up on. record { told = λ m enough. rw (other, pair) (on.told m (omega (arith, enough))); shorter = omega (arith, on.shorter) })) (λ t v r up on. on)
 
 -- ---- whole strings
 
@@ -369,11 +369,11 @@ triple_cut c s (d ∷ e ∷ f ∷ t) b some whole more none =
     rw (← same) (rw rest at none)
 
 -- a string that begins with three delimiters
-behind_three : (c : ℕ) (s : List ℕ) → starts_string (c ∷ s) ≡ true → (slice_index s 0 == c && slice_index s 1 == c) ≡ true → Alone (Tells quoted) (c ∷ s) (quoted (c ∷ s))
+after_three : (c : ℕ) (s : List ℕ) → starts_string (c ∷ s) ≡ true → (slice_index s 0 == c && slice_index s 1 == c) ≡ true → Alone (Tells quoted) (c ∷ s) (quoted (c ∷ s))
 unfolding quoted
-behind_three c [] begins three = absurd (false≢true (sym (rw (some c true begins) refl) ∙ three))
-behind_three c (d ∷ []) begins three = absurd (false≢true (sym (rw (some c true begins) (and_right (d == c) false refl)) ∙ three))
-behind_three c (d ∷ e ∷ s) begins three =
+after_three c [] begins three = absurd (false≢true (sym (rw (some c true begins) refl) ∙ three))
+after_three c (d ∷ []) begins three = absurd (false≢true (sym (rw (some c true begins) (and_right (d == c) false refl)) ∙ three))
+after_three c (d ∷ e ∷ s) begins three =
     rw three (behind c (behind {S = λ t v r. Tells quoted (c ∷ t) v r} d (behind {S = λ t v r. Tells quoted (c ∷ d ∷ t) v r} e (trimmed_alone c true begins (length (c ∷ d ∷ e ∷ s)) s)
     (λ t v r up on. record { told = rw three (on.told (length (c ∷ d ∷ e ∷ t)) (omega arith)); shorter = omega (arith, on.shorter) })) (λ t v r up on. on)) (λ t v r up on. on))
 
@@ -381,7 +381,7 @@ behind_three c (d ∷ e ∷ s) begins three =
 pub quoted_alone : (s : List ℕ) → starts_string s ≡ true → Alone (Tells quoted) s (quoted s)
 quoted_alone [] begins = absurd (false≢true begins)
 quoted_alone (c ∷ s) begins = elim (cases_Bool (slice_index s 0 == c && slice_index s 1 == c)) [
-  | inl three ↦ behind_three c s begins three
+  | inl three ↦ after_three c s begins three
   | inr none ↦ rw (quoted_one (c ∷ s) none) (as_read (one_line_alone (c ∷ s) begins) (λ t b v r whole up on.
       record { told = quoted_one t (triple_cut c s t b (some c false begins) whole (omega (arith, on.shorter)) none) ∙ on.told; shorter = on.shorter }))
 ]
@@ -415,25 +415,25 @@ simple_key_alone (c ∷ s) = elim (cases_Bool (c == 34 || c == 39)) [
   ]
 ]
 
--- the rest of a key behind one of its parts
-abbrev behind_part : ℕ → List (List ℕ) → List ℕ → List ℕ → Read Key
-behind_part n path part rest = cond (first rest == 46) (key_after n (path ++ part ∷ []) (skip_ws (drop 1 rest))) (Some ((path, part), rest))
+-- the rest of a key after one of its parts
+abbrev after_part : ℕ → List (List ℕ) → List ℕ → List ℕ → Read Key
+after_part n path part rest = cond (first rest == 46) (key_after n (path ++ part ∷ []) (skip_ws (drop 1 rest))) (Some ((path, part), rest))
 
--- what is told behind a part
+-- what is told after a part
 record TellsPart (n : ℕ) (path : List (List ℕ)) (part t : List ℕ) (k : Key) (r : List ℕ) : Type 0 where
-  told : behind_part n path part t ≡ Some (k, r)
+  told : after_part n path part t ≡ Some (k, r)
   shorter : length r ≤ length t
 
--- behind a part
-behind_part_alone : (n : ℕ) (path : List (List ℕ)) (part s : List ℕ) → ((path' : List (List ℕ)) (u : List ℕ) → Alone (Tells (key_after n path')) u (key_after n path' u)) → Alone (TellsPart n path part) s (behind_part n path part s)
-behind_part_alone n path part [] more = reads (path, part) [] [] refl refl (λ r b cut. nothing_left r b cut)
+-- after a part
+after_part_alone : (n : ℕ) (path : List (List ℕ)) (part s : List ℕ) → ((path' : List (List ℕ)) (u : List ℕ) → Alone (Tells (key_after n path')) u (key_after n path' u)) → Alone (TellsPart n path part) s (after_part n path part s)
+after_part_alone n path part [] more = reads (path, part) [] [] refl refl (λ r b cut. nothing_left r b cut)
   where
     nothing_left : (r b : List ℕ) → [] ≡ r ++ b → TellsPart n path part r (path, part) r
     nothing_left [] b cut = record { told = refl; shorter = omega arith }
     nothing_left (c ∷ r) b cut = absurd (cc cut)
-behind_part_alone n path part (c ∷ s) more = alone_if (c == 46)
+after_part_alone n path part (c ∷ s) more = alone_if (c == 46)
     (λ dot.
-    let here : Alone (λ t k r. (behind_part n path part (c ∷ t) ≡ Some (k, r)) × (length r ≤ length t)) s (key_after n (path ++ part ∷ []) (skip_ws s)) =
+    let here : Alone (λ t k r. (after_part n path part (c ∷ t) ≡ Some (k, r)) × (length r ≤ length t)) s (key_after n (path ++ part ∷ []) (skip_ws s)) =
     alone_skip (key_after n (path ++ part ∷ [])) (ws_alone s) (more (path ++ part ∷ [])) (λ t t' k r up is on. (rw (dot, is) on.told, omega (arith, up, on.shorter))) in
     behind c here (λ t k r up on. record { told = on.0; shorter = omega (arith, on.1) }))
     (λ other. reads (path, part) [] (c ∷ s) refl refl (λ r b cut. record { told = rw (first_cut r b 46 refl (rw (ap first cut) at other)) refl; shorter = omega arith }))
@@ -443,7 +443,7 @@ pub key_after_alone : (n : ℕ) (path : List (List ℕ)) (s : List ℕ) → Alon
 unfolding key_after
 key_after_alone zero path s = refuses refl
 key_after_alone (suc n) path s = alone_then _ (simple_key_alone s)
-    (λ part rest. alone_skip {S = λ t k r. (behind_part n path part (skip_ws t) ≡ Some (k, r)) × (length r ≤ length t)} (behind_part n path part) (ws_alone rest) (λ u. behind_part_alone n path part u (λ path' v. key_after_alone n path' v)) (λ t t' k r up is on. (ap (behind_part n path part) is ∙ on.told, omega (arith, up, on.shorter))))
+    (λ part rest. alone_skip {S = λ t k r. (after_part n path part (skip_ws t) ≡ Some (k, r)) × (length r ≤ length t)} (after_part n path part) (ws_alone rest) (λ u. after_part_alone n path part u (λ path' v. key_after_alone n path' v)) (λ t t' k r up is on. (ap (after_part n path part) is ∙ on.told, omega (arith, up, on.shorter))))
     (λ t part t' k r up is on. record { told = rw is.told on.0; shorter = omega (arith, is.shorter, on.1) })
 
 -- a key

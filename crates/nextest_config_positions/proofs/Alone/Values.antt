@@ -40,7 +40,7 @@ word_at [] (suc k) digit = absurd (false≢true digit)
 word_at (c ∷ y) zero digit = rw (digit_in_word c digit) (omega arith)
 word_at (c ∷ y) (suc k) digit = word_at y k digit
 
--- a word, which may go on behind a space
+-- a word, which may go on after a space
 abbrev joins : List ℕ → ℕ → Bool
 joins y n = slice_index y n == 32 && is_ascii_digit (slice_index y (n + 1))
 
@@ -172,7 +172,7 @@ atom_alone (c ∷ s) = elim (cases_Bool (c == 34 || c == 39)) [
 
 -- ---- what stands between values
 
--- a byte, and what is skipped behind it
+-- a byte, and what is skipped after it
 pub byte_alone : {A : Type 0} (byte : ℕ) → (0 == byte) ≡ false → (value : A) (f : List ℕ → List ℕ) → ((u : List ℕ) → Skips (λ t r. f t ≡ r) u (f u)) → (s : List ℕ)
     → Alone (Tells (λ t. option_map (λ rest. (value, f rest)) (after_byte byte t))) s (option_map (λ rest. (value, f rest)) (after_byte byte s))
 byte_alone byte some value f skipped [] = refuses (rw some refl)
@@ -192,7 +192,7 @@ key_equals_alone s = alone_then _ (key_alone s) (λ k rest. byte_alone 61 refl k
 abbrev comma_or : ℕ → List ℕ → Option (List ℕ)
 comma_or closing u = cond (first u == 44) (Some (drop 1 u)) (cond (first u == closing) (Some u) None)
 
--- what a reader behind an element tells
+-- what a reader after an element tells
 pub record TellsNext {A : Type 0} (P : List ℕ → A → List ℕ → Type 0) (after : List ℕ → Option (List ℕ)) (t : List ℕ) (v : A) (r : List ℕ) : Type 0 where
   pub rest : List ℕ
   pub is : after t ≡ Some rest
@@ -200,7 +200,7 @@ pub record TellsNext {A : Type 0} (P : List ℕ → A → List ℕ → Type 0) (
   pub on : P rest v r
 
 module _ {A : Type 0} {P : List ℕ → A → List ℕ → Type 0} (closing : ℕ) (some : (0 == closing) ≡ false) (next : List ℕ → Read A) (later : (u : List ℕ) → Alone P u (next u)) (shorter : (t : List ℕ) (v : A) (r : List ℕ) → P t v r → length r < length t) where
-  -- a reader behind a comma, or at the closing bracket
+  -- a reader after a comma, or at the closing bracket
   comma_alone : (u : List ℕ) → Alone (TellsNext P (comma_or closing)) u (option_and_then next (comma_or closing u))
   comma_alone [] = refuses (rw some refl)
   comma_alone (c ∷ u) = elim (cases_Bool (c == 44)) [
@@ -211,7 +211,7 @@ module _ {A : Type 0} {P : List ℕ → A → List ℕ → Type 0} (closing : �
     ]
   ]
 
-  -- a reader behind an element of a list
+  -- a reader after an element of a list
   pub after_alone : (s : List ℕ) → Alone (TellsNext P (after_element closing)) s (option_and_then next (after_element closing s))
   unfolding after_element
   after_alone s = alone_skip (λ u. option_and_then next (comma_or closing u)) (skip_alone true false s) comma_alone
@@ -279,7 +279,7 @@ module _ (depth : ℕ) (on : (s : List ℕ) → Alone (TellsVal depth) s (val de
         }))
   ]
 
-  -- what the items tell behind the blanks in front of them
+  -- what the items tell after the blanks in front of them
   items_told : (found : Items) (t t' : List ℕ) (v : Items) (r : List ℕ) → skip_blank t ≡ t' → length t' ≤ length t → TellsItemsAt found t' v r → (up m : ℕ) → depth ≤ up → length t ≤ m → items (val up) m found t ≡ Some (v, r)
   unfolding items
   items_told found t t' v r is shorter on up zero enough fits = absurd (omega (arith, fits, shorter, on.shorter))
@@ -297,7 +297,7 @@ module _ (depth : ℕ) (on : (s : List ℕ) → Alone (TellsVal depth) s (val de
     pub told : (up m : ℕ) → depth ≤ up → length t ≤ m → members (val up) m found t ≡ Some (v, r)
     pub shorter : length r < length t
 
-  -- behind a pair, which the table may refuse
+  -- after a pair, which the table may refuse
   abbrev put_then : ℕ → ℕ → Option Nodes → List ℕ → Read Members
   put_then up m put_in t = option_and_then (λ more. option_and_then (members (val up) m more) (after_element 125 t)) put_in
 
@@ -343,7 +343,7 @@ module _ (depth : ℕ) (on : (s : List ℕ) → Alone (TellsVal depth) s (val de
         }))
   ]
 
-  -- what the pairs tell behind the blanks in front of them
+  -- what the pairs tell after the blanks in front of them
   members_told : (found : Nodes) (t t' : List ℕ) (v : Members) (r : List ℕ) → skip_blank t ≡ t' → length t' ≤ length t → TellsMembersAt found t' v r → (up m : ℕ) → depth ≤ up → length t ≤ m → members (val up) m found t ≡ Some (v, r)
   unfolding members
   members_told found t t' v r is shorter on up zero enough fits = absurd (omega (arith, fits, shorter, on.shorter))

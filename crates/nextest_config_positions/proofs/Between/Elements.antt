@@ -4,14 +4,14 @@ use Rattle.std.proofs.lemmas.Option.{none-some, same_Some}
 use Rattle.toml_parser.specs.Lexical.{first, skip_blank}
 use Rattle.toml.specs.Parse.{after_element}
 use Rattle.toml.specs.Tables.{header}
-use Rattle.nextest_config_positions.specs.Entry.{array, behind_key, Branches, elements, get_tree, inline, no_trees, Piece, piece, pieces_of, push_tree, scalar, table, tables, Tree, tree, Trees}
-use Rattle.nextest_config_positions.proofs.Between.Keys.{holds_behind_key}
+use Rattle.nextest_config_positions.specs.Entry.{array, after_key, Branches, elements, get_tree, inline, no_trees, Piece, piece, pieces_of, push_tree, scalar, table, tables, Tree, tree, Trees}
+use Rattle.nextest_config_positions.proofs.Order.Keys.{holds_after_key}
 use Rattle.nextest_config_positions.proofs.Order.Changes.{IsKept}
 use Rattle.nextest_config_positions.proofs.Order.Holds.{get_pushed, holds_here, HoldsBelow}
 use Rattle.nextest_config_positions.proofs.Trees.Rests.{rest_element, rest_itself, rest_on}
 use Rattle.nextest_config_positions.proofs.Trees.Stands.{IsRest}
 
--- an element behind a bracket or a comma, and what stands behind it, of which more holds
+-- an element after a bracket or a comma, and what stands after it, of which more holds
 pub record IsElement (text : List ℕ) (t : Tree) (More : List ℕ → Type 0) : Type 0 where
   pub behind : List ℕ
   pub value : (pieces_of t).of_value ≡ Some (piece (skip_blank text) behind)
@@ -72,7 +72,7 @@ reached text end (tree u ts) (suc i) t are is =
     let on = reached are.rest end ts i t are.more is in
     record { before = on.before; from = rest_on (rest_on are.left (rest_element 93 are.behind are.rest are.after)) on.from; here = on.here }
 
--- the first one begins behind the bracket
+-- the first one begins after the bracket
 pub first_begins : (text end : List ℕ) (ts : Trees) (t : Tree) → AreElements text ts end → get_tree zero ts ≡ Some t → (behind : List ℕ) × ((pieces_of t).of_value ≡ Some (piece (skip_blank text) behind))
 first_begins text end ts t are is = subst (λ (o : Option Tree). Follows text o end) is (follows text end ts are)
 
@@ -123,12 +123,12 @@ spaced_kept text = record {
 }
 
 -- so does a key in front
-spaced_here : (text : List ℕ) (k : Piece) (t : Tree) → ElementsSpaced text t → ElementsSpaced text (behind_key k t)
+spaced_here : (text : List ℕ) (k : Piece) (t : Tree) → ElementsSpaced text t → ElementsSpaced text (after_key k t)
 spaced_here text k (scalar l v) is = is
 spaced_here text k (array l v ts) is = is
 spaced_here text k (inline l v bs) is = is
 spaced_here text k (table l o bs) is = is
 spaced_here text k (tables l done last bs) is = is
 
-pub spaced_behind : (text : List ℕ) (k : Piece) (t : Tree) → HoldsBelow (ElementsSpaced text) t → HoldsBelow (ElementsSpaced text) (behind_key k t)
-spaced_behind text k t holds = holds_behind_key (ElementsSpaced text) k t (spaced_here text k t (holds_here holds)) holds
+pub spaced_after : (text : List ℕ) (k : Piece) (t : Tree) → HoldsBelow (ElementsSpaced text) t → HoldsBelow (ElementsSpaced text) (after_key k t)
+spaced_after text k t holds = holds_after_key (ElementsSpaced text) k t (spaced_here text k t (holds_here holds)) holds

@@ -1,4 +1,4 @@
--- What keys of inline tables stand behind, as they are read.
+-- What keys of inline tables stand after, as they are read.
 use Rattle.std.proofs.Common.{◌≡◌, ◌⊎◌, ℕ, zero, suc, true, false, ◌==◌, ◌||◌, ◌&&◌, ◌+◌, List, [], ◌∷◌, ◌++◌, length, drop, Some, refl, sym, ap, subst, ◌∙◌, inl, inr, arith, eqb-true}
 use Rattle.std.proofs.lemmas.Bool.{cases_Bool, false≢true}
 use Rattle.std.proofs.lemmas.Bool.Decides.{nat_tests}
@@ -22,7 +22,7 @@ use Rattle.nextest_config_positions.proofs.Trees.Stands.{IsRest}
 abbrev pub IsMark : ℕ → Type 0
 IsMark mark = (mark ≡ 123) ⊎ ((mark ≡ 44) ⊎ (mark ≡ 46))
 
--- this rest of a text begins behind one, and blanks
+-- this rest of a text begins after one, and blanks
 pub record StartsMarked (text start : List ℕ) : Type 0 where
   pub mark : ℕ
   pub behind : List ℕ
@@ -87,7 +87,7 @@ blank_ws (c ∷ text) = elim (cases_Bool (is_ws c)) [
 
 -- ---- keys
 
--- behind a part of a key
+-- after a part of a key
 rest_simple : (text rest k : List ℕ) → simple_key text ≡ Some (k, rest) → IsRest text rest
 rest_simple text rest k is = let (front, cut, reads) = part_alone text rest k is in record { front = front; cut = cut }
 
@@ -100,7 +100,7 @@ module _ (text : List ℕ) where
   abbrev pub PartsMarked : Parts → Type 0
   PartsMarked parts = AllByRecursion (λ part. IsMarked text part.1) parts.0 × IsMarked text parts.1.1
 
-  -- behind a dot
+  -- after a dot
   dot_starts : (rest : List ℕ) → IsRest text rest → (first rest == 46) ≡ true → StartsKey (skip_ws (drop 1 rest))
   dot_starts rest from dot r is = record {
     mark = 46;
@@ -129,7 +129,7 @@ module _ (text : List ℕ) where
   unfolding parts_equals
   equals_marked start from marked = found_then _ (parts_marked 80 [] start from tt (λ r is. marked)) (λ k parts. found_map _ (found_any {o = after_byte 61 k.1} (λ rest is. is)) (λ rest _. parts))
 
-  -- behind a member, where there is another one
+  -- after a member, where there is another one
   pub after_marked : (t s : List ℕ) → IsRest text t → after_element 125 t ≡ Some s → (first (skip_blank s) == 125) ≡ false → StartsMarked text (skip_blank s)
   unfolding after_element
   after_marked t s from is more =

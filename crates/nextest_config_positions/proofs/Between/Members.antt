@@ -1,4 +1,4 @@
--- Keys below a value stand behind a brace, a comma or a dot, and blanks.
+-- Keys below a value stand after a brace, a comma or a dot, and blanks.
 use Rattle.std.proofs.Common.{◌≡◌, ℕ, zero, suc, ◌≤◌, ◌==◌, List, [], ◌∷◌, ◌++◌, length, drop, Some, None, option_map, refl, sym, ap, subst, ◌∙◌, inl, false, arith}
 use Rattle.std.proofs.lemmas.Option.{none-some, option_and_then_some, same_Some}
 use Rattle.std.proofs.NetLemmas.Options.{map_some}
@@ -6,14 +6,14 @@ use Rattle.toml.specs.Parse.{after_element, atom}
 use Rattle.toml.specs.Tables.{header}
 use Rattle.toml_parser.specs.Lexical.{first, Read, skip_blank}
 use Rattle.nextest_config_positions.specs.Document.{Walk, Walks}
-use Rattle.nextest_config_positions.specs.Entry.{array, behind_key, Branches, inline, no_branches, no_trees, Piece, piece, pieces_of, push_tree, scalar, table, tables, Tree, tree_at, tree_below, tree_from, Trees}
+use Rattle.nextest_config_positions.specs.Entry.{after_key, Branches, no_branches, no_trees, Piece, piece, pieces_of, push_tree, scalar, table, tables, Tree, tree_at, tree_below, tree_from, Trees}
 use Rattle.nextest_config_positions.specs.Key.{Parts}
-use Rattle.nextest_config_positions.specs.Ranges.{IsBehindMark, IsFrom, MembersStand, Range, range_of, ranges_of}
+use Rattle.nextest_config_positions.specs.Ranges.{IsAfterMark, IsFrom, MembersStand, Range, range_of, ranges_of}
 use Rattle.nextest_config_positions.specs.Step.{PathStep}
 use Rattle.nextest_config_positions.specs.Table.{at_part, pair, put}
 use Rattle.nextest_config_positions.specs.Value.{element_trees, member_trees, pair_tree, parts_equals, placed, value_tree}
 use Rattle.nextest_config_positions.proofs.Alone.{part_alone, value_alone}
-use Rattle.nextest_config_positions.proofs.Between.Keys.{behind_from, holds_behind_key}
+use Rattle.nextest_config_positions.proofs.Order.Keys.{behind_from, after_is_key, holds_after_key}
 use Rattle.nextest_config_positions.proofs.Between.Marks.{after_marked, equals_marked, IsMarked, PartsMarked, StartsMarked}
 use Rattle.nextest_config_positions.proofs.Between.Ranges.{from_rest, of_value, range_begins}
 use Rattle.nextest_config_positions.proofs.Between.Values.{begins_with, found_test}
@@ -46,20 +46,16 @@ keys_kept text = record {
   one_more = λ k l done last bs fresh is. is;
 }
 
--- a tree behind such a key
-key_here : (text : List ℕ) (k : Piece) (t : Tree) → IsMarked text k → KeyMarked text (behind_key k t)
-key_here text k (scalar l v) marked = found_some k marked
-key_here text k (array l v ts) marked = found_some k marked
-key_here text k (inline l v bs) marked = found_some k marked
-key_here text k (table l o bs) marked = found_some k marked
-key_here text k (tables l done last bs) marked = found_some k marked
+-- a tree after such a key
+key_here : (text : List ℕ) (k : Piece) (t : Tree) → IsMarked text k → KeyMarked text (after_key k t)
+key_here text k t marked = rw (after_is_key k t) (found_some k marked)
 
 -- one more member
 put_marked : (text : List ℕ) (k : Parts) (t : Tree) (bs : Branches) → PartsMarked text k → HoldsIn (KeyMarked text) bs → HoldsBelow (KeyMarked text) t → Found (put k t bs) (HoldsIn (KeyMarked text))
 put_marked text k t bs marked holds value =
     let kept = keys_kept text in
     (dots_keep _ _ _ _ kept k.0 (at_part k.1 (pair t)) marked.0 (at_part_keeps _ _ _ _ kept k.1 (pair t) marked.1 marked.1
-    (λ u is. of_pair (λ z. HoldsBelow (KeyMarked text) (behind_key k.1.1 z)) t u is (holds_behind_key (KeyMarked text) k.1.1 t (key_here text k.1.1 t marked.1) value)))).each bs holds
+    (λ u is. of_pair (λ z. HoldsBelow (KeyMarked text) (after_key k.1.1 z)) t u is (holds_after_key (KeyMarked text) k.1.1 t (key_here text k.1.1 t marked.1) value)))).each bs holds
 
 -- what steps lead to holds it below, too
 holds_deep : (P : Tree → Type 0) (path : List PathStep) (t u : Tree) → tree_below path t ≡ Some u → HoldsBelow P t → HoldsBelow P u
@@ -88,9 +84,9 @@ below_kept text = record {
 below_all : (text : List ℕ) (t : Tree) → HoldsBelow (KeyMarked text) t → HoldsBelow (BelowMarked text) t
 below_all text t holds = record { each = λ path u is. record { each = λ v step w has from. holds_from step from (holds_deep (KeyMarked text) path t u is holds) } }
 
--- and behind a key of any kind
-below_behind : (text : List ℕ) (k : Piece) (t : Tree) → HoldsBelow (KeyMarked text) t → HoldsBelow (BelowMarked text) (behind_key k t)
-below_behind text k t holds = holds_behind_key (BelowMarked text) k t (record { each = λ v step u is from. holds_from step (sym (behind_from k t step) ∙ from) holds }) (below_all text t holds)
+-- and after a key of any kind
+below_after : (text : List ℕ) (k : Piece) (t : Tree) → HoldsBelow (KeyMarked text) t → HoldsBelow (BelowMarked text) (after_key k t)
+below_after text k t holds = holds_after_key (BelowMarked text) k t (record { each = λ v step u is from. holds_from step (sym (behind_from k t step) ∙ from) holds }) (below_all text t holds)
 
 -- ---- values
 
@@ -135,7 +131,7 @@ module _ (text : List ℕ) where
         let behind : IsRest text e.1 = rest_on start_from value.2 in
         members_marked n next after (rest_on behind (rest_element 125 e.1 after is)) (after_marked text e.1 after behind is) still))))
 
-  -- what is left behind a value, beside what holds of it
+  -- what is left after a value, beside what holds of it
   with_rest : (depth : ℕ) → depth ≤ 80 → (s : List ℕ) → IsRest text s → Found (value_tree depth s) (λ p. HoldsBelow (KeyMarked text) p.0) → Found (value_tree depth s) (λ p. ReadsMarked s p.0 p.1)
   with_rest depth within s from marked =
       found_weaker
@@ -162,14 +158,14 @@ module _ (text : List ℕ) where
       (λ _. scalar_marked s)))
 
   -- the value of a pair
-  pair_value_marked : (s : List ℕ) → IsRest text s → Found (pair_tree (value_tree 80) s) (λ p. HoldsBelow (BelowMarked text) (behind_key p.0.0.1.1 p.0.1))
+  pair_value_marked : (s : List ℕ) → IsRest text s → Found (pair_tree (value_tree 80) s) (λ p. HoldsBelow (BelowMarked text) (after_key p.0.0.1.1 p.0.1))
   pair_value_marked s from =
-      found_weaker (pair_known (value_tree 80) (value_marked 80 (omega arith)) (λ k. Unit {0}) s from (found_any {o = parts_equals s} (λ k is. tt))) (λ p pair_read. below_behind text p.0.0.1.1 p.0.1 pair_read.1)
+      found_weaker (pair_known (value_tree 80) (value_marked 80 (omega arith)) (λ k. Unit {0}) s from (found_any {o = parts_equals s} (λ k is. tt))) (λ p pair_read. below_after text p.0.0.1.1 p.0.1 pair_read.1)
 
 -- ---- ranges
 
--- a marked piece begins behind its mark
-marked_from : (text : List ℕ) (q : Piece) (range : Range) → range_of (length text) q ≡ range → IsMarked text q → IsBehindMark text range.0
+-- a marked piece begins after its mark
+marked_from : (text : List ℕ) (q : Piece) (range : Range) → range_of (length text) q ≡ range → IsMarked text q → IsAfterMark text range.0
 marked_from text q range is at =
     let starts = at.marked in
     let after : IsRest text (skip_blank starts.behind) = rest_on (rest_on starts.from (rest_dropped 1 (starts.mark ∷ starts.behind))) (rest_blank starts.behind) in

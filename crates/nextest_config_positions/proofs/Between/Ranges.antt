@@ -7,14 +7,15 @@ use Rattle.std.proofs.NetLemmas.Options.{map_some}
 use Rattle.toml_parser.specs.Lexical.{first, skip_blank}
 use Rattle.toml.specs.Parse.{after_element}
 use Rattle.nextest_config_positions.specs.Document.{Walk, Walks}
-use Rattle.nextest_config_positions.specs.Entry.{array, Branches, get_branch, get_tree, inline, Piece, piece, pieces_of, scalar, table, tables, Tree, tree_at, tree_below, tree_from, Trees}
+use Rattle.nextest_config_positions.specs.Entry.{array, Branches, get_tree, inline, Piece, piece, pieces_of, scalar, table, tables, Tree, tree_at, tree_below, tree_from, Trees}
 use Rattle.nextest_config_positions.specs.Ranges.{element, ElementsStand, EmptyArraysEnd, IsFrom, Range, range_of, Ranges, ranges_of}
-use Rattle.nextest_config_positions.specs.Step.{index, key, PathStep}
+use Rattle.nextest_config_positions.specs.Step.{index, PathStep}
 use Rattle.nextest_config_positions.proofs.Between.Elements.{BeginsOther, ElementsSpaced, first_begins, Follows, follows, IsReached, IsSpaced, reached, spaced_kept, tables_none}
 use Rattle.nextest_config_positions.proofs.Between.Values.{pair_value_spaced}
 use Rattle.nextest_config_positions.proofs.Between.Walks.{walk_holds}
 use Rattle.nextest_config_positions.proofs.Cuts.{front_of_front}
 use Rattle.nextest_config_positions.proofs.Order.Holds.{holds_along, HoldsIn}
+use Rattle.nextest_config_positions.proofs.Order.Ranges.{at_from, at_on}
 use Rattle.nextest_config_positions.proofs.Trees.Rests.{rest_blank, rest_dropped, rest_element, rest_on}
 use Rattle.nextest_config_positions.proofs.Trees.Stands.{IsRest}
 
@@ -31,39 +32,16 @@ one_from text place one other first second =
     let nothing : between ≡ [] = nil_from_length between (omega (arith, first.begins, second.begins, ap length longer, length-append first.before between)) in
     rest ∙ ap (λ (u : List ℕ). u ++ other) nothing
 
--- so what stands behind a piece is what was left there
+-- so what stands after a piece is what was left there
 place_rest : (text rest behind : List ℕ) (bytes : ℕ) → IsRest text rest → bytes ≡ length text - length rest → IsFrom text bytes behind → behind ≡ rest
 place_rest text rest behind bytes cut same is = one_from text bytes behind rest is (subst (λ (n : ℕ). IsFrom text n rest) (sym same) (from_rest text rest cut))
 
 -- ---- paths
 
--- steps with one more lead on from where they lead
-record ComesFrom (o : Option Tree) (i : ℕ) (u : Tree) : Type 0 where
-  before : Tree
-  leads : o ≡ Some before
-  from : tree_from before (index i) ≡ Some u
-
-comes_from : (o : Option Tree) (i : ℕ) (u : Tree) → option_and_then (λ t. tree_from t (index i)) o ≡ Some u → ComesFrom o i u
-comes_from None i u is = absurd (none-some u is)
-comes_from (Some t) i u is = record { before = t; leads = refl; from = is }
-
+-- no step more
 itself : (o : Option Tree) → option_and_then (tree_below []) o ≡ o
 itself None = refl
 itself (Some t) = refl
-
-on_one_more : (path : List PathStep) (i : ℕ) → ((t : Tree) → tree_below (path ++ (index i ∷ [])) t ≡ option_and_then (λ u. tree_from u (index i)) (tree_below path t)) → (o : Option Tree)
-    → option_and_then (tree_below (path ++ (index i ∷ []))) o ≡ option_and_then (λ u. tree_from u (index i)) (option_and_then (tree_below path) o)
-on_one_more path i each None = refl
-on_one_more path i each (Some u) = each u
-
-below_one_more : (path : List PathStep) (i : ℕ) (t : Tree) → tree_below (path ++ (index i ∷ [])) t ≡ option_and_then (λ u. tree_from u (index i)) (tree_below path t)
-below_one_more [] i t = itself (tree_from t (index i))
-below_one_more (step ∷ path) i t = on_one_more path i (below_one_more path i) (tree_from t step)
-
-at_one_more : (root : Branches) (path : List PathStep) (i : ℕ) → tree_at root (path ++ (index i ∷ [])) ≡ option_and_then (λ u. tree_from u (index i)) (tree_at root path)
-at_one_more root [] i = refl
-at_one_more root (index j ∷ path) i = refl
-at_one_more root (key k ∷ path) i = on_one_more path i (below_one_more path i) (get_branch k root)
 
 -- ---- ranges
 
@@ -158,11 +136,11 @@ module _ (text : List ℕ) (root : Branches) (spaced : HoldsIn (ElementsSpaced t
   element_of : (path : List PathStep) (i : ℕ) (one : Range) → element ranges path i ≡ Some one → Element path i one
   element_of path i one is =
       let of = of_value (length text) root (path ++ (index i ∷ [])) one is in
-      let comes = comes_from (tree_at root path) i of.tree (sym (at_one_more root path i) ∙ of.leads) in
+      let comes = at_from root path i of.tree of.leads in
       let among = of_array text comes.before of.tree i of.spot (holds_along root spaced path comes.before comes.leads) comes.from of.has in
       element_at path i one of comes.before comes.leads among (reached among.spaced.inside among.spaced.end among.trees i of.tree among.spaced.are among.got)
 
-  -- what stands right behind it
+  -- what stands right after it
   behind_is : (path : List PathStep) (i : ℕ) (one : Range) (behind : List ℕ) (e : Element path i one) → IsFrom text one.1 behind → after_element 93 behind ≡ Some e.at.here.rest
   behind_is path i one behind e from = ap (after_element 93) (place_rest text e.at.here.behind behind one.1 e.from e.place from) ∙ e.at.here.after
 
@@ -185,7 +163,7 @@ module _ (text : List ℕ) (root : Branches) (spaced : HoldsIn (ElementsSpaced t
 
   -- and the next element's
   at_index : (path : List PathStep) (i j : ℕ) (one : Range) (e : Element path i one) → tree_at root (path ++ (index j ∷ [])) ≡ get_tree j e.among.trees
-  at_index path i j one e = at_one_more root path j ∙ ap (option_and_then (λ u. tree_from u (index j))) (array_at path i one e)
+  at_index path i j one e = at_on root path (index j ∷ []) _ (array_at path i one e) ∙ itself (get_tree j e.among.trees)
 
   -- the array's own piece
   array_spot : (path : List PathStep) (i : ℕ) (whole one : Range) (e : Element path i one) → ranges.of_value path ≡ Some whole → range_of (length text) e.among.spot ≡ whole
@@ -257,7 +235,7 @@ module _ (text : List ℕ) (root : Branches) (spaced : HoldsIn (ElementsSpaced t
       let array_spaced = opens.spaced in
       let place = ap (λ (n : ℕ). length text - n) array_spaced.begins in
       let whole_same : (91 ∷ inside) ≡ (91 ∷ array_spaced.inside) = place_rest text (91 ∷ array_spaced.inside) (91 ∷ inside) (length text - of.spot.0) array_spaced.from place begins in
-      let at = at_one_more root path 0 ∙ ap (option_and_then (λ u. tree_from u (index 0))) (of.leads ∙ ap Some opens.is) in
+      let at = at_on root path (index 0 ∷ []) _ (of.leads ∙ ap Some opens.is) ∙ itself (get_tree 0 opens.trees) in
       let nothing = sym (ap (option_and_then (λ t. option_map (range_of (length text)) (pieces_of t).of_value)) at) ∙ none in
       let over : array_spaced.inside ≡ array_spaced.end = follows_none array_spaced.inside array_spaced.end (get_tree 0 opens.trees) nothing (follows array_spaced.inside array_spaced.end opens.trees array_spaced.are) in
       let same : inside ≡ array_spaced.end = ap (drop 1) whole_same ∙ over in

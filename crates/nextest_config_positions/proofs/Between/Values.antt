@@ -7,12 +7,12 @@ use Rattle.toml.specs.Data.{Data}
 use Rattle.toml.specs.Parse.{after_element, atom}
 use Rattle.toml_parser.specs.Lexical.{first, Read, skip_blank}
 use Rattle.toml_parser.specs.Numbers.{unquoted, word_len}
-use Rattle.nextest_config_positions.specs.Entry.{behind_key, Branches, no_branches, no_trees, piece, pieces_of, push_tree, scalar, Tree, Trees}
+use Rattle.nextest_config_positions.specs.Entry.{after_key, Branches, no_branches, no_trees, piece, pieces_of, push_tree, scalar, Tree, Trees}
 use Rattle.nextest_config_positions.specs.Key.{Parts}
 use Rattle.nextest_config_positions.specs.Table.{at_part, pair, put}
 use Rattle.nextest_config_positions.specs.Value.{element_trees, member_trees, pair_tree, parts_equals, placed, value_tree}
 use Rattle.nextest_config_positions.proofs.Alone.{part_alone, value_alone}
-use Rattle.nextest_config_positions.proofs.Between.Elements.{AreElements, elements_more, ElementsSpaced, spaced_behind, spaced_kept}
+use Rattle.nextest_config_positions.proofs.Between.Elements.{AreElements, elements_more, ElementsSpaced, spaced_after, spaced_kept}
 use Rattle.nextest_config_positions.proofs.Growth.Found.{Found, found_any, found_both, found_map, found_none, found_some, found_then, found_weaker}
 use Rattle.nextest_config_positions.proofs.Order.Changes.{at_part_keeps, dots_keep}
 use Rattle.nextest_config_positions.proofs.Order.Holds.{holds_array, holds_inline, holds_nowhere, holds_of_none, holds_pushed, holds_scalar, HoldsAmong, HoldsBelow, HoldsIn}
@@ -49,7 +49,7 @@ put_spaced : (text : List ℕ) (k : Parts) (t : Tree) (bs : Branches) → HoldsI
 put_spaced text k t bs holds value =
     let kept = spaced_kept text in
     (dots_keep _ _ _ _ kept k.0 (at_part k.1 (pair t)) (all_always (λ part. tt) k.0) (at_part_keeps _ _ _ _ kept k.1 (pair t) tt tt
-    (λ u is. of_pair (λ z. HoldsBelow (ElementsSpaced text) (behind_key k.1.1 z)) t u is (spaced_behind text k.1.1 t value)))).each bs holds
+    (λ u is. of_pair (λ z. HoldsBelow (ElementsSpaced text) (after_key k.1.1 z)) t u is (spaced_after text k.1.1 t value)))).each bs holds
 
 module _ (text : List ℕ) where
   -- what is read of a value
@@ -136,5 +136,5 @@ module _ (text : List ℕ) where
       (λ _. scalar_spaced s from)))
 
   -- the value of a pair
-  pub pair_value_spaced : (s : List ℕ) → IsRest text s → Found (pair_tree (value_tree 80) s) (λ p. HoldsBelow (ElementsSpaced text) (behind_key p.0.0.1.1 p.0.1))
-  pair_value_spaced s from = found_weaker (pair_spaced (value_tree 80) (value_spaced 80 (omega arith)) s from) (λ p pair_read. spaced_behind text p.0.0.1.1 p.0.1 pair_read.spaced)
+  pub pair_value_spaced : (s : List ℕ) → IsRest text s → Found (pair_tree (value_tree 80) s) (λ p. HoldsBelow (ElementsSpaced text) (after_key p.0.0.1.1 p.0.1))
+  pair_value_spaced s from = found_weaker (pair_spaced (value_tree 80) (value_spaced 80 (omega arith)) s from) (λ p pair_read. spaced_after text p.0.0.1.1 p.0.1 pair_read.spaced)

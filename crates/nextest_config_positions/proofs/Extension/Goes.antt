@@ -4,7 +4,7 @@ use Rattle.toml_parser.specs.Lexical.{line_feed, Read}
 use Rattle.toml.specs.Parse.{after_byte, after_element, read_map}
 use Rattle.nextest_config_positions.proofs.Extension.Lexical.{both_if, ended, left, none, skip_ended}
 
--- what is read of a text that ends in a line feed, beside what is read with b behind it: nothing of the first, or the same value of both, and both leave that line feed
+-- what is read of a text that ends in a line feed, beside what is read with b after it: nothing of the first, or the same value of both, and both leave that line feed
 pub data Goes {A : Type 0} (b : List ℕ) (alone followed : Read A) : Type 0 where
   stops : alone ≡ None → Goes b alone followed
   goes : (value : A) (rest : List ℕ) → alone ≡ Some (value, ended rest []) → followed ≡ Some (value, ended rest b) → Goes b alone followed
@@ -36,7 +36,7 @@ module _ {A : Type 0} {b : List ℕ} where
   goes_found None s = stops refl
   goes_found (Some v) s = goes v s refl refl
 
-  -- a byte, and what is left behind it
+  -- a byte, and what is left after it
   pub goes_byte : (byte : ℕ) → (line_feed == byte) ≡ false → (value : A) (f : List ℕ → List ℕ) → ((s x : List ℕ) → f (ended s x) ≡ ended (f s) x) → (s : List ℕ)
       → Goes b (option_map (λ rest. (value, f rest)) (after_byte byte (ended s []))) (option_map (λ rest. (value, f rest)) (after_byte byte (ended s b)))
   goes_byte byte other value f on [] = stops (rw other refl)
@@ -44,7 +44,7 @@ module _ {A : Type 0} {b : List ℕ} where
       (λ _. goes value (f s) (rw (on s []) refl) (rw (on s b) refl)) (λ _. stops refl)
 
   module _ (next later : List ℕ → Read A) (on : (s : List ℕ) → Goes b (next (ended s [])) (later (ended s b))) where
-    -- a reader behind an element of a list
+    -- a reader after an element of a list
     pub goes_after : (closing : ℕ) → (0 == closing) ≡ false → (s : List ℕ)
         → Goes b (option_and_then next (after_element closing (ended s []))) (option_and_then later (after_element closing (ended s b)))
     unfolding after_element

@@ -5,7 +5,7 @@ use Rattle.std.proofs.lemmas.List.Sums.{prefix_len-le-length}
 use Rattle.std.specs.List.{prefix_len}
 use Rattle.toml_parser.specs.Lexical.{first, is_ws, line_feed, skip_from, skip_turn, skip_ws, split_while}
 
--- a line feed behind the first part, and then the second
+-- a line feed after the first part, and then the second
 abbrev pub ended : List ℕ → List ℕ → List ℕ
 ended s b = s ++ (line_feed ∷ b)
 
@@ -30,7 +30,7 @@ pub skip_ws_ended : (s b : List ℕ) → skip_ws (ended s b) ≡ ended (skip_ws 
 unfolding skip_ws
 skip_ws_ended s b = ap (λ parts. parts.1) (split_ended is_ws refl s b)
 
--- of a text, and the same with more behind it, what is left: nothing of the first, or both end as they did
+-- of a text, and the same with more after it, what is left: nothing of the first, or both end as they did
 pub data Left (b alone followed : List ℕ) : Type 0 where
   none : alone ≡ [] → Left b alone followed
   left : (c : ℕ) (rest : List ℕ) → alone ≡ ended (c ∷ rest) [] → followed ≡ ended (c ∷ rest) b → Left b alone followed
@@ -40,7 +40,7 @@ pub both_if : {X Y : Type 0} (P : X → Y → Type 0) (p : Bool) (x : X) (x' : Y
 both_if P true x x' y y' held failed = held refl
 both_if P false x x' y y' held failed = failed refl
 
--- behind blanks and comments at the front
+-- after blanks and comments at the front
 pub skip_ended : (b : List ℕ) (comments inside : Bool) (s : List ℕ) → Left b (skip_from comments inside (ended s [])) (skip_from comments inside (ended s b))
 unfolding skip_from
 skip_ended b comments inside [] = none refl

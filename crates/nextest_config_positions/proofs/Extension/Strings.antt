@@ -26,7 +26,7 @@ no_feed_within : (p : ℕ → Bool) (n : ℕ) (s : List ℕ) → p line_feed ≡
 no_feed_within p n s stop past =
     rw (take_all n (ended s []) (omega (arith, past, length-append s (line_feed ∷ []))), list_all-append p s (line_feed ∷ []), stop) (and_right (list_all p s) false refl)
 
--- the text is no shorter with something behind it
+-- the text is no shorter with something after it
 pub longer : (s b : List ℕ) → length (ended s []) ≤ length (ended s b)
 longer s b = omega (arith, length-append s (line_feed ∷ []), length-append s (line_feed ∷ b))
 
@@ -43,7 +43,7 @@ module _ (b : List ℕ) where
             (goes_if (list_all (λ c. is_digit c 16) (take n s) && is_scalar (digits_value 16 (take n s))) (λ _. goes (digits_value 16 (take n s)) (drop n s) refl refl) (λ _. stops refl)))
       ]
 
-  -- what stands for a character behind a backslash
+  -- what stands for a character after a backslash
   escape_char_ended : (s : List ℕ) → Goes b (escape_char (ended s [])) (escape_char (ended s b))
   unfolding escape_char
   escape_char_ended [] = stops refl
@@ -101,7 +101,7 @@ module _ (b : List ℕ) where
     body_feed zero = refl
     body_feed (suc n) = rw (no_feed, body_nil n) (elim (cases_Bool multi) [ inl h ↦ rw h refl | inr h ↦ rw h refl ])
 
-    -- what comes behind a piece
+    -- what comes after a piece
     after_piece_ended : (n m : ℕ) (piece : Option (List ℕ)) (s : List ℕ) → Goes b (body delim multi n (ended s [])) (body delim multi m (ended s b))
         → Goes b (after_piece (body delim multi n) piece (ended s [])) (after_piece (body delim multi m) piece (ended s b))
     after_piece_ended n m None s more = goes [] s refl refl
@@ -120,7 +120,7 @@ module _ (b : List ℕ) where
           | inr out ↦ stops (rw (out.1, body_nil n) refl)
         ])
 
-    -- and behind a newline in front of it, which is left out
+    -- and after a newline in front of it, which is left out
     trimmed_ended : (n m : ℕ) (s : List ℕ) → n ≤ m → Goes b (body delim multi n (trim_newline (ended s []))) (body delim multi m (trim_newline (ended s b)))
     trimmed_ended n m [] enough = stops (body_nil n)
     trimmed_ended n m (c ∷ []) enough = let either_way = both_if (λ (x y : List ℕ). Goes b (body delim multi n x) (body delim multi m y)) in
@@ -154,13 +154,13 @@ module _ (b : List ℕ) where
       goes_if (c == 34 || c == 39) (λ begins. one_line_ended (c ∷ s) begins)
       (λ _. goes_if (is_bare c) (λ _. goes _ _ (ap Some (split_ended is_bare refl (c ∷ s) [])) (ap Some (split_ended is_bare refl (c ∷ s) b))) (λ _. stops refl))
 
-  -- the rest of a key behind one of its parts
-  abbrev behind_part : ℕ → List (List ℕ) → List ℕ → List ℕ → Read Key
-  behind_part n path part rest = cond (first rest == 46) (key_after n (path ++ part ∷ []) (skip_ws (drop 1 rest))) (Some ((path, part), rest))
+  -- the rest of a key after one of its parts
+  abbrev after_part : ℕ → List (List ℕ) → List ℕ → List ℕ → Read Key
+  after_part n path part rest = cond (first rest == 46) (key_after n (path ++ part ∷ []) (skip_ws (drop 1 rest))) (Some ((path, part), rest))
 
-  -- behind a part
+  -- after a part
   part_ended : (n : ℕ) (path : List (List ℕ)) (part s : List ℕ) → ((path' : List (List ℕ)) (t : List ℕ) → Goes b (key_after n path' (ended t [])) (key_after n path' (ended t b)))
-      → Goes b (behind_part n path part (ended s [])) (behind_part n path part (ended s b))
+      → Goes b (after_part n path part (ended s [])) (after_part n path part (ended s b))
   part_ended n path part [] more = goes (path, part) [] refl refl
   part_ended n path part (c ∷ s) more = goes_if (c == 46) (λ _. rw (skip_ws_ended s [], skip_ws_ended s b) (more (path ++ part ∷ []) (skip_ws s))) (λ _. goes (path, part) (c ∷ s) refl refl)
 

@@ -19,7 +19,7 @@ use Rattle.nextest_config_positions.proofs.Extension.Strings.{key_ended, longer,
 
 -- ---- words
 
--- whether a word goes on behind a space, which is seen before the text's last line feed
+-- whether a word goes on after a space, which is seen before the text's last line feed
 joins_ended : (n : ℕ) (s b : List ℕ) → n ≤ length s → (slice_index (ended s b) n == 32 && is_ascii_digit (slice_index (ended s b) (n + 1))) ≡ (slice_index s n == 32 && is_ascii_digit (slice_index s (n + 1)))
 joins_ended zero [] b within = refl
 joins_ended zero (c ∷ []) b within = refl

@@ -30,7 +30,7 @@ next_begins text rest after walk next s passed = (begins_on walk (skip_blank res
 pub begins_there : (text rest after : List ℕ) (walk next : Walk) (s : Statement) → IsPassed text walk next rest after s → begins_statement (first (skip_blank rest)) ≡ true
 begins_there text rest after walk next s passed = (statement_begins (skip_blank rest)).each (s, after) passed.reads
 
--- and so its line ends behind it
+-- and so its line ends after it
 pub ends_there : (text rest after : List ℕ) (walk next : Walk) (s : Statement) → IsPassed text walk next rest after s → ends_line (skip_ws after) ≡ true
 ends_there text rest after walk next s passed = (statement_ends (skip_blank rest)).each (s, after) passed.reads
 

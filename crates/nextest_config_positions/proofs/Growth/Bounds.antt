@@ -4,7 +4,7 @@ use Rattle.std.proofs.lemmas.Option.{none-some, same_Some}
 use Rattle.std.specs.List.{AllByRecursion}
 use Rattle.toml_parser.specs.Lexical.{first, skip_ws}
 use Rattle.nextest_config_values.proofs.Elements.{all_joined, all_weaker}
-use Rattle.nextest_config_positions.specs.Entry.{array, behind_key, Branches, inline, no_trees, Piece, piece, pieces_of, push_tree, scalar, table, tables, Tree, tree, Trees}
+use Rattle.nextest_config_positions.specs.Entry.{array, after_key, Branches, inline, no_trees, Piece, piece, pieces_of, push_tree, scalar, table, tables, Tree, tree, Trees}
 use Rattle.nextest_config_positions.specs.Key.{Part, Parts, parts, parts_after}
 use Rattle.nextest_config_positions.specs.Step.{index, key}
 use Rattle.nextest_config_positions.specs.Table.{array_table, at_part, Definition, pair, put, std_table}
@@ -74,22 +74,22 @@ module _ (high low : ℕ) where
   scalar_all k v key_in value_in (key l ∷ path) = found_none
   scalar_all k v key_in value_in (index i ∷ path) = found_none
 
-  -- a value behind its key, itself
-  behind_itself : (k : Piece) (t : Tree) → Within high low k → PiecesWithin high low t → PiecesWithin high low (behind_key k t)
-  behind_itself k (scalar j v) key_in within = record { of_key = found_some k key_in; of_value = within.of_value }
-  behind_itself k (array j v ts) key_in within = record { of_key = found_some k key_in; of_value = within.of_value }
-  behind_itself k (inline j v bs) key_in within = record { of_key = found_some k key_in; of_value = within.of_value }
-  behind_itself k (table j o bs) key_in within = record { of_key = found_some k key_in; of_value = found_none }
-  behind_itself k (tables j done last bs) key_in within = record { of_key = found_some k key_in; of_value = found_none }
+  -- a value after its key, itself
+  after_itself : (k : Piece) (t : Tree) → Within high low k → PiecesWithin high low t → PiecesWithin high low (after_key k t)
+  after_itself k (scalar j v) key_in within = record { of_key = found_some k key_in; of_value = within.of_value }
+  after_itself k (array j v ts) key_in within = record { of_key = found_some k key_in; of_value = within.of_value }
+  after_itself k (inline j v bs) key_in within = record { of_key = found_some k key_in; of_value = within.of_value }
+  after_itself k (table j o bs) key_in within = record { of_key = found_some k key_in; of_value = found_none }
+  after_itself k (tables j done last bs) key_in within = record { of_key = found_some k key_in; of_value = found_none }
 
   -- and with all below it
-  pub behind_all : (k : Piece) (t : Tree) → Within high low k → AllBelow (PiecesWithin high low) (Some t) → AllBelow (PiecesWithin high low) (Some (behind_key k t))
-  behind_all k t key_in all [] = found_some _ (behind_itself k t key_in ((all []).each t refl))
-  behind_all k (scalar j v) key_in all (step ∷ path) = all (step ∷ path)
-  behind_all k (array j v ts) key_in all (step ∷ path) = all (step ∷ path)
-  behind_all k (inline j v bs) key_in all (step ∷ path) = all (step ∷ path)
-  behind_all k (table j o bs) key_in all (step ∷ path) = all (step ∷ path)
-  behind_all k (tables j done last bs) key_in all (step ∷ path) = all (step ∷ path)
+  pub after_all : (k : Piece) (t : Tree) → Within high low k → AllBelow (PiecesWithin high low) (Some t) → AllBelow (PiecesWithin high low) (Some (after_key k t))
+  after_all k t key_in all [] = found_some _ (after_itself k t key_in ((all []).each t refl))
+  after_all k (scalar j v) key_in all (step ∷ path) = all (step ∷ path)
+  after_all k (array j v ts) key_in all (step ∷ path) = all (step ∷ path)
+  after_all k (inline j v bs) key_in all (step ∷ path) = all (step ∷ path)
+  after_all k (table j o bs) key_in all (step ∷ path) = all (step ∷ path)
+  after_all k (tables j done last bs) key_in all (step ∷ path) = all (step ∷ path)
 
   -- one element more
   pub all_pushed : (P : Tree → Type 0) (ts : Trees) (t : Tree) → AllTrees P ts → AllBelow P (Some t) → AllTrees P (push_tree ts t)
@@ -118,7 +118,7 @@ module _ (high low : ℕ) where
       → Found (put ps t bs) (AllBranches (PiecesWithin high low))
   put_within ps t bs parts_in all before =
       let New = PiecesWithin high low in
-      let grows = definition_grows New ps.1 (pair t) (key_within ps.1.1 parts_in.1) (behind_all ps.1.1 t parts_in.1 all) in
+      let grows = definition_grows New ps.1 (pair t) (key_within ps.1.1 parts_in.1) (after_all ps.1.1 t parts_in.1 all) in
       found_weaker (dots_grow New ps.0 (at_part ps.1 (pair t)) (all_weaker _ (λ part. NewKey New part.1) (λ part within. key_within part.1 within) ps.0 parts_in.0) grows bs)
       (λ new more k path. grown_within _ _ (more k path) (before k path))
 

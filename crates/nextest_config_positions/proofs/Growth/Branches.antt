@@ -133,7 +133,7 @@ module _ {New : Tree → Type 0} where
 
   -- ---- branches
 
-  -- another tree at the first key, and other branches behind it
+  -- another tree at the first key, and other branches after it
   grows_branch : (m : List ℕ) (x y : Tree) (a b : Branches) → Grows New (Some x) (Some y) → BranchesGrow New a b → BranchesGrow New (branch m x a) (branch m y b)
   grows_branch m x y a b here rest k = both_if (Grows New) (same_key k m) _ _ _ _ (λ _. here) (λ _. rest k)
 

@@ -15,7 +15,7 @@ pub record IsPassed (text : List ℕ) (walk next : Walk) (rest after : List ℕ)
   pub reads : statement_line (skip_blank rest) ≡ Some (s, after)
   pub grows : walk_on walk (skip_blank rest) s ≡ Some next
 
--- the path led to nothing before a statement, and leads to a tree behind it; the pieces of this tree lie in the statement
+-- the path led to nothing before a statement, and leads to a tree after it; the pieces of this tree lie in the statement
 pub record Came (text : List ℕ) (path : List PathStep) (t : Tree) : Type 0 where
   pub walk : Walk
   pub next : Walk
@@ -72,7 +72,7 @@ entry_came text _ _ (go_on walk next rest after s walks reads grows) path t is =
     came_on text path walk next rest after s (record { walks = walks; reads = reads; grows = grows }) (entry_came text rest walk walks path) _ _ refl refl
     (walk_grows text rest after walk next s walks reads grows path) t is
 
--- and each path that leads to a tree still does behind one more statement
+-- and each path that leads to a tree still does after one more statement
 kept_some : {New : Tree → Type 0} (o p : Option Tree) → Grown New o p → IsSome o → IsSome p
 kept_some None p grown some = absurd (cc some)
 kept_some (Some u) None (inl same) some = absurd (none-some (pieces_of u) same)

@@ -1,4 +1,4 @@
--- Where lines end: behind a statement, and before one.
+-- Where lines end: after a statement, and before one.
 use Rattle.std.proofs.Common.{◌≡◌, ◌⊎◌, ℕ, suc, ◌+◌, ◌<◌, ◌≤◌, Bool, true, false, cond, not, ◌&&◌, ◌||◌, ◌==◌, List, [], ◌∷◌, ◌++◌, length, drop, count_by, Some, None, is_some, unwrap_or, refl, sym, ap, ◌∙◌, inl, inr, arith, eqb-true, append_assoc, length-append}
 use Rattle.std.proofs.lemmas.Bool.{and_parts, cases_Bool, cases_lt, false≢true, ne_eqb}
 use Rattle.std.proofs.lemmas.Bool.Decides.{nat_tests}
@@ -35,11 +35,11 @@ feeds_joined xs ys = sum_by-append one_feed xs ys
 pub feeds_ended : (s b : List ℕ) → feeds (ended s b) ≡ feeds s + (1 + feeds b)
 feeds_ended s b = feeds_joined s (line_feed ∷ b) ∙ ap (λ n. feeds s + n) (sum_by-cons one_feed line_feed b)
 
--- and behind another byte
+-- and after another byte
 feeds_other : (c : ℕ) (s : List ℕ) → (c == line_feed) ≡ false → feeds (c ∷ s) ≡ feeds s
 feeds_other c s other = sum_by-cons one_feed c s ∙ rw other (omega arith)
 
--- the text up to its last line feed and behind it, if it has one
+-- the text up to its last line feed and after it, if it has one
 pub data LastFeed (text : List ℕ) : Type 0 where
   feed_last : (s w : List ℕ) → text ≡ ended s w → feeds w ≡ 0 → LastFeed text
   no_feed : feeds text ≡ 0 → LastFeed text
@@ -164,7 +164,7 @@ unclean : (c : ℕ) (text : List ℕ) → begins_statement c ≡ false → Clean
 unclean c text other (inl none) = absurd (omega (arith, ap length none))
 unclean c text other (inr begins) = false≢true (sym other ∙ begins)
 
--- behind one byte that is passed
+-- after one byte that is passed
 pass_step : (inside next : Bool) (c : ℕ) (text : List ℕ) → skip_turn true inside c (first text) ≡ Some next → skip_from true inside (c ∷ text) ≡ skip_from true next text
 unfolding skip_from
 pass_step inside next c text is = rw is refl
@@ -221,7 +221,7 @@ space_step c text space =
 space_other : (c : ℕ) → is_ws c ≡ true → (c == line_feed) ≡ false
 space_other c space = grind (arith, nat_tests)
 
--- what ends a line behind a statement
+-- what ends a line after a statement
 end_bytes : (c : ℕ) (text : List ℕ) → ends_line (c ∷ text) ≡ true → (((c == 35) || c == 10) || c == 13) ≡ true
 end_bytes c text ends =
     let some : (length (c ∷ text) == 0) ≡ false = ne_eqb (suc (length text)) 0 (λ none. omega (arith, none)) in
@@ -263,7 +263,7 @@ line_end (c ∷ text) ends clean =
         not_begun : (c : ℕ) → (((c == 35) || c == 10) || c == 13) ≡ true → begins_statement c ≡ false
         not_begun c ends = elim (cases_Bool (begins_statement c)) [ inl begins ↦ absurd (false≢true (sym (begins_no_line c begins) ∙ ends)) | inr not ↦ not ]
 
--- so another statement behind it begins further on
+-- so another statement after it begins further on
 pub next_further : (text : List ℕ) → ends_line (skip_ws text) ≡ true → begins_statement (first (skip_blank text)) ≡ true → length (skip_blank text) < length text
 next_further text ends begins = elim (line_end text ends (inr begins)) [
   | at_feed s b is none short ↦ omega (arith, short, ap length is, length-append s (line_feed ∷ b))

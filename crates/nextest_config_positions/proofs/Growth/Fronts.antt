@@ -1,21 +1,20 @@
 -- Where the statements of a text stand to its fronts that are documents.
-use Rattle.std.proofs.Common.{◌≡◌, ◌⊎◌, ℕ, zero, suc, ◌≤◌, Bool, true, false, ◌==◌, ◌&&◌, List, [], ◌∷◌, length, Some, IsSome, is_some, unwrap_or, refl, sym, ap, ◌∙◌, inl, inr, arith, eqb-true}
+use Rattle.std.proofs.Common.{◌≡◌, ℕ, zero, suc, ◌≤◌, Bool, true, false, ◌==◌, ◌&&◌, List, [], ◌∷◌, length, Some, IsSome, is_some, unwrap_or, refl, sym, ap, ◌∙◌, inl, inr, arith}
 use Rattle.std.proofs.lemmas.Bool.{cases_Bool}
-use Rattle.std.proofs.lemmas.List.{nil_from_length}
-use Rattle.std.proofs.lemmas.Option.{none-some, option_and_then_some, same_Some}
-use Rattle.toml_parser.specs.Lexical.{first, line_feed, skip_blank, skip_from, skip_turn}
-use Rattle.toml.proofs.Blanks.{skip_newline, skip_within}
+use Rattle.std.proofs.lemmas.Option.{none-some, same_Some}
+use Rattle.toml_parser.specs.Lexical.{first, skip_blank, skip_from, skip_turn}
+use Rattle.toml.proofs.Blanks.{skip_within}
 use Rattle.toml.specs.Parse.{line, lines, skip_bom}
 use Rattle.toml.specs.Tables.{close, define, Document, Expression}
 use Rattle.nextest_config_positions.specs.Line.{found_in}
 use Rattle.nextest_config_positions.specs.Step.{PathStep}
 use Rattle.nextest_config_positions.proofs.Extension.Lexical.{ended, first_ended}
-use Rattle.nextest_config_positions.proofs.Monotone.{Kept, kept_paths, lines_more_keep}
+use Rattle.nextest_config_positions.proofs.Monotone.{first_of_lines, kept_paths, lines_keep}
 use Rattle.nextest_config_positions.proofs.Statements.{some_start, statement_on}
 
 -- ---- blanks
 
--- where a front is blank up to its last line feed, the blanks go on behind it
+-- where a front is blank up to its last line feed, the blanks go on after it
 blank_from : (comments inside : Bool) (s b : List ℕ) → skip_from comments inside (ended s []) ≡ [] → skip_from comments inside (ended s b) ≡ skip_from comments false b
 unfolding skip_from
 blank_from comments inside [] b is = refl
@@ -29,7 +28,7 @@ blank_from comments inside (c ∷ s) b is =
     some_none : (x : ℕ) (xs : List ℕ) → x ∷ xs ≡ [] → ⊥
     some_none x xs same = absurd (omega (arith, ap length same))
 
--- so a statement behind them stands behind the front
+-- so a statement after them stands after the front
 pub blank_within : (s b : List ℕ) → skip_blank (ended s []) ≡ [] → length (skip_blank (ended s b)) ≤ length b
 blank_within s b is = omega (arith, ap length (blank_from true false s b is), skip_within b)
 
@@ -44,42 +43,12 @@ mark_before (c ∷ d ∷ e ∷ s) =
 
 -- ---- what is read
 
--- a text that is read begins with a statement
-pub record Begins (n : ℕ) (document : Document) (text : List ℕ) (last : Document) : Type 0 where
-  pub expression : Expression
-  pub after : List ℕ
-  pub reads : line (skip_blank text) ≡ Some (expression, after)
-  pub next : Document
-  pub defines : define document expression ≡ Some next
-  pub later : lines n next after ≡ Some last
-
--- or is blank
-pub first_of_lines : (n : ℕ) (document last : Document) (text : List ℕ) → lines (suc n) document text ≡ Some last → ((skip_blank text ≡ []) × (document ≡ last)) ⊎ Begins n document text last
-unfolding lines
-first_of_lines n document last text is =
-    elim (cases_Bool (length (skip_blank text) == 0)) [
-      | inl none ↦ inl (nil_from_length (skip_blank text) (eqb-true (length (skip_blank text)) 0 none), same_Some document last (rw none at is))
-      | inr some ↦ option_and_then_some _ (line (skip_blank text)) last (rw some at is) (λ e reads on. option_and_then_some _ (define document e.0) last on
-          (λ next defines later. inr (record { expression = e.0; after = e.1; reads = reads; next = next; defines = defines; later = later })))
-    ]
-
--- behind its first statement it is read on
-pub lines_behind : (n : ℕ) (document next last : Document) (text after : List ℕ) (e : Expression) → lines n document text ≡ Some last → line (skip_blank text) ≡ Some (e, after) → define document e ≡ Some next
+-- after its first statement it is read on
+pub lines_after : (n : ℕ) (document next last : Document) (text after : List ℕ) (e : Expression) → lines n document text ≡ Some last → line (skip_blank text) ≡ Some (e, after) → define document e ≡ Some next
     → (m : ℕ) × (lines m next after ≡ Some last)
 unfolding lines
-lines_behind zero document next last text after e is reads defines = absurd (none-some last is)
-lines_behind (suc n) document next last text after e is reads defines = (n, rw (some_start (skip_blank text) e after reads, reads, defines) at is)
-
--- a line feed more in front
-feed_before : (n : ℕ) (document : Document) (text : List ℕ) → lines n document (line_feed ∷ text) ≡ lines n document text
-unfolding lines
-feed_before zero document text = refl
-feed_before (suc n) document text = rw (skip_newline text) refl
-
--- what a document holds before a text is kept behind it
-pub lines_keep : (n : ℕ) (document last : Document) (text : List ℕ) → lines n document text ≡ Some last → Kept document.0 last.0
-unfolding lines skip_from
-lines_keep n document last text is = lines_more_keep 1 n document document last [] text refl (feed_before n document text ∙ is)
+lines_after zero document next last text after e is reads defines = absurd (none-some last is)
+lines_after (suc n) document next last text after e is reads defines = (n, rw (some_start (skip_blank text) e after reads, reads, defines) at is)
 
 -- so each path that leads to a value still does
 pub lines_lead : (n : ℕ) (document last : Document) (text : List ℕ) → lines n document text ≡ Some last → (path : List PathStep) → IsSome (found_in (close document.0) path) → IsSome (found_in (close last.0) path)
@@ -87,12 +56,12 @@ lines_lead n document last text is path leads = kept_paths document.0 last.0 (li
 
 -- ---- a statement and a front
 
--- a statement of a text, which begins in the front before b or behind it: the front goes on behind it, or has nothing but blanks from there on
+-- a statement of a text, which begins in the front before b or after it: the front goes on after it, or has nothing but blanks from there on
 pub data Passed (b : List ℕ) (last document next : Document) (rest after : List ℕ) : Type 0 where
   within : (s : List ℕ) (n : ℕ) → after ≡ ended s b → lines n next (ended s []) ≡ Some last → Passed b last document next rest after
   past : length (skip_blank rest) ≤ length b → document ≡ last → Passed b last document next rest after
 
--- each statement of a text that begins in a front or behind it is one or the other
+-- each statement of a text that begins in a front or after it is one or the other
 pub front_passed : (n : ℕ) (s b : List ℕ) (document last next : Document) (after : List ℕ) (e : Expression) → lines n document (ended s []) ≡ Some last
     → line (skip_blank (ended s b)) ≡ Some (e, after) → define document e ≡ Some next → Passed b last document next (ended s b) after
 unfolding lines

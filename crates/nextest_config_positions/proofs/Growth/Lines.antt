@@ -7,7 +7,7 @@ use Rattle.toml.specs.Parse.{ends_line, line, parse_document, skip_bom}
 use Rattle.toml.specs.Tables.{close, define, Document, Expression, no_nodes}
 use Rattle.nextest_config_positions.specs.Document.{begin, go_on, no_walk, Statement, Walk, Walks}
 use Rattle.nextest_config_positions.specs.Entry.{Piece, pieces_of, Tree, tree_at}
-use Rattle.nextest_config_positions.specs.Line.{EndsLine, found_in, IsLineOf, IsReadFront, IsStatementOf, line_behind}
+use Rattle.nextest_config_positions.specs.Line.{EndsLine, found_in, IsLineOf, IsReadFront, IsStatementOf, line_after}
 use Rattle.nextest_config_positions.specs.Step.{PathStep}
 use Rattle.nextest_config_positions.proofs.Alone.Documents.{begins, goes_on, Passes}
 use Rattle.nextest_config_positions.proofs.Cuts.{front_of_front}
@@ -18,7 +18,7 @@ use Rattle.nextest_config_positions.proofs.Growth.Bounds.{Within}
 use Rattle.nextest_config_positions.proofs.Growth.Came.{Came, IsPassed}
 use Rattle.nextest_config_positions.proofs.Growth.Feeds.{at_end, at_feed, begins_statement, blank_before, blank_front, Clean, feed_last, feeds, feeds_ended, feeds_joined, first_line_shorter, LastFeed, last_feed, line_end, LineEnd, no_feed}
 use Rattle.nextest_config_positions.proofs.Growth.Walks.{statement_shorter}
-use Rattle.nextest_config_positions.proofs.Growth.Within.{EndsBehind, leads_behind, leads_not_yet, read_splits, Splits}
+use Rattle.nextest_config_positions.proofs.Growth.Within.{EndsAfter, leads_after, leads_not_yet, read_splits, Splits}
 
 -- ---- the line on which a statement ends
 
@@ -77,7 +77,7 @@ mark_front (c ∷ d ∷ e ∷ text) = elim (cases_Bool ((c == 0xEF && d == 0xBB)
         let third_is : e ≡ 0xBF = eqb-true e 0xBF (and_parts (c == 0xEF && d == 0xBB) (e == 0xBF) is).1 in
         rw (first_is, second_is, third_is) refl
 
--- the blanks before a statement behind another one have a line feed
+-- the blanks before a statement after another one have a line feed
 blank_feeds : (rest front : List ℕ) → ends_line (skip_ws rest) ≡ true → begins_statement (first (skip_blank rest)) ≡ true → rest ≡ front ++ skip_blank rest → 0 < feeds front
 blank_feeds rest front ends starts whole =
     elim (line_end rest ends (inr starts)) [
@@ -94,9 +94,9 @@ start_some : (start : List ℕ) → begins_statement (first start) ≡ true → 
 start_some [] starts = absurd (false≢true starts)
 start_some (c ∷ start) starts = omega arith
 
--- what ends a line behind a front has a line feed
-feeds_behind : (front more : List ℕ) → 0 < length more → EndsLine (front ++ more) → 0 < feeds more
-feeds_behind front more some (line, is) =
+-- what ends a line after a front has a line feed
+feeds_after : (front more : List ℕ) → 0 < length more → EndsLine (front ++ more) → 0 < feeds more
+feeds_after front more some (line, is) =
     let sizes : length front + length more ≡ length line + 1 = sym (length-append front more) ∙ ap length is ∙ length-append line (line_feed ∷ []) in
     let size : length front ≤ length line = omega (arith, some, sizes) in
     let (between, _, more_is) = front_of_front front more line (line_feed ∷ []) is size in
@@ -109,15 +109,15 @@ none_before between start mid b same short none =
     let (more, between_is, _) = front_of_front mid b between start (sym same) size in
     omega (arith, none, ap feeds between_is, feeds_joined mid more)
 
--- a text that ends a line has a line feed behind each shorter front
-some_behind : (before mid other : List ℕ) → other ≡ before ++ mid → length before < length other → EndsLine other → 0 < feeds mid
-some_behind before mid other is beyond line = feeds_behind before mid (omega (arith, beyond, ap length is, length-append before mid)) (subst EndsLine is line)
+-- a text that ends a line has a line feed after each shorter front
+some_after : (before mid other : List ℕ) → other ≡ before ++ mid → length before < length other → EndsLine other → 0 < feeds mid
+some_after before mid other is beyond line = feeds_after before mid (omega (arith, beyond, ap length is, length-append before mid)) (subst EndsLine is line)
 
--- no line ends between a front and what stands behind it without a line feed between
+-- no line ends between a front and what stands after it without a line feed between
 no_line_between : (before between start other b : List ℕ) → before ++ (between ++ start) ≡ other ++ b → length before < length other → length start ≤ length b → EndsLine other → feeds between ≡ 0 → ⊥
 no_line_between before between start other b same beyond short line none =
     let (mid, other_is, rest_is) = front_of_front before (between ++ start) other b same (omega (arith, beyond)) in
-    omega (arith, some_behind before mid other other_is beyond line, none_before between start mid b rest_is short none)
+    omega (arith, some_after before mid other other_is beyond line, none_before between start mid b rest_is short none)
 
 -- the piece of a tree's key or value
 abbrev pub IsPieceOf : Tree → Piece → Type 0
@@ -146,7 +146,7 @@ module _ (text : List ℕ) (GoesWith : Walk → Document → Type 0) (at_begin :
       let (e, later, line_is, defines, with_next) = goes_with_on walk next before.document rest after s (record { walks = walks; reads = reads; grows = grows }) before.with in
       record { document = later; with = with_next; passes = goes_on before.document later rest after e before.passes line_is defines }
 
-  -- a front that ends in blanks behind a statement is its document
+  -- a front that ends in blanks after a statement is its document
   cut_reads : (front b r rest : List ℕ) (document : Document) → Passes text document rest → text ≡ front ++ b → rest ≡ r ++ b → skip_blank r ≡ [] → parse_document front ≡ Some (close document.0)
   cut_reads front b r rest document passes whole is blank =
       document_cut front b r document (subst (λ (x : List ℕ). Passes x document (r ++ b)) whole (subst (λ (x : List ℕ). Passes text document x) is passes)) blank
@@ -172,7 +172,7 @@ module _ (text : List ℕ) (GoesWith : Walk → Document → Type 0) (at_begin :
     none : feeds between ≡ 0
     read : (before ≡ []) ⊎ IsReadFront text before
 
-  -- behind a line feed
+  -- after a line feed
   feed_before : (walk : Walk) (rest : List ℕ) → Walks text walk rest → (s w : List ℕ) → rest ≡ ended s w ++ skip_blank rest → feeds w ≡ 0 → Before (skip_blank rest)
   feed_before walk rest walks s w is none =
       let start = skip_blank rest in
@@ -220,7 +220,7 @@ module _ (text : List ℕ) (GoesWith : Walk → Document → Type 0) (at_begin :
     cut : LineCut came.after
     cut = line_cut came.after (line_end came.after (ends_there text came.rest came.after came.walk came.next came.statement came.passed) clean)
 
-    -- the walk behind it
+    -- the walk after it
     next_walks : Walks text came.next came.after
     next_walks = go_on came.walk came.next came.rest came.after came.statement came.passed.walks came.passed.reads came.passed.grows
 
@@ -252,8 +252,8 @@ module _ (text : List ℕ) (GoesWith : Walk → Document → Type 0) (at_begin :
     before_size : length up_to.before + (length up_to.between + length (skip_blank came.rest)) ≡ length text
     before_size = sym (ap length up_to.whole ∙ length-append up_to.before (up_to.between ++ skip_blank came.rest) ∙ ap (λ n. length up_to.before + n) (length-append up_to.between (skip_blank came.rest)))
 
-    -- a front that ends behind the statement is no shorter than that one
-    no_shorter : (other b : List ℕ) → text ≡ other ++ b → EndsBehind b came.after → length front_there.front ≤ length other
+    -- a front that ends after the statement is no shorter than that one
+    no_shorter : (other b : List ℕ) → text ≡ other ++ b → EndsAfter b came.after → length front_there.front ≤ length other
     no_shorter other b whole (inl line) = omega (arith, cut.is_first line.0 b line.1, front_size, ap length whole, length-append other b)
     no_shorter other b whole (inr none) = omega (arith, ap length none, front_size, ap length whole, length-append other b)
 
@@ -285,21 +285,21 @@ module _ (text : List ℕ) (GoesWith : Walk → Document → Type 0) (at_begin :
         record {
           leads = record { read = front_there.read; leads = front_there.leads };
           is_first = λ other leads. elim (splits other leads.read) [
-            | leads_behind ends some ↦ no_shorter other leads.read.cut.rest leads.read.cut.whole ends
+            | leads_after ends some ↦ no_shorter other leads.read.cut.rest leads.read.cut.whole ends
             | leads_not_yet short not ↦ absurd (not leads.leads)
           ];
           is_before = record {
             read = up_to.read;
             shorter = shorter;
             is_last = λ other read less. elim (splits other read) [
-              | leads_behind ends some ↦ absurd (omega (arith, less, no_shorter other read.cut.rest read.cut.whole ends))
+              | leads_after ends some ↦ absurd (omega (arith, less, no_shorter other read.cut.rest read.cut.whole ends))
               | leads_not_yet short not ↦ no_longer other read.cut.rest read.cut.whole read.cut.ends short
             ];
           };
         }
 
     -- and the line is that on which the statement begins
-    line_there : IsLineOf text path (line_behind (take (length text - length (skip_blank came.rest)) text))
+    line_there : IsLineOf text path (line_after (take (length text - length (skip_blank came.rest)) text))
     line_there =
         let start = skip_blank came.rest in
         let front = up_to.before ++ up_to.between in
@@ -307,11 +307,11 @@ module _ (text : List ℕ) (GoesWith : Walk → Document → Type 0) (at_begin :
         let size : length front ≡ length text - length start = omega (arith, ap length whole, length-append front start) in
         let taken : take (length text - length start) text ≡ front = ap (take (length text - length start)) whole ∙ take_at front start (length text - length start) size in
         let count : feeds front ≡ feeds up_to.before = omega (arith, feeds_joined up_to.before up_to.between, up_to.none) in
-        record { before = up_to.before; front = front_there.front; of_statement = of_statement; line_is = ap line_behind taken ∙ ap (λ n. suc n) count }
+        record { before = up_to.before; front = front_there.front; of_statement = of_statement; line_is = ap line_after taken ∙ ap (λ n. suc n) count }
 
   -- the line of each entry of a whole walk is that on which the statement begins that begins first before the entry's piece
   pub line_of_entry : (rest : List ℕ) (walk : Walk) → Walks text walk rest → skip_blank rest ≡ [] → (path : List PathStep) (t : Tree) → tree_at walk.root path ≡ Some t → (p : Piece) → IsPieceOf t p
-      → IsLineOf text path (line_behind (take (length text - begin_of p.0 walk.begins) text))
+      → IsLineOf text path (line_after (take (length text - begin_of p.0 walk.begins) text))
   line_of_entry rest walk walks over path t is p of_tree =
       let there = came_in text rest walk walks path t is in
       let came = there.came in

@@ -7,7 +7,7 @@ use Rattle.toml.specs.Parse.{line}
 use Rattle.toml.specs.Tables.{close, define, Document, Expression, no_nodes}
 use Rattle.nextest_config_positions.specs.Document.{no_walk, Statement, Walk, Walks}
 use Rattle.nextest_config_positions.specs.Entry.{Piece, Tree, tree_at}
-use Rattle.nextest_config_positions.specs.Line.{found_in, IsLineOf, line_behind}
+use Rattle.nextest_config_positions.specs.Line.{found_in, IsLineOf, line_after}
 use Rattle.nextest_config_positions.specs.Ranges.{LieWithinStatements, ranges_of}
 use Rattle.nextest_config_positions.specs.Step.{PathStep}
 use Rattle.nextest_config_positions.proofs.Alone.{part_alone, value_alone}
@@ -50,5 +50,5 @@ module _ (text : List ℕ) where
 
   -- the line of each entry of a whole walk is that on which the statement begins that begins first before the entry's piece
   pub line_of_entry : (rest : List ℕ) (walk : Walk) → Walks text walk rest → skip_blank rest ≡ [] → (path : List PathStep) (t : Tree) → tree_at walk.root path ≡ Some t → (p : Piece) → IsPieceOf t p
-      → IsLineOf text path (line_behind (take (length text - begin_of p.0 walk.begins) text))
+      → IsLineOf text path (line_after (take (length text - begin_of p.0 walk.begins) text))
   line_of_entry = line_of_entry_with text (WalkStands text) at_begin on paths end document_cut

@@ -172,7 +172,7 @@ made_step : (part : Part) (P : Branches → Type 0) (next : Growth) (bs : Branch
 made_step part P next bs on None is = found_map (λ new. insert_branch part.0 (table part.1 implicit new) bs) (on no_branches) (λ new more. rw (get_inserted part.0 (table part.1 implicit new) bs) more)
 made_step part P next bs on (Some t) is = found_map (λ u. replace_branch part.0 u bs) (through_open P next on t) (λ u more. rw (get_replaced part.0 u t bs is) more)
 
--- the parts of a header lead from table to table behind it
+-- the parts of a header lead from table to table after it
 pub section_made : (path : List Part) (part : Part) (what : Definition) → IsHeader what → (bs : Branches) → Found (along_header path (at_part part what) bs) (Along (path ++ part ∷ []))
 unfolding along_header Along at_part
 section_made [] part what is_header bs = made_last part what bs is_header (get_branch part.0 bs) refl

@@ -1,4 +1,4 @@
--- What a walk holds: pieces of the text before its rest, and behind one more statement what it held and what that defines.
+-- What a walk holds: pieces of the text before its rest, and after one more statement what it held and what that defines.
 use Rattle.std.proofs.Common.{◌≡◌, ◌⊎◌, ℕ, ◌≤◌, ◌==◌, ◌&&◌, drop, List, [], ◌∷◌, length, Option, Some, None, option_and_then, refl, ap, inl, inr, arith}
 use Rattle.std.proofs.lemmas.Bool.{cond_both}
 use Rattle.std.specs.Prelude.{slice_index}
@@ -8,11 +8,11 @@ use Rattle.toml.specs.Parse.{skip_bom}
 use Rattle.toml.specs.Tables.{header}
 use Rattle.nextest_config_values.proofs.Elements.{all_weaker}
 use Rattle.nextest_config_positions.specs.Document.{begin, go_on, grown, Statement, statement_line, Walk, walk_on, Walks}
-use Rattle.nextest_config_positions.specs.Entry.{behind_key, no_branches, Piece, pieces_of, Tree, tree_at, tree_below}
+use Rattle.nextest_config_positions.specs.Entry.{after_key, no_branches, Piece, pieces_of, Tree, tree_at, tree_below}
 use Rattle.nextest_config_positions.specs.Key.{Part}
 use Rattle.nextest_config_positions.specs.Step.{index, key, PathStep}
 use Rattle.nextest_config_positions.specs.Table.{array_table, at_part, new_tree, pair, put, std_table}
-use Rattle.nextest_config_positions.proofs.Growth.Bounds.{behind_all, DefinitionWithin, grown_within, key_within, pieces_wider, PiecesWithin, Within}
+use Rattle.nextest_config_positions.proofs.Growth.Bounds.{after_all, DefinitionWithin, grown_within, key_within, pieces_wider, PiecesWithin, Within}
 use Rattle.nextest_config_positions.proofs.Growth.Branches.{AllBelow, branches_grow_at, BranchesGrow, fresh_table, fresh_tables, Grown, grows_same, NewKey}
 use Rattle.nextest_config_positions.proofs.Growth.Found.{Found, found_any, found_both, found_map, found_none, found_weaker}
 use Rattle.nextest_config_positions.proofs.Growth.Reads.{statement_line_reads}
@@ -21,7 +21,7 @@ use Rattle.nextest_config_positions.proofs.Growth.Tables.{Along, definition_grow
 
 -- ---- one statement
 
--- the walk behind a statement whose keys and value are new holds what it held, and what is new; and its section leads from table to table
+-- the walk after a statement whose keys and value are new holds what it held, and what is new; and its section leads from table to table
 record StepGrows (New : Tree → Type 0) (walk next : Walk) : Type 0 where
   grows : BranchesGrow New walk.root next.root
   along : Along next.section next.root
@@ -53,7 +53,7 @@ pub record StandsBelow (s : Statement) (t : Tree) : Type 0 where
   pub value : Tree
   pub defines : s.1 ≡ pair value
   pub path : List PathStep
-  pub leads : tree_below path (behind_key s.0.1.1 value) ≡ Some t
+  pub leads : tree_below path (after_key s.0.1.1 value) ≡ Some t
 
 -- the tree is new in the statement from `start` to `after`: its pieces lie there, and it has no piece of a value, or stands below the statement's
 pub record IsNew (start after : List ℕ) (s : Statement) (t : Tree) : Type 0 where
@@ -69,7 +69,7 @@ module _ (start after : List ℕ) (s : Statement) where
 definition_is_new : (start after : List ℕ) (s : Statement) → Within (length start) (length after) s.0.1.1 → DefinitionWithin (length start) (length after) s.1
     → (path : List PathStep) → Found (option_and_then (tree_below path) (Some (new_tree s.0.1.1 s.1))) (IsNew start after s)
 definition_is_new start after (k, pair v) key_in value_in path = found_any (λ t is. record {
-  within = (behind_all (length start) (length after) k.1.1 v key_in value_in path).each t is;
+  within = (after_all (length start) (length after) k.1.1 v key_in value_in path).each t is;
   of_value = inr (record { value = v; defines = refl; path = path; leads = is });
 })
 definition_is_new start after (k, std_table) key_in value_in path = fresh_table k.1.1 header no_branches (key_is_new start after (k, std_table) k.1.1 key_in) (λ l. grows_same None) path
@@ -91,7 +91,7 @@ unfolding Along
 walk_along text _ _ begin = tt
 walk_along text _ _ (go_on walk next rest after s walks read on) = (statement_grows walk next (skip_blank rest) after s (walk_along text rest walk walks) read on).along
 
--- behind one more statement each path leads to the pieces that it led to, or it led to nothing, and leads to what is new in the statement
+-- after one more statement each path leads to the pieces that it led to, or it led to nothing, and leads to what is new in the statement
 pub walk_grows : (text rest after : List ℕ) (walk next : Walk) (s : Statement) → Walks text walk rest → statement_line (skip_blank rest) ≡ Some (s, after) → walk_on walk (skip_blank rest) s ≡ Some next
     → (path : List PathStep) → Grown (IsNew (skip_blank rest) after s) (tree_at walk.root path) (tree_at next.root path)
 walk_grows text rest after walk next s walks read on =
@@ -108,7 +108,7 @@ walk_shorter text _ _ begin = mark_within text
 walk_shorter text _ _ (go_on walk next rest after s walks read on) =
     omega (arith, walk_shorter text rest walk walks, skip_within rest, ((statement_line_reads (skip_blank rest)).each (s, after) read).1)
 
--- and no longer behind one more statement
+-- and no longer after one more statement
 pub statement_shorter : (rest after : List ℕ) (s : Statement) → statement_line (skip_blank rest) ≡ Some (s, after) → length after ≤ length (skip_blank rest)
 statement_shorter rest after s read = ((statement_line_reads (skip_blank rest)).each (s, after) read).1
 

@@ -16,25 +16,25 @@ use Rattle.nextest_config_positions.specs.Step.{PathStep}
 use Rattle.nextest_config_positions.proofs.Extension.Lexical.{ended}
 use Rattle.nextest_config_positions.proofs.Growth.Bounds.{Within}
 use Rattle.nextest_config_positions.proofs.Growth.Came.{Came, entry_came, entry_stays, IsPassed}
-use Rattle.nextest_config_positions.proofs.Growth.Fronts.{front_passed, lines_behind, lines_lead, mark_before, Passed, past, within}
+use Rattle.nextest_config_positions.proofs.Growth.Fronts.{front_passed, lines_after, lines_lead, mark_before, Passed, past, within}
 use Rattle.nextest_config_positions.proofs.Growth.Walks.{statement_shorter}
 
 -- what is none is not some
 none_some : {A : Type 0} {o : Option A} → o ≡ None → IsSome o → ⊥
 none_some {o = o} none some = cc (none, some)
 
--- a front of a text before b ends behind `after` begins: in a line feed, or with the text
-abbrev pub EndsBehind : List ℕ → List ℕ → Type 0
-EndsBehind b after = ((s : List ℕ) × (after ≡ ended s b)) ⊎ (b ≡ [])
+-- a front of a text before b ends after `after` begins: in a line feed, or with the text
+abbrev pub EndsAfter : List ℕ → List ℕ → Type 0
+EndsAfter b after = ((s : List ℕ) × (after ≡ ended s b)) ⊎ (b ≡ [])
 
 -- so no more follows it
-pub ends_behind : (b after : List ℕ) → EndsBehind b after → length b ≤ length after
-ends_behind b after (inl line) = omega (arith, ap length line.1, length-append line.0 (line_feed ∷ b))
-ends_behind b after (inr none) = omega (arith, ap length none)
+pub ends_after : (b after : List ℕ) → EndsAfter b after → length b ≤ length after
+ends_after b after (inl line) = omega (arith, ap length line.1, length-append line.0 (line_feed ∷ b))
+ends_after b after (inr none) = omega (arith, ap length none)
 
--- a front before b, and a statement from `start` to `after`: the front ends behind it, and the path leads to a value there, or it ends before it, and the path leads to none
+-- a front before b, and a statement from `start` to `after`: the front ends after it, and the path leads to a value there, or it ends before it, and the path leads to none
 pub data Splits (b : List ℕ) (members : Members) (path : List PathStep) (start after : List ℕ) : Type 0 where
-  leads_behind : EndsBehind b after → IsSome (found_in members path) → Splits b members path start after
+  leads_after : EndsAfter b after → IsSome (found_in members path) → Splits b members path start after
   leads_not_yet : length start ≤ length b → (IsSome (found_in members path) → ⊥) → Splits b members path start after
 
 -- What the simulation of `toml` tells: a document goes with each walk, and has values where the walk has trees.
@@ -44,7 +44,7 @@ module _ (text : List ℕ) (GoesWith : Walk → Document → Type 0) (at_begin :
     (found_with : (walk : Walk) (document : Document) → GoesWith walk document → (path : List PathStep) → IsSome (tree_at walk.root path) ↔ IsSome (found_in (close document.0) path)) where
   -- ---- a front that ends in a line feed
 
-  -- where a walk stands to it: within it, where its document comes of what follows there, or behind it, where the walk has all that it has
+  -- where a walk stands to it: within it, where its document comes of what follows there, or after it, where the walk has all that it has
   data Stands (b : List ℕ) (last : Document) (walk : Walk) (document : Document) (rest : List ℕ) : Type 0 where
     inside : (s : List ℕ) (n : ℕ) → rest ≡ ended s b → lines n document (ended s []) ≡ Some last → Stands b last walk document rest
     behind : length rest ≤ length b → ((path : List PathStep) → IsSome (found_in (close last.0) path) → IsSome (tree_at walk.root path)) → Stands b last walk document rest
@@ -85,7 +85,7 @@ module _ (text : List ℕ) (GoesWith : Walk → Document → Type 0) (at_begin :
       let (e, later, line_is, defines, with_next) = goes_with_on walk next before.document rest after st passed before.with in
       record { document = later; with = with_next; stands = stands_on b last before.document later walk next rest after st e passed before.with line_is defines before.stands }
 
-  -- so a front that ends in a line feed ends before a statement or behind it
+  -- so a front that ends in a line feed ends before a statement or after it
   module _ (s b : List ℕ) (whole : text ≡ ended s b) (n : ℕ) (last : Document) (read : lines n (no_nodes, []) (skip_bom (ended s [])) ≡ Some last) (path : List PathStep) (t : Tree) (came : Came text path t) where
     -- by where the walk stands before the statement
     splits_of : (document later : Document) (e : Expression) → GoesWith came.walk document → line (skip_blank came.rest) ≡ Some (e, came.after) → define document e ≡ Some later → GoesWith came.next later
@@ -95,7 +95,7 @@ module _ (text : List ℕ) (GoesWith : Walk → Document → Type 0) (at_begin :
     splits_of document later e goes line_is defines with_next (inside u m is on) =
         elim (passed_there u b m document last later came.rest came.after e is on line_is defines) [
           | within v k after_is reads_on ↦
-              leads_behind (inl (v, after_is)) (lines_lead k later last (ended v []) reads_on path ((found_with came.next later with_next path).0 came.some))
+              leads_after (inl (v, after_is)) (lines_lead k later last (ended v []) reads_on path ((found_with came.next later with_next path).0 came.some))
           | past short same ↦ leads_not_yet short (λ found. none_some came.none ((found_with came.walk document goes path).1 (rw (← same) at found)))
         ]
 
@@ -121,7 +121,7 @@ module _ (text : List ℕ) (GoesWith : Walk → Document → Type 0) (at_begin :
   comes_to n last read _ _ (go_on walk next rest after s walks reads grows) =
       let before = comes_to n last read walk rest walks in
       let (e, later, line_is, defines, with_next) = goes_with_on walk next before.document rest after s (record { walks = walks; reads = reads; grows = grows }) before.with in
-      let (m, on) = lines_behind before.fuel before.document later last rest after e before.reads line_is defines in
+      let (m, on) = lines_after before.fuel before.document later last rest after e before.reads line_is defines in
       record { document = later; with = with_next; fuel = m; reads = on }
 
   -- so each entry of a walk leads to a value in it
@@ -132,7 +132,7 @@ module _ (text : List ℕ) (GoesWith : Walk → Document → Type 0) (at_begin :
 
   -- ---- entries
 
-  -- each front that is a document ends before the statement of an entry or behind it
+  -- each front that is a document ends before the statement of an entry or after it
   pub read_splits : (other : List ℕ) (read : IsReadFront text other) (path : List PathStep) (t : Tree) (came : Came text path t) → Splits read.cut.rest read.members path (skip_blank came.rest) came.after
   unfolding parse_document
   read_splits other read path t came =
@@ -146,7 +146,7 @@ module _ (text : List ℕ) (GoesWith : Walk → Document → Type 0) (at_begin :
             let next_walks = go_on came.walk came.next came.rest came.after came.statement came.passed.walks came.passed.reads came.passed.grows in
             let there : lines (suc (length other)) (no_nodes, []) (skip_bom text) ≡ Some last = ap (λ (x : List ℕ). lines (suc (length other)) (no_nodes, []) (skip_bom x)) (sym same) ∙ reads in
             let leads : IsSome (found_in (close last.0) path) = whole_leads (suc (length other)) last there path came.next came.after next_walks came.some in
-            leads_behind (inr none) (rw closed at leads)
+            leads_after (inr none) (rw closed at leads)
       ])
 
   -- an entry's piece lies within its statement
@@ -156,9 +156,9 @@ module _ (text : List ℕ) (GoesWith : Walk → Document → Type 0) (at_begin :
     where
       within_front : length text - p.1 ≤ length front
       within_front = elim (read_splits front of_statement.leads.read path t came) [
-        | leads_behind up_to leads ↦
+        | leads_after up_to leads ↦
             let whole = of_statement.leads.read.cut in
-            omega (arith, ends_behind whole.rest came.after up_to, piece_in.ends, ap length whole.whole, length-append front whole.rest)
+            omega (arith, ends_after whole.rest came.after up_to, piece_in.ends, ap length whole.whole, length-append front whole.rest)
         | leads_not_yet short not ↦ absurd (not of_statement.leads.leads)
       ]
 
@@ -166,7 +166,7 @@ module _ (text : List ℕ) (GoesWith : Walk → Document → Type 0) (at_begin :
       before_within = elim of_statement.is_before.read [
         | inl none ↦ omega (arith, ap length none)
         | inr read ↦ elim (read_splits before read path t came) [
-          | leads_behind up_to leads ↦ absurd (omega (arith, of_statement.is_before.shorter, of_statement.is_first before (record { read = read; leads = leads })))
+          | leads_after up_to leads ↦ absurd (omega (arith, of_statement.is_before.shorter, of_statement.is_first before (record { read = read; leads = leads })))
           | leads_not_yet short not ↦ omega (arith, short, piece_in.begins, ap length read.cut.whole, length-append before read.cut.rest)
         ]
       ]

@@ -1,8 +1,8 @@
--- What holds of each tree of a document still holds behind a statement.
+-- What holds of each tree of a document still holds after a statement.
 use Rattle.std.proofs.Common.{◌≡◌, List, [], ◌∷◌, Option, Some, None, refl}
 use Rattle.std.specs.List.{AllByRecursion}
 use Rattle.toml.specs.Tables.{dotted, header, implicit, Origin}
-use Rattle.nextest_config_positions.specs.Entry.{array, behind_key, Branches, get_branch, inline, no_branches, no_trees, Piece, push_tree, scalar, table, tables, Tree, Trees}
+use Rattle.nextest_config_positions.specs.Entry.{array, after_key, Branches, get_branch, inline, no_branches, no_trees, Piece, push_tree, scalar, table, tables, Tree, Trees}
 use Rattle.nextest_config_positions.specs.Key.{Part}
 use Rattle.nextest_config_positions.specs.Table.{along_dots, along_header, array_table, at_found, at_part, by_dot, by_header, Definition, Growth, new_tree, pair, redefined, std_table, through_dot, through_header}
 use Rattle.nextest_config_positions.proofs.Growth.Found.{Found, found_map, found_none, found_some}
@@ -77,7 +77,7 @@ module _ (P Q : Tree → Type 0) (N F : Piece → Type 0) (kept : IsKept P Q N F
   dots_keep (part ∷ path) grow fresh keeps = record { each = λ bs holds. by_dot_keeps part (along_dots path grow) fresh.0 (dots_keep path grow fresh.1 keeps) bs holds _ refl }
 
   -- what is defined holds it, where a value does
-  new_holds : (k : Piece) (what : Definition) → N k → F k → ((t : Tree) → what ≡ pair t → HoldsBelow Q (behind_key k t)) → HoldsBelow Q (new_tree k what)
+  new_holds : (k : Piece) (what : Definition) → N k → F k → ((t : Tree) → what ≡ pair t → HoldsBelow Q (after_key k t)) → HoldsBelow Q (new_tree k what)
   new_holds k (pair t) named fresh value = value t refl
   new_holds k std_table named fresh value = holds_table k header no_branches (kept.new_table k header no_branches named) holds_nowhere
   new_holds k array_table named fresh value = holds_tables k no_trees k no_branches (kept.new_tables k fresh)
@@ -93,13 +93,13 @@ module _ (P Q : Tree → Type 0) (N F : Piece → Type 0) (kept : IsKept P Q N F
       (holds_table k header no_branches (kept.new_table k header no_branches named) holds_nowhere)))
   redefined_holds k what named fresh t holds = found_none
 
-  at_found_keeps : (part : Part) (what : Definition) → N part.1 → F part.1 → ((t : Tree) → what ≡ pair t → HoldsBelow Q (behind_key part.1 t)) → (bs : Branches) → HoldsIn P bs
+  at_found_keeps : (part : Part) (what : Definition) → N part.1 → F part.1 → ((t : Tree) → what ≡ pair t → HoldsBelow Q (after_key part.1 t)) → (bs : Branches) → HoldsIn P bs
       → (o : Option Tree) → get_branch part.0 bs ≡ o → Found (at_found part what bs o) (HoldsIn Q)
   at_found_keeps part what named fresh value bs holds None is = found_some _ (holds_inserted part.0 (new_tree part.1 what) bs (holds_weaker_in kept.weaker holds) (new_holds part.1 what named fresh value))
   at_found_keeps part what named fresh value bs holds (Some t) is =
       found_map _ (redefined_holds part.1 what named fresh t (holds.each part.0 t is)) (λ new inside. holds_replaced part.0 new bs (holds_weaker_in kept.weaker holds) inside)
 
   -- a definition keeps it
-  pub at_part_keeps : (part : Part) (what : Definition) → N part.1 → F part.1 → ((t : Tree) → what ≡ pair t → HoldsBelow Q (behind_key part.1 t)) → Keeps (at_part part what)
+  pub at_part_keeps : (part : Part) (what : Definition) → N part.1 → F part.1 → ((t : Tree) → what ≡ pair t → HoldsBelow Q (after_key part.1 t)) → Keeps (at_part part what)
   unfolding at_part
   at_part_keeps part what named fresh value = record { each = λ bs holds. at_found_keeps part what named fresh value bs holds _ refl }

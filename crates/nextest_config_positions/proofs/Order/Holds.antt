@@ -1,4 +1,4 @@
--- What holds of each tree of a document, and what still does behind a change.
+-- What holds of each tree of a document, and what still does after a change.
 use Rattle.std.proofs.Common.{◌≡◌, ◌⊎◌, ℕ, zero, suc, List, [], ◌∷◌, Option, Some, Ordering, Less, Equal, Greater, nat_cmp, refl, subst, inl, inr}
 use Rattle.std.proofs.lemmas.Bool.{cases_Bool}
 use Rattle.std.proofs.lemmas.Option.{none-some, option_and_then_some, same_Some}
@@ -21,7 +21,7 @@ pub record HoldsIn (P : Tree → Type 0) (bs : Branches) : Type 0 where
 pub record HoldsAmong (P : Tree → Type 0) (ts : Trees) : Type 0 where
   pub each : (i : ℕ) (t : Tree) → get_tree i ts ≡ Some t → HoldsBelow P t
 
--- an element behind others
+-- an element after others
 pub get_pushed : (i : ℕ) (ts : Trees) (u x : Tree) → get_tree i (push_tree ts u) ≡ Some x → (get_tree i ts ≡ Some x) ⊎ (u ≡ x)
 get_pushed zero no_trees u x is = inr (same_Some u x is)
 get_pushed (suc i) no_trees u x is = absurd (none-some x is)
@@ -45,17 +45,17 @@ by_order P Less x y z less tie more = less
 by_order P Equal x y z less tie more = tie
 by_order P Greater x y z less tie more = more
 
--- what is found at a key is in front, or behind
+-- what is found at a key is in front, or after
 at_front : (m l : List ℕ) (t x : Tree) (bs : Branches) → get_branch m (branch l t bs) ≡ Some x → (t ≡ x) ⊎ (get_branch m bs ≡ Some x)
 at_front m l t x bs is = elim (cases_Bool (same_key m l)) [
   | inl same ↦ inl (same_Some t x (rw same at is))
   | inr other ↦ inr (rw other at is)
 ]
 
--- where the branches behind the first are others, what is found there was found there, or is of them
-behind_front : (m l : List ℕ) (u x : Tree) (new bs : Branches) (N : Type 0) → (get_branch m new ≡ Some x → N ⊎ (get_branch m bs ≡ Some x))
+-- where the branches after the first are others, what is found there was found there, or is of them
+after_front : (m l : List ℕ) (u x : Tree) (new bs : Branches) (N : Type 0) → (get_branch m new ≡ Some x → N ⊎ (get_branch m bs ≡ Some x))
     → get_branch m (branch l u new) ≡ Some x → N ⊎ (get_branch m (branch l u bs) ≡ Some x)
-behind_front m l u x new bs N on is = elim (cases_Bool (same_key m l)) [
+after_front m l u x new bs N on is = elim (cases_Bool (same_key m l)) [
   | inl same ↦ inr (rw same (rw same at is))
   | inr other ↦ rw other (on (rw other at is))
 ]
@@ -71,14 +71,14 @@ instead m l t u x bs is = elim (cases_Bool (same_key m l)) [
 inserted : (k m : List ℕ) (t x : Tree) (bs : Branches) → get_branch m (insert_branch k t bs) ≡ Some x → (t ≡ x) ⊎ (get_branch m bs ≡ Some x)
 inserted k m t x no_branches = at_front m k t x no_branches
 inserted k m t x (branch l u bs) = by_order (λ (new : Branches). get_branch m new ≡ Some x → (t ≡ x) ⊎ (get_branch m (branch l u bs) ≡ Some x)) (slice_cmp nat_cmp k l) _ _ _
-    (at_front m k t x (branch l u bs)) (instead m l t u x bs) (behind_front m l u x (insert_branch k t bs) bs (t ≡ x) (inserted k m t x bs))
+    (at_front m k t x (branch l u bs)) (instead m l t u x bs) (after_front m l u x (insert_branch k t bs) bs (t ≡ x) (inserted k m t x bs))
 
 -- and once one is replaced
 replaced : (k m : List ℕ) (t x : Tree) (bs : Branches) → get_branch m (replace_branch k t bs) ≡ Some x → (t ≡ x) ⊎ (get_branch m bs ≡ Some x)
 replaced k m t x no_branches is = absurd (none-some x is)
 replaced k m t x (branch l u bs) is = elim (cases_Bool (same_key k l)) [
   | inl same ↦ instead m l t u x bs (rw same at is)
-  | inr other ↦ behind_front m l u x (replace_branch k t bs) bs (t ≡ x) (replaced k m t x bs) (rw other at is)
+  | inr other ↦ after_front m l u x (replace_branch k t bs) bs (t ≡ x) (replaced k m t x bs) (rw other at is)
 ]
 
 module _ {P : Tree → Type 0} where

@@ -13,7 +13,7 @@ use Rattle.nextest_config_positions.proofs.Order.Walks.{RootSettled, walks_settl
 
 -- ---- paths
 
--- behind steps that lead to a tree
+-- after steps that lead to a tree
 below_on : (path rest : List PathStep) (t u : Tree) → tree_below path t ≡ Some u → tree_below (path ++ rest) t ≡ tree_below rest u
 below_on [] rest t u is = ap (tree_below rest) (same_Some t u is)
 below_on (step ∷ path) rest t u is = option_and_then_some (tree_below path) (tree_from t step) u is (λ next from below. rw from (below_on path rest next u below))
@@ -24,16 +24,16 @@ at_on root (index i ∷ path) rest u is = absurd (none-some u is)
 at_on root (key k ∷ path) rest u is = option_and_then_some (tree_below path) (get_branch k root) u is (λ next from below. rw from (below_on path rest next u below))
 
 -- what the last of some steps leads from
-record ComesFrom (o : Option Tree) (step : PathStep) (u : Tree) : Type 0 where
-  before : Tree
-  leads : o ≡ Some before
-  from : tree_from before step ≡ Some u
+pub record ComesFrom (o : Option Tree) (step : PathStep) (u : Tree) : Type 0 where
+  pub before : Tree
+  pub leads : o ≡ Some before
+  pub from : tree_from before step ≡ Some u
 
 below_from : (path : List PathStep) (step : PathStep) (t u : Tree) → tree_below (path ++ (step ∷ [])) t ≡ Some u → ComesFrom (tree_below path t) step u
 below_from [] step t u is = option_and_then_some (tree_below []) (tree_from t step) u is (λ next from below. record { before = t; leads = refl; from = from ∙ below })
 below_from (first ∷ path) step t u is = option_and_then_some (tree_below (path ++ (step ∷ []))) (tree_from t first) u is (λ next from below. rw from (below_from path step next u below))
 
-at_from : (root : Branches) (path : List PathStep) (i : ℕ) (u : Tree) → tree_at root (path ++ (index i ∷ [])) ≡ Some u → ComesFrom (tree_at root path) (index i) u
+pub at_from : (root : Branches) (path : List PathStep) (i : ℕ) (u : Tree) → tree_at root (path ++ (index i ∷ [])) ≡ Some u → ComesFrom (tree_at root path) (index i) u
 at_from root [] i u is = absurd (none-some u is)
 at_from root (index j ∷ path) i u is = absurd (none-some u is)
 at_from root (key k ∷ path) i u is = option_and_then_some (tree_below (path ++ (index i ∷ []))) (get_branch k root) u is (λ next from below. rw from (below_from path (index i) next u below))

@@ -5,7 +5,7 @@ use Rattle.std.proofs.lemmas.Option.{none-some, same_Some}
 use Rattle.nextest_config_values.proofs.Elements.{all_always}
 use Rattle.toml.specs.Tables.{header, Origin}
 use Rattle.toml_parser.specs.Lexical.{Read, skip_blank}
-use Rattle.nextest_config_positions.specs.Entry.{array, behind_key, Branches, get_tree, inline, no_branches, no_trees, Piece, pieces_of, push_tree, scalar, table, tables, Tree, tree_at, tree_from, Trees}
+use Rattle.nextest_config_positions.specs.Entry.{array, after_key, Branches, get_tree, inline, no_branches, no_trees, Piece, pieces_of, push_tree, scalar, table, tables, Tree, tree_at, tree_from, Trees}
 use Rattle.nextest_config_positions.specs.Key.{Parts}
 use Rattle.nextest_config_positions.specs.Step.{index, key, PathStep}
 use Rattle.nextest_config_positions.specs.Table.{at_part, pair, put}
@@ -16,7 +16,8 @@ use Rattle.nextest_config_positions.proofs.Growth.Found.{Found, found_if, found_
 use Rattle.nextest_config_positions.proofs.Growth.Rests.{after_element_leaves, atom_leaves, drop_within}
 use Rattle.toml.proofs.Blanks.{skip_within}
 use Rattle.nextest_config_positions.proofs.Order.Changes.{at_part_keeps, dots_keep, IsKept}
-use Rattle.nextest_config_positions.proofs.Order.Holds.{get_pushed, holds_along, holds_array, holds_from, holds_here, holds_inline, holds_nowhere, holds_scalar, holds_steps, holds_weaker, holds_weaker_in, HoldsBelow, HoldsIn}
+use Rattle.nextest_config_positions.proofs.Order.Keys.{behind_from, after_is_key, after_value, holds_after_key}
+use Rattle.nextest_config_positions.proofs.Order.Holds.{get_pushed, holds_along, holds_array, holds_from, holds_here, holds_inline, holds_nowhere, holds_scalar, holds_weaker, holds_weaker_in, HoldsBelow, HoldsIn}
 use Rattle.nextest_config_positions.proofs.Order.Settled.{Apart, AreSettled, EndsBefore, in_order_more, in_order_none, in_turn_later, InTurn, IsSettled, IsSound, KeyEndsBefore, MembersSettled, settled_wider, sound_later, TablesInTurn, value_in, value_lies, value_own_or_from, ValueBelow, ValueFrom, ValueIn}
 
 -- a value that was read lies between where it was read
@@ -104,50 +105,20 @@ array_settled a b ts runs are =
 
 -- ---- inline tables
 
--- a tree behind its key has the pieces that it had, and that key
-behind_from : (k : Piece) (t u : Tree) (step : PathStep) → tree_from (behind_key k t) step ≡ Some u → tree_from t step ≡ Some u
-behind_from k (scalar l v) u step is = is
-behind_from k (array l v ts) u (key text) is = is
-behind_from k (array l v ts) u (index i) is = is
-behind_from k (inline l v bs) u (key text) is = is
-behind_from k (inline l v bs) u (index i) is = is
-behind_from k (table l o bs) u (key text) is = is
-behind_from k (table l o bs) u (index i) is = is
-behind_from k (tables l done last bs) u (key text) is = is
-behind_from k (tables l done last bs) u (index i) is = is
+after_in_turn : (n : ℕ) (k : Piece) (t : Tree) → InTurn n t → InTurn n (after_key k t)
+after_in_turn n k (scalar l v) turn = turn
+after_in_turn n k (array l v ts) turn = turn
+after_in_turn n k (inline l v bs) turn = turn
+after_in_turn n k (table l o bs) turn = turn
+after_in_turn n k (tables l done last bs) turn = turn
 
-behind_value : (k : Piece) (t : Tree) → (pieces_of (behind_key k t)).of_value ≡ (pieces_of t).of_value
-behind_value k (scalar l v) = refl
-behind_value k (array l v ts) = refl
-behind_value k (inline l v bs) = refl
-behind_value k (table l o bs) = refl
-behind_value k (tables l done last bs) = refl
+pub pieces_after : (a b : ℕ) (k : Piece) (t : Tree) → Within a b k → HoldsBelow (PiecesWithin a b) t → HoldsBelow (PiecesWithin a b) (after_key k t)
+pieces_after a b k t lies holds = holds_after_key (PiecesWithin a b) k t
+    (record { of_key = rw (after_is_key k t) (found_some k lies); of_value = rw (after_value k t) (holds_here holds).of_value }) holds
 
-behind_is_key : (k : Piece) (t : Tree) → (pieces_of (behind_key k t)).of_key ≡ Some k
-behind_is_key k (scalar l v) = refl
-behind_is_key k (array l v ts) = refl
-behind_is_key k (inline l v bs) = refl
-behind_is_key k (table l o bs) = refl
-behind_is_key k (tables l done last bs) = refl
-
-behind_in_turn : (n : ℕ) (k : Piece) (t : Tree) → InTurn n t → InTurn n (behind_key k t)
-behind_in_turn n k (scalar l v) turn = turn
-behind_in_turn n k (array l v ts) turn = turn
-behind_in_turn n k (inline l v bs) turn = turn
-behind_in_turn n k (table l o bs) turn = turn
-behind_in_turn n k (tables l done last bs) turn = turn
-
--- so what holds below it still does
-holds_behind : (P : Tree → Type 0) (k : Piece) (t : Tree) → P (behind_key k t) → HoldsBelow P t → HoldsBelow P (behind_key k t)
-holds_behind P k t here holds = holds_steps (behind_key k t) here (λ step u is. holds_from step (behind_from k t u step is) holds)
-
-pub pieces_behind : (a b : ℕ) (k : Piece) (t : Tree) → Within a b k → HoldsBelow (PiecesWithin a b) t → HoldsBelow (PiecesWithin a b) (behind_key k t)
-pieces_behind a b k t lies holds = holds_behind (PiecesWithin a b) k t
-    (record { of_key = rw (behind_is_key k t) (found_some k lies); of_value = rw (behind_value k t) (holds_here holds).of_value }) holds
-
-pub sound_behind : (n : ℕ) (k : Piece) (t : Tree) → HoldsBelow (IsSound n) t → HoldsBelow (IsSound n) (behind_key k t)
-sound_behind n k t holds = holds_behind (IsSound n) k t
-    (record { encloses = λ v step u is from. (holds_here holds).encloses v step u (sym (behind_value k t) ∙ is) (behind_from k t u step from); in_turn = behind_in_turn n k t (holds_here holds).in_turn }) holds
+pub sound_after : (n : ℕ) (k : Piece) (t : Tree) → HoldsBelow (IsSound n) t → HoldsBelow (IsSound n) (after_key k t)
+sound_after n k t holds = holds_after_key (IsSound n) k t
+    (record { encloses = λ v step u is from. (holds_here holds).encloses v step u (sym (after_value k t) ∙ is) (sym (behind_from k t step) ∙ from); in_turn = after_in_turn n k t (holds_here holds).in_turn }) holds
 
 -- the value, if the tree is one, is of these or of those
 pub record IsOf (Old New : Piece → Type 0) (u : Tree) : Type 0 where
@@ -159,15 +130,15 @@ values_old New bs = record { each = λ k u is. record { each = λ path w leads. 
 values_of : (Old : Piece → Type 0) (t : Tree) → HoldsBelow (IsOf Old (ValueBelow t)) t
 values_of Old t = record { each = λ path w leads. record { each = λ v at. inr (record { path = path; value = w; leads = leads; is = at }) } }
 
-values_behind : (Old : Piece → Type 0) (k : Piece) (t : Tree) → HoldsBelow (IsOf Old (ValueBelow t)) (behind_key k t)
-values_behind Old k t = holds_behind (IsOf Old (ValueBelow t)) k t (record { each = λ v is. inr (record { path = []; value = t; leads = refl; is = sym (behind_value k t) ∙ is }) }) (values_of Old t)
+values_after : (Old : Piece → Type 0) (k : Piece) (t : Tree) → HoldsBelow (IsOf Old (ValueBelow t)) (after_key k t)
+values_after Old k t = holds_after_key (IsOf Old (ValueBelow t)) k t (record { each = λ v is. inr (record { path = []; value = t; leads = refl; is = sym (after_value k t) ∙ is }) }) (values_of Old t)
 
 either_new : (Old New More : Piece → Type 0) → ((v : Piece) → New v → More v) → (v : Piece) → Old v ⊎ New v → Old v ⊎ More v
 either_new Old New More on v (inl old) = inl old
 either_new Old New More on v (inr new) = inr (on v new)
 
-pub values_new : (Old New : Piece → Type 0) (k : Piece) (t : Tree) → ((v : Piece) → ValueBelow t v → New v) → HoldsBelow (IsOf Old New) (behind_key k t)
-values_new Old New k t on = holds_weaker (λ u is. record { each = λ v at. either_new Old (ValueBelow t) New on v (is.each v at) }) (values_behind Old k t)
+pub values_new : (Old New : Piece → Type 0) (k : Piece) (t : Tree) → ((v : Piece) → ValueBelow t v → New v) → HoldsBelow (IsOf Old New) (after_key k t)
+values_new Old New k t on = holds_weaker (λ u is. record { each = λ v at. either_new Old (ValueBelow t) New on v (is.each v at) }) (values_after Old k t)
 
 module _ (Old New : Piece → Type 0) where
   -- what has no value is of them
@@ -260,15 +231,15 @@ put_settled a n x y k t bs settled lies value within later runs =
     let wider : PartsWithin a y k = parts_wider x y a y wide (omega arith) k lies in
     let lie : Found (put k t bs) (HoldsIn (PiecesWithin a y)) =
     (dots_keep _ _ _ _ pieces k.0 grow wider.0 (at_part_keeps _ _ _ _ pieces k.1 (pair t) wider.1 wider.1
-    (λ u is. of_pair (λ z. HoldsBelow (PiecesWithin a y) (behind_key k.1.1 z)) t u is (pieces_behind a y k.1.1 t wider.1 (holds_weaker (pieces_wider x y a y wide (omega arith)) value.lie))))).each bs settled.lie in
+    (λ u is. of_pair (λ z. HoldsBelow (PiecesWithin a y) (after_key k.1.1 z)) t u is (pieces_after a y k.1.1 t wider.1 (holds_weaker (pieces_wider x y a y wide (omega arith)) value.lie))))).each bs settled.lie in
     let sounds = sound_kept n y earlier in
     let sound : Found (put k t bs) (HoldsIn (IsSound y)) =
     (dots_keep _ _ _ _ sounds k.0 grow (all_always (λ part. tt) k.0) (at_part_keeps _ _ _ _ sounds k.1 (pair t) tt (within_wider x y n y later (omega arith) k.1.1 lies.1)
-    (λ u is. of_pair (λ z. HoldsBelow (IsSound y) (behind_key k.1.1 z)) t u is (sound_behind y k.1.1 t value.sound)))).each bs settled.sound in
+    (λ u is. of_pair (λ z. HoldsBelow (IsSound y) (after_key k.1.1 z)) t u is (sound_after y k.1.1 t value.sound)))).each bs settled.sound in
     let values = values_kept (ValueIn bs) (ValueBelow t) in
     let of_either : Found (put k t bs) (HoldsIn (IsOf (ValueIn bs) (ValueBelow t))) =
     (dots_keep _ _ _ _ values k.0 grow (all_always (λ part. tt) k.0) (at_part_keeps _ _ _ _ values k.1 (pair t) tt tt
-    (λ u is. of_pair (λ z. HoldsBelow (IsOf (ValueIn bs) (ValueBelow t)) (behind_key k.1.1 z)) t u is (values_new (ValueIn bs) (ValueBelow t) k.1.1 t (λ v below. below))))).each bs (values_old (ValueBelow t) bs) in
+    (λ u is. of_pair (λ z. HoldsBelow (IsOf (ValueIn bs) (ValueBelow t)) (after_key k.1.1 z)) t u is (values_new (ValueIn bs) (ValueBelow t) k.1.1 t (λ v below. below))))).each bs (values_old (ValueBelow t) bs) in
     record {
       each = λ new is. record {
         lie = lie.each new is;

@@ -9,7 +9,7 @@ use Rattle.toml.specs.Data.{array as array_data, Data, get_item, get_member, ite
 use Rattle.toml.specs.Tables.{close, close_node, get_node, header, no_nodes, Node, node, Nodes, open_array, open_table, value}
 use Rattle.nextest_config_positions.specs.Entry.{array, branch, Branches, elements, get_branch, get_tree, inline, no_branches, no_trees, push_tree, scalar, table, tables, Tree, tree, tree_at, tree_below, tree_from, Trees}
 use Rattle.nextest_config_positions.specs.Line.{found_below, found_in, step_from}
-use Rattle.nextest_config_positions.specs.Ranges.{key_behind}
+use Rattle.nextest_config_positions.specs.Ranges.{last_key_from}
 use Rattle.nextest_config_positions.specs.Step.{index, key, PathStep}
 use Rattle.nextest_config_positions.proofs.Trees.Alike.{Alike, alike_then, either, neither}
 use Rattle.nextest_config_positions.proofs.Trees.Stands.{AreBranches, AreTrees, IsBranch, IsPlain, IsTree, IsTreeOf}
@@ -84,7 +84,7 @@ plain_ends d plain (key k) = refl
 plain_ends d plain (index i) = refl
 
 -- one step on
-pub step_found : (text k : List ℕ) (t : Tree) (x : Node) → IsTree text k t x → (step : PathStep) → Alike (IsTreeOf text (key_behind k (step ∷ []))) (tree_from t step) (step_from (close_node x) step)
+pub step_found : (text k : List ℕ) (t : Tree) (x : Node) → IsTree text k t x → (step : PathStep) → Alike (IsTreeOf text (last_key_from k (step ∷ []))) (tree_from t step) (step_from (close_node x) step)
 step_found text k (scalar p v) (value d) is (key l) = neither refl (plain_ends d is.2 (key l))
 step_found text k (scalar p v) (value d) is (index i) = neither refl (plain_ends d is.2 (index i))
 step_found text k (array p v ts) (value (array_data ds)) is (key l) = neither refl refl
@@ -100,19 +100,19 @@ step_found text k (tables p done last bs) (open_array ds ns) is (index i) =
 step_found text k t x is step = absurd is
 
 -- any steps
-pub below_found : (text k : List ℕ) (t : Tree) (d : Data) → IsTreeOf text k t d → (path : List PathStep) → Alike (IsTreeOf text (key_behind k path)) (tree_below path t) (found_below path d)
+pub below_found : (text k : List ℕ) (t : Tree) (d : Data) → IsTreeOf text k t d → (path : List PathStep) → Alike (IsTreeOf text (last_key_from k path)) (tree_below path t) (found_below path d)
 below_found text k t d is [] = either t d refl refl is
 below_found text k t d (x, same, is) (step ∷ path) =
     rw same (alike_then (tree_below path) (found_below path) (step_found text k t x is step)
-    (λ u e _ _ holds. rw (behind_step k step path) (below_found text (key_behind k (step ∷ [])) u e holds path)))
+    (λ u e _ _ holds. rw (after_step k step path) (below_found text (last_key_from k (step ∷ [])) u e holds path)))
   where
-    -- one step, and those behind it
-    behind_step : (k : List ℕ) (step : PathStep) (path : List PathStep) → key_behind k (step ∷ path) ≡ key_behind (key_behind k (step ∷ [])) path
-    behind_step k (key l) path = refl
-    behind_step k (index i) path = refl
+    -- one step, and those after it
+    after_step : (k : List ℕ) (step : PathStep) (path : List PathStep) → last_key_from k (step ∷ path) ≡ last_key_from (last_key_from k (step ∷ [])) path
+    after_step k (key l) path = refl
+    after_step k (index i) path = refl
 
 -- a path from the keys of a document
-pub path_found : (text : List ℕ) (bs : Branches) (ns : Nodes) → AreBranches text bs ns → (path : List PathStep) → Alike (IsTreeOf text (key_behind [] path)) (tree_at bs path) (found_in (close ns) path)
+pub path_found : (text : List ℕ) (bs : Branches) (ns : Nodes) → AreBranches text bs ns → (path : List PathStep) → Alike (IsTreeOf text (last_key_from [] path)) (tree_at bs path) (found_in (close ns) path)
 path_found text bs ns are [] = neither refl refl
 path_found text bs ns are (key l ∷ path) =
     alike_then (tree_below path) (found_below path) (member_found text l bs ns are) (λ t d _ _ holds. below_found text l t d holds path)

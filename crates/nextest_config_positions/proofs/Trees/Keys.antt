@@ -32,7 +32,7 @@ pub key_follows : {text k : List ℕ} {p : Piece} {F G : List ℕ → Type 0} �
 key_follows stands on = record { front = stands.front; behind = stands.behind; at = stands.at; reads = stands.reads; follows = on stands.behind stands.follows }
 
 module _ (part_alone : PartAlone) where
-  -- behind a part of a key
+  -- after a part of a key
   rest_part : (text rest k : List ℕ) → simple_key text ≡ Some (k, rest) → IsRest text rest
   rest_part text rest k is = let (front, cut, reads) = part_alone text rest k is in record { front = front; cut = cut }
 
@@ -57,7 +57,7 @@ module _ (part_alone : PartAlone) where
           follows = follows;
         }
 
-    -- the rest of a key, so many parts at most, behind those that were read
+    -- the rest of a key, so many parts at most, after those that were read
     parts_read : (start : List ℕ) → IsRest whole start → (n : ℕ) (path : List Part) (text : List ℕ) → IsRest start text → AllByRecursion (PartStands whole) path
         → Alike (ReadParts start) (parts_after n path text) (key_after n (texts_of path) text)
     unfolding parts_after key_after

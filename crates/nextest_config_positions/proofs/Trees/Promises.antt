@@ -11,7 +11,7 @@ use Rattle.toml.specs.Tables.{close, close_node, Node, Nodes, open_array, open_t
 use Rattle.nextest_config_positions.specs.Document.{Walk, Walks}
 use Rattle.nextest_config_positions.specs.Entry.{array, Branches, get_branch, inline, Piece, pieces_of, scalar, table, tables, Tree, tree_at, tree_below, tree_from}
 use Rattle.nextest_config_positions.specs.Line.{found_in}
-use Rattle.nextest_config_positions.specs.Ranges.{AreWritten, HasEntry, HaveEntries, HaveKeys, IsAt, IsFrom, key_behind, KeysComeFirst, KeysRead, Range, range_of, Ranges, ranges_of, ValuesRead}
+use Rattle.nextest_config_positions.specs.Ranges.{AreWritten, HasEntry, HaveEntries, HaveKeys, IsAt, IsFrom, last_key_from, KeysComeFirst, KeysRead, Range, range_of, Ranges, ranges_of, ValuesRead}
 use Rattle.nextest_config_positions.specs.Step.{index, key, PathStep}
 use Rattle.nextest_config_positions.proofs.Cuts.{front_of_front}
 use Rattle.nextest_config_positions.proofs.Trees.Alike.{alike_first, either, neither}
@@ -78,7 +78,7 @@ below_keyed : (text k : List ℕ) (t : Tree) (d : Data) → IsTreeOf text k t d 
 below_keyed text k t d (x, same, is) [] l u leads = step_keyed text k l t u x is (found_itself (tree_from t (key l)) u leads)
 below_keyed text k t d (x, same, is) (step ∷ path) l u leads = option_and_then_some (tree_below (path ++ (key l ∷ []))) (tree_from t step) u leads (λ w stepped on.
     let (e, _, holds) = alike_first (step_found text k t x is step) w stepped in
-    below_keyed text (key_behind k (step ∷ [])) w e holds path l u on)
+    below_keyed text (last_key_from k (step ∷ [])) w e holds path l u on)
 
 -- and a path
 path_keyed : (text : List ℕ) (bs : Branches) (ns : Nodes) → AreBranches text bs ns → (path : List PathStep) (l : List ℕ) (u : Tree) → tree_at bs (path ++ (key l ∷ [])) ≡ Some u → IsKeyed u
@@ -102,10 +102,10 @@ cut_at text p front behind cut =
       ends = omega (arith, whole, cut.ends, length-append cut.from.front (front ++ behind), length-append front behind, length-append cut.from.front front);
     }
 
--- behind a piece of a text there stands one thing
-one_behind : (text : List ℕ) (p : Piece) (front behind other : List ℕ) → IsCutOut text p front behind → IsFrom text (range_of (length text) p).1 other → other ≡ behind
+-- after a piece of a text there stands one thing
+one_after : (text : List ℕ) (p : Piece) (front behind other : List ℕ) → IsCutOut text p front behind → IsFrom text (range_of (length text) p).1 other → other ≡ behind
 unfolding cut_at
-one_behind text p front behind other cut is =
+one_after text p front behind other cut is =
     let place = cut_at text p front behind cut in
     let same : is.before ++ other ≡ (cut.from.front ++ front) ++ behind = sym is.whole ∙ cut.from.cut ∙ sym (append_assoc cut.from.front front behind) in
     let even : length is.before ≡ length (cut.from.front ++ front) = sym is.begins ∙ place.ends in
@@ -154,7 +154,7 @@ module _ (text : List ℕ) (bs : Branches) (ns : Nodes) (are : AreBranches text 
     same : range_of (length text) p ≡ range
     d : Data
     found : found_in (close ns) path ≡ Some d
-    holds : IsTreeOf text (key_behind [] path) t d
+    holds : IsTreeOf text (last_key_from [] path) t d
 
   -- of a value's
   record OfValue (path : List PathStep) (range : Range) : Type 0 where
@@ -165,7 +165,7 @@ module _ (text : List ℕ) (bs : Branches) (ns : Nodes) (are : AreBranches text 
     same : range_of (length text) v ≡ range
     d : Data
     found : found_in (close ns) path ≡ Some d
-    holds : IsTreeOf text (key_behind [] path) t d
+    holds : IsTreeOf text (last_key_from [] path) t d
 
   -- each range has them
   of_key : (path : List PathStep) (range : Range) → ranges.of_key path ≡ Some range → OfKey path range
@@ -185,7 +185,7 @@ module _ (text : List ℕ) (bs : Branches) (ns : Nodes) (are : AreBranches text 
   keys : KeysRead text ranges
   keys path range is =
       let it = of_key path range is in
-      elim (key_of_tree text (key_behind [] path) it.t it.holds.0 it.p it.holds.2 it.has) [
+      elim (key_of_tree text (last_key_from [] path) it.t it.holds.0 it.p it.holds.2 it.has) [
         | before_value u _ stands ↦ (stands.front, (rw it.same at (cut_at text it.p stands.front stands.behind stands.at)), stands.reads)
         | alone _ stands ↦ (stands.front, (rw it.same at (cut_at text it.p stands.front stands.behind stands.at)), stands.reads)
       ]
@@ -194,7 +194,7 @@ module _ (text : List ℕ) (bs : Branches) (ns : Nodes) (are : AreBranches text 
   values : ValuesRead text (close ns) ranges
   values path range is =
       let it = of_value path range is in
-      let stands = value_of_tree text (key_behind [] path) it.t it.holds.0 it.v it.holds.2 it.has in
+      let stands = value_of_tree text (last_key_from [] path) it.t it.holds.0 it.v it.holds.2 it.has in
       (stands.front, it.d, (rw it.same at (cut_at text it.v stands.front stands.behind stands.at)), stands.reads ∙ ap Some (sym it.holds.1), it.found)
 
   -- a path that ends in a key has the range of that
@@ -210,7 +210,7 @@ module _ (text : List ℕ) (bs : Branches) (ns : Nodes) (are : AreBranches text 
       let that = of_value path of_v is_value in
       let one : it.t ≡ that.t = same_Some it.t that.t (sym it.leads ∙ that.leads) in
       let has : (pieces_of it.t).of_value ≡ Some that.v = ap (λ (t : Tree). (pieces_of t).of_value) one ∙ that.has in
-      rw (← it.same, ← that.same) (elim (key_of_tree text (key_behind [] path) it.t it.holds.0 it.p it.holds.2 it.has) [
+      rw (← it.same, ← that.same) (elim (key_of_tree text (last_key_from [] path) it.t it.holds.0 it.p it.holds.2 it.has) [
         | before_value u is stands ↦
             let same : u ≡ that.v = same_Some u that.v (sym is ∙ has) in
             let after = stands.follows in
@@ -221,12 +221,12 @@ module _ (text : List ℕ) (bs : Branches) (ns : Nodes) (are : AreBranches text 
 
   -- keys and values are written so
   written : AreWritten text ranges
-  written path of_k behind is_key is_behind =
+  written path of_k behind is_key is_after =
       let it = of_key path of_k is_key in
-      let behind_piece : IsFrom text (range_of (length text) it.p).1 behind = record { before = is_behind.before; whole = is_behind.whole; begins = ap (λ (r : Range). r.1) it.same ∙ is_behind.begins } in
-      elim (key_of_tree text (key_behind [] path) it.t it.holds.0 it.p it.holds.2 it.has) [
+      let behind_piece : IsFrom text (range_of (length text) it.p).1 behind = record { before = is_after.before; whole = is_after.whole; begins = ap (λ (r : Range). r.1) it.same ∙ is_after.begins } in
+      elim (key_of_tree text (last_key_from [] path) it.t it.holds.0 it.p it.holds.2 it.has) [
         | before_value u is stands ↦
-            let same = one_behind text it.p stands.front stands.behind behind stands.at behind_piece in
+            let same = one_after text it.p stands.front stands.behind behind stands.at behind_piece in
             let after : LeadsTo u behind = rw (← same) at stands.follows in (
               (λ _. rw (it.leads, is) refl, λ _. eqb-true (first (skip_ws behind)) 61 (begins_byte equals (skip_ws behind) after.rest after.sign)),
               λ of_v is_value.
@@ -236,14 +236,14 @@ module _ (text : List ℕ) (bs : Branches) (ns : Nodes) (are : AreBranches text 
                   let value_same : u ≡ that.v = same_Some u that.v (sym is ∙ has) in
                   record {
                     behind = behind;
-                    behind_key = is_behind;
+                    after_key = is_after;
                     rest = after.rest;
                     equals_sign = after.sign;
                     begins = ap (λ (r : Range). r.0) (sym that.same) ∙ ap (λ (w : Piece). length text - w.0) (sym value_same) ∙ ap (λ (n : ℕ). length text - n) after.begins;
                   },
             )
         | alone none stands ↦
-            let same = one_behind text it.p stands.front stands.behind behind stands.at behind_piece in
+            let same = one_after text it.p stands.front stands.behind behind stands.at behind_piece in
             let no_sign : NoEquals behind = rw (← same) at stands.follows in (
               (λ sign. absurd (false≢true (sym no_sign ∙ rw sign refl)), λ some. absurd (false≢true (rw (it.leads, none) at some))),
               λ of_v is_value. absurd (none-some of_v (rw (it.leads, none) at is_value)),
@@ -280,7 +280,7 @@ module _ (part_alone : PartAlone) (value_alone : ValueAlone) (text rest : List �
   pub values_read : ValuesRead text members (ranges_of (length text) walk.root)
   values_read = rw finished.closed at (values text walk.root finished.nodes finished.are)
 
-  -- values are written behind their keys
+  -- values are written after their keys
   pub are_written : AreWritten text (ranges_of (length text) walk.root)
   are_written = written text walk.root finished.nodes finished.are
 

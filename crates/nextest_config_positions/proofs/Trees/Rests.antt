@@ -23,17 +23,17 @@ rest_on {whole} {text} {rest} first_cut next = record {
 pub rest_within : {text rest : List ℕ} → IsRest text rest → length rest ≤ length text
 rest_within {text} {rest} cut = omega (arith, ap length cut.cut, length-append cut.front rest)
 
--- behind so many bytes
+-- after so many bytes
 pub rest_dropped : (n : ℕ) (text : List ℕ) → IsRest text (drop n text)
 rest_dropped n text = record { front = take n text; cut = sym (take-append-drop n text) }
 
--- behind white space
+-- after white space
 pub rest_ws : (text : List ℕ) → IsRest text (skip_ws text)
 unfolding skip_ws
 rest_ws text = rest_dropped (prefix_len is_ws text) text
 
--- behind blanks and comments
-rest_skipped : (comments inside : Bool) (text : List ℕ) → IsRest text (skip_from comments inside text)
+-- after blanks and comments
+pub rest_skipped : (comments inside : Bool) (text : List ℕ) → IsRest text (skip_from comments inside text)
 unfolding skip_from
 rest_skipped comments inside [] = rest_itself []
 rest_skipped comments inside (c ∷ text) =
@@ -49,7 +49,7 @@ rest_skipped comments inside (c ∷ text) =
 pub rest_blank : (text : List ℕ) → IsRest text (skip_blank text)
 rest_blank text = rest_skipped true false text
 
--- behind a byte, which is some
+-- after a byte, which is some
 pub rest_byte : (byte : ℕ) (text rest : List ℕ) → after_byte byte text ≡ Some rest → IsRest text rest
 rest_byte byte text rest is = elim (cases_Bool (first text == byte)) [
   | inl here ↦ rw (same_Some (drop 1 text) rest (rw here at is)) at (rest_dropped 1 text)
@@ -75,7 +75,7 @@ byte_shorter byte text rest some is = elim (cases_Bool (first text == byte)) [
   | inr other ↦ absurd (none-some rest (rw other at is))
 ]
 
--- behind an element of a list
+-- after an element of a list
 pub rest_element : (closing : ℕ) (text rest : List ℕ) → after_element closing text ≡ Some rest → IsRest text rest
 unfolding after_element
 rest_element closing text rest is =

@@ -12,13 +12,13 @@ pub record IsRest (whole rest : List ℕ) : Type 0 where
   pub front : List ℕ
   pub cut : whole ≡ front ++ rest
 
--- a piece of a text is this front of what stands from there on, with that behind it
+-- a piece of a text is this front of what stands from there on, with that after it
 pub record IsCutOut (text : List ℕ) (p : Piece) (front behind : List ℕ) : Type 0 where
   pub from : IsRest text (front ++ behind)
   pub begins : p.0 ≡ length (front ++ behind)
   pub ends : p.1 ≡ length behind
 
--- a key that is read alone from its piece, behind which this follows
+-- a key that is read alone from its piece, after which this follows
 pub record KeyStands (text k : List ℕ) (p : Piece) (Follows : List ℕ → Type 0) : Type 0 where
   pub front : List ℕ
   pub behind : List ℕ

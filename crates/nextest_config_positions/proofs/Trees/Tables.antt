@@ -8,7 +8,7 @@ use Rattle.std.specs.Ordering.{match_ordering}
 use Rattle.toml.specs.Data.{Data, push_item, same_key, table as table_data}
 use Rattle.toml.specs.Tables.{at_key, close, dot_node, dotted, Edit, get_node, header, header_node, implicit, insert, new_node, no_nodes, Node, node, Nodes, open_array, open_table, Origin, redefine, replace, value}
 use Rattle.toml.specs.Tables.{along_dots as along_dots_there, along_header as along_header_there, array_table as array_table_there, at_found as at_found_there, by_dot as by_dot_there, by_header as by_header_there, Definition as DefinitionThere, key_value, put as put_there, std_table as std_table_there}
-use Rattle.nextest_config_positions.specs.Entry.{array, behind_key, branch, Branches, get_branch, inline, insert_branch, no_branches, push_tree, replace_branch, scalar, table, tables, Tree}
+use Rattle.nextest_config_positions.specs.Entry.{array, after_key, branch, Branches, get_branch, inline, insert_branch, no_branches, push_tree, replace_branch, scalar, table, tables, Tree}
 use Rattle.nextest_config_positions.specs.Key.{key_of, Part, Parts, texts_of}
 use Rattle.nextest_config_positions.specs.Table.{along_dots, along_header, array_table, at_found, at_part, by_dot, by_header, Definition, Growth, new_tree, pair, put, redefined, std_table, through_dot, through_header}
 use Rattle.nextest_config_positions.proofs.Trees.Alike.{Alike, alike_map, either, neither}
@@ -131,7 +131,7 @@ module _ (text : List ℕ) where
 
   -- what is defined at this key, here and there
   abbrev pub Defines : Part → Definition → DefinitionThere → Type 0
-  Defines part (pair t) (key_value d) = IsBranch text part.0 (behind_key part.1 t) (value d)
+  Defines part (pair t) (key_value d) = IsBranch text part.0 (after_key part.1 t) (value d)
   Defines part std_table std_table_there = PartStands part
   Defines part array_table array_table_there = PartStands part
   Defines part what what_there = ⊥
@@ -185,7 +185,7 @@ module _ (text : List ℕ) where
       → Grows (along_header path (at_part part what)) (along_header_there (texts_of path) (at_key part.0 what_there))
   defined_grows path part what what_there stand is = headers_grow path (at_part part what) (at_key part.0 what_there) stand (part_grows part what what_there is)
 
-  -- a pair behind a header
+  -- a pair after a header
   pub pair_grows : (section : List Part) (parts : Parts) (t : Tree) (d : Data) → AllByRecursion PartStands section → AllByRecursion PartStands parts.0 → Defines parts.1 (pair t) (key_value d)
       → Grows (along_header section (put parts t)) (along_header_there (texts_of section) (put_there (key_of parts) d))
   pair_grows section parts t d section_stands stand is = headers_grow section (put parts t) (put_there (key_of parts) d) section_stands (put_grows parts t d stand is)

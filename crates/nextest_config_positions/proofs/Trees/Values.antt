@@ -14,7 +14,7 @@ use Rattle.toml.proofs.Turns.{val_array, val_atom, val_table}
 use Rattle.toml.specs.Data.{array as array_data, Data, Items, Members, no_items, push_item, table as table_data}
 use Rattle.toml.specs.Parse.{after_element, atom, items, keyval, members, parse_value, read_map, scalar_data, val}
 use Rattle.toml.specs.Tables.{close, key_value, no_nodes, Nodes, value}
-use Rattle.nextest_config_positions.specs.Entry.{array, behind_key, Branches, inline, no_branches, no_trees, Piece, piece, pieces_of, push_tree, scalar, Tree, Trees}
+use Rattle.nextest_config_positions.specs.Entry.{array, after_key, Branches, inline, no_branches, no_trees, Piece, piece, pieces_of, push_tree, scalar, Tree, Trees}
 use Rattle.nextest_config_positions.specs.Key.{key_of, Parts}
 use Rattle.nextest_config_positions.specs.Table.{pair}
 use Rattle.nextest_config_positions.specs.Value.{element_trees, member_trees, pair_tree, placed, value_tree}
@@ -49,12 +49,12 @@ some_or_none : {A : Type 0} (o : Option A) → (o ≡ None) ⊎ ((x : A) × (o �
 some_or_none None = inl refl
 some_or_none (Some x) = inr (x, refl)
 
--- a value behind its key
-pub behind_stands : (whole k : List ℕ) (p v : Piece) (t : Tree) (d : Data) → (pieces_of t).of_value ≡ Some v → IsTree whole k t (value d) → KeyStands whole k p (LeadsTo v) → IsBranch whole k (behind_key p t) (value d)
-behind_stands whole k p v (scalar q u) d at is stands = ((rw (← same_Some u v at) at stands, is.1, is.2), refl)
-behind_stands whole k p v (array q u ts) (array_data ds) at is stands = ((rw (← same_Some u v at) at stands, is.1, is.2), refl)
-behind_stands whole k p v (inline q u bs) (table_data ms) at is stands = ((rw (← same_Some u v at) at stands, is.1, is.2), refl)
-behind_stands whole k p v t d at is stands = absurd is
+-- a value after its key
+pub after_stands : (whole k : List ℕ) (p v : Piece) (t : Tree) (d : Data) → (pieces_of t).of_value ≡ Some v → IsTree whole k t (value d) → KeyStands whole k p (LeadsTo v) → IsBranch whole k (after_key p t) (value d)
+after_stands whole k p v (scalar q u) d at is stands = ((rw (← same_Some u v at) at stands, is.1, is.2), refl)
+after_stands whole k p v (array q u ts) (array_data ds) at is stands = ((rw (← same_Some u v at) at stands, is.1, is.2), refl)
+after_stands whole k p v (inline q u bs) (table_data ms) at is stands = ((rw (← same_Some u v at) at stands, is.1, is.2), refl)
+after_stands whole k p v t d at is stands = absurd is
 
 -- what is read of a value
 pub record ReadTree (whole text : List ℕ) (r : Tree × List ℕ) (s : Data × List ℕ) : Type 0 where
@@ -99,7 +99,7 @@ module _ (part_alone : PartAlone) (value_alone : ValueAlone) (whole : List ℕ) 
           key_same = key.key_same;
           rest_same = read.rest_same;
           before = key.before;
-          defines = behind_stands whole x.0.1.0 x.0.1.1 (piece x.1 u.1) u.0 v.0 read.at (read.stands x.0.1.0) (key_follows key.last (λ behind after. record { rest = after.0; sign = after.1; begins = ap length after.2 }));
+          defines = after_stands whole x.0.1.0 x.0.1.1 (piece x.1 u.1) u.0 v.0 read.at (read.stands x.0.1.0) (key_follows key.last (λ behind after. record { rest = after.0; sign = after.1; begins = ap length after.2 }));
           left = rest_on key.left read.left;
           shorter = omega (arith, key.shorter, rest_within read.left);
         })))

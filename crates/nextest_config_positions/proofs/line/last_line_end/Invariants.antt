@@ -2,7 +2,7 @@ use Rattle.std.proofs.Common.{◌<◌, ◌≤◌, ◌-◌}
 use Rattle.nextest_config_positions.specs.Search.{NoLineEnds}
 use Rattle.nextest_config_positions.proofs.line.last_line_end.Given as goal
 
--- no line ends at the place or behind it
+-- no line ends at the place or after it
 abbrev pub invariant-loop-place : goal.invariant-loop-place
 invariant-loop-place l = record {
   behind : l.floor < l.place;

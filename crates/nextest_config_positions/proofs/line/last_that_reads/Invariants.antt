@@ -2,7 +2,7 @@ use Rattle.std.proofs.Common.{◌<◌, ◌≤◌}
 use Rattle.nextest_config_positions.specs.Search.{EndsFront, NoneReads}
 use Rattle.nextest_config_positions.proofs.line.last_that_reads.Given as goal
 
--- no front that ends behind the place is a document
+-- no front that ends after the place is a document
 abbrev pub invariant-fronts : goal.invariant-fronts
 invariant-fronts l = record {
   is_end : EndsFront l.contents l.place;

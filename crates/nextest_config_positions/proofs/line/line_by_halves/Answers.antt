@@ -8,7 +8,7 @@ pub halves-init : goal.halves-init
 halves-init c = search_at_first _ _ _ c.requires.leads c.requires.within
 
 pub returns-in_default : goal.returns-in_default
-returns-in_default c = rw (c.line_behind.ensures, c.as_bytes.ensures.value) (search_over c.halves.invariant c.in_default.ensures)
+returns-in_default c = rw (c.line_after.ensures, c.as_bytes.ensures.value) (search_over c.halves.invariant c.in_default.ensures)
 
 pub halves-preserved-in-Some-default-true : goal.halves-preserved-in-Some-default-true
 halves-preserved-in-Some-default-true c =

@@ -2,13 +2,13 @@ use Rattle.std.proofs.Common.{IsOk, map, rules, take}
 use Rattle.std.proofs.lemmas.List.{map_more, take_all}
 use Rattle.std.proofs.Output.{has_written_append, has_written_of_eq}
 use Rattle.nextest_config_positions.specs.Step.{step_of}
-use Rattle.nextest_config_positions.proofs.Steps.{is_some_behind, printed_one_more}
+use Rattle.nextest_config_positions.proofs.Steps.{is_some_after, printed_one_more}
 use Rattle.nextest_config_positions.proofs.step.PathTextDisplay.fmt.Goals as goal
 
 pub loop-step-preserved : goal.loop-step-preserved
 loop-step-preserved g c =
     let more = printed_one_more c.args.self.now.0.now c.loop-step.step-index c.step-item.result c.loop-step.behind c.loop-step-test.true c.step-item.is c.loop-step.invariant.0 in (
-      rw (map_more step_of c.args.self.now.0.now c.loop-step.step-index c.step-item.result c.loop-step-test.true) (is_some_behind (map step_of (take c.loop-step.step-index c.args.self.now.0.now)) _),
+      rw (map_more step_of c.args.self.now.0.now c.loop-step.step-index c.step-item.result c.loop-step-test.true) (is_some_after (map step_of (take c.loop-step.step-index c.args.self.now.0.now)) _),
       λ plain.
           let ok : IsOk c.write_step.result = search rules in
           let first = c.loop-step.invariant.1 plain in

@@ -1,6 +1,6 @@
 use Rattle.std.proofs.Common.{rules}
 use Rattle.toml.specs.Parse.{after_element}
-use Rattle.nextest_config_positions.proofs.value.behind_element.Goals as goal
+use Rattle.nextest_config_positions.proofs.value.past_element.Goals as goal
 
 pub returns-then-first-eq44-clause-value : goal.returns-then-first-eq44-clause-value
 unfolding after_element

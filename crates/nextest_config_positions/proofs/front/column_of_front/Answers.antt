@@ -1,6 +1,6 @@
 use Rattle.std.proofs.Common.{◌+◌, arith, get_or}
 use Rattle.nextest_config_positions.proofs.Columns.{column_of_more, column_within}
-use Rattle.nextest_config_positions.proofs.front.column_behind.Goals as goal
+use Rattle.nextest_config_positions.proofs.front.column_of_front.Goals as goal
 
 pub loop-byte-preserved : goal.loop-byte-preserved
 loop-byte-preserved c =

@@ -1,8 +1,0 @@
-use Rattle.std.specs.Char.{is_ascii_digit}
-use Rattle.nextest_config_hints.proofs.Runs.{cut_found}
-use Rattle.nextest_config_hints.proofs.unjudged_duration.split_digits.Goals as goal
-
-pub returns-clause-is_run : goal.returns-clause-is_run
-returns-clause-is_run c =
-    rw (c.split_at.ensures.front, c.split_at.ensures.back)
-    (cut_found is_ascii_digit c.args.text.now c.unwrap_or.result (rw c.first_behind_digits.ensures at c.unwrap_or.ensures))

@@ -1,2 +1,0 @@
-pub mod NearestWord
-pub mod UnjudgedDuration
