@@ -5,25 +5,25 @@ use Rattle.nextest_config_findings.specs.Found.{AddsFound, AddsOne, AreFoundIn, 
 use Rattle.nextest_config_findings.specs.declared.finding.Finding.{Finding}
 
 -- what is found of lists in a row
-pub found_in_both : {A : Type 0} (IsFound : A → Option Found → Type 0) (xs ys : List A) (founds later : List Found)
-    → AreFoundIn IsFound xs founds → AreFoundIn IsFound ys later → AreFoundIn IsFound (xs ++ ys) (founds ++ later)
-found_in_both IsFound [] ys founds later none are = rw none are
-found_in_both IsFound (x ∷ xs) ys founds later (here, rest, is, rest_are, whole) are =
+pub found_in_both : {A : Type 0} (IsFound : A → Option Found → Type 0) (xs ys : List A) (all_found later : List Found)
+    → AreFoundIn IsFound xs all_found → AreFoundIn IsFound ys later → AreFoundIn IsFound (xs ++ ys) (all_found ++ later)
+found_in_both IsFound [] ys all_found later none are = rw none are
+found_in_both IsFound (x ∷ xs) ys all_found later (here, rest, is, rest_are, whole) are =
     let behind = found_in_both IsFound xs ys rest later rest_are are in
     (here, rest ++ later, is, behind, rw whole (append_assoc (option_to_list here) rest later))
 
 -- what lists of findings in a row tell
-pub told_in_both : (findings more : List Finding) (founds later : List Found)
-    → Tells findings founds → Tells more later → Tells (findings ++ more) (founds ++ later)
-told_in_both findings more founds later told too = rw (map-append found_of findings more, map-append Some founds later, told, too) refl
+pub told_in_both : (findings more : List Finding) (all_found later : List Found)
+    → Tells findings all_found → Tells more later → Tells (findings ++ more) (all_found ++ later)
+told_in_both findings more all_found later told too = rw (map-append found_of findings more, map-append Some all_found later, told, too) refl
 
--- ---- findings that come behind others
+-- ---- findings that come after others
 
 -- those of more
 pub adds_more : {A : Type 0} (IsFound : A → Option Found → Type 0) (xs ys : List A) (before between now : List Finding)
     → AddsFound IsFound xs before between → AddsFound IsFound ys between now → AddsFound IsFound (xs ++ ys) before now
-adds_more IsFound xs ys before between now (founds, are, so_far) (later, later_are, more) =
-    (founds ++ later, found_in_both IsFound xs ys founds later are later_are, cc (more, so_far, append_assoc (map found_of before) (map Some founds) (map Some later), map-append Some founds later))
+adds_more IsFound xs ys before between now (all_found, are, so_far) (later, later_are, more) =
+    (all_found ++ later, found_in_both IsFound xs ys all_found later are later_are, cc (more, so_far, append_assoc (map found_of before) (map Some all_found) (map Some later), map-append Some all_found later))
 
 -- those of one more
 pub adds_next : {X A : Type 0} (IsFound : A → Option Found → Type 0) (f : X → A) (xs : List X) (x : X) (before between now : List Finding)

@@ -1,53 +1,98 @@
 -- How grave findings are, and how they print.
-use Rattle.std.specs.Prelude.{ℕ, List, [], ◌∷◌, ◌++◌, map, codes, Option, Some, None, string_bytes}
-use Rattle.nextest_config_values.specs.Read.{kind_text, quoted_text, quoted_texts}
+use Rattle.std.specs.Prelude.{ℕ, List, [], ◌∷◌, ◌++◌, codes, map, Option, Some, None, string_bytes}
+use Rattle.nextest_config_values.specs.Identifier.Error.{identifier_fault, identifier_fault_text}
+use Rattle.nextest_config_values.specs.Read.{kind_text, quoted_text, quoted_texts, Reason, reason_of, told_text}
 use Rattle.nextest_config_positions.specs.Step.{PathStep, printed_path, step_of}
-use Rattle.nextest_config_findings.specs.Found.{FoundKind, gravity, kind_told}
+use Rattle.nextest_config_values.specs.declared.read.fault.FaultKind.{FaultKind}
+use Rattle.nextest_config_findings.specs.Code.{reason_code}
+use Rattle.nextest_config_findings.specs.Found.{FoundKind, found_severity, kind_told}
+use Rattle.nextest_config_findings.specs.declared.code.FindingCode.{FindingCode}
+use Rattle.nextest_config_findings.specs.declared.code.FindingCode.TheVariants as code
 use Rattle.nextest_config_findings.specs.declared.finding.Finding.{Finding}
 use Rattle.nextest_config_findings.specs.declared.finding.FindingKind.{FindingKind}
 use Rattle.nextest_config_findings.specs.declared.finding.FindingKind.TheVariants as kinds
 use Rattle.nextest_config_findings.specs.declared.finding.Hint.{Hint}
-use Rattle.nextest_config_findings.specs.declared.finding.Hint.TheVariants.{Nearest, Top}
-use Rattle.nextest_config_findings.specs.declared.finding.Severity.{Severity}
-use Rattle.nextest_config_findings.specs.declared.finding.Severity.TheVariants.{Error, Warning}
+use Rattle.nextest_config_findings.specs.declared.finding.Hint.TheVariants.{Belongs, Toml, Word}
+use Rattle.nextest_config_findings.specs.declared.finding.Home.{Home}
+use Rattle.nextest_config_findings.specs.declared.finding.Home.TheVariants as homes
+use Rattle.nextest_config_findings.specs.declared.finding.FindingSeverity.{FindingSeverity}
+use Rattle.nextest_config_findings.specs.declared.finding.FindingSeverity.TheVariants.{Error, Note, Warning}
 
 -- how grave what is told is; a refusal of memory, which tells nothing, is an error
-abbrev pub gravity_told : Option FoundKind → Severity
-gravity_told (Some kind) = gravity kind
-gravity_told None = Error
+abbrev pub told_severity : Option FoundKind → FindingSeverity
+told_severity (Some kind) = found_severity kind
+told_severity None = Error
 
 -- a kind of finding is as grave as what it tells
-abbrev pub severity_of : FindingKind → Severity
-severity_of kind = gravity_told (kind_told kind)
+abbrev pub finding_severity : FindingKind → FindingSeverity
+finding_severity kind = told_severity (kind_told kind)
 
 -- severities by number
-abbrev pub rank : Severity → ℕ
-rank Warning = 0
-rank Error = 1
+abbrev pub rank : FindingSeverity → ℕ
+rank Note = 0
+rank Warning = 1
+rank Error = 2
+
+-- the code of a kind of fault
+abbrev pub reason_told_code : Option Reason → FindingCode
+reason_told_code (Some reason) = reason_code reason
+reason_told_code None = code.InvalidValue
+
+abbrev pub fault_code : FaultKind → FindingCode
+fault_code fault = reason_told_code (reason_of fault)
 
 -- ---- how they print
 
--- behind what is said of a name, what it may be meant for
+abbrev pub home_text : Home → List ℕ
+home_text homes.Top = codes "at the top of the file"
+home_text homes.Profile = codes "in a profile"
+home_text homes.Override = codes "in an override"
+home_text homes.Junit = codes "in junit"
+
+-- after what is said, what may be meant
 abbrev pub hint_text : Option Hint → List ℕ
-hint_text (Some Top) = codes ", which stands at the top of the file"
-hint_text (Some (Nearest word)) = codes ", did you mean " ++ quoted_text word.now
+hint_text (Some (Word word)) = codes ", did you mean " ++ quoted_text (string_bytes word)
+hint_text (Some (Toml text)) = codes ", did you mean " ++ string_bytes text
+hint_text (Some (Belongs home)) = codes ", which belongs " ++ home_text home
 hint_text None = []
 
+-- what is said of a name
+abbrev pub name_text : List ℕ → List ℕ → Option Hint → List ℕ
+name_text said name hint = (said ++ quoted_text name) ++ hint_text hint
+
 abbrev pub finding_kind_text : FindingKind → List ℕ
-finding_kind_text (kinds.Fault kind) = kind_text kind
+finding_kind_text (kinds.Fault fault severity hint) = kind_text fault ++ hint_text hint
 finding_kind_text (kinds.ToolFeatures features) =
     codes "experimental features in a tool configuration: "
     ++ quoted_texts (map string_bytes features.keys)
 finding_kind_text (kinds.UnknownFeature name hint) =
-    (codes "unknown feature " ++ quoted_text (string_bytes name)) ++ hint_text hint
+    name_text (codes "unknown feature ") (string_bytes name) hint
 finding_kind_text (kinds.UnknownKey key hint) =
-    (codes "unknown key " ++ quoted_text (string_bytes key)) ++ hint_text hint
+    name_text (codes "unknown key ") (string_bytes key) hint
+finding_kind_text (kinds.UndefinedGroup name hint) =
+    name_text (codes "no file defines the test group ") (string_bytes name) hint
+finding_kind_text (kinds.UndefinedProfile name hint) =
+    name_text (codes "no file defines the profile ") (string_bytes name) hint
+finding_kind_text kinds.DefaultInherits = codes "the profile \"default\" can't inherit"
+finding_kind_text (kinds.InheritsItself profile) =
+    codes "the profile " ++ (quoted_text (string_bytes profile) ++ codes " inherits from itself")
+finding_kind_text kinds.OverrideOfAll =
+    codes "an override needs a \"filter\" or a \"platform\""
+finding_kind_text kinds.ReservedProfile =
+    codes "profile names that begin with \"default-\" are reserved"
+finding_kind_text (kinds.NoGroupName error) =
+    told_text identifier_fault_text (identifier_fault error)
+finding_kind_text (kinds.GroupOutsideTool mark) =
+    codes "a tool's test groups begin with " ++ quoted_text (string_bytes mark)
+finding_kind_text kinds.GroupOfTool = codes "only a tool's test groups begin with \"@\""
 finding_kind_text kinds.UnjudgedDuration =
-    codes "a duration that isn't judged here: only whole numbers, each with a unit, are read"
+    codes "not judged here: a duration other than whole numbers, each with a unit"
+finding_kind_text (kinds.DeprecatedArray table) =
+    codes "the array form is deprecated, use a table: " ++ string_bytes table
 finding_kind_text kinds.NotUtf8 = codes "not UTF-8"
 finding_kind_text (kinds.NotToml message) = string_bytes message
 
--- a path before what is wrong there, unless it is empty
+-- a path before what is found there, unless it is empty
 abbrev pub path_front : List PathStep → List ℕ
 path_front [] = []
 path_front (step ∷ rest) = printed_path (step ∷ rest) ++ codes ": "

@@ -1,65 +1,71 @@
 -- Words of the laws of findings.
-use Rattle.std.specs.Prelude.{◌≡◌, ◌⊎◌, ℕ, IsSome, IsUtf8, List, Option, Some, None}
-use Rattle.std.specs.List.{AllByRecursion}
-use Rattle.toml.specs.Data.{Data, get_member, Members}
+use Rattle.std.specs.Prelude.{◌≡◌, ◌≢◌, ◌⊎◌, ℕ, Bool, true, false, IsSome, IsUtf8, List, not, Some}
+use Rattle.std.specs.List.{AllByRecursion, filter}
+use Rattle.toml.specs.Data.{Members}
 use Rattle.toml.specs.Parse.{parse_document}
 use Rattle.nextest_config_values.specs.Read.Fault.{Fault}
-use Rattle.nextest_config_sources.specs.NextestVersion.{experimental_key, FeatureSetting, features_reading, ObeysForm, ObeysToolRule}
+use Rattle.nextest_config_sources.specs.NextestVersion.{ObeysToolRule}
 use Rattle.nextest_config_sources.specs.declared.nextest_version.edition.Edition.{Edition}
 use Rattle.nextest_config_sources.specs.declared.nextest_version.source.ConfigSourceKind.{ConfigSourceKind}
 use Rattle.nextest_config_positions.specs.Line.{found_in}
-use Rattle.nextest_config_positions.specs.Step.{printed_path}
-use Rattle.nextest_config_findings.specs.Faults.{added_step, IsUnjudged, led_to}
-use Rattle.nextest_config_findings.specs.File.{line_path}
-use Rattle.nextest_config_findings.specs.Finding.{severity_of}
-use Rattle.nextest_config_findings.specs.Found.{Found, gravity}
-use Rattle.nextest_config_findings.specs.Judged.{from_table, JudgedValue}
-use Rattle.nextest_config_findings.specs.Place.{place_check}
+use Rattle.nextest_config_findings.specs.File.{whole_path}
+use Rattle.nextest_config_findings.specs.Finding.{finding_severity}
+use Rattle.nextest_config_findings.specs.Found.{default_inherits, Found, found_severity, FoundKind, group_of_tool, group_outside_tool, inherits_itself, no_group_name, override_of_all, reserved_profile, undefined_group, undefined_profile}
+use Rattle.nextest_config_findings.specs.Settings.{settings_of, SettingView}
+use Rattle.nextest_config_findings.specs.Severity.{MayBeTaken}
+use Rattle.nextest_config_findings.specs.Values.{accepted, faulty, IsOutcome, left_open, names_features, Outcome}
 use Rattle.nextest_config_findings.specs.declared.file.LocatedFinding.{LocatedFinding}
-use Rattle.nextest_config_findings.specs.declared.finding.Severity.TheVariants.{Warning}
+use Rattle.nextest_config_findings.specs.declared.finding.FindingSeverity.TheVariants.{Error}
 
--- the finding is a warning
-abbrev pub IsWarning : Found → Type 0
-IsWarning found = gravity found.kind ≡ Warning
+-- it is found of a name that refers to another, or by a rule between keys
+abbrev pub is_reference : FoundKind → Bool
+is_reference (undefined_group name hint) = true
+is_reference (undefined_profile name hint) = true
+is_reference default_inherits = true
+is_reference (inherits_itself profile) = true
+is_reference override_of_all = true
+is_reference reserved_profile = true
+is_reference (no_group_name reason) = true
+is_reference (group_outside_tool mark) = true
+is_reference group_of_tool = true
+is_reference kind = false
 
--- the located finding is a warning
-abbrev pub IsLocatedWarning : LocatedFinding → Type 0
-IsLocatedWarning located = severity_of located.finding.kind ≡ Warning
+-- all but these
+abbrev pub own_findings : List Found → List Found
+own_findings = filter (λ found. not (is_reference found.kind))
+
+-- the finding is no error
+abbrev pub IsNoError : Found → Type 0
+IsNoError found = found_severity found.kind ≢ Error
+
+-- the located finding is no error
+abbrev pub IsNoLocatedError : LocatedFinding → Type 0
+IsNoLocatedError located = finding_severity located.finding.kind ≢ Error
 
 -- the path of the finding, for an unknown key that of the key, leads to a value of the document
 abbrev pub LeadsToValue : Members → Found → Type 0
-LeadsToValue members found = IsSome (found_in members (line_path found))
+LeadsToValue members found = IsSome (found_in members (whole_path found))
 
--- the value that has the fault: the judged one, or one right below it
-abbrev pub faulty_value : JudgedValue → Fault → Data
-faulty_value judged fault =
-    led_to judged.value (added_step judged.value (printed_path judged.path) fault.path)
+-- the fault of the setting is no error: nextest may take the value all the same, or may by its place
+abbrev pub IsNoErrorOf : SettingView → Fault → Type 0
+IsNoErrorOf setting fault = MayBeTaken setting fault ⊎ (setting.severity ≢ Error)
 
--- the value has a fault of a duration that isn't judged, since it may be one for nextest
-abbrev pub IsUnjudgedValue : Edition → JudgedValue → Type 0
-IsUnjudgedValue edition judged =
-    (fault : Fault)
-    × (place_check edition judged.place).faults judged.value (printed_path judged.path) fault
-    × IsUnjudged (faulty_value judged fault) fault.reason
+-- what comes of a setting in a file of this kind is no error: it names no feature, if the file is a
+-- tool's, and has no fault that is one
+abbrev pub IsNoErrorBy : ConfigSourceKind → SettingView → Outcome → Type 0
+IsNoErrorBy kind setting accepted = Unit {0}
+IsNoErrorBy kind setting (names_features named) = ObeysToolRule kind named.features
+IsNoErrorBy kind setting (faulty fault) = IsNoErrorOf setting fault
+IsNoErrorBy kind setting (left_open fault) = Unit {0}
 
--- the value means something at its place, or is a duration that isn't judged
-abbrev pub IsJudgedWell : Edition → JudgedValue → Type 0
-IsJudgedWell edition judged =
-    (place_check edition judged.place).passes judged.value ⊎ IsUnjudgedValue edition judged
+abbrev pub HasNoErrorAt : Edition → ConfigSourceKind → SettingView → Type 0
+HasNoErrorAt edition kind setting = (outcome : Outcome) × IsOutcome edition setting outcome
+    × IsNoErrorBy kind setting outcome
 
--- the value of `experimental`, if there is one, names no feature where the file is that of a tool
-abbrev pub NamesNothingForTool : Edition → ConfigSourceKind → Option Data → Type 0
-NamesNothingForTool edition kind None = Unit {0}
-NamesNothingForTool edition kind (Some value) =
-    ObeysForm edition (Some value)
-    → (named : FeatureSetting) → features_reading.means value named → ObeysToolRule kind named.features
-
--- each value of the document that has a place is judged well, and it names no feature if it is a
--- tool's
+-- no setting of the document has an error
 abbrev pub IsWithoutError : Edition → ConfigSourceKind → Members → Type 0
 IsWithoutError edition kind members =
-    AllByRecursion (IsJudgedWell edition) (from_table members)
-    × NamesNothingForTool edition kind (get_member experimental_key members)
+    AllByRecursion (HasNoErrorAt edition kind) (settings_of members)
 
 -- the file is UTF-8, and a document that is so
 abbrev pub IsFileWithoutError : Edition → ConfigSourceKind → List ℕ → Type 0

@@ -1,213 +1,304 @@
-//! All that is found in a file, each with its line.
+//! All that is found in a file, and where each finding stands.
 
-ghost use Rattle.std.specs.Prelude.{◌≡◌, ℕ, [], ◌∷◌, IfOk, IsSome, List, None, OnOk, Some, map, option_map};
+ghost use Rattle.std.specs.Prelude.{◌≡◌, ℕ, [], ◌∷◌, IfOk, List, OnOk, Some, false, map, option_map, take, true};
 ghost use Rattle.std.specs.List.{AllByRecursion, AllZip};
-ghost use Rattle.toml.specs.Errors.{IsMemory, IsWithin, span_start};
+ghost use Rattle.toml.specs.Errors.{IsMemory, IsWithin, span_end, span_start};
 ghost use Rattle.toml.specs.Parse.{parse_document};
 ghost use Rattle.toml.specs.View.{table_view};
-ghost use Rattle.nextest_config_positions.specs.Index.{IsIndexOf};
-ghost use Rattle.nextest_config_positions.specs.Line.{IsLine, LeadsIn, line_behind};
+ghost use Rattle.nextest_config_positions.specs.Index.{IsIndexOf, IsSpanOf, ranges_in};
 ghost use Rattle.nextest_config_positions.specs.Step.{step_of};
-ghost use Rattle.nextest_config_findings.specs.File.{AreInText, AreLocated, AreLocatedIn, IsFindingAtItsLine, IsFindingAtLine, IsFindingIn, IsFindingInIndexed, IsNotTomlAt, line_path, located_told};
-ghost use Rattle.nextest_config_findings.specs.Found.{Found, found_at, found_of, kind_told, not_utf8};
+ghost use Rattle.nextest_config_findings.specs.Defined.{IsDefinedBy, ListFile};
+ghost use Rattle.nextest_config_findings.specs.File.{AreIn, AreLocated, AreLocatedIn, HasRange, IsAlone, IsDocument, IsLocated, IsLocatedBy, IsReadOf, is_group, is_of_key, located_told, range_at, range_of, whole_path};
+ghost use Rattle.nextest_config_findings.specs.Found.{Found, found_at, found_of, kind_told, not_toml, not_utf8};
 
+use crate::defined::Defined;
 use crate::document::findings;
 use crate::finding::{Finding, FindingKind};
-use nextest_config_positions::{Index, Step, line_behind, place_behind};
+use nextest_config_positions::{Index, Span, Step, place_after};
 use nextest_config_sources::nextest_version::{ConfigSourceKind, Edition};
 use std::alloc::{AllocError, Global};
 use toml::Table;
 use toml::de::Error;
 
-/// What is found in a file, at its line, from 1. The error of a text that is no document has a
-/// column, too: in characters, from 1.
+/// What is found in a file, and where: a range of the text, in lines and columns from 1.
 #[derive(Debug, PartialEq, Eq, Drop)]
 pub struct LocatedFinding {
-    pub line: usize,
-    pub column: Option<usize>,
+    pub span: Span,
     pub finding: Finding,
 }
 
-/// All that is wrong in the file of a source of this kind, by its lines; what is found on one line
-/// stands in the order of `findings`. A file that isn't UTF-8 or no TOML document has one error,
-/// and nothing else is judged.
+/// The bytes of a file, judged as UTF-8 and read by `toml`, each once.
+#[derive(Debug, Drop)]
+pub enum FileContents<'a> {
+    /// The bytes aren't UTF-8 after this front.
+    NotUtf8 { front: &'a [u8] },
+    /// The text isn't a document, with what `toml` says of it.
+    NotToml { text: &'a str, error: Error },
+    /// The text is this document.
+    Document { text: &'a str, document: Table },
+}
+
+impl<'a> FileContents<'a> {
+    /// Judges and reads the bytes of a file.
+    pub fn of(alloc: Global, contents: &'a [u8]) -> Result<Self, AllocError>
+        ensures { IfOk result (IsReadOf contents.now) }
+    {
+        match str::from_utf8(contents) {
+            Ok(text) => FileContents::of_text(alloc, text),
+            Err(error) => Ok(FileContents::NotUtf8 {
+                front: &contents[..error.valid_up_to()],
+            }),
+        }
+    }
+
+    // Reads a text.
+    fn of_text(alloc: Global, text: &'a str) -> Result<Self, AllocError>
+        ensures { IfOk result (IsReadOf text.now) }
+    {
+        match toml::table_from_str(alloc, text) {
+            Ok(document) => Ok(FileContents::Document { text, document }),
+            Err(error) if error.is_memory() => Err(AllocError),
+            Err(error) => Ok(FileContents::NotToml { text, error }),
+        }
+    }
+
+    /// The document that the bytes are, if they are one.
+    pub fn document(&self) -> Option<&Table>
+        ensures { (contents : List ℕ) → IsReadOf contents self.now
+            → IsDocument contents (option_map (λ table. table_view table.now) result) }
+    {
+        match self {
+            FileContents::Document { document, .. } => Some(document),
+            FileContents::NotUtf8 { .. } | FileContents::NotToml { .. } => None,
+        }
+    }
+
+    /// All that is found in the file of a source of this kind, as the function `located` says it of
+    /// the bytes.
+    pub fn located(
+        &self,
+        alloc: Global,
+        source: &ConfigSourceKind,
+        edition: Edition,
+        defined: &Defined,
+        position: usize,
+    ) -> Result<Vec<LocatedFinding>, AllocError>
+        requires read { (contents : List ℕ) × IsReadOf contents self.now }
+        requires defined { (files : List ListFile) × IsDefinedBy files defined.now }
+        ensures { IfOk result (λ located. (contents : List ℕ) (files : List ListFile)
+            → IsReadOf contents self.now → IsDefinedBy files defined.now
+            → AreLocated edition source.now files position contents located.items) }
+    {
+        match self {
+            FileContents::NotUtf8 { front } => not_utf8(alloc, front),
+            FileContents::NotToml { text, error } => not_toml(alloc, text.as_bytes(), error),
+            FileContents::Document { text, document } => {
+                located_in_document(alloc, source, edition, text, document, defined, position)
+            }
+        }
+    }
+}
+
+/// All that is found in the file of a source of this kind, at this position of a list that defines
+/// this, sorted by where it begins; what begins at one place stands in the order of `findings`. A
+/// file that isn't UTF-8 or no TOML document has one error, and nothing else is judged.
 pub fn located(
     alloc: Global,
     source: &ConfigSourceKind,
     edition: Edition,
     contents: &[u8],
+    defined: &Defined,
+    position: usize,
 ) -> Result<Vec<LocatedFinding>, AllocError>
-    ensures { IfOk result (λ located. AreLocated edition source.now contents.now located.items) }
+    requires { (files : List ListFile) × IsDefinedBy files defined.now }
+    ensures { IfOk result (λ located. (files : List ListFile) → IsDefinedBy files defined.now
+        → AreLocated edition source.now files position contents.now located.items) }
 {
-    match str::from_utf8(contents) {
-        Ok(text) => {
-            let located = located_in_text(alloc, source, edition, text)?;
-            Ok(located)
-        }
-        Err(error) => {
-            let located = not_utf8(alloc, &contents[..error.valid_up_to()])?;
-            Ok(located)
-        }
-    }
+    let read = FileContents::of(alloc, contents)?;
+    read.located(alloc, source, edition, defined, position)
 }
 
-// The file isn't UTF-8 behind this front.
+// The file isn't UTF-8 after this front.
 fn not_utf8(alloc: Global, front: &[u8]) -> Result<Vec<LocatedFinding>, AllocError>
-    ensures { IfOk result (λ located. map located_told located.items
-        ≡ (line_behind front.now, None, Some (found_at [] not_utf8)) ∷ []) }
+    ensures { IfOk result (λ located. IsAlone front.now front.now not_utf8 located.items) }
 {
-    let line = line_behind(front);
-    let located = alone(alloc, line, None, FindingKind::NotUtf8)?;
-    Ok(located)
-}
-
-// A finding of the whole file, and no other.
-fn alone(
-    alloc: Global,
-    line: usize,
-    column: Option<usize>,
-    kind: FindingKind,
-) -> Result<Vec<LocatedFinding>, AllocError>
-    ensures { IfOk result (λ located. map located_told located.items
-        ≡ (line, column, option_map (found_at []) (kind_told kind)) ∷ []) }
-{
-    let path = Vec::new(alloc);
-    let finding = Finding { path, kind };
-    let mut located = Vec::new(alloc);
-    located.push(LocatedFinding {
-        line,
-        column,
-        finding,
-    })?;
-    Ok(located)
-}
-
-// What is found in a text.
-fn located_in_text(
-    alloc: Global,
-    source: &ConfigSourceKind,
-    edition: Edition,
-    text: &str,
-) -> Result<Vec<LocatedFinding>, AllocError>
-    ensures { IfOk result (λ located.
-        AreInText edition source.now text.now (parse_document text.now) located.items) }
-{
-    match toml::table_from_str(alloc, text) {
-        Ok(document) => {
-            let located = located_in_document(alloc, source, edition, text, &document)?;
-            Ok(located)
-        }
-        Err(error) => {
-            let located = not_toml(alloc, text.as_bytes(), &error)?;
-            Ok(located)
-        }
-    }
+    let place = place_after(front);
+    let span = Span {
+        begin: place,
+        end: place,
+    };
+    alone(alloc, span, FindingKind::NotUtf8)
 }
 
 // The text isn't a document.
 fn not_toml(alloc: Global, text: &[u8], error: &Error) -> Result<Vec<LocatedFinding>, AllocError>
     requires { IsWithin text.now error.now }
     ensures memory { OnOk result (¬ IsMemory error.now) }
-    ensures told { IfOk result
-        (λ located. IsNotTomlAt text.now (span_start error.now) located.items) }
+    ensures told { IfOk result (λ located. (message : List ℕ) × IsAlone
+        (take (span_start error.now) text.now) (take (span_end error.now) text.now)
+        (not_toml message) located.items) }
 {
-    let Some(span) = error.span() else {
+    let Some(range) = error.span() else {
         return Err(AllocError);
     };
-    let place = place_behind(&text[..span.start]);
+    let span = Span {
+        begin: place_after(&text[..range.start]),
+        end: place_after(&text[..range.end]),
+    };
     let message = String::from_str(alloc, error.message())?;
-    let kind = FindingKind::NotToml { message };
-    let located = alone(alloc, place.line, Some(place.column), kind)?;
+    alone(alloc, span, FindingKind::NotToml { message })
+}
+
+// A finding of the whole file, and no other.
+fn alone(alloc: Global, span: Span, kind: FindingKind) -> Result<Vec<LocatedFinding>, AllocError>
+    ensures { IfOk result (λ located. map located_told located.items
+        ≡ (span, option_map (found_at []) (kind_told kind)) ∷ []) }
+{
+    let path = Vec::new(alloc);
+    let finding = Finding { path, kind };
+    let mut located = Vec::new(alloc);
+    located.push(LocatedFinding { span, finding })?;
     Ok(located)
 }
 
-// What is found in a document, by its lines.
+// What is found in a document, sorted by where it begins.
 fn located_in_document(
     alloc: Global,
     source: &ConfigSourceKind,
     edition: Edition,
     text: &str,
     document: &Table,
+    defined: &Defined,
+    position: usize,
 ) -> Result<Vec<LocatedFinding>, AllocError>
-    requires { parse_document text.now ≡ Some (table_view document.now) }
-    ensures { IfOk result (λ located.
-        AreLocatedIn edition source.now text.now (table_view document.now) located.items) }
+    requires read { parse_document text.now ≡ Some (table_view document.now) }
+    requires defined { (files : List ListFile) × IsDefinedBy files defined.now }
+    ensures { IfOk result (λ located. (files : List ListFile) → IsDefinedBy files defined.now
+        → AreLocatedIn edition source.now files position text.now (table_view document.now)
+        located.items) }
 {
-    let findings = findings(alloc, source, edition, document)?;
-    let mut located = at_lines(alloc, text, findings)?;
-    located.sort_by_key(|it| it.line)?;
+    let findings = findings(alloc, source, edition, document, defined, position)?;
+    let mut located = locate_all(alloc, text, findings)?;
+    located.sort_by_key(|it| it.span.begin)?;
     Ok(located)
 }
 
-// Each finding with its line; each stands at a value. Where nothing was found, no index is made.
-fn at_lines(
+// Where each finding stands in the document. Where nothing was found, no index is made.
+fn locate_all(
     alloc: Global,
     text: &str,
     findings: Vec<Finding>,
 ) -> Result<Vec<LocatedFinding>, AllocError>
-    requires is_document { IsSome (parse_document text.now) }
-    requires at_values { AllByRecursion (IsFindingIn text.now) findings.items }
+    requires { AreIn text.now findings.items }
     ensures { IfOk result
-        (λ located. AllZip (IsFindingAtLine text.now) findings.items located.items) }
+        (λ located. AllZip (IsLocated text.now) findings.items located.items) }
 {
     if findings.is_empty() {
         return Ok(Vec::new(alloc));
     }
     match Index::of(alloc, text)? {
-        Some(index) => {
-            let located = at_their_lines(alloc, &index, findings)?;
-            Ok(located)
-        }
+        Some(index) => locate_all_by(alloc, &index, findings),
         None => unreachable!(),
     }
 }
 
-// The same by the index of their text.
-fn at_their_lines(
+// The same by the index of the text.
+fn locate_all_by(
     alloc: Global,
     index: &Index,
     findings: Vec<Finding>,
 ) -> Result<Vec<LocatedFinding>, AllocError>
-    requires { AllByRecursion (IsFindingInIndexed index.now) findings.items }
-    ensures { IfOk result (λ located. AllZip (IsFindingAtItsLine index.now) findings.items located.items) }
+    requires of_text { (text : List ℕ) × IsIndexOf text index.now }
+    requires ranges { AllByRecursion (HasRange index.now) findings.items }
+    ensures { IfOk result
+        (λ located. AllZip (IsLocatedBy index.now) findings.items located.items) }
 {
     let mut located = Vec::new(alloc);
     for finding in findings {
-        located.push(at_line(alloc, index, finding)?)?;
+        let span = span_of(alloc, index, &finding)?;
+        located.push(LocatedFinding { span, finding })?;
     }
     Ok(located)
 }
 
-// A finding with its line, which stands at a value.
-fn at_line(alloc: Global, index: &Index, finding: Finding) -> Result<LocatedFinding, AllocError>
-    requires { IsFindingInIndexed index.now finding }
-    ensures { IfOk result (IsFindingAtItsLine index.now finding) }
+// The range of a finding, which has one.
+fn span_of(alloc: Global, index: &Index, finding: &Finding) -> Result<Span, AllocError>
+    requires of_text { (text : List ℕ) × IsIndexOf text index.now }
+    requires range { HasRange index.now finding.now }
+    ensures { IfOk result (λ span. (text : List ℕ) (found : Found) → IsIndexOf text index.now
+        → found_of finding.now ≡ Some found
+        → IsSpanOf text (range_of (ranges_in index.now) found) (Some span)) }
 {
-    let path = line_path(alloc, &finding)?;
-    let line = line_of_value(index, path.as_slice());
-    Ok(LocatedFinding {
-        line,
-        column: None,
-        finding,
-    })
-}
-
-// The line of a path that leads to a value.
-fn line_of_value(index: &Index, path: &[Step]) -> usize
-    requires { (text : List ℕ) × IsIndexOf text index.now × LeadsIn text (map step_of path.now) text }
-    ensures { (text : List ℕ) → IsIndexOf text index.now
-        → IsLine text (map step_of path.now) result }
-{
-    match index.line(path) {
-        Some(line) => line,
+    let path = whole_path(alloc, finding)?;
+    match span_at(index, path.as_slice(), is_of_key(finding)) {
+        Some(span) => Ok(span),
         None => unreachable!(),
     }
 }
 
-// The path that a finding is located by.
-fn line_path(alloc: Global, finding: &Finding) -> Result<Vec<Step>, AllocError>
+// The range at a path, by whether its key is wrong.
+fn span_at(index: &Index, path: &[Step], of_key: bool) -> Option<Span>
+    ensures { (text : List ℕ) → IsIndexOf text index.now
+        → IsSpanOf text (range_at of_key (ranges_in index.now) (map step_of path.now)) result }
+{
+    if of_key {
+        key_or_value(index, path)
+    } else {
+        value_or_key(index, path)
+    }
+}
+
+// The range of the value of a path, or without one that of its key.
+fn value_or_key(index: &Index, path: &[Step]) -> Option<Span>
+    ensures { (text : List ℕ) → IsIndexOf text index.now
+        → IsSpanOf text (range_at false (ranges_in index.now) (map step_of path.now)) result }
+{
+    match index.value(path) {
+        Some(span) => Some(span),
+        None => index.key(path),
+    }
+}
+
+// The range of the key of a path, or without one that of its value.
+fn key_or_value(index: &Index, path: &[Step]) -> Option<Span>
+    ensures { (text : List ℕ) → IsIndexOf text index.now
+        → IsSpanOf text (range_at true (ranges_in index.now) (map step_of path.now)) result }
+{
+    match index.key(path) {
+        Some(span) => Some(span),
+        None => index.value(path),
+    }
+}
+
+// Whether a key is wrong, and not its value.
+fn is_of_key(finding: &Finding) -> bool
+    ensures { (found : Found) → found_of finding.now ≡ Some found → result ≡ is_of_key found }
+{
+    match &finding.kind {
+        FindingKind::UnknownFeature { .. }
+        | FindingKind::UnknownKey { .. }
+        | FindingKind::ReservedProfile
+        | FindingKind::GroupOutsideTool { .. }
+        | FindingKind::GroupOfTool => true,
+        FindingKind::NoGroupName(_) => is_group(finding.path.as_slice()),
+        _ => false,
+    }
+}
+
+// Whether the path is that of a test group.
+fn is_group(path: &[Step]) -> bool
+    ensures { result ≡ is_group (map step_of path.now) }
+{
+    match path {
+        [Step::Key(table), Step::Key(_)] => table.as_str() == "test-groups",
+        _ => false,
+    }
+}
+
+// The path that a finding is located by: of an unknown key the path of the key.
+fn whole_path(alloc: Global, finding: &Finding) -> Result<Vec<Step>, AllocError>
     ensures { IfOk result (λ path. (found : Found) → found_of finding.now ≡ Some found
-        → map step_of path.items ≡ line_path found) }
+        → map step_of path.items ≡ whole_path found) }
 {
     let mut path = copy_of(alloc, finding.path.as_slice())?;
     if let FindingKind::UnknownKey { key, .. } = &finding.kind {

@@ -1,17 +1,33 @@
-//! What is wrong in a whole configuration file, each with its line.
+//! What is wrong in a whole configuration file, and where.
 #![tactic(auto)]
 
+mod code;
+mod conversion;
+mod defined;
 mod document;
 mod faults;
 mod features;
 mod file;
 mod finding;
-mod judged;
+mod forms;
+mod heirs;
+mod inheritance;
+mod integers;
 pub mod laws;
-mod place;
+mod meant;
+mod nearest_word;
+mod reader;
+mod references;
+mod schema;
+mod settings;
+mod severity;
 mod unknown;
+mod values;
+mod words;
 
+pub use code::FindingCode;
+pub use defined::{Defined, ListedFile};
 pub use document::findings;
-pub use file::{LocatedFinding, located};
-pub use finding::{Finding, FindingKind, Hint, Severity};
-pub use nextest_config_positions::{PathText, Step, line_of};
+pub use file::{FileContents, LocatedFinding, located};
+pub use finding::{Finding, FindingKind, FindingSeverity, Hint, Home};
+pub use nextest_config_positions::{PathText, Place, Span, Step};

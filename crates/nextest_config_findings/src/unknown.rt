@@ -1,85 +1,95 @@
 //! The keys of a document that aren't known where they stand.
 
-ghost use Rattle.std.specs.Prelude.{◌≡◌, ◌++◌, [], IfOk, OnOk, flat_map, map, option_map};
+ghost use Rattle.std.specs.Prelude.{◌≡◌, ◌++◌, [], IfOk, OnOk, flat_map, map, option_map, Some};
+ghost use Rattle.toml.specs.Data.{table};
 ghost use Rattle.toml.specs.View.{table_view};
 ghost use Rattle.nextest_config_findings.specs.Found.{AddsFound, AddsOne, AreFoundIn, meant_of, TellsSome};
-ghost use Rattle.nextest_config_findings.specs.Judged.{judged_value, mark_step, names_of};
-ghost use Rattle.nextest_config_findings.specs.Place.{keys_told};
-ghost use Rattle.nextest_config_findings.specs.Unknown.{is_known, is_of_top, IsHintFor, IsKeyFound, key_at, keys_at, keys_in};
+ghost use Rattle.nextest_config_findings.specs.Settings.{setting_view, mark_step, names_of};
+ghost use Rattle.nextest_config_findings.specs.NearestWord.{words_of};
+ghost use Rattle.nextest_config_findings.specs.Schema.{below_of, file_table, row_words, rows_told};
+ghost use Rattle.nextest_config_findings.specs.Unknown.{home_of, home_words, is_known, IsHintFor, IsKeyFound, key_at, keys_among, keys_below, keys_in, parts_of, slip_of, word_with_part};
 
-use crate::finding::{Finding, FindingKind, Hint};
-use crate::judged::{Judged, Mark, steps_of};
-use crate::place::{Place, TOP};
+use crate::finding::{Finding, FindingKind, Hint, Home};
+use crate::nearest_word::{is_same, nearest, word_hint};
+use crate::schema::{Below, Row, keys_of, override_junit_keys, override_keys, profile_keys, top};
+use crate::settings::{Mark, Setting, steps_of};
 use std::alloc::{AllocError, Global};
+use strsim::levenshtein;
 use toml::Table;
+
+// The tables that know keys, in the order in which a key is looked for.
+const HOMES: &[Home] = &[Home::Top, Home::Profile, Home::Override, Home::Junit];
 
 /// The unknown keys of a document, those of the top first and then those of its judged values.
 pub(crate) fn find_unknown(
     alloc: Global,
     document: &Table,
-    judged: &[Judged],
+    settings: &[Setting],
 ) -> Result<Vec<Finding>, AllocError>
     ensures { IfOk result (TellsSome (AreFoundIn IsKeyFound
-        (keys_at Place.Top [] (table_view document.now)
-        ++ flat_map keys_in (map judged_value judged.now)))) }
+        (keys_below file_table [] (table (table_view document.now))
+        ++ flat_map keys_in (map setting_view settings.now)))) }
 {
     let mut findings = Vec::new(alloc);
-    add_keys(alloc, Place::Top, &[], document, &mut findings)?;
-    for value in judged {
-        add_keys_in(alloc, value, &mut findings)?;
+    add_beside_rows(alloc, top(), &[], document, &mut findings)?;
+    for setting in settings {
+        add_keys_in(alloc, setting, &mut findings)?;
     }
     Ok(findings)
 }
 
-// Adds the unknown keys of a value, if it is a table.
+// Adds the unknown keys of a value, if it is a table whose keys are judged.
 fn add_keys_in(
     alloc: Global,
-    judged: &Judged,
+    setting: &Setting,
     findings: &mut Vec<Finding>,
 ) -> Result<(), AllocError>
-    ensures { OnOk result (AddsFound IsKeyFound (keys_in (judged_value judged.now))
+    ensures { OnOk result (AddsFound IsKeyFound (keys_in (setting_view setting.now))
         findings.old.items findings.new.items) }
 {
-    match judged.value.as_table() {
-        Some(table) => add_keys(alloc, judged.place, judged.path.as_slice(), table, findings),
-        None => Ok(()),
+    let Some(table) = setting.value.as_table() else {
+        return Ok(());
+    };
+    let path = setting.path.as_slice();
+    match setting.below {
+        Below::Keys(known) => add_unknown(alloc, known, path, table, findings),
+        Below::Rows(rows) => add_beside_rows(alloc, rows, path, table, findings),
+        Below::Nothing | Below::Names(_, _, _) | Below::Elements(_, _, _) => Ok(()),
     }
 }
 
-// Adds the unknown keys of a table, where its place knows its keys.
-fn add_keys(
+// Adds the keys of a table that are in none of these rows.
+fn add_beside_rows(
     alloc: Global,
-    place: Place,
-    path: &[Mark],
-    table: &Table,
-    findings: &mut Vec<Finding>,
-) -> Result<(), AllocError>
-    ensures { OnOk result
-        (AddsFound IsKeyFound (keys_at place (map mark_step path.now) (table_view table.now))
-        findings.old.items findings.new.items) }
-{
-    match place.keys() {
-        Some(known) => add_unknown(alloc, place, known, path, table, findings),
-        None => Ok(()),
-    }
-}
-
-// Adds the keys of a table that are none of these.
-fn add_unknown(
-    alloc: Global,
-    place: Place,
-    known: &[(&'static str, Place)],
+    rows: &[Row],
     path: &[Mark],
     table: &Table,
     findings: &mut Vec<Finding>,
 ) -> Result<(), AllocError>
     ensures { OnOk result (AddsFound IsKeyFound
-        (map (key_at place (keys_told known.now) (map mark_step path.now))
+        (keys_among (Some (row_words (rows_told rows.now))) (map mark_step path.now)
+        (table_view table.now))
+        findings.old.items findings.new.items) }
+{
+    let known = keys_of(alloc, rows)?;
+    add_unknown(alloc, known.as_slice(), path, table, findings)
+}
+
+// Adds the keys of a table that are none of these.
+fn add_unknown(
+    alloc: Global,
+    known: &[&'static str],
+    path: &[Mark],
+    table: &Table,
+    findings: &mut Vec<Finding>,
+) -> Result<(), AllocError>
+    ensures { OnOk result (AddsFound IsKeyFound
+        (map (key_at (words_of known.now) (map mark_step path.now))
         (names_of (table_view table.now)))
         findings.old.items findings.new.items) }
 {
     for name in table.keys() {
-        add_key(alloc, place, known, path, name.as_str(), findings)?;
+        add_key(alloc, known, path, name.as_str(), findings)?;
     }
     Ok(())
 }
@@ -87,20 +97,19 @@ fn add_unknown(
 // Adds a key, unless it is one of these.
 fn add_key(
     alloc: Global,
-    place: Place,
-    known: &[(&'static str, Place)],
+    known: &[&'static str],
     path: &[Mark],
     name: &str,
     findings: &mut Vec<Finding>,
 ) -> Result<(), AllocError>
     ensures { OnOk result (AddsOne IsKeyFound
-        (key_at place (keys_told known.now) (map mark_step path.now) name.now)
+        (key_at (words_of known.now) (map mark_step path.now) name.now)
         findings.old.items findings.new.items) }
 {
     if is_known(known, name) {
         return Ok(());
     }
-    let hint = hint_for(alloc, place, known, name)?;
+    let hint = hint_for(alloc, known, name)?;
     let path = steps_of(alloc, path)?;
     let key = String::from_str(alloc, name)?;
     let kind = FindingKind::UnknownKey { key, hint };
@@ -109,35 +118,88 @@ fn add_key(
 }
 
 // What an unknown key may be meant for.
-fn hint_for(
-    alloc: Global,
-    place: Place,
-    known: &[(&'static str, Place)],
-    name: &str,
-) -> Result<Option<Hint>, AllocError>
+fn hint_for(alloc: Global, known: &[&'static str], name: &str) -> Result<Option<Hint>, AllocError>
     ensures { IfOk result
-        (λ hint. IsHintFor (is_of_top place name.now) (keys_told known.now) name.now
-        (option_map meant_of hint)) }
+        (λ hint. IsHintFor (words_of known.now) name.now (option_map meant_of hint)) }
 {
-    if is_of_top(place, name) {
-        return Ok(Some(Hint::Top));
+    let near = nearest(alloc, name, known)?;
+    let slip = slip_of(alloc, name, near)?;
+    if slip.is_some() {
+        return word_hint(alloc, slip);
     }
-    let hint = Hint::nearest(alloc, name, known)?;
-    Ok(hint)
+    if let Some(home) = home_of(name) {
+        return Ok(Some(Hint::Belongs(home)));
+    }
+    word_hint(alloc, near.or(word_with_part(known, name)))
 }
 
-// Whether the key stands in another table than the top, and is known there.
-fn is_of_top(place: Place, name: &str) -> bool
-    ensures { result ≡ is_of_top place name.now }
+// The word, if the name is the same or one edit away.
+fn slip_of<'w>(
+    alloc: Global,
+    name: &str,
+    near: Option<&'w str>,
+) -> Result<Option<&'w str>, AllocError>
+    ensures { IfOk result (λ slip. option_map (λ word. word.now) slip
+        ≡ slip_of name.now (option_map (λ word. word.now) near.entry)) }
 {
-    !place.is_top() && is_known(TOP, name)
+    let Some(word) = near else {
+        return Ok(None);
+    };
+    if is_same(name, word) || levenshtein(alloc, name, word)? == 1 {
+        Ok(Some(word))
+    } else {
+        Ok(None)
+    }
+}
+
+// The first table that knows the key.
+fn home_of(name: &str) -> Option<Home>
+    ensures { result ≡ home_of name.now }
+{
+    HOMES
+        .iter()
+        .copied()
+        .find(|home| is_among(rows_of(*home), name))
+}
+
+// The keys that are known there.
+fn rows_of(home: Home) -> &'static [Row]
+    ensures { row_words (rows_told result.now) ≡ home_words home }
+{
+    match home {
+        Home::Top => top(),
+        Home::Profile => profile_keys(),
+        Home::Override => override_keys(),
+        Home::Junit => override_junit_keys(),
+    }
+}
+
+// Whether the key is that of one of these rows.
+fn is_among(rows: &[Row], name: &str) -> bool
+    ensures { result ≡ is_known (row_words (rows_told rows.now)) name.now }
+{
+    rows.iter().any(|(key, _, _, _)| *key == name)
+}
+
+// The first word that has the name as one of its parts between dashes.
+fn word_with_part<'w>(words: &[&'w str], name: &str) -> Option<&'w str>
+    ensures { option_map (λ word. word.now) result ≡ word_with_part (words_of words.now) name.now }
+{
+    words.iter().copied().find(|word| has_part(word, name))
+}
+
+// Whether the name is one of the parts of a word between dashes.
+fn has_part(word: &str, name: &str) -> bool
+    ensures { result ≡ is_known (parts_of word.now) name.now }
+{
+    word.split('-').any(|part| part == name)
 }
 
 // Whether the key is one of these.
-fn is_known(known: &[(&'static str, Place)], name: &str) -> bool
-    ensures { result ≡ is_known (keys_told known.now) name.now }
+fn is_known(known: &[&'static str], name: &str) -> bool
+    ensures { result ≡ is_known (words_of known.now) name.now }
 {
-    for (key, _) in known {
+    for key in known {
         if *key == name {
             return true;
         }

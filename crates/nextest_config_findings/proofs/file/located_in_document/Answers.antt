@@ -1,30 +1,29 @@
-use Rattle.std.proofs.Common.{refl, rules}
+use Rattle.std.proofs.Common.{rules}
 use Rattle.std.proofs.lemmas.List.Sorted.{answers_always}
 use Rattle.toml.specs.View.{table_view}
 use Rattle.nextest_config_findings.proofs.Leading.{findings_lead}
-use Rattle.nextest_config_findings.proofs.Places.{all_at_lines, all_in_text}
+use Rattle.nextest_config_findings.proofs.Places.{all_at_ranges, all_in}
 use Rattle.nextest_config_findings.proofs.file.located_in_document.Goals as goal
 
-pub at_lines-requires : goal.at_lines-requires
-at_lines-requires c =
-    let found = c.in_ok-findings.ensures in
-    let leads = findings_lead c.args.edition c.args.source.now (table_view c.args.document.now) found.0 found.1 in
-    record {
-      is_document = rw c.requires refl;
-      at_values = all_in_text c.args.text.now (table_view c.args.document.now) c.requires _ found.0 found.2 leads;
-    }
+pub locate_all-requires : goal.locate_all-requires
+locate_all-requires c =
+    let (files, by) = c.requires.defined in
+    let found = c.in_ok-findings.ensures files by in
+    let top = table_view c.args.document.now in
+    let leads = findings_lead c.args.edition c.args.source.now files c.args.position top found.0 found.1 in
+    (top, c.requires.read, all_in top _ found.0 found.2 leads)
 
 pub returns : goal.returns
-returns c =
-    let found = c.in_ok-findings.ensures in
+returns c files by =
+    let found = c.in_ok-findings.ensures files by in
     record {
-      founds = found.0;
+      all_found = found.0;
       are_findings = found.1;
       before = c.in_ok-located.located.items;
-      at_lines = all_at_lines c.args.text.now _ _ c.in_ok-located.ensures found.0 found.2;
+      at_ranges = all_at_ranges c.args.text.now _ _ c.in_ok-located.ensures found.0 found.2;
       sorted = record {
         same = c.in_ok-sort_by_key.ensures.permutation;
-        by_line = c.in_ok-sort_by_key.ensures.sorted (λ located. located.line) (search (rules, answers_always));
-        stable = c.in_ok-sort_by_key.ensures.stable (λ located. located.line) (search (rules, answers_always));
+        by_place = c.in_ok-sort_by_key.ensures.sorted (λ located. located.span.begin) (search (rules, answers_always));
+        stable = c.in_ok-sort_by_key.ensures.stable (λ located. located.span.begin) (search (rules, answers_always));
       };
     }

@@ -1,7 +1,7 @@
 use Rattle.std.proofs.Common.{◌≡◌, [], ◌∷◌, ◌++◌, Some, map, option_map, refl, rules}
 use Rattle.std.proofs.lemmas.List.{map_push}
 use Rattle.nextest_config_findings.specs.Found.{found_at, meant_of, unknown_key}
-use Rattle.nextest_config_findings.specs.Judged.{mark_step}
+use Rattle.nextest_config_findings.specs.Settings.{mark_step}
 use Rattle.nextest_config_findings.specs.declared.finding.Finding.{Finding}
 use Rattle.nextest_config_findings.specs.declared.finding.FindingKind.TheVariants.{UnknownKey}
 use Rattle.nextest_config_findings.proofs.unknown.add_key.Goals as goal
