@@ -2,9 +2,10 @@
 
 use crate::refusal::Refusal;
 use clap::{Arg, ArgAction, ArgMatches, Command};
-use nextest_config_command::{Asked, Check, Format, RepositoryFile, Task};
+use nextest_config_command::{Check, Format, RepositoryFile, Request, Task};
 use nextest_config_sources::nextest_version::Edition;
 use nextest_config_values::helpers::join_path;
+use nextest_config_values::read::Word;
 use nextest_config_values::tool_config::{ToolConfigFile, ToolConfigFileParseError};
 use semver::Version;
 use std::alloc::{AllocError, Global};
@@ -38,29 +39,37 @@ const TOOL_CONFIG_FILE: &str = "tool-config-file";
 
 const DIR: &str = "DIR";
 
-const HUMAN: &str = "human";
+/// The words of the formats.
+pub(crate) fn format_words(alloc: Global) -> Result<Vec<&'static str>, AllocError> {
+    let mut words = Vec::new(alloc);
+    for format in Format::all() {
+        words.push(format.as_word())?;
+    }
+    Ok(words)
+}
 
-const GITHUB: &str = "github";
-
-const FORMATS: [&str; 2] = [HUMAN, GITHUB];
-
-/// What the words ask for, the first of which is the program's name.
-pub(crate) fn parse<'a>(alloc: Global, words: &'a [String]) -> Result<Asked, Refusal<'a>> {
-    let matches = command(alloc)?.try_get_matches_from(words)?;
+/// What the words ask for, the first of which is the program's name; `formats` are the words of the
+/// formats.
+pub(crate) fn parse<'a>(
+    alloc: Global,
+    words: &'a [String],
+    formats: &'a [&'a str],
+) -> Result<Request, Refusal<'a>> {
+    let matches = command(alloc, formats)?.try_get_matches_from(words)?;
     match matches.subcommand() {
-        Some((name, matches)) => asked(alloc, name, matches),
+        Some((name, matches)) => request(alloc, name, matches),
         None => Err(Refusal::Words("no subcommand is named")),
     }
 }
 
-fn command<'a>(alloc: Global) -> Result<Command<'a>, AllocError> {
+fn command<'a>(alloc: Global, formats: &'a [&'a str]) -> Result<Command<'a>, AllocError> {
     Command::new(alloc, "nextest-config")
         .about("Says what configuration files of nextest ask, and what is wrong in them")
         .version(VERSION)
         .subcommand_required(true)
         .arg_required_else_help(true)
         .subcommand(check_command(alloc)?)?
-        .subcommand(lint_command(alloc)?)?
+        .subcommand(lint_command(alloc, formats)?)?
         .subcommand(show_command(alloc)?)
 }
 
@@ -79,12 +88,12 @@ fn check_command<'a>(alloc: Global) -> Result<Command<'a>, AllocError> {
     with_files(alloc, command)
 }
 
-fn lint_command<'a>(alloc: Global) -> Result<Command<'a>, AllocError> {
+fn lint_command<'a>(alloc: Global, formats: &'a [&'a str]) -> Result<Command<'a>, AllocError> {
     let format = Arg::new(alloc, FORMAT)
         .long(FORMAT)
         .value_name("FORMAT")
-        .value_parser(FORMATS.as_slice())
-        .default_value(HUMAN)
+        .value_parser(formats)
+        .default_value(Format::Human.as_word())
         .help("How findings are told: as lines, or as commands of a workflow of GitHub");
     let command = Command::new(alloc, LINT)
         .about("Tells all that is wrong in the files, each with its line")
@@ -136,7 +145,11 @@ fn with_files<'a>(alloc: Global, command: Command<'a>) -> Result<Command<'a>, Al
 }
 
 // What a subcommand asks for.
-fn asked<'a>(alloc: Global, name: &str, matches: &ArgMatches<'a>) -> Result<Asked, Refusal<'a>> {
+fn request<'a>(
+    alloc: Global,
+    name: &str,
+    matches: &ArgMatches<'a>,
+) -> Result<Request, Refusal<'a>> {
     let task = task(alloc, name, matches)?;
     let tools = tools(alloc, matches.get_strs(TOOL_CONFIG_FILE).unwrap_or(&[]))?;
     let repository = repository(alloc, matches.get_str(CONFIG_FILE), matches.get_str(DIR))?;
@@ -145,7 +158,7 @@ fn asked<'a>(alloc: Global, name: &str, matches: &ArgMatches<'a>) -> Result<Aske
     } else {
         Edition::ArrayAllowed
     };
-    Ok(Asked {
+    Ok(Request {
         tools,
         repository,
         edition,
@@ -177,10 +190,12 @@ fn version<'a>(alloc: Global, word: &'a str) -> Result<Version, Refusal<'a>> {
 }
 
 fn format(word: Option<&str>) -> Format {
-    match word {
-        Some(GITHUB) => Format::Github,
-        _ => Format::Human,
+    for format in Format::all() {
+        if word == Some(format.as_word()) {
+            return *format;
+        }
     }
+    Format::Human
 }
 
 // The files of tools, as the words name them.

@@ -1,13 +1,12 @@
 //! `nextest-config` checks, lints and shows what configuration files of nextest ask, and what is
-//! wrong
-//! in them.
+//! wrong in them.
 #![tactic(auto)]
 
 mod command_line;
 mod file_system;
 mod refusal;
 
-use command_line::parse;
+use command_line::{format_words, parse};
 use file_system::FileSystem;
 use nextest_config_command::serve;
 use refusal::{Refusal, refuse};
@@ -17,12 +16,7 @@ use std::{env, io};
 fn main(rt: HostRuntime) -> ExitCode {
     let status = match words(&rt) {
         Ok(words) => run(&rt, words.as_slice()),
-        Err(error) => refuse(
-            rt.alloc(),
-            &Refusal::of_read(&error),
-            &mut rt.stdout(),
-            &mut rt.stderr(),
-        ),
+        Err(error) => refuse_words(&rt, &Refusal::of_read(&error)),
     };
     ExitCode::from(status)
 }
@@ -33,16 +27,24 @@ fn words(rt: &HostRuntime) -> io::Result<Vec<String>> {
     Ok(words)
 }
 
-// Does what the words ask for, and answers the status.
+// Does what the words ask for, and answers the number that the program ends with.
 fn run(rt: &HostRuntime, words: &[String]) -> u8 {
-    match parse(rt.alloc(), words) {
-        Ok(asked) => serve(
+    let Ok(formats) = format_words(rt.alloc()) else {
+        return refuse_words(rt, &Refusal::Memory);
+    };
+    match parse(rt.alloc(), words, formats.as_slice()) {
+        Ok(request) => serve(
             rt.alloc(),
-            &asked,
+            &request,
             &FileSystem { rt },
             &mut rt.stdout(),
             &mut rt.stderr(),
         ),
-        Err(refusal) => refuse(rt.alloc(), &refusal, &mut rt.stdout(), &mut rt.stderr()),
+        Err(refusal) => refuse_words(rt, &refusal),
     }
+}
+
+// Says why the words ask for nothing, and answers the number that the program ends with.
+fn refuse_words(rt: &HostRuntime, refusal: &Refusal<'_>) -> u8 {
+    refuse(rt.alloc(), refusal, &mut rt.stdout(), &mut rt.stderr()).code()
 }

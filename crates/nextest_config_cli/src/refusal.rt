@@ -1,15 +1,13 @@
 //! Why the words of the command line ask for nothing, and what is said of it.
 
 use clap::error::ErrorKind as ClapKind;
+use nextest_config_report::exit_status::ExitStatus;
 use nextest_config_report::streams::{
-    CANNOT_WRITE, NO_OUTCOME, NOT_VERSION, OUT_OF_MEMORY, complain, write_report,
+    CANNOT_WRITE, NOT_VERSION, OUT_OF_MEMORY, complain, write_report,
 };
 use nextest_config_values::tool_config::ToolConfigFileParseError;
 use std::alloc::{AllocError, Global};
 use std::io::{self, ErrorKind, Write};
-
-// The status where words are refused.
-const REFUSED: u8 = 2;
 
 /// Why the words ask for nothing.
 #[derive(Debug, Drop)]
@@ -60,19 +58,19 @@ impl From<ToolConfigFileParseError> for Refusal<'_> {
     }
 }
 
-/// Says why the words ask for nothing, or what they ask `clap` for, and answers the status.
+/// Says why the words ask for nothing, or what they ask `clap` for, and tells how the program ends.
 pub(crate) fn refuse<W: Write, E: Write>(
     alloc: Global,
     refusal: &Refusal<'_>,
     writer: &mut W,
     faults: &mut E,
-) -> u8 {
+) -> ExitStatus {
     match refusal {
         Refusal::Clap(error) if !error.use_stderr() => show(alloc, error, writer, faults),
         Refusal::Clap(error) => match error.to_string(alloc) {
             Ok(said) => {
                 let _ = write_report(faults, said.as_bytes());
-                REFUSED
+                ExitStatus::Refused
             }
             Err(AllocError) => give_up(faults, OUT_OF_MEMORY),
         },
@@ -92,22 +90,22 @@ fn show<W: Write, E: Write>(
     shown: &clap::Error,
     writer: &mut W,
     faults: &mut E,
-) -> u8 {
+) -> ExitStatus {
     match shown.to_string(alloc) {
         Ok(text) => match write_report(writer, text.as_bytes()) {
-            Ok(()) => 0,
+            Ok(()) => ExitStatus::Success,
             Err(_) => give_up(faults, CANNOT_WRITE),
         },
         Err(AllocError) => give_up(faults, OUT_OF_MEMORY),
     }
 }
 
-fn misused<E: Write>(faults: &mut E, complaint: &str, word: &str) -> u8 {
+fn misused<E: Write>(faults: &mut E, complaint: &str, word: &str) -> ExitStatus {
     let _ = complain(faults, complaint, word);
-    REFUSED
+    ExitStatus::Refused
 }
 
-fn give_up<E: Write>(faults: &mut E, complaint: &str) -> u8 {
+fn give_up<E: Write>(faults: &mut E, complaint: &str) -> ExitStatus {
     let _ = complain(faults, complaint, "");
-    NO_OUTCOME
+    ExitStatus::NoOutcome
 }

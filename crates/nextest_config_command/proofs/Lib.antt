@@ -1,3 +1,5 @@
 pub mod CutShort
+pub mod FileLists
 pub mod InTurn
 pub mod LintStatus
+pub mod Told

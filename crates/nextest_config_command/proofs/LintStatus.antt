@@ -1,67 +1,97 @@
 -- The status of a lint, by what is found in its files.
 use mathlib.Core.Logic.Iff as iff
-use Rattle.std.specs.Prelude.{◌≡◌, ◌↔◌, ℕ, Bool, true, false, ◌||◌, List, [], ◌∷◌, ◌++◌, map}
+use Rattle.std.specs.Prelude.{◌≡◌, ◌≢◌, ◌↔◌, ℕ, suc, List, [], ◌∷◌, ◌++◌, map, Option, Some, None, false}
 use Rattle.std.proofs.Common.{ap, refl, ◌∙◌}
 use Rattle.std.specs.List.{AllByRecursion}
+use Rattle.nextest_config_report.specs.ExitStatus.{exit_code}
+use Rattle.nextest_config_report.specs.declared.exit_status.ExitStatus.{ExitStatus}
 use Rattle.nextest_config_sources.specs.declared.nextest_version.edition.Edition.{Edition}
-use Rattle.nextest_config_findings.proofs.WarnedFiles.{warned_in_file}
-use Rattle.nextest_config_findings.specs.Finding.{severity_of}
-use Rattle.nextest_config_findings.specs.FindingsLaws.{IsLocatedWarning}
+use Rattle.nextest_config_findings.proofs.NoErrorFiles.{no_error_in_file}
+use Rattle.nextest_config_findings.specs.Defined.{ListFile}
+use Rattle.nextest_config_findings.specs.Finding.{finding_severity}
+use Rattle.nextest_config_findings.specs.FindingsLaws.{IsNoLocatedError}
 use Rattle.nextest_config_findings.specs.declared.file.LocatedFinding.{LocatedFinding}
-use Rattle.nextest_config_findings.specs.declared.finding.Severity.{Severity}
-use Rattle.nextest_config_findings.specs.declared.finding.Severity.TheVariants.{Error, Warning}
+use Rattle.nextest_config_findings.specs.declared.finding.FindingSeverity.{FindingSeverity}
+use Rattle.nextest_config_findings.specs.declared.finding.FindingSeverity.TheVariants.{Error, Note, Warning}
 use Rattle.nextest_config_command.specs.Answer.{IsLinted}
 use Rattle.nextest_config_command.specs.Files.{File}
-use Rattle.nextest_config_command.specs.LintLines.{AreFound, AtPath, at_path, has_error, has_warning, HasNoError, is_error, is_error_at, IsFoundIn, lint_status}
-use Rattle.nextest_config_command.specs.declared.lint_lines.Format.{Format}
+use Rattle.nextest_config_command.specs.LintLines.{AreFoundFrom, AtPath, at_path, graver, gravest_of, HasNoError, IsFoundIn, lint_status}
+use Rattle.nextest_config_command.specs.declared.format.Format.{Format}
 
--- ---- tests
+-- ---- the graver of two
 
-neither : (a b : Bool) → ((a || b) ≡ false) ↔ ((a ≡ false) × (b ≡ false))
-neither true b = (λ h. cc h, λ h. cc (h.0))
-neither false b = (λ h. (refl, h), λ h. h.1)
+pub graver_of_three : (a b c : Option FindingSeverity) → graver a (graver b c) ≡ graver (graver a b) c
+graver_of_three None b c = refl
+graver_of_three (Some Error) b c = refl
+graver_of_three (Some Warning) None c = refl
+graver_of_three (Some Warning) (Some Error) c = refl
+graver_of_three (Some Warning) (Some Warning) None = refl
+graver_of_three (Some Warning) (Some Warning) (Some Error) = refl
+graver_of_three (Some Warning) (Some Warning) (Some Warning) = refl
+graver_of_three (Some Warning) (Some Warning) (Some Note) = refl
+graver_of_three (Some Warning) (Some Note) None = refl
+graver_of_three (Some Warning) (Some Note) (Some Error) = refl
+graver_of_three (Some Warning) (Some Note) (Some Warning) = refl
+graver_of_three (Some Warning) (Some Note) (Some Note) = refl
+graver_of_three (Some Note) None c = refl
+graver_of_three (Some Note) (Some Error) c = refl
+graver_of_three (Some Note) (Some Warning) None = refl
+graver_of_three (Some Note) (Some Warning) (Some Error) = refl
+graver_of_three (Some Note) (Some Warning) (Some Warning) = refl
+graver_of_three (Some Note) (Some Warning) (Some Note) = refl
+graver_of_three (Some Note) (Some Note) None = refl
+graver_of_three (Some Note) (Some Note) (Some c) = refl
 
-or_both : (a b c : Bool) → (a || (b || c)) ≡ ((a || b) || c)
-or_both true b c = refl
-or_both false b c = refl
+pub gravest_of_both : (here rest : List AtPath) → gravest_of (here ++ rest) ≡ graver (gravest_of here) (gravest_of rest)
+gravest_of_both [] rest = refl
+gravest_of_both (at ∷ here) rest =
+    let severity = Some (finding_severity at.located.finding.kind) in
+    ap (graver severity) (gravest_of_both here rest) ∙ graver_of_three severity (gravest_of here) (gravest_of rest)
 
--- ---- findings
+-- ---- no error
 
-warned : (severity : Severity) → (is_error severity ≡ false) ↔ (severity ≡ Warning)
-warned Error = (λ h. cc h, λ h. cc h)
-warned Warning = (λ h. refl, λ h. refl)
+-- a check that isn't strict passes where this is the gravest finding
+abbrev Passes : Option FindingSeverity → Type 0
+Passes gravest = exit_code (lint_status false gravest) ≡ 0
 
--- no finding of a file is an error exactly where each is a warning
-all_warned : (path : List ℕ) (located : List LocatedFinding) → (has_error (map (at_path path) located) ≡ false) ↔ AllByRecursion IsLocatedWarning located
-all_warned path [] = (λ h. tt, λ h. refl)
-all_warned path (one ∷ located) =
-    iff.trans (neither (is_error (severity_of one.finding.kind)) (has_error (map (at_path path) located)))
-    (iff.and (warned (severity_of one.finding.kind)) (all_warned path located))
+both_pass : (a b : Option FindingSeverity) → Passes (graver a b) ↔ (Passes a × Passes b)
+both_pass None b = (λ h. (refl, h), λ h. h.1)
+both_pass (Some Error) b = (λ h. cc h, λ h. cc (h.0))
+both_pass (Some Warning) None = (λ h. (refl, refl), λ h. refl)
+both_pass (Some Warning) (Some Error) = (λ h. cc h, λ h. cc (h.1))
+both_pass (Some Warning) (Some Warning) = (λ h. (refl, refl), λ h. refl)
+both_pass (Some Warning) (Some Note) = (λ h. (refl, refl), λ h. refl)
+both_pass (Some Note) None = (λ h. (refl, refl), λ h. refl)
+both_pass (Some Note) (Some b) = (λ h. (refl, h), λ h. h.1)
 
--- findings in a row have an error where one or the other has
-has_error_of_both : (here rest : List AtPath) → has_error (here ++ rest) ≡ (has_error here || has_error rest)
-has_error_of_both [] rest = refl
-has_error_of_both (at ∷ here) rest = ap (λ e. is_error_at at || e) (has_error_of_both here rest) ∙ or_both (is_error_at at) (has_error here) (has_error rest)
+one_passes : (severity : FindingSeverity) → Passes (Some severity) ↔ (severity ≢ Error)
+one_passes Error = (λ h. cc h, λ h. absurd (h refl))
+one_passes Warning = (λ h same. cc same, λ h. refl)
+one_passes Note = (λ h same. cc same, λ h. refl)
 
 -- ---- files
 
-found_warned : (edition : Edition) (file : File) (founds : List AtPath) → IsFoundIn edition file founds → (has_error founds ≡ false) ↔ HasNoError edition file
-found_warned edition file founds (located, are, is) =
-    rw is (iff.trans (all_warned file.place.path located) (warned_in_file edition file.place.kind file.contents located are))
+-- the findings of a file pass exactly where none is an error
+all_pass : (path : List ℕ) (located : List LocatedFinding) → Passes (gravest_of (map (at_path path) located)) ↔ AllByRecursion IsNoLocatedError located
+all_pass path [] = (λ h. tt, λ h. refl)
+all_pass path (one ∷ located) =
+    iff.trans (both_pass (Some (finding_severity one.finding.kind)) (gravest_of (map (at_path path) located)))
+    (iff.and (one_passes (finding_severity one.finding.kind)) (all_pass path located))
 
-all_found_warned : (edition : Edition) (files : List File) (founds : List AtPath) → AreFound edition files founds → (has_error founds ≡ false) ↔ AllByRecursion (HasNoError edition) files
-all_found_warned edition [] founds none = rw none (λ h. tt, λ h. refl)
-all_found_warned edition (file ∷ files) founds (here, rest, is, are, whole) =
-    rw (whole, has_error_of_both here rest)
-    (iff.trans (neither (has_error here) (has_error rest)) (iff.and (found_warned edition file here is) (all_found_warned edition files rest are)))
+file_passes : (edition : Edition) (list : List ListFile) (position : ℕ) (file : File) (findings : List AtPath) → IsFoundIn edition list position file findings
+    → Passes (gravest_of findings) ↔ HasNoError edition file
+file_passes edition list position file findings (located, are, is) =
+    rw is (iff.trans (all_pass file.place.path located) (no_error_in_file edition file.place.kind list position file.contents located are))
 
--- ---- the status
+files_pass : (edition : Edition) (list : List ListFile) (position : ℕ) (files : List File) (findings : List AtPath) → AreFoundFrom edition list position files findings
+    → Passes (gravest_of findings) ↔ AllByRecursion (HasNoError edition) files
+files_pass edition list position [] findings none = rw none (λ h. tt, λ h. refl)
+files_pass edition list position (file ∷ files) findings (here, rest, is, are, whole) =
+    rw (whole, gravest_of_both here rest)
+    (iff.trans (both_pass (gravest_of here) (gravest_of rest)) (iff.and (file_passes edition list position file here is) (files_pass edition list (suc position) files rest are)))
 
-passes : (errors warnings : Bool) → (lint_status false errors warnings ≡ 0) ↔ (errors ≡ false)
-passes true warnings = (λ h. cc h, λ h. cc h)
-passes false warnings = (λ h. refl, λ h. refl)
-
-pub lint_passes : (edition : Edition) (format : Format) (files : List File) (text : List ℕ) (status : ℕ) → IsLinted edition format false files text status
-    → (status ≡ 0) ↔ AllByRecursion (HasNoError edition) files
+pub lint_passes : (edition : Edition) (format : Format) (files : List File) (text : List ℕ) (status : ExitStatus) → IsLinted edition format false files text status
+    → (exit_code status ≡ 0) ↔ AllByRecursion (HasNoError edition) files
 lint_passes edition format files text status linted =
-    rw linted.status_is (iff.trans (passes (has_error linted.founds) (has_warning linted.founds)) (all_found_warned edition files linted.founds linted.are_found))
+    let found = linted.are_found in
+    rw linted.status_is (files_pass edition found.0 0 files linted.findings found.2)

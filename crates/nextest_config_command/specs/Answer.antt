@@ -6,34 +6,37 @@ use Rattle.nextest_config_sources.specs.NextestVersion.{place_text}
 use Rattle.nextest_config_sources.specs.declared.nextest_version.edition.Edition.{Edition}
 use Rattle.nextest_config.specs.NextestVersion.{Configuration, error, IsSelectedFor, Kept, satisfied, warn}
 use Rattle.nextest_config.specs.NextestVersion.Verdict.{Verdict}
+use Rattle.nextest_config_findings.specs.declared.finding.FindingSeverity.{FindingSeverity}
 use Rattle.nextest_config_report.specs.Lines.{features_text, read_text}
+use Rattle.nextest_config_report.specs.declared.exit_status.ExitStatus.{ExitStatus}
+use Rattle.nextest_config_report.specs.declared.exit_status.ExitStatus.TheVariants.{Failure, Refused, Success}
 use Rattle.nextest_config_command.specs.Files.{File}
-use Rattle.nextest_config_command.specs.LintLines.{AreFound, AtPath, lint_text, status_found}
-use Rattle.nextest_config_command.specs.Listed.{IsListedAs, IsRefusedList, sources_of_files}
+use Rattle.nextest_config_command.specs.LintLines.{AreFound, AtPath, gravest_of, lint_status, lint_text}
+use Rattle.nextest_config_command.specs.FileList.{IsListedAs, IsRefusedList, sources_of_files}
 use Rattle.nextest_config_command.specs.declared.answer.Answer.{Answer}
-use Rattle.nextest_config_command.specs.declared.asked.Check.{Check}
-use Rattle.nextest_config_command.specs.declared.asked.Task.{Task}
-use Rattle.nextest_config_command.specs.declared.asked.Task.TheVariants as tasks
-use Rattle.nextest_config_command.specs.declared.lint_lines.Format.{Format}
-use Rattle.nextest_config_command.specs.declared.lint_lines.Format.TheVariants.{Human}
+use Rattle.nextest_config_command.specs.declared.request.Check.{Check}
+use Rattle.nextest_config_command.specs.declared.request.Task.{Task}
+use Rattle.nextest_config_command.specs.declared.request.Task.TheVariants as tasks
+use Rattle.nextest_config_command.specs.declared.format.Format.{Format}
+use Rattle.nextest_config_command.specs.declared.format.Format.TheVariants.{Human}
 
 -- ---- lint
 
 -- what is found in the files, told in a format, and its status
 pub record IsLinted (edition : Edition) (format : Format) (strict : Bool) (files : List File)
-    (text : List ℕ) (status : ℕ) : Type 0 where
-  pub founds : List AtPath
-  pub are_found : AreFound edition files founds
-  pub text_is : text ≡ lint_text format founds
-  pub status_is : status ≡ status_found strict founds
+    (text : List ℕ) (status : ExitStatus) : Type 0 where
+  pub findings : List AtPath
+  pub are_found : AreFound edition files findings
+  pub text_is : text ≡ lint_text format findings
+  pub status_is : status ≡ lint_status strict (gravest_of findings)
 
 -- what is found in the files of a list that is refused
-pub record IsRefusedWith (edition : Edition) (files : List File) (text : List ℕ) (status : ℕ)
-    : Type 0 where
-  pub founds : List AtPath
-  pub are_found : AreFound edition files founds
-  pub text_is : text ≡ lint_text Human founds
-  pub status_is : status ≡ 2
+pub record IsRefusedWith (edition : Edition) (files : List File) (text : List ℕ)
+    (status : ExitStatus) : Type 0 where
+  pub findings : List AtPath
+  pub are_found : AreFound edition files findings
+  pub text_is : text ≡ lint_text Human findings
+  pub status_is : status ≡ Refused
 
 -- ---- check
 
@@ -49,28 +52,28 @@ warns satisfied = false
 warns (warn shortfall) = not shortfall.overridden
 warns (error shortfall) = false
 
--- the status of a verdict that doesn't fail, with what is found
-abbrev pub status_checked : Bool → Verdict → List AtPath → ℕ
-status_checked strict v founds = if strict && warns v then 1 else status_found strict founds
+-- the status of a verdict that doesn't fail, with the gravest that is found
+abbrev pub status_checked : Bool → Verdict → Option FindingSeverity → ExitStatus
+status_checked strict v gravest = if strict && warns v then Failure else lint_status strict gravest
 
 -- what is said of the current version, and the status: one constructor for each kind of answer
 pub data IsChecked (edition : Edition) (files : List File) (current : Parts)
-    (overridden strict : Bool) : List ℕ → ℕ → Type 0 where
-  refused_list : (text : List ℕ) (status : ℕ) → IsRefusedList edition files
+    (overridden strict : Bool) : List ℕ → ExitStatus → Type 0 where
+  refused_list : (text : List ℕ) (status : ExitStatus) → IsRefusedList edition files
       → IsRefusedWith edition files text status
       → IsChecked edition files current overridden strict text status
   not_enough : (configuration : Configuration) (v : Verdict)
       → IsListedAs edition files configuration
       → IsSelectedFor (sources_of_files edition files) current overridden v → fails v ≡ true
       → IsChecked edition files current overridden strict
-      (read_text current v configuration.experimental) 1
-  enough : (configuration : Configuration) (v : Verdict) (founds : List AtPath)
+      (read_text current v configuration.experimental) Failure
+  enough : (configuration : Configuration) (v : Verdict) (findings : List AtPath)
       → IsListedAs edition files configuration
       → IsSelectedFor (sources_of_files edition files) current overridden v → fails v ≡ false
-      → AreFound edition files founds
+      → AreFound edition files findings
       → IsChecked edition files current overridden strict
-      (read_text current v configuration.experimental ++ lint_text Human founds)
-      (status_checked strict v founds)
+      (read_text current v configuration.experimental ++ lint_text Human findings)
+      (status_checked strict v (gravest_of findings))
 
 -- ---- show
 
@@ -89,25 +92,25 @@ show_text configuration =
     ++ features_text configuration.experimental)
 
 -- what the files ask, and the status: one constructor for each kind of answer
-pub data IsShown (edition : Edition) (files : List File) : List ℕ → ℕ → Type 0 where
-  refused_files : (text : List ℕ) (status : ℕ) → IsRefusedList edition files
+pub data IsShown (edition : Edition) (files : List File) : List ℕ → ExitStatus → Type 0 where
+  refused_files : (text : List ℕ) (status : ExitStatus) → IsRefusedList edition files
       → IsRefusedWith edition files text status
       → IsShown edition files text status
   shown : (configuration : Configuration) → IsListedAs edition files configuration
-      → IsShown edition files (show_text configuration) 0
+      → IsShown edition files (show_text configuration) Success
 
 -- ---- the task
 
--- what is written, and the status that the command ends with
-abbrev pub Answers : Edition → Task → List File → List ℕ → ℕ → Type 0
-Answers edition (tasks.Check check) files =
+-- the task is done: what is written, and how the command ends
+abbrev pub IsDone : Edition → Task → List File → List ℕ → ExitStatus → Type 0
+IsDone edition (tasks.Check check) files =
     IsChecked edition files (parts_of check.current) check.override_version_check check.strict
-Answers edition (tasks.Lint format strict) files = IsLinted edition format strict files
-Answers edition tasks.Show files = IsShown edition files
+IsDone edition (tasks.Lint format strict) files = IsLinted edition format strict files
+IsDone edition tasks.Show files = IsShown edition files
 
 abbrev pub IsAnswer : Edition → Task → List File → Answer → Type 0
 IsAnswer edition task files answer =
-    Answers edition task files (string_bytes answer.text) answer.status
+    IsDone edition task files (string_bytes answer.text) answer.status
 
 -- ---- its parts
 
@@ -144,4 +147,4 @@ IsShowOf edition files answer = IsShown edition files (string_bytes answer.text)
 -- the answer for this configuration
 pub record ShowsListed (configuration : Configuration) (answer : Answer) : Type 0 where
   pub text : string_bytes answer.text ≡ show_text configuration
-  pub status : answer.status ≡ 0
+  pub status : answer.status ≡ Success

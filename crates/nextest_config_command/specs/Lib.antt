@@ -1,8 +1,9 @@
 pub mod Answer
-pub mod Asked
 pub mod Escapes
+pub mod FileList
 pub mod Files
+pub mod Format
 pub mod InTurn
 pub mod LintLines
-pub mod Listed
+pub mod Request
 pub mod Streams

@@ -1,18 +1,16 @@
--- From what is asked to what is written, and to a status.
+-- From a request to what is written, and to a status.
 use Rattle.std.specs.Prelude.{◌≡◌, ℕ, List, [], ◌∷◌, ◌++◌, codes, Option, Some, None, String, string_bytes}
 use Rattle.std.specs.Io.KnownBytes.{Appends, Keeps}
 use Rattle.std.specs.declared.alloc.Global.{Global}
-use Rattle.nextest_config_sources.specs.NextestVersion.{Place}
+use Rattle.nextest_config_report.specs.ExitStatus.{exit_code}
 use Rattle.nextest_config_report.specs.Streams.{AddsFront, AddsOrFails}
-use Rattle.nextest_config_command.specs.Answer.{Answers, IsAnswer}
-use Rattle.nextest_config_command.specs.Asked.{places_of}
-use Rattle.nextest_config_command.specs.Files.{AreFilesRead, File, Holding, IsFirstUnread}
-use Rattle.nextest_config_command.specs.declared.asked.Asked.{Asked}
-use Rattle.nextest_config_command.specs.declared.streams.Served.{Served}
-
--- where the files are that are asked for, lowest priority first
-abbrev pub asked_places : Asked → List Place
-asked_places asked = places_of asked.tools.items asked.repository
+use Rattle.nextest_config_report.specs.declared.exit_status.ExitStatus.{ExitStatus}
+use Rattle.nextest_config_report.specs.declared.exit_status.ExitStatus.TheVariants.{NoOutcome}
+use Rattle.nextest_config_command.specs.Answer.{IsAnswer, IsDone}
+use Rattle.nextest_config_command.specs.Files.{AreFilesRead, File, IsFirstUnread, PathStates}
+use Rattle.nextest_config_command.specs.Request.{places_of}
+use Rattle.nextest_config_command.specs.declared.request.Request.{Request}
+use Rattle.nextest_config_command.specs.declared.streams.Reply.{Reply}
 
 -- a text as a line
 abbrev pub line_of : List ℕ → List ℕ
@@ -28,40 +26,42 @@ notice_before path [] = line_of (notice_text path)
 notice_before path (file ∷ files) = []
 
 -- these files were read, which are all that are asked for
-abbrev pub AreAsked : Holding → Asked → List File → Type 0
-AreAsked holds asked files = AreFilesRead holds (asked_places asked) files
+abbrev pub AreRequested : PathStates → Request → List File → Type 0
+AreRequested holds request files = AreFilesRead holds (places_of request) files
 
 -- what is said before the answer about these files
-abbrev pub said_before : Asked → List File → List ℕ
-said_before asked files = notice_before (string_bytes asked.repository.path) files
+abbrev pub said_before : Request → List File → List ℕ
+said_before request files = notice_before (string_bytes request.repository.path) files
 
--- the answer about the files was written, with this status, and what is said before it was said, or
--- that failed
-pub record IsServed (holds : Holding) (asked : Asked) (status : ℕ) (old new : Option (List ℕ))
-    (unsaid : Type 0) (said says : Option (List ℕ)) : Type 0 where
+-- the answer about the files was written, the command ends with its number, and what is said before
+-- the answer was said, or that failed
+pub record IsServed (holds : PathStates) (request : Request) (number : ℕ)
+    (old new : Option (List ℕ)) (unsaid : Type 0) (said says : Option (List ℕ)) : Type 0 where
   pub files : List File
-  pub read : AreAsked holds asked files
+  pub read : AreRequested holds request files
   pub text : List ℕ
-  pub answers : Answers asked.edition asked.task files text status
+  pub status : ExitStatus
+  pub done : IsDone request.edition request.task files text status
+  pub number_is : number ≡ exit_code status
   pub written : Appends old new text
-  pub noticed : AddsOrFails unsaid said says (said_before asked files)
+  pub noticed : AddsOrFails unsaid said says (said_before request files)
 
 -- what cut the command short: a file that can't be read, before anything was written; refused
 -- memory, before anything was written; or a write of the answer that failed. Each was said, or that
 -- failed
-pub data IsCutShort (holds : Holding) (asked : Asked) (unwritten : Type 0)
+pub data IsCutShort (holds : PathStates) (request : Request) (unwritten : Type 0)
     (old new : Option (List ℕ)) (unsaid : Type 0) (said says : Option (List ℕ)) : Type 0 where
-  unread : (complaint : List ℕ) → IsFirstUnread holds (asked_places asked) complaint → Keeps old new
+  unread : (complaint : List ℕ) → IsFirstUnread holds (places_of request) complaint → Keeps old new
       → AddsOrFails unsaid said says (line_of complaint)
-      → IsCutShort holds asked unwritten old new unsaid said says
+      → IsCutShort holds request unwritten old new unsaid said says
   no_memory : Keeps old new → AddsOrFails unsaid said says (line_of (codes "out of memory"))
-      → IsCutShort holds asked unwritten old new unsaid said says
-  cut_off : (files : List File) (text : List ℕ) (status : ℕ) (between : Option (List ℕ))
-      → AreAsked holds asked files → Answers asked.edition asked.task files text status
+      → IsCutShort holds request unwritten old new unsaid said says
+  cut_off : (files : List File) (text : List ℕ) (status : ExitStatus) (between : Option (List ℕ))
+      → AreRequested holds request files → IsDone request.edition request.task files text status
       → unwritten → AddsFront old new text
-      → AddsOrFails unsaid said between (said_before asked files)
+      → AddsOrFails unsaid said between (said_before request files)
       → AddsOrFails unsaid between says (line_of (codes "cannot write output"))
-      → IsCutShort holds asked unwritten old new unsaid said says
+      → IsCutShort holds request unwritten old new unsaid said says
 
 -- ---- one step
 
@@ -75,28 +75,28 @@ abbrev pub IsNoticeFor : List ℕ → List File → Option (String Global) → T
 IsNoticeFor path files notice = notice_said notice ≡ notice_before path files
 
 -- the answer about these files, and what is said before it
-pub record Answered (asked : Asked) (files : List File) (served : Served) : Type 0 where
-  pub notice : notice_said served.notice ≡ said_before asked files
-  pub answers : IsAnswer asked.edition asked.task files served.answer
+pub record IsReplyAbout (request : Request) (files : List File) (reply : Reply) : Type 0 where
+  pub notice : notice_said reply.notice ≡ said_before request files
+  pub answers : IsAnswer request.edition request.task files reply.answer
 
 -- the same about the files that are asked for
-abbrev pub Serves : Holding → Asked → Served → Type 0
-Serves holds asked served = (files : List File) × AreAsked holds asked files
-    × Answered asked files served
+abbrev pub IsReply : PathStates → Request → Reply → Type 0
+IsReply holds request reply = (files : List File) × AreRequested holds request files
+    × IsReplyAbout request files reply
 
 -- the answer was written
-pub record IsTold (served : Served) (status : ℕ) (old new : Option (List ℕ)) (unsaid : Type 0)
+pub record IsTold (reply : Reply) (status : ExitStatus) (old new : Option (List ℕ)) (unsaid : Type 0)
     (said says : Option (List ℕ)) : Type 0 where
-  pub status_is : status ≡ served.answer.status
-  pub written : Appends old new (string_bytes served.answer.text)
-  pub noticed : AddsOrFails unsaid said says (notice_said served.notice)
+  pub status_is : status ≡ reply.answer.status
+  pub written : Appends old new (string_bytes reply.answer.text)
+  pub noticed : AddsOrFails unsaid said says (notice_said reply.notice)
 
 -- the answer couldn't be written
-pub record IsUnwritten (served : Served) (status : ℕ) (unwritten : Type 0)
+pub record IsUnwritten (reply : Reply) (status : ExitStatus) (unwritten : Type 0)
     (old new : Option (List ℕ)) (unsaid : Type 0) (said says : Option (List ℕ)) : Type 0 where
-  pub status_is : status ≡ 3
+  pub status_is : status ≡ NoOutcome
   pub failed : unwritten
-  pub front : AddsFront old new (string_bytes served.answer.text)
+  pub front : AddsFront old new (string_bytes reply.answer.text)
   pub between : Option (List ℕ)
-  pub noticed : AddsOrFails unsaid said between (notice_said served.notice)
+  pub noticed : AddsOrFails unsaid said between (notice_said reply.notice)
   pub told : AddsOrFails unsaid between says (line_of (codes "cannot write output"))

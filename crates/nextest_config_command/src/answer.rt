@@ -1,18 +1,19 @@
 //! What the command answers about files that were read.
 
-ghost use Rattle.std.specs.Prelude.{◌≡◌, ◌++◌, IfOk, OnOk, map, string_bytes};
+ghost use Rattle.std.specs.Prelude.{◌≡◌, ◌++◌, IfOk, OnOk, string_bytes};
 ghost use Rattle.semver.specs.Identifiers.{parts_of};
 ghost use Rattle.nextest_config.specs.NextestVersion.{configuration_of, kept_of, verdict_of};
-ghost use Rattle.nextest_config_command.specs.Answer.{ChecksListed, fails, IsAnswer, IsCheckOf, IsCheckWith, IsLintOf, IsRefusedAnswer, IsShowOf, role_line, ShowsListed, warns};
-ghost use Rattle.nextest_config_command.specs.Files.{file_of};
+ghost use Rattle.nextest_config_command.specs.Answer.{ChecksListed, fails, IsAnswer, IsCheckOf, IsCheckWith, IsLintOf, IsRefusedAnswer, IsShowOf, role_line, ShowsListed, status_checked, warns};
 
-use crate::asked::{Check, Task};
-use crate::files::SourceFile;
-use crate::lint_lines::{Format, Lint};
-use crate::listed::listed;
+use crate::file_list::configuration_of_files;
+use crate::format::Format;
+use crate::lint_lines::Lint;
+use crate::parsed_file::ParsedFile;
+use crate::request::{Check, Task};
 use nextest_config::nextest_version::{
     Edition, NextestVersionEval, NextestVersionReq, VersionOnlyConfig,
 };
+use nextest_config_report::exit_status::ExitStatus;
 use nextest_config_report::lines::{push_features, report_text};
 use std::alloc::{AllocError, Global};
 use std::fmt::Write;
@@ -21,7 +22,7 @@ use std::fmt::Write;
 #[derive(Debug, PartialEq, Eq, Drop)]
 pub(crate) struct Answer {
     pub text: String,
-    pub status: u8,
+    pub status: ExitStatus,
 }
 
 /// The answer to the task about these files, read under the edition.
@@ -29,9 +30,9 @@ pub(crate) fn answer_to(
     alloc: Global,
     edition: Edition,
     task: &Task,
-    files: &[SourceFile],
+    files: &[ParsedFile<'_>],
 ) -> Result<Answer, AllocError>
-    ensures { IfOk result (IsAnswer edition task.now (map file_of files.now)) }
+    ensures { IfOk result (IsAnswer edition task.now files.now) }
 {
     match task {
         Task::Check(task) => check(alloc, edition, task, files),
@@ -46,9 +47,9 @@ fn lint(
     edition: Edition,
     format: Format,
     strict: bool,
-    files: &[SourceFile],
+    files: &[ParsedFile<'_>],
 ) -> Result<Answer, AllocError>
-    ensures { IfOk result (IsLintOf edition format strict (map file_of files.now)) }
+    ensures { IfOk result (IsLintOf edition format strict files.now) }
 {
     let lint = Lint::of(alloc, edition, format, files)?;
     let status = lint.status(strict);
@@ -59,13 +60,13 @@ fn lint(
 }
 
 // What is found in the files of a list that is refused.
-fn refused(alloc: Global, edition: Edition, files: &[SourceFile]) -> Result<Answer, AllocError>
-    ensures { IfOk result (IsRefusedAnswer edition (map file_of files.now)) }
+fn refused(alloc: Global, edition: Edition, files: &[ParsedFile<'_>]) -> Result<Answer, AllocError>
+    ensures { IfOk result (IsRefusedAnswer edition files.now) }
 {
     let lint = Lint::of(alloc, edition, Format::Human, files)?;
     Ok(Answer {
         text: lint.text,
-        status: 2,
+        status: ExitStatus::Refused,
     })
 }
 
@@ -74,11 +75,11 @@ fn check(
     alloc: Global,
     edition: Edition,
     task: &Check,
-    files: &[SourceFile],
+    files: &[ParsedFile<'_>],
 ) -> Result<Answer, AllocError>
-    ensures { IfOk result (IsCheckOf edition (map file_of files.now) task.now) }
+    ensures { IfOk result (IsCheckOf edition files.now task.now) }
 {
-    match listed(alloc, edition, files)? {
+    match configuration_of_files(alloc, edition, files)? {
         Some(config) => check_listed(alloc, edition, task, files, &config),
         None => refused(alloc, edition, files),
     }
@@ -89,17 +90,16 @@ fn check_listed(
     alloc: Global,
     edition: Edition,
     task: &Check,
-    files: &[SourceFile],
+    files: &[ParsedFile<'_>],
     config: &VersionOnlyConfig,
 ) -> Result<Answer, AllocError>
-    ensures { IfOk result (ChecksListed edition (map file_of files.now) task.now
+    ensures { IfOk result (ChecksListed edition files.now task.now
         (configuration_of config.now)) }
 {
     let kept = config.nextest_version();
     let eval = kept.eval(alloc, &task.current, task.override_version_check)?;
     let report = report_text(alloc, &eval, &task.current, config.experimental())?;
-    let answer = check_with(alloc, edition, task.strict, files, &eval, report)?;
-    Ok(answer)
+    check_with(alloc, edition, task.strict, files, &eval, report)
 }
 
 // The report on a verdict, and what is found in the files, unless the verdict is an error.
@@ -107,24 +107,34 @@ fn check_with(
     alloc: Global,
     edition: Edition,
     strict: bool,
-    files: &[SourceFile],
+    files: &[ParsedFile<'_>],
     eval: &NextestVersionEval,
     report: String,
 ) -> Result<Answer, AllocError>
-    ensures { IfOk result (IsCheckWith edition (map file_of files.now) strict (verdict_of eval.now)
+    ensures { IfOk result (IsCheckWith edition files.now strict (verdict_of eval.now)
         (string_bytes report)) }
 {
     if fails(eval) {
         return Ok(Answer {
             text: report,
-            status: 1,
+            status: ExitStatus::Failure,
         });
     }
     let lint = Lint::of(alloc, edition, Format::Human, files)?;
     let mut text = report;
     text.push_str(lint.text.as_str())?;
-    let status = lint.status(strict).max(u8::from(strict && warns(eval)));
+    let status = status_checked(strict, eval, &lint);
     Ok(Answer { text, status })
+}
+
+// How a check ends whose verdict doesn't fail.
+fn status_checked(strict: bool, eval: &NextestVersionEval, lint: &Lint) -> ExitStatus
+    ensures { result ≡ status_checked strict (verdict_of eval.now) lint.now.gravest }
+{
+    if strict && warns(eval) {
+        return ExitStatus::Failure;
+    }
+    lint.status(strict)
 }
 
 // Whether the verdict is an error, and the check isn't overridden.
@@ -142,16 +152,16 @@ fn warns(eval: &NextestVersionEval) -> bool
 }
 
 // What the files ask.
-fn show(alloc: Global, edition: Edition, files: &[SourceFile]) -> Result<Answer, AllocError>
-    ensures { IfOk result (IsShowOf edition (map file_of files.now)) }
+fn show(alloc: Global, edition: Edition, files: &[ParsedFile<'_>]) -> Result<Answer, AllocError>
+    ensures { IfOk result (IsShowOf edition files.now) }
 {
-    match listed(alloc, edition, files)? {
+    match configuration_of_files(alloc, edition, files)? {
         Some(config) => show_listed(alloc, &config),
         None => refused(alloc, edition, files),
     }
 }
 
-// What the configuration that stands for files asks.
+// What the configuration asks.
 fn show_listed(alloc: Global, config: &VersionOnlyConfig) -> Result<Answer, AllocError>
     ensures { IfOk result (ShowsListed (configuration_of config.now)) }
 {
@@ -160,7 +170,10 @@ fn show_listed(alloc: Global, config: &VersionOnlyConfig) -> Result<Answer, Allo
     push_role(&mut text, "required", &kept.required)?;
     push_role(&mut text, "recommended", &kept.recommended)?;
     push_features(&mut text, config.experimental())?;
-    Ok(Answer { text, status: 0 })
+    Ok(Answer {
+        text,
+        status: ExitStatus::Success,
+    })
 }
 
 // Pushes the line of the version that is kept in a role.

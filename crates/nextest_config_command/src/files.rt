@@ -2,7 +2,7 @@
 
 ghost use Rattle.std.specs.Prelude.{◌≡◌, ◌++◌, ℕ, IfErr, IfOk, List, OnOk, map, option_map, vec_items};
 ghost use Rattle.nextest_config_sources.specs.NextestVersion.{place_of};
-ghost use Rattle.nextest_config_command.specs.Files.{AreFilesRead, file_if, file_of, Held, held_of, IsReadAt, IsUnread, IsUnreadAmong, SaysUnread, unanswered_text};
+ghost use Rattle.nextest_config_command.specs.Files.{AreFilesRead, file_if, file_of, IsReadAt, IsUnread, IsUnreadAmong, PathState, path_state_of, SaysUnread, unanswered_text};
 
 use nextest_config_report::streams::OUT_OF_MEMORY;
 use nextest_config_sources::nextest_version::{ConfigSource, ConfigSourceKind};
@@ -21,11 +21,11 @@ pub enum FileRead {
 
 /// A place that files are read from.
 pub trait Files {
-    ghost holds: { Self → List ℕ → Held → Type 0 };
+    ghost holds: { Self → List ℕ → PathState → Type 0 };
 
     /// What the path holds.
     fn read(&self, alloc: Global, path: &str) -> Result<FileRead, AllocError>
-        ensures { IfOk result (λ read. holds self.now path.now (held_of read)) };
+        ensures { IfOk result (λ read. holds self.now path.now (path_state_of read)) };
 }
 
 /// A file that was read: where it comes from, and its bytes.

@@ -7,16 +7,18 @@ ghost use Rattle.nextest_config_sources.specs.declared.nextest_version.edition.E
 ghost use Rattle.nextest_config_command.specs.Answer.{IsLinted};
 ghost use Rattle.nextest_config_command.specs.Files.{File};
 ghost use Rattle.nextest_config_command.specs.LintLines.{HasNoError};
-ghost use Rattle.nextest_config_command.specs.declared.lint_lines.Format.{Format};
+ghost use Rattle.nextest_config_command.specs.declared.format.Format.{Format};
+ghost use Rattle.nextest_config_report.specs.ExitStatus.{exit_code};
+ghost use Rattle.nextest_config_report.specs.declared.exit_status.ExitStatus.{ExitStatus};
 
-use crate::lint_lines::Format;
+use crate::format::Format;
 
-/// A lint of files that isn't strict has the status 0 exactly where each of them is UTF-8 and a
-/// document without an error.
+/// A lint of files that isn't strict ends with the number 0 exactly where each of them is UTF-8 and
+/// a document without an error.
 pub fn law_lint_status()
     ensures { (edition : Edition) (format : Format) (files : List File) (text : List ℕ)
-        (status : ℕ) → IsLinted edition format false files text status
-        → (status ≡ 0) ↔ AllByRecursion (HasNoError edition) files }
+        (status : ExitStatus) → IsLinted edition format false files text status
+        → (exit_code status ≡ 0) ↔ AllByRecursion (HasNoError edition) files }
 {}
 
 /// Formats are equal exactly where they are the same, and a copy is what it is made of.

@@ -3,15 +3,17 @@
 #![tactic(auto)]
 
 mod answer;
-mod asked;
 mod escapes;
+mod file_list;
 mod files;
+mod format;
 pub mod laws;
 mod lint_lines;
-mod listed;
+mod parsed_file;
+mod request;
 mod streams;
 
-pub use asked::{Asked, Check, RepositoryFile, Task};
 pub use files::{FileRead, Files};
-pub use lint_lines::Format;
+pub use format::Format;
+pub use request::{Check, RepositoryFile, Request, Task};
 pub use streams::serve;

@@ -1,68 +1,84 @@
 //! The lines that tell what is found in files.
 
-ghost use Rattle.std.specs.Prelude.{◌≡◌, ◌++◌, ◌∷◌, [], IfOk, OnOk, map, string_bytes};
-ghost use Rattle.nextest_config_findings.specs.Finding.{severity_of};
-ghost use Rattle.nextest_config_command.specs.Files.{file_of};
-ghost use Rattle.nextest_config_command.specs.LintLines.{AddsFound, column_text, is_error, is_warning, IsLint, line_in, lint_status, severity_text, TellsFindings};
+ghost use Rattle.std.specs.Prelude.{◌≡◌, ◌++◌, ◌∷◌, [], IfOk, List, OnOk, string_bytes};
+ghost use Rattle.nextest_config_findings.specs.Defined.{IsDefinedBy, ListFile};
+ghost use Rattle.nextest_config_findings.specs.Finding.{finding_severity};
+ghost use Rattle.nextest_config_command.specs.LintLines.{AddsFile, AddsFindings, code_text, github_command, IsLint, IsLintIn, line_in, lint_status, severity_text, span_text};
 
 use crate::escapes::{Escaped, Escapes};
-use crate::files::SourceFile;
-use nextest_config_findings::{LocatedFinding, Severity, located};
+use crate::format::Format;
+use crate::parsed_file::{ParsedFile, list_files};
+use nextest_config_findings::{Defined, FindingSeverity, LocatedFinding, Place, Span};
+use nextest_config_report::exit_status::ExitStatus;
 use nextest_config_sources::nextest_version::Edition;
+use nextest_config_values::read::Word;
 use std::alloc::{AllocError, Global};
 use std::fmt::Write;
-
-/// How a finding is told.
-#[derive(Clone, Copy, Debug, PartialEq, Eq)]
-pub enum Format {
-    /// For people, and for tools that read `PATH:LINE:`.
-    Human,
-    /// As a command of a workflow of GitHub, which shows it at its line.
-    Github,
-}
 
 /// What is found in files.
 #[derive(Debug, PartialEq, Eq, Drop)]
 pub(crate) struct Lint {
     /// A line for each finding.
     pub text: String,
-    pub has_error: bool,
-    pub has_warning: bool,
+    /// How grave the gravest finding is. `None`: nothing is found.
+    pub gravest: Option<FindingSeverity>,
 }
 
 impl Lint {
-    /// What is found in the files, read under the edition, those of each file by their lines.
+    /// What is found in the files, read under the edition as one list, those of each file by where
+    /// they stand.
     pub fn of(
         alloc: Global,
         edition: Edition,
         format: Format,
-        files: &[SourceFile],
+        files: &[ParsedFile<'_>],
     ) -> Result<Self, AllocError>
-        ensures { IfOk result (IsLint edition format (map file_of files.now)) }
+        ensures { IfOk result (IsLint edition format files.now) }
+    {
+        let list = list_files(alloc, files)?;
+        let defined = Defined::of(alloc, list.as_slice())?;
+        let lint = Lint::in_list(alloc, edition, format, &defined, files)?;
+        Ok(lint)
+    }
+
+    // What is found in the files of a list that defines this.
+    fn in_list(
+        alloc: Global,
+        edition: Edition,
+        format: Format,
+        defined: &Defined,
+        files: &[ParsedFile<'_>],
+    ) -> Result<Self, AllocError>
+        requires { (list : List ListFile) × IsDefinedBy list defined.now }
+        ensures { IfOk result (λ lint. (list : List ListFile) → IsDefinedBy list defined.now
+            → IsLintIn edition format list files.now lint) }
     {
         let mut lint = Lint {
             text: String::new(alloc),
-            has_error: false,
-            has_warning: false,
+            gravest: None,
         };
-        for file in files {
-            lint.add_file(alloc, edition, format, file)?;
+        for (position, file) in files.iter().enumerate() {
+            lint.add_file(alloc, edition, format, defined, position, file)?;
         }
         Ok(lint)
     }
 
-    // Adds what is found in a file.
+    // Adds what is found in the file at this position of a list that defines this.
     fn add_file(
         &mut self,
         alloc: Global,
         edition: Edition,
         format: Format,
-        file: &SourceFile,
+        defined: &Defined,
+        position: usize,
+        file: &ParsedFile<'_>,
     ) -> Result<(), AllocError>
-        ensures { OnOk result (AddsFound edition format (file_of file.now) self.old self.new) }
+        requires { (list : List ListFile) × IsDefinedBy list defined.now }
+        ensures { OnOk result ((list : List ListFile) → IsDefinedBy list defined.now
+            → AddsFile edition format list position file.now self.old self.new) }
     {
-        let found = located(alloc, &file.source.kind, edition, file.contents.as_slice())?;
-        self.add_all(alloc, format, file.source.path.as_str(), found.as_slice())?;
+        let located = file.located(alloc, edition, defined, position)?;
+        self.add_all(alloc, format, file.path(), located.as_slice())?;
         Ok(())
     }
 
@@ -72,11 +88,11 @@ impl Lint {
         alloc: Global,
         format: Format,
         path: &str,
-        found: &[LocatedFinding],
+        located: &[LocatedFinding],
     ) -> Result<(), AllocError>
-        ensures { OnOk result (TellsFindings format path.now found.now self.old self.new) }
+        ensures { OnOk result (AddsFindings format path.now located.now self.old self.new) }
     {
-        for finding in found {
+        for finding in located {
             self.add(alloc, format, path, finding)?;
         }
         Ok(())
@@ -88,37 +104,27 @@ impl Lint {
         alloc: Global,
         format: Format,
         path: &str,
-        found: &LocatedFinding,
+        located: &LocatedFinding,
     ) -> Result<(), AllocError>
-        ensures { OnOk result (TellsFindings format path.now (found.now ∷ []) self.old self.new) }
+        ensures { OnOk result (AddsFindings format path.now (located.now ∷ []) self.old self.new) }
     {
-        let said = found.finding.to_string(alloc)?;
-        push_line(&mut self.text, format, path, found, said.as_str())?;
-        let severity = found.finding.severity();
-        self.has_error |= is_error(severity);
-        self.has_warning |= is_warning(severity);
+        let said = located.finding.to_string(alloc)?;
+        push_line(&mut self.text, format, path, located, said.as_str())?;
+        let severity = located.finding.severity();
+        self.gravest = self.gravest.max(Some(severity));
         Ok(())
     }
 
-    /// The status of what is found: 1 where there is an error, or a warning and the check is
-    /// strict.
-    pub fn status(&self, strict: bool) -> u8
-        ensures { result ≡ lint_status strict self.now.has_error self.now.has_warning }
+    /// How a check of the files ends: an error fails it, and so does a warning where it is strict.
+    pub fn status(&self, strict: bool) -> ExitStatus
+        ensures { result ≡ lint_status strict self.now.gravest }
     {
-        u8::from(self.has_error || (strict && self.has_warning))
+        match self.gravest {
+            Some(FindingSeverity::Error) => ExitStatus::Failure,
+            Some(FindingSeverity::Warning) if strict => ExitStatus::Failure,
+            Some(FindingSeverity::Warning | FindingSeverity::Note) | None => ExitStatus::Success,
+        }
     }
-}
-
-fn is_error(severity: Severity) -> bool
-    ensures { result ≡ is_error severity }
-{
-    matches!(severity, Severity::Error)
-}
-
-fn is_warning(severity: Severity) -> bool
-    ensures { result ≡ is_warning severity }
-{
-    matches!(severity, Severity::Warning)
 }
 
 // Pushes the line of a finding with this text.
@@ -126,45 +132,63 @@ fn push_line(
     text: &mut String,
     format: Format,
     path: &str,
-    found: &LocatedFinding,
+    located: &LocatedFinding,
     said: &str,
 ) -> Result<(), AllocError>
     ensures { OnOk result (string_bytes text.new ≡ string_bytes text.old
-        ++ line_in format path.now found.now.line found.now.column
-        (severity_of found.now.finding.kind) said.now) }
+        ++ line_in format path.now located.now.span (finding_severity located.now.finding.kind)
+        (code_text located.now.finding.kind) said.now) }
 {
-    let severity = severity_word(found.finding.severity());
+    let severity = located.finding.severity();
+    let code = located.finding.code().as_word();
     match format {
         Format::Human => {
-            write!(text, "{}:{}", Escaped(Escapes::LineEnds, path), found.line)?;
-            push_column(text, ":", found.column)?;
-            writeln!(text, ": {severity}: {}", Escaped(Escapes::LineEnds, said))
+            let Place { line, column } = located.span.begin;
+            let severity = severity_word(severity);
+            let path = Escaped(Escapes::LineEnds, path);
+            let said = Escaped(Escapes::LineEnds, said);
+            writeln!(text, "{path}:{line}:{column}: {severity}: {said} [{code}]")
         }
         Format::Github => {
+            let command = github_command(severity);
             let path = Escaped(Escapes::Property, path);
-            write!(text, "::{severity} file={path},line={}", found.line)?;
-            push_column(text, ",col=", found.column)?;
-            writeln!(text, "::{}", Escaped(Escapes::Message, said))
+            write!(text, "::{command} file={path},")?;
+            push_span(text, located.span)?;
+            let said = Escaped(Escapes::Message, said);
+            writeln!(text, ",title={code}::{said}")
         }
     }
 }
 
-// Pushes a column behind its mark, if there is one.
-fn push_column(text: &mut String, mark: &str, column: Option<usize>) -> Result<(), AllocError>
-    ensures { OnOk result (string_bytes text.new ≡ string_bytes text.old
-        ++ column_text mark.now column) }
+// Pushes the lines of a range, and its columns where it has one line.
+fn push_span(text: &mut String, span: Span) -> Result<(), AllocError>
+    ensures { OnOk result (string_bytes text.new ≡ string_bytes text.old ++ span_text span) }
 {
-    match column {
-        Some(column) => write!(text, "{mark}{column}"),
-        None => Ok(()),
+    let Span { begin, end } = span;
+    write!(text, "line={},endLine={}", begin.line, end.line)?;
+    if begin.line == end.line {
+        write!(text, ",col={},endColumn={}", begin.column, end.column)?;
     }
+    Ok(())
 }
 
-fn severity_word(severity: Severity) -> &'static str
+fn severity_word(severity: FindingSeverity) -> &'static str
     ensures { result.now ≡ severity_text severity }
 {
     match severity {
-        Severity::Error => "error",
-        Severity::Warning => "warning",
+        FindingSeverity::Error => "error",
+        FindingSeverity::Warning => "warning",
+        FindingSeverity::Note => "note",
+    }
+}
+
+// The command of a workflow of GitHub that shows it.
+fn github_command(severity: FindingSeverity) -> &'static str
+    ensures { result.now ≡ github_command severity }
+{
+    match severity {
+        FindingSeverity::Error => "error",
+        FindingSeverity::Warning => "warning",
+        FindingSeverity::Note => "notice",
     }
 }

@@ -2,13 +2,13 @@ use Rattle.std.proofs.Common.{◌≡◌, List, ◌∷◌, ◌++◌, map, option_
 use Rattle.std.proofs.lemmas.Result.{err_from_is_err_and}
 use Rattle.std.proofs.lemmas.List.{map_more}
 use Rattle.nextest_config_lists.proofs.Lists.{map-around}
-use Rattle.nextest_config_sources.specs.NextestVersion.{Place, place_of}
-use Rattle.nextest_config_command.specs.Files.{AreFilesRead, File, file_if, file_of, Holding, IsReadAt, IsUnread, IsUnreadAmong}
+use Rattle.nextest_config_sources.specs.NextestVersion.{SourcePlace, place_of}
+use Rattle.nextest_config_command.specs.Files.{AreFilesRead, File, file_if, file_of, IsReadAt, IsUnread, IsUnreadAmong, PathStates}
 use Rattle.nextest_config_command.specs.declared.files.Unanswered.{Unanswered}
 use Rattle.nextest_config_command.proofs.InTurn.{one_more_in_turn}
 use Rattle.nextest_config_command.proofs.files.read_sources.Goals as goal
 
-unread_among : (holds : Holding) (places before : List Place) (place : Place) (after : List Place) (files : List File) (unanswered : Unanswered)
+unread_among : (holds : PathStates) (places before : List SourcePlace) (place : SourcePlace) (after : List SourcePlace) (files : List File) (unanswered : Unanswered)
     → places ≡ before ++ (place ∷ after) → AreFilesRead holds before files → IsUnread holds place unanswered → IsUnreadAmong holds places unanswered
 unread_among holds places before place after files unanswered whole read unread = search rules
 
