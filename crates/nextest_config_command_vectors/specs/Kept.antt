@@ -1,12 +1,13 @@
 -- What the command says over streams of which no call fails.
 use Rattle.std.specs.Prelude.{◌≡◌, ◌⊎◌, ℕ, List, ◌++◌, codes}
-use Rattle.nextest_config_command.specs.Files.{Holding, IsFirstUnread}
-use Rattle.nextest_config_command.specs.Streams.{asked_places, line_of}
-use Rattle.nextest_config_command.specs.declared.asked.Asked.{Asked}
+use Rattle.nextest_config_command.specs.Files.{IsFirstUnread, PathStates}
+use Rattle.nextest_config_command.specs.Request.{places_of}
+use Rattle.nextest_config_command.specs.Streams.{line_of}
+use Rattle.nextest_config_command.specs.declared.request.Request.{Request}
 
--- the line of the first file that can't be read, or that memory was refused, stands behind what was
+-- the line of the first file that can't be read, or that memory was refused, stands after what was
 -- said before
-abbrev pub SaysWhy : Holding → Asked → List ℕ → List ℕ → Type 0
-SaysWhy holds asked said says = (why : List ℕ)
-    × (IsFirstUnread holds (asked_places asked) why ⊎ (why ≡ codes "out of memory"))
+abbrev pub SaysWhy : PathStates → Request → List ℕ → List ℕ → Type 0
+SaysWhy holds request said says = (why : List ℕ)
+    × (IsFirstUnread holds (places_of request) why ⊎ (why ≡ codes "out of memory"))
     × (says ≡ said ++ line_of why)

@@ -5,7 +5,7 @@ ghost use Rattle.std.specs.Prelude.{◌≡◌, false, IsTrue, Some};
 ghost use Rattle.nextest_config_command_vectors.specs.Kept.{SaysWhy};
 
 use crate::memory::MemoryFiles;
-use nextest_config_command::{Asked, Files, serve};
+use nextest_config_command::{Files, Request, serve};
 use nextest_config_report::streams::Stream;
 use std::alloc::Global;
 use std::io;
@@ -37,20 +37,20 @@ impl Stream for KeptStream {
     }
 }
 
-/// Does what is asked over files and streams in memory. Where no call of these has failed, status 3
+/// Does what is asked for over files and streams in memory. Where no call of these has failed, status 3
 /// comes with the whole line that says why, and nothing written.
 pub fn serve_kept(
     alloc: Global,
-    asked: &Asked,
+    request: &Request,
     files: &MemoryFiles,
     writer: &mut KeptStream,
     faults: &mut KeptStream,
 ) -> u8
     ensures says_why { result ≡ 3 → writer.new.has_failed ≡ false → faults.new.has_failed ≡ false
-        → SaysWhy (⟦<MemoryFiles as Files>⟧.holds files.now) asked.now faults.old.bytes.items
+        → SaysWhy (⟦<MemoryFiles as Files>⟧.holds files.now) request.now faults.old.bytes.items
         faults.new.bytes.items }
     ensures unwritten { result ≡ 3 → writer.new.has_failed ≡ false
         → writer.new.bytes.items ≡ writer.old.bytes.items }
 {
-    serve(alloc, asked, files, writer, faults)
+    serve(alloc, request, files, writer, faults)
 }

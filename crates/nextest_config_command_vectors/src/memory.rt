@@ -1,7 +1,7 @@
 //! Files in memory, which say exactly what each path holds.
 
 ghost use Rattle.std.specs.Prelude.{◌≡◌};
-ghost use Rattle.nextest_config_command_vectors.specs.Memory.{held_at};
+ghost use Rattle.nextest_config_command_vectors.specs.Memory.{state_at};
 
 use nextest_config_command::{FileRead, Files};
 use std::alloc::{AllocError, Global};
@@ -15,7 +15,7 @@ pub struct MemoryFiles {
 }
 
 impl Files for MemoryFiles {
-    ghost holds = { λ files path held. held ≡ held_at files.table path };
+    ghost holds = { λ files path state. state ≡ state_at files.table path };
 
     fn read(&self, alloc: Global, path: &str) -> Result<FileRead, AllocError> {
         match self.table.get(path) {

@@ -210,7 +210,7 @@ fn unescape(rt: &impl Runner, text: &mut String, part: &str) {
     push(rt, text, rest);
 }
 
-// What a backslash in front of a text names, and what stands behind that.
+// What a backslash in front of a text names, and what stands after that.
 fn named_by(text: &str) -> (char, &str) {
     if let Some(rest) = text.strip_prefix('n') {
         return ('\n', rest);

@@ -19,7 +19,7 @@ pub trait FromRow<By>: Sized {
     fn from_row(rt: &impl Runner, text: &str) -> Self;
 }
 
-/// The first word, and what stands behind it.
+/// The first word, and what stands after it.
 pub fn word(text: &str) -> (&str, &str) {
     text.split_once(' ').unwrap_or((text, ""))
 }

@@ -5,6 +5,7 @@ mod board;
 mod compared;
 mod configurations;
 mod cuts;
+mod documents;
 mod equality;
 mod features;
 mod files;

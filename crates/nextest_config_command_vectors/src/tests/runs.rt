@@ -21,7 +21,8 @@ $ check --current=0.9.55 --tool-config-file=my-tool:/etc/t.toml = 0
 > known: benchmarks
 > unknown in repository .config/nextest.toml: "future"
 > deprecated array form in repository .config/nextest.toml
-> .config/nextest.toml:2: warning: experimental: unknown feature "future"
+> .config/nextest.toml:2:16: note: experimental: the array form is deprecated, use a table: { benchmarks = true } [deprecated-array]
+> .config/nextest.toml:2:31: warning: experimental[1]: unknown feature "future" [unknown-feature]
 $ check --current=0.9.49 --tool-config-file=my-tool:/etc/t.toml = 1
 > error: 0.9.50 required by tool my-tool (/etc/t.toml), current 0.9.49
 > known: benchmarks
@@ -32,11 +33,12 @@ $ check --current=0.9.49 --tool-config-file=my-tool:/etc/t.toml --override = 0
 > known: benchmarks
 > unknown in repository .config/nextest.toml: "future"
 > deprecated array form in repository .config/nextest.toml
-> .config/nextest.toml:2: warning: experimental: unknown feature "future"
+> .config/nextest.toml:2:16: note: experimental: the array form is deprecated, use a table: { benchmarks = true } [deprecated-array]
+> .config/nextest.toml:2:31: warning: experimental[1]: unknown feature "future" [unknown-feature]
 $ check --current=0.9.49 --tool-config-file=my-tool:/etc/t.toml --table-only = 2
-> .config/nextest.toml:2: error: experimental: the array form of `experimental` isn't supported, use a table
+> .config/nextest.toml:2:16: error: experimental: the array form of `experimental` isn't supported, use a table [array-form]
 $ lint --tool-config-file=my-tool:/etc/t.toml --table-only = 1
-> .config/nextest.toml:2: error: experimental: the array form of `experimental` isn't supported, use a table
+> .config/nextest.toml:2:16: error: experimental: the array form of `experimental` isn't supported, use a table [array-form]
 
 === versions, and no finding
 @ .config/nextest.toml
@@ -82,31 +84,31 @@ $ show --tool-config-file=b:/b.toml --tool-config-file=a:/a.toml --config-file=/
 > recommended: 0.9.50 by tool b (/b.toml)
 > known: none
 $ lint --tool-config-file=a:/a.toml --tool-config-file=b:/b.toml = 1
-> /b.toml:1: warning: unknown key "zone"
-> /a.toml:2: warning: unknown key "zone"
-> .config/nextest.toml:3: error: profile.ci.overrides: invalid type: integer `1`, expected an array
+> /b.toml:1:1: warning: unknown key "zone" [unknown-key]
+> /a.toml:2:1: warning: unknown key "zone" [unknown-key]
+> .config/nextest.toml:3:13: error: profile.ci.overrides: invalid type: integer `1`, expected an array [invalid-type]
 $ lint --tool-config-file=b:/b.toml --tool-config-file=a:/a.toml --tool-config-file=b:/a.toml other = 0
-> /a.toml:2: warning: unknown key "zone"
-> /a.toml:2: warning: unknown key "zone"
-> /b.toml:1: warning: unknown key "zone"
+> /a.toml:2:1: warning: unknown key "zone" [unknown-key]
+> /a.toml:2:1: warning: unknown key "zone" [unknown-key]
+> /b.toml:1:1: warning: unknown key "zone" [unknown-key]
 $ lint --config-file=/b.toml --strict = 1
-> /b.toml:1: warning: unknown key "zone"
+> /b.toml:1:1: warning: unknown key "zone" [unknown-key]
 $ check --current=0.9.50 --config-file=/b.toml --strict = 1
 > satisfied: 0.9.50
 > known: none
-> /b.toml:1: warning: unknown key "zone"
+> /b.toml:1:1: warning: unknown key "zone" [unknown-key]
 $ check --current=0.9.50 --tool-config-file=b:/b.toml = 1
 > satisfied: 0.9.50
 > known: none
-> /b.toml:1: warning: unknown key "zone"
-> .config/nextest.toml:3: error: profile.ci.overrides: invalid type: integer `1`, expected an array
+> /b.toml:1:1: warning: unknown key "zone" [unknown-key]
+> .config/nextest.toml:3:13: error: profile.ci.overrides: invalid type: integer `1`, expected an array [invalid-type]
 $ check --current=0.9.49 --tool-config-file=a:/a.toml --strict = 1
 > error: 0.9.50 required by tool a (/a.toml), current 0.9.49
 > known: none
 $ check --current=0.9.49 --override = 1
 > warning (overridden): 0.9.50 recommended by repository .config/nextest.toml, current 0.9.49
 > known: none
-> .config/nextest.toml:3: error: profile.ci.overrides: invalid type: integer `1`, expected an array
+> .config/nextest.toml:3:13: error: profile.ci.overrides: invalid type: integer `1`, expected an array [invalid-type]
 
 === files that are refused beside one that isn't
 @ /t.toml
@@ -121,40 +123,40 @@ zone = 1
 overrides = 1
 retrie = 1
 $ lint --tool-config-file=t:/t.toml --tool-config-file=u:/u.toml = 1
-> /u.toml:1:5: error: *
-> /t.toml:1: error: experimental: experimental features in a tool configuration: "a", "benchmarks"
-> .config/nextest.toml:2: error: not UTF-8
+> /u.toml:1:5: error: * [not-toml]
+> /t.toml:1:16: error: experimental: experimental features in a tool configuration: "a", "benchmarks" [tool-features]
+> .config/nextest.toml:2:3: error: not UTF-8 [not-utf8]
 $ check --current=1.0.0 = 2
-> .config/nextest.toml:2: error: not UTF-8
+> .config/nextest.toml:2:3: error: not UTF-8 [not-utf8]
 $ check --current=1.0.0 --tool-config-file=u:/u.toml --config-file=ci.toml = 2
-> /u.toml:1:5: error: *
-> ci.toml:2: error: profile.ci.overrides: invalid type: integer `1`, expected an array
-> ci.toml:3: warning: profile.ci: unknown key "retrie", did you mean "retries"
+> /u.toml:1:5: error: * [not-toml]
+> ci.toml:2:13: error: profile.ci.overrides: invalid type: integer `1`, expected an array [invalid-type]
+> ci.toml:3:1: warning: profile.ci: unknown key "retrie", did you mean "retries" [unknown-key]
 $ check --current=1.0.0 --tool-config-file=t:/t.toml --config-file=ci.toml --strict --override = 2
-> /t.toml:1: error: experimental: experimental features in a tool configuration: "a", "benchmarks"
-> ci.toml:2: error: profile.ci.overrides: invalid type: integer `1`, expected an array
-> ci.toml:3: warning: profile.ci: unknown key "retrie", did you mean "retries"
+> /t.toml:1:16: error: experimental: experimental features in a tool configuration: "a", "benchmarks" [tool-features]
+> ci.toml:2:13: error: profile.ci.overrides: invalid type: integer `1`, expected an array [invalid-type]
+> ci.toml:3:1: warning: profile.ci: unknown key "retrie", did you mean "retries" [unknown-key]
 $ show = 2
-> .config/nextest.toml:2: error: not UTF-8
+> .config/nextest.toml:2:3: error: not UTF-8 [not-utf8]
 $ show --config-file=/u.toml = 2
-> /u.toml:1:5: error: *
+> /u.toml:1:5: error: * [not-toml]
 $ show --tool-config-file=t:/t.toml other = 2
-> /t.toml:1: error: experimental: experimental features in a tool configuration: "a", "benchmarks"
+> /t.toml:1:16: error: experimental: experimental features in a tool configuration: "a", "benchmarks" [tool-features]
 $ lint --tool-config-file=u:/u.toml --config-file=ci.toml --format=github --strict = 1
-> ::error file=/u.toml,line=1,col=5::*
-> ::error file=ci.toml,line=2::profile.ci.overrides: invalid type: integer `1`, expected an array
-> ::warning file=ci.toml,line=3::profile.ci: unknown key "retrie", did you mean "retries"
+> ::error file=/u.toml,line=1,endLine=1,col=5,endColumn=10,title=not-toml::*
+> ::error file=ci.toml,line=2,endLine=2,col=13,endColumn=14,title=invalid-type::profile.ci.overrides: invalid type: integer `1`, expected an array
+> ::warning file=ci.toml,line=3,endLine=3,col=1,endColumn=7,title=unknown-key::profile.ci: unknown key "retrie", did you mean "retries"
 
 === a version out of its grammar
 @ .config/nextest.toml
 zone = 1
 nextest-version = "0.9.60-rc.1"
 $ check --current=1.0.0 = 2
-> .config/nextest.toml:1: warning: unknown key "zone"
-> .config/nextest.toml:2: error: nextest-version: pre-release identifiers are not supported in nextest-version
+> .config/nextest.toml:1:1: warning: unknown key "zone" [unknown-key]
+> .config/nextest.toml:2:19: error: nextest-version: pre-release identifiers are not supported in nextest-version [pre-release]
 $ show = 2
-> .config/nextest.toml:1: warning: unknown key "zone"
-> .config/nextest.toml:2: error: nextest-version: pre-release identifiers are not supported in nextest-version
+> .config/nextest.toml:1:1: warning: unknown key "zone" [unknown-key]
+> .config/nextest.toml:2:19: error: nextest-version: pre-release identifiers are not supported in nextest-version [pre-release]
 
 === experimental features
 @ /t.toml
@@ -182,9 +184,140 @@ $ show --table-only = 0
 > known: setup-scripts, wrapper-scripts
 > unknown in repository .config/nextest.toml: "x\n", "z"
 $ show --tool-config-file=t:/t.toml --table-only = 2
-> /t.toml:1: error: experimental: the array form of `experimental` isn't supported, use a table
-> .config/nextest.toml:1: warning: experimental: unknown feature "x\n"
-> .config/nextest.toml:1: warning: experimental: unknown feature "z"
+> /t.toml:1:16: error: experimental: the array form of `experimental` isn't supported, use a table [array-form]
+> .config/nextest.toml:1:18: warning: experimental.z: unknown feature "z" [unknown-feature]
+> .config/nextest.toml:1:71: warning: experimental."x\n": unknown feature "x\n" [unknown-feature]
+
+=== what another file of the list defines
+@ /t.toml
+[profile.base]
+retries = 1
+[test-groups]
+"@tool:t:g" = { max-threads = 1 }
+@ /u.toml
+a = flase
+@ .config/nextest.toml
+[profile.ci]
+inherits = "base"
+[[profile.ci.overrides]]
+filter = "all()"
+test-group = "@tool:t:h"
+$ lint --tool-config-file=t:/t.toml = 0
+> .config/nextest.toml:5:14: warning: profile.ci.overrides[0].test-group: no file defines the test group "@tool:t:h", did you mean "@tool:t:g" [undefined-group]
+$ lint --strict = 1
+> .config/nextest.toml:2:12: warning: profile.ci.inherits: no file defines the profile "base" [undefined-profile]
+$ lint --tool-config-file=u:/u.toml = 1
+> /u.toml:1:5: error: * [not-toml]
+$ check --current=1.0.0 --strict = 1
+> satisfied: 1.0.0
+> known: none
+> .config/nextest.toml:2:12: warning: profile.ci.inherits: no file defines the profile "base" [undefined-profile]
+$ check --current=1.0.0 --tool-config-file=t:/t.toml = 0
+> satisfied: 1.0.0
+> known: none
+> .config/nextest.toml:5:14: warning: profile.ci.overrides[0].test-group: no file defines the test group "@tool:t:h", did you mean "@tool:t:g" [undefined-group]
+
+=== profiles that come back to themselves over several files
+@ /a.toml
+[profile.x]
+inherits = "y"
+@ /b.toml
+[profile.x]
+inherits = "default"
+@ .config/nextest.toml
+[profile.y]
+inherits = "x"
+$ lint --tool-config-file=a:/a.toml --strict = 1
+> /a.toml:2:12: warning: profile.x.inherits: the profile "x" inherits from itself [inherits-itself]
+> .config/nextest.toml:2:12: warning: profile.y.inherits: the profile "y" inherits from itself [inherits-itself]
+$ lint --tool-config-file=a:/a.toml --tool-config-file=b:/b.toml = 0
+> /a.toml:2:12: warning: profile.x.inherits: the profile "x" inherits from itself [inherits-itself]
+> .config/nextest.toml:2:12: warning: profile.y.inherits: the profile "y" inherits from itself [inherits-itself]
+$ lint --tool-config-file=b:/b.toml --tool-config-file=a:/a.toml --strict = 0
+
+=== test groups that other files define
+@ /t.toml
+[test-groups]
+"@tool:t:one" = { max-threads = 1 }
+[[profile.default.overrides]]
+filter = "all()"
+test-group = "serial"
+@ /u.toml
+[test-groups]
+"@tool:u:two" = { max-threads = 1 }
+[[profile.default.overrides]]
+filter = "all()"
+test-group = "@tool:t:on"
+@ .config/nextest.toml
+[test-groups]
+serial = { max-threads = 1 }
+[[profile.default.overrides]]
+filter = "all()"
+test-group = "@tool:u:two"
+[[profile.default.overrides]]
+filter = "all()"
+test-group = "seriel"
+$ lint --tool-config-file=t:/t.toml --tool-config-file=u:/u.toml = 0
+> /u.toml:5:14: warning: profile.default.overrides[0].test-group: no file defines the test group "@tool:t:on", did you mean "@tool:t:one" [undefined-group]
+> .config/nextest.toml:8:14: warning: profile.default.overrides[1].test-group: no file defines the test group "seriel", did you mean "serial" [undefined-group]
+$ lint --tool-config-file=t:/t.toml = 0
+> .config/nextest.toml:8:14: warning: profile.default.overrides[1].test-group: no file defines the test group "seriel", did you mean "serial" [undefined-group]
+$ lint --tool-config-file=u:/u.toml = 0
+> .config/nextest.toml:8:14: warning: profile.default.overrides[1].test-group: no file defines the test group "seriel", did you mean "serial" [undefined-group]
+
+=== names that a file which isn't read may define
+@ /t.toml
+[profile.base]
+inherits = "basis"
+[[profile.base.overrides]]
+test-group = "slow"
+[profile.default-x]
+@ .config/nextest.toml
+[profile.ci]
+inherits = "bas"
+[profile.ci2]
+inherits = "ci3"
+[profile.ci3]
+inherits = "ci2"
+é
+@ ci.toml
+[profile.basis]
+$ lint --tool-config-file=t:/t.toml = 1
+> /t.toml:3:16: warning: profile.base.overrides[0]: an override needs a "filter" or a "platform" [override-of-all]
+> /t.toml:5:10: warning: profile.default-x: profile names that begin with "default-" are reserved [reserved-profile]
+> .config/nextest.toml:7:1: error: not UTF-8 [not-utf8]
+$ lint --tool-config-file=t:/t.toml --config-file=ci.toml = 0
+> /t.toml:3:16: warning: profile.base.overrides[0]: an override needs a "filter" or a "platform" [override-of-all]
+> /t.toml:4:14: warning: profile.base.overrides[0].test-group: no file defines the test group "slow" [undefined-group]
+> /t.toml:5:10: warning: profile.default-x: profile names that begin with "default-" are reserved [reserved-profile]
+
+=== a ring over three files
+@ /a.toml
+[profile.x]
+inherits = "y"
+[profile.z]
+inherits = "other"
+@ /b.toml
+[profile.y]
+inherits = "z"
+[profile.default]
+inherits = "x"
+@ .config/nextest.toml
+[profile.z]
+inherits = "x"
+@ ci.toml
+[profile.z]
+inherits = 1
+$ lint --tool-config-file=b:/b.toml --tool-config-file=a:/a.toml = 0
+> /a.toml:2:12: warning: profile.x.inherits: the profile "x" inherits from itself [inherits-itself]
+> /a.toml:4:12: warning: profile.z.inherits: no file defines the profile "other" [undefined-profile]
+> /b.toml:2:12: warning: profile.y.inherits: the profile "y" inherits from itself [inherits-itself]
+> /b.toml:4:12: warning: profile.default.inherits: the profile "default" can't inherit [default-inherits]
+> .config/nextest.toml:2:12: warning: profile.z.inherits: the profile "z" inherits from itself [inherits-itself]
+$ lint --tool-config-file=b:/b.toml --tool-config-file=a:/a.toml --config-file=ci.toml = 0
+> /a.toml:4:12: warning: profile.z.inherits: no file defines the profile "other" [undefined-profile]
+> /b.toml:4:12: warning: profile.default.inherits: the profile "default" can't inherit [default-inherits]
+> ci.toml:2:12: warning: profile.z.inherits: invalid type: integer `1`, expected a string [invalid-type]
 
 === what a line can't have, in paths and in what is found
 @ a:b,c%d.toml
@@ -195,15 +328,15 @@ nextest-version = { required = "0.9.50", zone = 1 }
 [profile.ci]
 retries = { backoff = "fixed", count = 1, "a\r\nb%:," = 1 }
 $ lint --config-file=a:b,c%d.toml = 1
-> a:b,c%d.toml:2: error: profile."x%y".overrides: invalid type: string "50%: a,b", expected an array
+> a:b,c%d.toml:2:13: error: profile."x%y".overrides: invalid type: string "50%: a,b", expected an array [invalid-type]
 $ lint --config-file=a:b,c%d.toml --format=github = 1
-> ::error file=a%3Ab%2Cc%25d.toml,line=2::profile."x%25y".overrides: invalid type: string "50%25: a,b", expected an array
+> ::error file=a%3Ab%2Cc%25d.toml,line=2,endLine=2,col=13,endColumn=23,title=invalid-type::profile."x%25y".overrides: invalid type: string "50%25: a,b", expected an array
 $ lint --config-file=a←¶b.toml = 1
-> a\r\nb.toml:1: warning: nextest-version: unknown key "zone"
-> a\r\nb.toml:3: error: profile.ci.retries: unknown field `a\r\nb%:,`, expected one of `count`, `delay`, `jitter`
+> a\r\nb.toml:1:42: warning: nextest-version: unknown key "zone" [unknown-key]
+> a\r\nb.toml:3:11: error: profile.ci.retries: unknown field `a\r\nb%:,`, expected one of `count`, `delay`, `jitter` [unknown-field]
 $ lint --config-file=a←¶b.toml --format=github = 1
-> ::warning file=a%0D%0Ab.toml,line=1::nextest-version: unknown key "zone"
-> ::error file=a%0D%0Ab.toml,line=3::profile.ci.retries: unknown field `a%0D%0Ab%25:,`, expected one of `count`, `delay`, `jitter`
+> ::warning file=a%0D%0Ab.toml,line=1,endLine=1,col=42,endColumn=46,title=unknown-key::nextest-version: unknown key "zone"
+> ::error file=a%0D%0Ab.toml,line=3,endLine=3,col=11,endColumn=60,title=unknown-field::profile.ci.retries: unknown field `a%0D%0Ab%25:,`, expected one of `count`, `delay`, `jitter`
 $ show --config-file=a←¶b.toml = 0
 > required: 0.9.50 by explicit a←¶b.toml
 > recommended: none
@@ -243,7 +376,7 @@ zone = 1
 $ lint --tool-config-file=a:/a.toml = 3
 ! cannot read .config/nextest.toml: Is a directory (os error 21)
 $ lint --config-file=/a.toml = 0
-> /a.toml:1: warning: unknown key "zone"
+> /a.toml:1:1: warning: unknown key "zone" [unknown-key]
 $ lint --tool-config-file=a:/a.toml --config-file=ci.toml = 3
 ! cannot read ci.toml: nothing is there
 $ show --config-file=/b.toml = 3

@@ -2,13 +2,13 @@
 
 use crate::memory::MemoryFiles;
 use crate::tests::blocks::Run;
-use crate::tests::words::asked;
+use crate::tests::words::request;
 use nextest_config_command::serve;
 use nextest_config_rows::rows::{Runner, compare, copied, done};
 use std::alloc::Global;
 use std::io::{self, ErrorKind, Write};
 
-// What is told behind bytes that weren't passed on.
+// What is told after bytes that weren't passed on.
 const NOT_FLUSHED: &str = "(not flushed)";
 
 // What an odd call of a writer answers: how many bytes it takes at most, or why it fails.
@@ -137,10 +137,10 @@ fn compare_run(
     writer_manner: Manner,
     faults_manner: Manner,
 ) {
-    let asked = asked(rt, run.words);
+    let request = request(rt, run.words);
     let mut writer = Watched::new(rt.alloc(), writer_manner);
     let mut faults = Watched::new(rt.alloc(), faults_manner);
-    let status = serve(rt.alloc(), &asked, files, &mut writer, &mut faults);
+    let status = serve(rt.alloc(), &request, files, &mut writer, &mut faults);
     let output = writer.told(rt);
     let complaint = faults.told(rt);
     let ended = done(

@@ -1,16 +1,16 @@
 //! What the words of a run ask for.
 
 use crate::tests::blocks::characters;
-use nextest_config_command::{Asked, Check, Format, RepositoryFile, Task};
+use nextest_config_command::{Check, Format, RepositoryFile, Request, Task};
 use nextest_config_rows::rows::{Runner, copied, done, unknown};
 use nextest_config_rows::values::{FromRow, word};
 use nextest_config_sources::nextest_version::Edition;
 use nextest_config_values::tool_config::ToolConfigFile;
 use semver::Version;
 
-/// What is asked for by words, which are those of the command, each with its value behind a `=`.
+/// What is asked for by words, which are those of the command, each with its value after a `=`.
 /// One that begins with no `-` is the path at which the repository's file is looked for.
-pub(crate) fn asked(rt: &impl Runner, words: &str) -> Asked {
+pub(crate) fn request(rt: &impl Runner, words: &str) -> Request {
     let words = characters(rt, words);
     let (subcommand, words) = word(words.as_str());
     let mut tools = Vec::new(rt.alloc());
@@ -46,7 +46,7 @@ pub(crate) fn asked(rt: &impl Runner, words: &str) -> Asked {
         "show" => Task::Show,
         _ => unknown(rt, subcommand),
     };
-    Asked {
+    Request {
         tools,
         repository,
         edition,

@@ -1,18 +1,24 @@
 //! Tables of whole files, each a block: a line `=== NAME | SOURCE`, the lines of the file, and what
 //! is found in it, a line each that begins with `> `. Where there is none, nothing is found.
 //!
-//! SOURCE is `repository`, `explicit` or `tool`. A word behind it says more: `tables`, that an
+//! SOURCE is `repository`, `explicit` or `tool`. A word after it says more: `tables`, that an
 //! array of experimental features is refused; `latin-1`, that each character of the file is one
 //! byte. A file writes some characters as `\n` or `\u{..}`. A backslash at its end takes away the
 //! last line feed. Blank lines in front of the next block aren't the file's.
 
-use nextest_config_findings::{Finding, LocatedFinding, Severity, findings, located};
+use nextest_config_findings::{
+    Defined, FileContents, Finding, FindingCode, FindingSeverity, LocatedFinding, Place, Span,
+    findings, located,
+};
 use nextest_config_rows::rows::{
     Escaped, Runner, Subject, compare, cut, done, push, shown, unknown,
 };
 use nextest_config_rows::values::{FromRow, word};
 use nextest_config_sources::nextest_version::{ConfigSourceKind, Edition};
 use nextest_config_values::identifier::ToolName;
+use nextest_config_values::read::Word;
+use std::alloc::{AllocError, Global};
+use toml::Table;
 
 /// Asks for what is found in the file of each block, and compares it.
 pub(crate) fn check<S: Subject>(rt: &impl Runner, blocks: &str) {
@@ -44,16 +50,16 @@ fn lines(rt: &impl Runner, body: &str, found: bool) -> String {
     lines
 }
 
-/// What is found in the file, as it is listed for a user: `LINE: SEVERITY: FINDING`, or
-/// `LINE:COLUMN: SEVERITY: *` for what `toml` says in words of its own.
+/// What is found in the file, as it is listed for a user: `LINE:COLUMN: SEVERITY: FINDING [CODE]`,
+/// with `*` for what `toml` says in words of its own.
 pub(crate) struct Listed;
 
 impl Subject for Listed {
     fn answer(rt: &impl Runner, call: &str, input: &str) -> String {
         let source = source(rt, call);
         let contents = contents(rt, call, input);
-        let found = located(rt.alloc(), &source, edition(call), contents.as_slice());
         let mut listed = String::new(rt.alloc());
+        let found = located_alone(rt.alloc(), &source, edition(call), contents.as_slice());
         for located in done(rt, found) {
             list(rt, &mut listed, &located);
         }
@@ -61,23 +67,71 @@ impl Subject for Listed {
     }
 }
 
+// What is found in a file that is its whole list.
+fn located_alone(
+    alloc: Global,
+    source: &ConfigSourceKind,
+    edition: Edition,
+    contents: &[u8],
+) -> Result<Vec<LocatedFinding>, AllocError> {
+    let read = FileContents::of(alloc, contents)?;
+    let defined = Defined::of_one(alloc, source, read.document())?;
+    located(alloc, source, edition, contents, &defined, 0)
+}
+
+// What is found in a document that is its whole list.
+fn found_alone(
+    alloc: Global,
+    source: &ConfigSourceKind,
+    edition: Edition,
+    document: &Table,
+) -> Result<Vec<Finding>, AllocError> {
+    let defined = Defined::of_one(alloc, source, Some(document))?;
+    findings(alloc, source, edition, document, &defined, 0)
+}
+
 fn list(rt: &impl Runner, listed: &mut String, located: &LocatedFinding) {
-    let text = shown(rt, &located.finding);
+    let Place { line, column } = located.span.begin;
     let severity = severity(&located.finding);
-    let line = located.line;
-    match located.column {
-        Some(column) => {
-            let text = starred(text.as_str());
+    let code = located.finding.code();
+    let text = shown(rt, &located.finding);
+    let text = match code {
+        FindingCode::NotToml => starred(text.as_str()),
+        _ => text.as_str(),
+    };
+    let code = code.as_word();
+    done(
+        rt,
+        write!(listed, "> {line}:{column}: {severity}: {text} [{code}]\n"),
+    );
+}
+
+/// From where to where each of them stands: `LINE:COLUMN-LINE:COLUMN CODE`.
+pub(crate) struct Ranged;
+
+impl Subject for Ranged {
+    fn answer(rt: &impl Runner, call: &str, input: &str) -> String {
+        let source = source(rt, call);
+        let contents = contents(rt, call, input);
+        let mut listed = String::new(rt.alloc());
+        let found = located_alone(rt.alloc(), &source, edition(call), contents.as_slice());
+        for located in done(rt, found) {
+            let Span { begin, end } = located.span;
+            let code = located.finding.code().as_word();
             done(
                 rt,
-                write!(listed, "> {line}:{column}: {severity}: {text}\n"),
+                write!(
+                    listed,
+                    "> {}:{}-{}:{} {code}\n",
+                    begin.line, begin.column, end.line, end.column
+                ),
             );
         }
-        None => done(rt, write!(listed, "> {line}: {severity}: {text}\n")),
+        listed
     }
 }
 
-/// The same in one line: findings stand apart by ` && `.
+/// What `Listed` tells, in one line: findings stand apart by ` && `.
 pub(crate) struct InRow;
 
 impl Subject for InRow {
@@ -120,8 +174,11 @@ pub(crate) struct InOrder;
 impl Subject for InOrder {
     fn answer(rt: &impl Runner, call: &str, input: &str) -> String {
         let source = source(rt, call);
-        let document = done(rt, toml::table_from_str(rt.alloc(), input));
-        let found = findings(rt.alloc(), &source, edition(call), &document);
+        let contents = done(rt, FileContents::of(rt.alloc(), input.as_bytes()));
+        let Some(document) = contents.document() else {
+            return unknown(rt, input);
+        };
+        let found = found_alone(rt.alloc(), &source, edition(call), document);
         let mut listed = String::new(rt.alloc());
         for finding in done(rt, found) {
             let severity = severity(&finding);
@@ -134,8 +191,9 @@ impl Subject for InOrder {
 
 fn severity(finding: &Finding) -> &'static str {
     match finding.severity() {
-        Severity::Error => "error",
-        Severity::Warning => "warning",
+        FindingSeverity::Error => "error",
+        FindingSeverity::Warning => "warning",
+        FindingSeverity::Note => "note",
     }
 }
 

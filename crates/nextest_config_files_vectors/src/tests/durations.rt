@@ -19,15 +19,15 @@ slow-timeout = { period = "60s", grace-period = "0" }
 retries = { backoff = "exponential", count = 1, delay = "1 0s" }
 [profile.d]
 retries = { backoff = "exponential", count = 1, delay = "1s", max-delay = "1.5m" }
-> 2: warning: profile.a.slow-timeout: a duration that isn't judged here: only whole numbers, each with a unit, are read
-> 3: warning: profile.a.leak-timeout: a duration that isn't judged here: only whole numbers, each with a unit, are read
-> 4: warning: profile.a.global-timeout: a duration that isn't judged here: only whole numbers, each with a unit, are read
-> 6: warning: profile.b.slow-timeout.period: a duration that isn't judged here: only whole numbers, each with a unit, are read
-> 7: warning: profile.b.leak-timeout.period: a duration that isn't judged here: only whole numbers, each with a unit, are read
-> 8: warning: profile.b.retries.delay: a duration that isn't judged here: only whole numbers, each with a unit, are read
-> 10: warning: profile.c.slow-timeout.grace-period: a duration that isn't judged here: only whole numbers, each with a unit, are read
-> 11: warning: profile.c.retries.delay: a duration that isn't judged here: only whole numbers, each with a unit, are read
-> 13: warning: profile.d.retries.max-delay: a duration that isn't judged here: only whole numbers, each with a unit, are read
+> 2:16: note: profile.a.slow-timeout: not judged here: a duration other than whole numbers, each with a unit [unjudged-duration]
+> 3:16: note: profile.a.leak-timeout: not judged here: a duration other than whole numbers, each with a unit [unjudged-duration]
+> 4:18: note: profile.a.global-timeout: not judged here: a duration other than whole numbers, each with a unit [unjudged-duration]
+> 6:27: note: profile.b.slow-timeout.period: not judged here: a duration other than whole numbers, each with a unit [unjudged-duration]
+> 7:27: note: profile.b.leak-timeout.period: not judged here: a duration other than whole numbers, each with a unit [unjudged-duration]
+> 8:51: note: profile.b.retries.delay: not judged here: a duration other than whole numbers, each with a unit [unjudged-duration]
+> 10:49: note: profile.c.slow-timeout.grace-period: not judged here: a duration other than whole numbers, each with a unit [unjudged-duration]
+> 11:57: note: profile.c.retries.delay: not judged here: a duration other than whole numbers, each with a unit [unjudged-duration]
+> 13:75: note: profile.d.retries.max-delay: not judged here: a duration other than whole numbers, each with a unit [unjudged-duration]
 
 === each place of a bench and of an override | tool
 [profile.a.bench]
@@ -48,18 +48,21 @@ retries = { backoff = "exponential", count = 1, delay = "1s", max-delay = "0" }
 [[profile.a.overrides]]
 slow-timeout = { period = "20s", grace-period = "0" }
 retries = { backoff = "exponential", count = 1, delay = "0" }
-> 2: warning: profile.a.bench.slow-timeout: a duration that isn't judged here: only whole numbers, each with a unit, are read
-> 3: warning: profile.a.bench.global-timeout: a duration that isn't judged here: only whole numbers, each with a unit, are read
-> 5: warning: profile.b.bench.slow-timeout.period: a duration that isn't judged here: only whole numbers, each with a unit, are read
-> 7: warning: profile.c.bench.slow-timeout.grace-period: a duration that isn't judged here: only whole numbers, each with a unit, are read
-> 9: warning: profile.a.overrides[0].slow-timeout: a duration that isn't judged here: only whole numbers, each with a unit, are read
-> 10: warning: profile.a.overrides[0].leak-timeout: a duration that isn't judged here: only whole numbers, each with a unit, are read
-> 11: warning: profile.a.overrides[0].retries.delay: a duration that isn't judged here: only whole numbers, each with a unit, are read
-> 13: warning: profile.a.overrides[1].slow-timeout.period: a duration that isn't judged here: only whole numbers, each with a unit, are read
-> 14: warning: profile.a.overrides[1].leak-timeout.period: a duration that isn't judged here: only whole numbers, each with a unit, are read
-> 15: warning: profile.a.overrides[1].retries.max-delay: a duration that isn't judged here: only whole numbers, each with a unit, are read
-> 17: warning: profile.a.overrides[2].slow-timeout.grace-period: a duration that isn't judged here: only whole numbers, each with a unit, are read
-> 18: warning: profile.a.overrides[2].retries.delay: a duration that isn't judged here: only whole numbers, each with a unit, are read
+> 2:16: note: profile.a.bench.slow-timeout: not judged here: a duration other than whole numbers, each with a unit [unjudged-duration]
+> 3:18: note: profile.a.bench.global-timeout: not judged here: a duration other than whole numbers, each with a unit [unjudged-duration]
+> 5:27: note: profile.b.bench.slow-timeout.period: not judged here: a duration other than whole numbers, each with a unit [unjudged-duration]
+> 7:49: note: profile.c.bench.slow-timeout.grace-period: not judged here: a duration other than whole numbers, each with a unit [unjudged-duration]
+> 8:13: warning: profile.a.overrides[0]: an override needs a "filter" or a "platform" [override-of-all]
+> 9:16: note: profile.a.overrides[0].slow-timeout: not judged here: a duration other than whole numbers, each with a unit [unjudged-duration]
+> 10:16: note: profile.a.overrides[0].leak-timeout: not judged here: a duration other than whole numbers, each with a unit [unjudged-duration]
+> 11:51: note: profile.a.overrides[0].retries.delay: not judged here: a duration other than whole numbers, each with a unit [unjudged-duration]
+> 12:13: warning: profile.a.overrides[1]: an override needs a "filter" or a "platform" [override-of-all]
+> 13:27: note: profile.a.overrides[1].slow-timeout.period: not judged here: a duration other than whole numbers, each with a unit [unjudged-duration]
+> 14:27: note: profile.a.overrides[1].leak-timeout.period: not judged here: a duration other than whole numbers, each with a unit [unjudged-duration]
+> 15:75: note: profile.a.overrides[1].retries.max-delay: not judged here: a duration other than whole numbers, each with a unit [unjudged-duration]
+> 16:13: warning: profile.a.overrides[2]: an override needs a "filter" or a "platform" [override-of-all]
+> 17:49: note: profile.a.overrides[2].slow-timeout.grace-period: not judged here: a duration other than whole numbers, each with a unit [unjudged-duration]
+> 18:57: note: profile.a.overrides[2].retries.delay: not judged here: a duration other than whole numbers, each with a unit [unjudged-duration]
 
 === each place of a profile, bench and override, with an error | repository
 [profile.a]
@@ -77,36 +80,37 @@ leak-timeout = { period = "5" }
 retries = { backoff = "exponential", count = 1, delay = "5s", max-delay = "5" }
 [profile.c]
 slow-timeout = { period = "5s", grace-period = "5" }
-> 2: error: profile.a.slow-timeout: invalid value: string "5", expected a duration
-> 3: error: profile.a.leak-timeout: invalid value: string "5", expected a duration
-> 4: error: profile.a.global-timeout: invalid value: string "5", expected a duration
-> 5: error: profile.a.bench.slow-timeout: invalid value: string "5", expected a duration
-> 5: error: profile.a.bench.global-timeout: invalid value: string "5", expected a duration
-> 7: error: profile.a.overrides[0].slow-timeout: invalid value: string "5", expected a duration
-> 8: error: profile.a.overrides[0].leak-timeout: invalid value: string "5", expected a duration
-> 9: error: profile.a.overrides[0].retries.delay: invalid value: string "5", expected a duration
-> 11: error: profile.b.slow-timeout.period: invalid value: string "5", expected a duration
-> 12: error: profile.b.leak-timeout.period: invalid value: string "5", expected a duration
-> 13: error: profile.b.retries.max-delay: invalid value: string "5", expected a duration
-> 15: error: profile.c.slow-timeout.grace-period: invalid value: string "5", expected a duration
+> 2:16: error: profile.a.slow-timeout: invalid value: string "5", expected a duration, did you mean "5s" [invalid-value]
+> 3:16: error: profile.a.leak-timeout: invalid value: string "5", expected a duration, did you mean "5s" [invalid-value]
+> 4:18: error: profile.a.global-timeout: invalid value: string "5", expected a duration, did you mean "5s" [invalid-value]
+> 5:26: error: profile.a.bench.slow-timeout: invalid value: string "5", expected a duration, did you mean "5s" [invalid-value]
+> 5:48: error: profile.a.bench.global-timeout: invalid value: string "5", expected a duration, did you mean "5s" [invalid-value]
+> 6:13: warning: profile.a.overrides[0]: an override needs a "filter" or a "platform" [override-of-all]
+> 7:16: error: profile.a.overrides[0].slow-timeout: invalid value: string "5", expected a duration, did you mean "5s" [invalid-value]
+> 8:16: error: profile.a.overrides[0].leak-timeout: invalid value: string "5", expected a duration, did you mean "5s" [invalid-value]
+> 9:51: error: profile.a.overrides[0].retries.delay: invalid value: string "5", expected a duration, did you mean "5s" [invalid-value]
+> 11:27: error: profile.b.slow-timeout.period: invalid value: string "5", expected a duration, did you mean "5s" [invalid-value]
+> 12:27: error: profile.b.leak-timeout.period: invalid value: string "5", expected a duration, did you mean "5s" [invalid-value]
+> 13:75: error: profile.b.retries.max-delay: invalid value: string "5", expected a duration, did you mean "5s" [invalid-value]
+> 15:48: error: profile.c.slow-timeout.grace-period: invalid value: string "5", expected a duration, did you mean "5s" [invalid-value]
 
 === the rest of the value isn't judged | repository
 [profile.a]
 slow-timeout = { period = "1.5h", terminate-after = 0, on-timeout = 1 }
 retries = { backoff = "exponential", count = 0, delay = "0", jitter = 1, zone = 1 }
 leak-timeout = { period = "0", result = 1 }
-> 2: warning: profile.a.slow-timeout.period: a duration that isn't judged here: only whole numbers, each with a unit, are read
-> 3: warning: profile.a.retries.delay: a duration that isn't judged here: only whole numbers, each with a unit, are read
-> 4: warning: profile.a.leak-timeout.period: a duration that isn't judged here: only whole numbers, each with a unit, are read
+> 2:27: note: profile.a.slow-timeout.period: not judged here: a duration other than whole numbers, each with a unit [unjudged-duration]
+> 3:57: note: profile.a.retries.delay: not judged here: a duration other than whole numbers, each with a unit [unjudged-duration]
+> 4:27: note: profile.a.leak-timeout.period: not judged here: a duration other than whole numbers, each with a unit [unjudged-duration]
 
 === its unknown keys are | repository
 [profile.a]
 slow-timeout = { period = "1.5h", grace = 1 }
 leak-timeout = { period = "0", result = 1, resul = 1 }
-> 2: warning: profile.a.slow-timeout.period: a duration that isn't judged here: only whole numbers, each with a unit, are read
-> 2: warning: profile.a.slow-timeout: unknown key "grace"
-> 3: warning: profile.a.leak-timeout.period: a duration that isn't judged here: only whole numbers, each with a unit, are read
-> 3: warning: profile.a.leak-timeout: unknown key "resul", did you mean "result"
+> 2:27: note: profile.a.slow-timeout.period: not judged here: a duration other than whole numbers, each with a unit [unjudged-duration]
+> 2:35: warning: profile.a.slow-timeout: unknown key "grace", did you mean "grace-period" [unknown-key]
+> 3:27: note: profile.a.leak-timeout.period: not judged here: a duration other than whole numbers, each with a unit [unjudged-duration]
+> 3:44: warning: profile.a.leak-timeout: unknown key "resul", did you mean "result" [unknown-key]
 
 === what comes first in the value stays an error | repository
 [profile.a]
@@ -114,14 +118,14 @@ slow-timeout = { period = "60s", terminate-after = 0, grace-period = "1.5s" }
 retries = { backoff = "fixed", count = -1, delay = "0" }
 [profile.b]
 retries = { count = 1, delay = "0" }
-> 2: error: profile.a.slow-timeout.terminate-after: invalid value: integer `0`, expected a nonzero usize
-> 3: error: profile.a.retries.count: invalid value: integer `-1`, expected u32
-> 5: error: profile.b.retries: missing configuration field "profile.b.retries.backoff"
+> 2:52: error: profile.a.slow-timeout.terminate-after: invalid value: integer `0`, expected a nonzero usize [invalid-value]
+> 3:40: error: profile.a.retries.count: invalid value: integer `-1`, expected u32 [invalid-value]
+> 5:11: error: profile.b.retries: missing configuration field "profile.b.retries.backoff" [missing-field]
 
 === of two in one value the first | repository
 [profile.a]
 slow-timeout = { grace-period = "0", period = "1.5s" }
-> 2: warning: profile.a.slow-timeout.period: a duration that isn't judged here: only whole numbers, each with a unit, are read
+> 2:47: note: profile.a.slow-timeout.period: not judged here: a duration other than whole numbers, each with a unit [unjudged-duration]
 
 === texts at other places stay errors | repository
 [profile.a]
@@ -132,28 +136,29 @@ fail-fast = { max-fail = "1.5" }
 junit = { report-skipped = "0" }
 [[profile.a.overrides]]
 priority = "0"
-> 2: error: profile.a.retries: invalid type: string "0", expected a table ({ backoff = "fixed", count = 5 }) or a number (5)
-> 3: error: profile.a.flaky-result: unknown variant `0`, expected `fail` or `pass`
-> 4: error: profile.a.threads-required: invalid value: string "1.5s", expected an integer, the string "num-cpus" or the string "num-test-threads"
-> 5: error: profile.a.fail-fast.max-fail: invalid value: string "1.5", expected the string "all" or a positive integer
-> 6: error: profile.a.junit.report-skipped: unknown variant `0`, expected one of `none`, `ignored`, `all`
-> 8: error: profile.a.overrides[0].priority: invalid type: string "0", expected i8
+> 2:11: error: profile.a.retries: invalid type: string "0", expected a table ({ backoff = "fixed", count = 5 }) or a number (5), did you mean 0 [invalid-type]
+> 3:16: error: profile.a.flaky-result: unknown variant `0`, expected `fail` or `pass` [unknown-variant]
+> 4:20: error: profile.a.threads-required: invalid value: string "1.5s", expected an integer, the string "num-cpus" or the string "num-test-threads" [invalid-value]
+> 5:26: error: profile.a.fail-fast.max-fail: invalid value: string "1.5", expected the string "all" or a positive integer [invalid-value]
+> 6:28: error: profile.a.junit.report-skipped: unknown variant `0`, expected one of `none`, `ignored`, `all` [unknown-variant]
+> 7:13: warning: profile.a.overrides[0]: an override needs a "filter" or a "platform" [override-of-all]
+> 8:12: warning: profile.a.overrides[0].priority: invalid type: string "0", expected i8, did you mean 0 [invalid-type]
 
 === numbers at a duration's place stay errors | repository
 [profile.a]
 slow-timeout = 0
 leak-timeout = 0
 global-timeout = 1.5
-> 2: error: profile.a.slow-timeout: invalid type: integer `0`, expected a table ({ period = "60s", terminate-after = 2 }) or a string ("60s")
-> 3: error: profile.a.leak-timeout: invalid type: integer `0`, expected a table ({ period = "500ms", result = "fail" }) or a string ("100ms")
-> 4: error: profile.a.global-timeout: invalid type: floating point, expected a duration
+> 2:16: error: profile.a.slow-timeout: invalid type: integer `0`, expected a table ({ period = "60s", terminate-after = 2 }) or a string ("60s"), did you mean "0s" [invalid-type]
+> 3:16: error: profile.a.leak-timeout: invalid type: integer `0`, expected a table ({ period = "500ms", result = "fail" }) or a string ("100ms"), did you mean "0s" [invalid-type]
+> 4:18: error: profile.a.global-timeout: invalid type: floating point, expected a duration [invalid-type]
 
 === a slow timeout that is switched off | repository
 [profile.a]
 slow-timeout = ""
 [profile.b]
 slow-timeout = { period = "" }
-> 4: error: profile.b.slow-timeout.period: invalid value: string "", expected a duration
+> 4:27: error: profile.b.slow-timeout.period: invalid value: string "", expected a duration [invalid-value]
 "#;
 
 // What is found where the text is a duration's.
@@ -169,73 +174,73 @@ text | 1µs |  |
 text | 1\u{a0}s |  |
 
 # fractions
-text | 1.5h | 2: warning: profile.a.global-timeout: a duration that isn't judged here: only whole numbers, each with a unit, are read
-text | 0.0s | 2: warning: profile.a.global-timeout: a duration that isn't judged here: only whole numbers, each with a unit, are read
-text | 1.5h 30m | 2: warning: profile.a.global-timeout: a duration that isn't judged here: only whole numbers, each with a unit, are read
-text | 1h 0.5m | 2: warning: profile.a.global-timeout: a duration that isn't judged here: only whole numbers, each with a unit, are read
-text | 1.25 h | 2: warning: profile.a.global-timeout: a duration that isn't judged here: only whole numbers, each with a unit, are read
-text | 1.5h2.5m3.5s | 2: warning: profile.a.global-timeout: a duration that isn't judged here: only whole numbers, each with a unit, are read
-text | 00.000s | 2: warning: profile.a.global-timeout: a duration that isn't judged here: only whole numbers, each with a unit, are read
-text |  1.5s  | 2: warning: profile.a.global-timeout: a duration that isn't judged here: only whole numbers, each with a unit, are read
-text | 1.99999999999999999999999999s | 2: warning: profile.a.global-timeout: a duration that isn't judged here: only whole numbers, each with a unit, are read
-text | 1.2.3s | 2: warning: profile.a.global-timeout: a duration that isn't judged here: only whole numbers, each with a unit, are read
+text | 1.5h | 2:20: note: profile.a.global-timeout: not judged here: a duration other than whole numbers, each with a unit [unjudged-duration]
+text | 0.0s | 2:20: note: profile.a.global-timeout: not judged here: a duration other than whole numbers, each with a unit [unjudged-duration]
+text | 1.5h 30m | 2:20: note: profile.a.global-timeout: not judged here: a duration other than whole numbers, each with a unit [unjudged-duration]
+text | 1h 0.5m | 2:20: note: profile.a.global-timeout: not judged here: a duration other than whole numbers, each with a unit [unjudged-duration]
+text | 1.25 h | 2:20: note: profile.a.global-timeout: not judged here: a duration other than whole numbers, each with a unit [unjudged-duration]
+text | 1.5h2.5m3.5s | 2:20: note: profile.a.global-timeout: not judged here: a duration other than whole numbers, each with a unit [unjudged-duration]
+text | 00.000s | 2:20: note: profile.a.global-timeout: not judged here: a duration other than whole numbers, each with a unit [unjudged-duration]
+text |  1.5s  | 2:20: note: profile.a.global-timeout: not judged here: a duration other than whole numbers, each with a unit [unjudged-duration]
+text | 1.99999999999999999999999999s | 2:20: note: profile.a.global-timeout: not judged here: a duration other than whole numbers, each with a unit [unjudged-duration]
+text | 1.2.3s | 2:20: note: profile.a.global-timeout: not judged here: a duration other than whole numbers, each with a unit [unjudged-duration]
 
 # spaces between digits
-text | 1 0s | 2: warning: profile.a.global-timeout: a duration that isn't judged here: only whole numbers, each with a unit, are read
-text | 1 000 000 ms | 2: warning: profile.a.global-timeout: a duration that isn't judged here: only whole numbers, each with a unit, are read
-text | 1h 3 0m | 2: warning: profile.a.global-timeout: a duration that isn't judged here: only whole numbers, each with a unit, are read
-text | 1\u{9}0s | 2: warning: profile.a.global-timeout: a duration that isn't judged here: only whole numbers, each with a unit, are read
-text | 1\u{a0}\u{2003}0s | 2: warning: profile.a.global-timeout: a duration that isn't judged here: only whole numbers, each with a unit, are read
-text | 1   0 s | 2: warning: profile.a.global-timeout: a duration that isn't judged here: only whole numbers, each with a unit, are read
+text | 1 0s | 2:20: note: profile.a.global-timeout: not judged here: a duration other than whole numbers, each with a unit [unjudged-duration]
+text | 1 000 000 ms | 2:20: note: profile.a.global-timeout: not judged here: a duration other than whole numbers, each with a unit [unjudged-duration]
+text | 1h 3 0m | 2:20: note: profile.a.global-timeout: not judged here: a duration other than whole numbers, each with a unit [unjudged-duration]
+text | 1\u{9}0s | 2:20: note: profile.a.global-timeout: not judged here: a duration other than whole numbers, each with a unit [unjudged-duration]
+text | 1\u{a0}\u{2003}0s | 2:20: note: profile.a.global-timeout: not judged here: a duration other than whole numbers, each with a unit [unjudged-duration]
+text | 1   0 s | 2:20: note: profile.a.global-timeout: not judged here: a duration other than whole numbers, each with a unit [unjudged-duration]
 
 # fractions and spaces between digits
-text | 1 0.5s | 2: warning: profile.a.global-timeout: a duration that isn't judged here: only whole numbers, each with a unit, are read
-text | 1.5 5s | 2: warning: profile.a.global-timeout: a duration that isn't judged here: only whole numbers, each with a unit, are read
+text | 1 0.5s | 2:20: note: profile.a.global-timeout: not judged here: a duration other than whole numbers, each with a unit [unjudged-duration]
+text | 1.5 5s | 2:20: note: profile.a.global-timeout: not judged here: a duration other than whole numbers, each with a unit [unjudged-duration]
 
 # zero
-text | 0 | 2: warning: profile.a.global-timeout: a duration that isn't judged here: only whole numbers, each with a unit, are read
-text | 00 | 2: error: profile.a.global-timeout: invalid value: string "00", expected a duration
-text |  0 | 2: error: profile.a.global-timeout: invalid value: string " 0", expected a duration
-text | 0  | 2: error: profile.a.global-timeout: invalid value: string "0 ", expected a duration
-text | 0.0 | 2: error: profile.a.global-timeout: invalid value: string "0.0", expected a duration
-text | 0 0 | 2: error: profile.a.global-timeout: invalid value: string "0 0", expected a duration
-text | -0 | 2: error: profile.a.global-timeout: invalid value: string "-0", expected a duration
-text | +0 | 2: error: profile.a.global-timeout: invalid value: string "+0", expected a duration
+text | 0 | 2:20: note: profile.a.global-timeout: not judged here: a duration other than whole numbers, each with a unit [unjudged-duration]
+text | 00 | 2:20: error: profile.a.global-timeout: invalid value: string "00", expected a duration, did you mean "00s" [invalid-value]
+text |  0 | 2:20: error: profile.a.global-timeout: invalid value: string " 0", expected a duration [invalid-value]
+text | 0  | 2:20: error: profile.a.global-timeout: invalid value: string "0 ", expected a duration [invalid-value]
+text | 0.0 | 2:20: error: profile.a.global-timeout: invalid value: string "0.0", expected a duration [invalid-value]
+text | 0 0 | 2:20: error: profile.a.global-timeout: invalid value: string "0 0", expected a duration [invalid-value]
+text | -0 | 2:20: error: profile.a.global-timeout: invalid value: string "-0", expected a duration [invalid-value]
+text | +0 | 2:20: error: profile.a.global-timeout: invalid value: string "+0", expected a duration [invalid-value]
 
 # no durations
-text | 5 | 2: error: profile.a.global-timeout: invalid value: string "5", expected a duration
-text | 1.5.h | 2: error: profile.a.global-timeout: invalid value: string "1.5.h", expected a duration
-text | x | 2: error: profile.a.global-timeout: invalid value: string "x", expected a duration
-text |  | 2: error: profile.a.global-timeout: invalid value: string "", expected a duration
-text |   | 2: error: profile.a.global-timeout: invalid value: string " ", expected a duration
-text | 1. | 2: error: profile.a.global-timeout: invalid value: string "1.", expected a duration
-text | 1.s | 2: error: profile.a.global-timeout: invalid value: string "1.s", expected a duration
-text | .5s | 2: error: profile.a.global-timeout: invalid value: string ".5s", expected a duration
-text | 1.5 | 2: error: profile.a.global-timeout: invalid value: string "1.5", expected a duration
-text | 1.5x | 2: error: profile.a.global-timeout: invalid value: string "1.5x", expected a duration
-text | 1 5 | 2: error: profile.a.global-timeout: invalid value: string "1 5", expected a duration
-text | 1. 5s | 2: error: profile.a.global-timeout: invalid value: string "1. 5s", expected a duration
-text | 1 .5s | 2: error: profile.a.global-timeout: invalid value: string "1 .5s", expected a duration
-text | 1,5s | 2: error: profile.a.global-timeout: invalid value: string "1,5s", expected a duration
-text | 1.5h 30 | 2: error: profile.a.global-timeout: invalid value: string "1.5h 30", expected a duration
-text | -1.5s | 2: error: profile.a.global-timeout: invalid value: string "-1.5s", expected a duration
-text | 1.xs | 2: error: profile.a.global-timeout: invalid value: string "1.xs", expected a duration
-text | 1..5s | 2: error: profile.a.global-timeout: invalid value: string "1..5s", expected a duration
-text | 1_000s | 2: error: profile.a.global-timeout: invalid value: string "1_000s", expected a duration
-text | 1.5 S | 2: error: profile.a.global-timeout: invalid value: string "1.5 S", expected a duration
-text | 1.5s. | 2: error: profile.a.global-timeout: invalid value: string "1.5s.", expected a duration
-text | ٣.٥s | 2: error: profile.a.global-timeout: invalid value: string "٣.٥s", expected a duration
-text | 1 m s | 2: error: profile.a.global-timeout: invalid value: string "1 m s", expected a duration
-text | 1h .5s | 2: error: profile.a.global-timeout: invalid value: string "1h .5s", expected a duration
+text | 5 | 2:20: error: profile.a.global-timeout: invalid value: string "5", expected a duration, did you mean "5s" [invalid-value]
+text | 1.5.h | 2:20: error: profile.a.global-timeout: invalid value: string "1.5.h", expected a duration [invalid-value]
+text | x | 2:20: error: profile.a.global-timeout: invalid value: string "x", expected a duration [invalid-value]
+text |  | 2:20: error: profile.a.global-timeout: invalid value: string "", expected a duration [invalid-value]
+text |   | 2:20: error: profile.a.global-timeout: invalid value: string " ", expected a duration [invalid-value]
+text | 1. | 2:20: error: profile.a.global-timeout: invalid value: string "1.", expected a duration [invalid-value]
+text | 1.s | 2:20: error: profile.a.global-timeout: invalid value: string "1.s", expected a duration [invalid-value]
+text | .5s | 2:20: error: profile.a.global-timeout: invalid value: string ".5s", expected a duration [invalid-value]
+text | 1.5 | 2:20: error: profile.a.global-timeout: invalid value: string "1.5", expected a duration [invalid-value]
+text | 1.5x | 2:20: error: profile.a.global-timeout: invalid value: string "1.5x", expected a duration [invalid-value]
+text | 1 5 | 2:20: error: profile.a.global-timeout: invalid value: string "1 5", expected a duration [invalid-value]
+text | 1. 5s | 2:20: error: profile.a.global-timeout: invalid value: string "1. 5s", expected a duration [invalid-value]
+text | 1 .5s | 2:20: error: profile.a.global-timeout: invalid value: string "1 .5s", expected a duration [invalid-value]
+text | 1,5s | 2:20: error: profile.a.global-timeout: invalid value: string "1,5s", expected a duration [invalid-value]
+text | 1.5h 30 | 2:20: error: profile.a.global-timeout: invalid value: string "1.5h 30", expected a duration [invalid-value]
+text | -1.5s | 2:20: error: profile.a.global-timeout: invalid value: string "-1.5s", expected a duration [invalid-value]
+text | 1.xs | 2:20: error: profile.a.global-timeout: invalid value: string "1.xs", expected a duration [invalid-value]
+text | 1..5s | 2:20: error: profile.a.global-timeout: invalid value: string "1..5s", expected a duration [invalid-value]
+text | 1_000s | 2:20: error: profile.a.global-timeout: invalid value: string "1_000s", expected a duration [invalid-value]
+text | 1.5 S | 2:20: error: profile.a.global-timeout: invalid value: string "1.5 S", expected a duration [invalid-value]
+text | 1.5s. | 2:20: error: profile.a.global-timeout: invalid value: string "1.5s.", expected a duration [invalid-value]
+text | ٣.٥s | 2:20: error: profile.a.global-timeout: invalid value: string "٣.٥s", expected a duration [invalid-value]
+text | 1 m s | 2:20: error: profile.a.global-timeout: invalid value: string "1 m s", expected a duration [invalid-value]
+text | 1h .5s | 2:20: error: profile.a.global-timeout: invalid value: string "1h .5s", expected a duration [invalid-value]
 
 # too large
-text | 18446744073709551616s | 2: error: profile.a.global-timeout: invalid value: string "18446744073709551616s", expected a duration
-text | 18446744073709551616.5s | 2: error: profile.a.global-timeout: invalid value: string "18446744073709551616.5s", expected a duration
-text | 1 8446744073709551616s | 2: error: profile.a.global-timeout: invalid value: string "1 8446744073709551616s", expected a duration
-text | 1 8446744073709551615s | 2: warning: profile.a.global-timeout: a duration that isn't judged here: only whole numbers, each with a unit, are read
-text | 18446744073709551615.5s | 2: warning: profile.a.global-timeout: a duration that isn't judged here: only whole numbers, each with a unit, are read
-text | 18446744073709551615s 1.5s | 2: error: profile.a.global-timeout: invalid value: string "18446744073709551615s 1.5s", expected a duration
-text | 18446744073709551615.1 5s | 2: error: profile.a.global-timeout: invalid value: string "18446744073709551615.1 5s", expected a duration
+text | 18446744073709551616s | 2:20: error: profile.a.global-timeout: invalid value: string "18446744073709551616s", expected a duration [invalid-value]
+text | 18446744073709551616.5s | 2:20: error: profile.a.global-timeout: invalid value: string "18446744073709551616.5s", expected a duration [invalid-value]
+text | 1 8446744073709551616s | 2:20: error: profile.a.global-timeout: invalid value: string "1 8446744073709551616s", expected a duration [invalid-value]
+text | 1 8446744073709551615s | 2:20: note: profile.a.global-timeout: not judged here: a duration other than whole numbers, each with a unit [unjudged-duration]
+text | 18446744073709551615.5s | 2:20: note: profile.a.global-timeout: not judged here: a duration other than whole numbers, each with a unit [unjudged-duration]
+text | 18446744073709551615s 1.5s | 2:20: error: profile.a.global-timeout: invalid value: string "18446744073709551615s 1.5s", expected a duration [invalid-value]
+text | 18446744073709551615.1 5s | 2:20: error: profile.a.global-timeout: invalid value: string "18446744073709551615.1 5s", expected a duration [invalid-value]
 "#;
 
 struct Texts;

@@ -1,51 +1,78 @@
-//! What is found in files, as it is printed, and how grave it is.
+//! What is found in files, as it is printed, how grave it is, and its code.
 
 use crate::tests::ThisCrate;
 use crate::tests::lines::steps;
 use crate::tests::runner::Test;
-use nextest_config_findings::{Finding, FindingKind, Hint, Severity};
+use nextest_config_findings::{Finding, FindingKind, FindingSeverity, Hint, Home};
 use nextest_config_rows::compared::ordered;
 use nextest_config_rows::rows::{Runner, Subject, check, copied, done, shown, unknown};
 use nextest_config_rows::values::{FromRow, names};
-use nextest_config_values::read::{FaultKind, Rule};
+use nextest_config_values::identifier::InvalidIdentifier;
+use nextest_config_values::read::{FaultKind, Rule, Word};
 
 const ROWS: &str = r#"
-whole | rule | Error: pre-release identifiers are not supported in nextest-version
-whole | utf8 | Error: not UTF-8
-whole | toml unclosed array | Error: unclosed array
-whole | duration | Warning: a duration that isn't judged here: only whole numbers, each with a unit, are read
-whole | features a b | Error: experimental features in a tool configuration: "a", "b"
-whole | feature future | Warning: unknown feature "future"
-whole | near-feature setup-script | Warning: unknown feature "setup-script", did you mean "setup-scripts"
-whole | key profil | Warning: unknown key "profil"
-whole | near-key require | Warning: unknown key "require", did you mean "required"
-whole | top-key nextest-version | Warning: unknown key "nextest-version", which stands at the top of the file
+whole | rule | Error: pre-release identifiers are not supported in nextest-version [pre-release]
+whole | warned rule | Warning: pre-release identifiers are not supported in nextest-version [pre-release]
+whole | zero | Error: `count` cannot be zero with exponential backoff, did you mean 1 [count-zero]
+whole | type | Error: invalid type: integer `60`, expected a duration, did you mean "60s" [invalid-type]
+whole | missing | Error: missing configuration field "a.b" [missing-field]
+whole | utf8 | Error: not UTF-8 [not-utf8]
+whole | toml unclosed array | Error: unclosed array [not-toml]
+whole | duration | Note: not judged here: a duration other than whole numbers, each with a unit [unjudged-duration]
+whole | features a b | Error: experimental features in a tool configuration: "a", "b" [tool-features]
+whole | feature future | Warning: unknown feature "future" [unknown-feature]
+whole | feature setup-script ~ setup-scripts | Warning: unknown feature "setup-script", did you mean "setup-scripts" [unknown-feature]
+whole | key profil | Warning: unknown key "profil" [unknown-key]
+whole | key require ~ required | Warning: unknown key "require", did you mean "required" [unknown-key]
+whole | key retries > profile | Warning: unknown key "retries", which belongs in a profile [unknown-key]
+whole | key filter > override | Warning: unknown key "filter", which belongs in an override [unknown-key]
+whole | key path > junit | Warning: unknown key "path", which belongs in junit [unknown-key]
+whole | key profile > top | Warning: unknown key "profile", which belongs at the top of the file [unknown-key]
+whole | group serail ~ serial | Warning: no file defines the test group "serail", did you mean "serial" [undefined-group]
+whole | group serail | Warning: no file defines the test group "serail" [undefined-group]
+whole | profile cii ~ ci | Warning: no file defines the profile "cii", did you mean "ci" [undefined-profile]
+whole | profile cii | Warning: no file defines the profile "cii" [undefined-profile]
+whole | default | Warning: the profile "default" can't inherit [default-inherits]
+whole | itself a b | Warning: the profile "a b" inherits from itself [inherits-itself]
+whole | all | Warning: an override needs a "filter" or a "platform" [override-of-all]
+whole | reserved | Warning: profile names that begin with "default-" are reserved [reserved-profile]
+whole | group-name | Warning: identifier is empty [group-name]
+whole | group-outside @tool:t: | Warning: a tool's test groups begin with "@tool:t:" [group-name]
+whole | group-of-tool | Warning: only a tool's test groups begin with "@" [group-name]
+whole | array { } | Note: the array form is deprecated, use a table: { } [deprecated-array]
+whole | array { benchmarks = true } | Note: the array form is deprecated, use a table: { benchmarks = true } [deprecated-array]
+whole | array { setup-scripts = true, benchmarks = true } | Note: the array form is deprecated, use a table: { setup-scripts = true, benchmarks = true } [deprecated-array]
 
 # names between quotes
-whole | key a"b | Warning: unknown key "a\"b"
-whole | feature é\ | Warning: unknown feature "é\\"
+whole | key a"b | Warning: unknown key "a\"b" [unknown-key]
+whole | feature é\ | Warning: unknown feature "é\\" [unknown-feature]
 
 # at a path: keys that aren't bare stand between quotes
-a | rule | Error: a: pre-release identifiers are not supported in nextest-version
-profile / default / retries | utf8 | Error: profile.default.retries: not UTF-8
-profile / default / overrides / 0 / priority | utf8 | Error: profile.default.overrides[0].priority: not UTF-8
-profile / x y / a"b | utf8 | Error: profile."x y"."a\"b": not UTF-8
-profile / é | utf8 | Error: profile."é": not UTF-8
-profile / A-z_09 | utf8 | Error: profile.A-z_09: not UTF-8
-profile /  / a | utf8 | Error: profile."".a: not UTF-8
-3 / 4 / a.b | utf8 | Error: [3][4]."a.b": not UTF-8
+a | rule | Error: a: pre-release identifiers are not supported in nextest-version [pre-release]
+profile / default / retries | utf8 | Error: profile.default.retries: not UTF-8 [not-utf8]
+profile / default / overrides / 0 / priority | utf8 | Error: profile.default.overrides[0].priority: not UTF-8 [not-utf8]
+profile / x y / a"b | utf8 | Error: profile."x y"."a\"b": not UTF-8 [not-utf8]
+profile / é | utf8 | Error: profile."é": not UTF-8 [not-utf8]
+profile / A-z_09 | utf8 | Error: profile.A-z_09: not UTF-8 [not-utf8]
+profile /  / a | utf8 | Error: profile."".a: not UTF-8 [not-utf8]
+3 / 4 / a.b | utf8 | Error: [3][4]."a.b": not UTF-8 [not-utf8]
 
 # at every size
-«a / »b | key x«x» | Warning: «a.»b: unknown key "x«x»"
-a«é» b | utf8 | Error: "a«é» b": not UTF-8
+«a / »b | key x«x» | Warning: «a.»b: unknown key "x«x»" [unknown-key]
+a«é» b | utf8 | Error: "a«é» b": not UTF-8 [not-utf8]
 "#;
 
 const SEVERITIES: &str = r#"
-# a warning is below an error
-Severity | Warning ~ Warning | Equal
-Severity | Warning ~ Error | Less
-Severity | Error ~ Warning | Greater
-Severity | Error ~ Error | Equal
+# a note is below a warning, and that below an error
+FindingSeverity | Note ~ Note | Equal
+FindingSeverity | Note ~ Warning | Less
+FindingSeverity | Note ~ Error | Less
+FindingSeverity | Warning ~ Note | Greater
+FindingSeverity | Error ~ Note | Greater
+FindingSeverity | Warning ~ Warning | Equal
+FindingSeverity | Warning ~ Error | Less
+FindingSeverity | Error ~ Warning | Greater
+FindingSeverity | Error ~ Error | Equal
 "#;
 
 pub(crate) struct Findings;
@@ -57,50 +84,139 @@ impl Subject for Findings {
         let finding = Finding { path, kind };
         let printed = shown(rt, &finding);
         let severity = finding.severity();
-        done(rt, format!(in rt.alloc(); "{severity:?}: {printed}"))
+        let code = finding.code().as_word();
+        done(
+            rt,
+            format!(in rt.alloc(); "{severity:?}: {printed} [{code}]"),
+        )
     }
 }
 
 fn kind(rt: &impl Runner, input: &str) -> FindingKind {
     let (word, rest) = input.split_once(' ').unwrap_or((input, ""));
     match word {
-        "rule" => FindingKind::Fault(FaultKind::Custom(Rule::PreRelease)),
+        "rule" => fault(
+            rt,
+            FaultKind::Custom(Rule::PreRelease),
+            FindingSeverity::Error,
+            "",
+        ),
+        "warned" => fault(
+            rt,
+            FaultKind::Custom(Rule::PreRelease),
+            FindingSeverity::Warning,
+            "",
+        ),
+        "zero" => fault(
+            rt,
+            FaultKind::Custom(Rule::CountZero),
+            FindingSeverity::Error,
+            "= 1",
+        ),
+        "type" => FindingKind::Fault {
+            fault: FaultKind::InvalidType {
+                found: copied(rt, "integer `60`"),
+                expected: "a duration",
+            },
+            severity: FindingSeverity::Error,
+            hint: hint(rt, "~ 60s"),
+        },
+        "missing" => fault(
+            rt,
+            FaultKind::MissingField {
+                key: copied(rt, "a.b"),
+            },
+            FindingSeverity::Error,
+            "",
+        ),
         "features" => FindingKind::ToolFeatures {
             features: names(rt, rest),
         },
-        "feature" => feature(rt, rest, None),
-        "near-feature" => feature(rt, rest, Some(Hint::Nearest("setup-scripts"))),
-        "key" => key(rt, rest, None),
-        "near-key" => key(rt, rest, Some(Hint::Nearest("required"))),
-        "top-key" => key(rt, rest, Some(Hint::Top)),
         "duration" => FindingKind::UnjudgedDuration,
         "utf8" => FindingKind::NotUtf8,
         "toml" => FindingKind::NotToml {
             message: copied(rt, rest),
         },
+        "array" => FindingKind::DeprecatedArray {
+            table: copied(rt, rest),
+        },
+        "feature" | "key" | "group" | "profile" => named(rt, word, rest),
+        _ => reference(rt, word, rest),
+    }
+}
+
+fn fault(
+    rt: &impl Runner,
+    fault: FaultKind,
+    severity: FindingSeverity,
+    meant: &str,
+) -> FindingKind {
+    FindingKind::Fault {
+        fault,
+        severity,
+        hint: hint(rt, meant),
+    }
+}
+
+// A finding of a name, with what may be meant.
+fn named(rt: &impl Runner, word: &str, rest: &str) -> FindingKind {
+    let (name, meant) = rest.split_once(' ').unwrap_or((rest, ""));
+    let name = copied(rt, name);
+    let hint = hint(rt, meant);
+    match word {
+        "feature" => FindingKind::UnknownFeature { name, hint },
+        "key" => FindingKind::UnknownKey { key: name, hint },
+        "group" => FindingKind::UndefinedGroup { name, hint },
+        "profile" => FindingKind::UndefinedProfile { name, hint },
         _ => unknown(rt, word),
     }
 }
 
-fn feature(rt: &impl Runner, name: &str, hint: Option<Hint>) -> FindingKind {
-    FindingKind::UnknownFeature {
-        name: copied(rt, name),
-        hint,
+fn reference(rt: &impl Runner, word: &str, rest: &str) -> FindingKind {
+    match word {
+        "default" => FindingKind::DefaultInherits,
+        "itself" => FindingKind::InheritsItself {
+            profile: copied(rt, rest),
+        },
+        "all" => FindingKind::OverrideOfAll,
+        "reserved" => FindingKind::ReservedProfile,
+        "group-name" => FindingKind::NoGroupName(InvalidIdentifier::Empty),
+        "group-outside" => FindingKind::GroupOutsideTool {
+            mark: copied(rt, rest),
+        },
+        "group-of-tool" => FindingKind::GroupOfTool,
+        _ => unknown(rt, word),
     }
 }
 
-fn key(rt: &impl Runner, key: &str, hint: Option<Hint>) -> FindingKind {
-    FindingKind::UnknownKey {
-        key: copied(rt, key),
-        hint,
+// `~ WORD`, `= TOML`, `> HOME`, or nothing.
+fn hint(rt: &impl Runner, text: &str) -> Option<Hint> {
+    let (mark, rest) = text.split_once(' ').unwrap_or((text, ""));
+    match mark {
+        "" => None,
+        "~" => Some(Hint::Word(copied(rt, rest))),
+        "=" => Some(Hint::Toml(copied(rt, rest))),
+        ">" => Some(Hint::Belongs(home(rt, rest))),
+        _ => unknown(rt, text),
     }
 }
 
-impl FromRow<ThisCrate> for Severity {
+fn home(rt: &impl Runner, text: &str) -> Home {
+    match text {
+        "top" => Home::Top,
+        "profile" => Home::Profile,
+        "override" => Home::Override,
+        "junit" => Home::Junit,
+        _ => unknown(rt, text),
+    }
+}
+
+impl FromRow<ThisCrate> for FindingSeverity {
     fn from_row(rt: &impl Runner, text: &str) -> Self {
         match text {
-            "Warning" => Severity::Warning,
-            "Error" => Severity::Error,
+            "Note" => FindingSeverity::Note,
+            "Warning" => FindingSeverity::Warning,
+            "Error" => FindingSeverity::Error,
             _ => unknown(rt, text),
         }
     }
@@ -111,7 +227,7 @@ struct Severities;
 impl Subject for Severities {
     fn answer(rt: &impl Runner, call: &str, input: &str) -> String {
         match call {
-            "Severity" => ordered::<Severity, _>(rt, input),
+            "FindingSeverity" => ordered::<FindingSeverity, _>(rt, input),
             _ => unknown(rt, call),
         }
     }

@@ -1,7 +1,7 @@
 //! Lines of values in documents.
 
 use crate::tests::runner::Test;
-use nextest_config_findings::{Step, line_of};
+use nextest_config_positions::{Step, line_of};
 use nextest_config_rows::rows::{Escaped, Runner, Subject, check, copied, done, written};
 
 pub(crate) const ROWS: &str = r#"

@@ -9,16 +9,17 @@ const FILES: &str = r#"
 [profile.ci]
 retries = 1
 
-=== values, then features, then keys | repository
+=== values, then features, then keys, then notes | repository
 zone = 1
 experimental = ["future"]
 [profile.ci]
 zone = 1
 retries = "two"
 > error: profile.ci.retries: invalid type: string "two", expected a table ({ backoff = "fixed", count = 5 }) or a number (5)
-> warning: experimental: unknown feature "future"
+> warning: experimental[0]: unknown feature "future"
 > warning: unknown key "zone"
 > warning: profile.ci: unknown key "zone"
+> note: experimental: the array form is deprecated, use a table: { }
 
 === values, then a tool's features, then keys | tool
 zone = 1
@@ -29,16 +30,37 @@ retries = "two"
 > error: experimental: experimental features in a tool configuration: "future"
 > warning: unknown key "zone"
 
-=== a duration that isn't judged stands among the errors | repository
+=== notes in the order of their values | repository
+[profile.ci]
+global-timeout = "0"
+slow-timeout = "1.5s"
+[profile.a.bench]
+global-timeout = "0"
+[experimental]
+[[profile.a.overrides]]
+leak-timeout = { period = "0" }
+> warning: profile.a.overrides[0]: an override needs a "filter" or a "platform"
+> note: profile.a.bench.global-timeout: not judged here: a duration other than whole numbers, each with a unit
+> note: profile.a.overrides[0].leak-timeout.period: not judged here: a duration other than whole numbers, each with a unit
+> note: profile.ci.slow-timeout: not judged here: a duration other than whole numbers, each with a unit
+> note: profile.ci.global-timeout: not judged here: a duration other than whole numbers, each with a unit
+
+=== the array of features before durations | repository
+profile.a.global-timeout = "0"
+experimental = ["benchmarks"]
+> note: experimental: the array form is deprecated, use a table: { benchmarks = true }
+> note: profile.a.global-timeout: not judged here: a duration other than whole numbers, each with a unit
+
+=== a duration that isn't judged comes after all else | repository
 [profile.ci]
 zone = 1
 junit = 1
 global-timeout = "0"
 leak-timeout = 1
-> error: profile.ci.leak-timeout: invalid type: integer `1`, expected a table ({ period = "500ms", result = "fail" }) or a string ("100ms")
-> warning: profile.ci.global-timeout: a duration that isn't judged here: only whole numbers, each with a unit, are read
+> error: profile.ci.leak-timeout: invalid type: integer `1`, expected a table ({ period = "500ms", result = "fail" }) or a string ("100ms"), did you mean "1s"
 > error: profile.ci.junit: invalid type: integer `1`, expected a table
 > warning: profile.ci: unknown key "zone"
+> note: profile.ci.global-timeout: not judged here: a duration other than whole numbers, each with a unit
 
 === the values of the top | explicit
 profile = 1
@@ -71,10 +93,10 @@ retries = "two"
 > error: profile.ci.retries: invalid type: string "two", expected a table ({ backoff = "fixed", count = 5 }) or a number (5)
 > error: profile.ci.flaky-result: invalid type: integer `1`, expected a string
 > error: profile.ci.threads-required: invalid value: integer `0`, expected an integer, the string "num-cpus" or the string "num-test-threads"
-> error: profile.ci.fail-fast: invalid type: integer `1`, expected a boolean or { max-fail = ... }
-> error: profile.ci.slow-timeout: invalid type: integer `1`, expected a table ({ period = "60s", terminate-after = 2 }) or a string ("60s")
-> error: profile.ci.leak-timeout: invalid type: integer `1`, expected a table ({ period = "500ms", result = "fail" }) or a string ("100ms")
-> error: profile.ci.global-timeout: invalid type: integer `1`, expected a duration
+> error: profile.ci.fail-fast: invalid type: integer `1`, expected a boolean or { max-fail = ... }, did you mean { max-fail = 1 }
+> error: profile.ci.slow-timeout: invalid type: integer `1`, expected a table ({ period = "60s", terminate-after = 2 }) or a string ("60s"), did you mean "1s"
+> error: profile.ci.leak-timeout: invalid type: integer `1`, expected a table ({ period = "500ms", result = "fail" }) or a string ("100ms"), did you mean "1s"
+> error: profile.ci.global-timeout: invalid type: integer `1`, expected a duration, did you mean "1s"
 > error: profile.ci.junit: invalid type: integer `1`, expected a table
 > error: profile.ci.bench: invalid type: integer `1`, expected a table
 > error: profile.ci.overrides: invalid type: integer `1`, expected an array
@@ -91,17 +113,18 @@ priority = 101
 [profile.ci.bench]
 global-timeout = 1
 slow-timeout = 1
-> error: profile.ci.bench.slow-timeout: invalid type: integer `1`, expected a table ({ period = "60s", terminate-after = 2 }) or a string ("60s")
-> error: profile.ci.bench.global-timeout: invalid type: integer `1`, expected a duration
+> error: profile.ci.bench.slow-timeout: invalid type: integer `1`, expected a table ({ period = "60s", terminate-after = 2 }) or a string ("60s"), did you mean "1s"
+> error: profile.ci.bench.global-timeout: invalid type: integer `1`, expected a duration, did you mean "1s"
 > error: profile.ci.overrides[0].priority: priority 101 must be between -100 and 100
 > error: profile.ci.overrides[0].threads-required: invalid value: integer `0`, expected an integer, the string "num-cpus" or the string "num-test-threads"
 > error: profile.ci.overrides[0].retries: invalid type: string "two", expected a table ({ backoff = "fixed", count = 5 }) or a number (5)
 > error: profile.ci.overrides[0].flaky-result: invalid type: integer `1`, expected a string
-> error: profile.ci.overrides[0].slow-timeout: invalid type: integer `1`, expected a table ({ period = "60s", terminate-after = 2 }) or a string ("60s")
-> error: profile.ci.overrides[0].leak-timeout: invalid type: integer `1`, expected a table ({ period = "500ms", result = "fail" }) or a string ("100ms")
-> error: profile.ci.overrides[0].junit.store-success-output: invalid type: integer `1`, expected a boolean
-> error: profile.ci.overrides[0].junit.store-failure-output: invalid type: integer `1`, expected a boolean
+> error: profile.ci.overrides[0].slow-timeout: invalid type: integer `1`, expected a table ({ period = "60s", terminate-after = 2 }) or a string ("60s"), did you mean "1s"
+> error: profile.ci.overrides[0].leak-timeout: invalid type: integer `1`, expected a table ({ period = "500ms", result = "fail" }) or a string ("100ms"), did you mean "1s"
+> warning: profile.ci.overrides[0].junit.store-success-output: invalid type: integer `1`, expected a boolean
+> warning: profile.ci.overrides[0].junit.store-failure-output: invalid type: integer `1`, expected a boolean
 > error: profile.ci.overrides[0].junit.flaky-fail-status: invalid type: integer `1`, expected a string
+> warning: profile.ci.overrides[0]: an override needs a "filter" or a "platform"
 
 === profiles in the order of their bytes, with all that stands below each | repository
 [[profile.default.overrides]]
@@ -131,6 +154,8 @@ flaky-result = 1
 > error: profile.default.flaky-result: invalid type: integer `1`, expected a string
 > error: profile.default.overrides[0].priority: priority 101 must be between -100 and 100
 > error: profile."é".flaky-result: invalid type: integer `1`, expected a string
+> warning: profile.ci.overrides[0]: an override needs a "filter" or a "platform"
+> warning: profile.default.overrides[0]: an override needs a "filter" or a "platform"
 
 === overrides by index, with all that stands below each | repository
 [profile.ci]
@@ -144,6 +169,17 @@ overrides = [
 > error: profile.ci.overrides[3].priority: priority 101 must be between -100 and 100
 > error: profile.ci.overrides[10].priority: priority 101 must be between -100 and 100
 > error: profile.ci.overrides[11].priority: priority 101 must be between -100 and 100
+> warning: profile.ci.overrides[0]: an override needs a "filter" or a "platform"
+> warning: profile.ci.overrides[1]: an override needs a "filter" or a "platform"
+> warning: profile.ci.overrides[3]: an override needs a "filter" or a "platform"
+> warning: profile.ci.overrides[4]: an override needs a "filter" or a "platform"
+> warning: profile.ci.overrides[5]: an override needs a "filter" or a "platform"
+> warning: profile.ci.overrides[6]: an override needs a "filter" or a "platform"
+> warning: profile.ci.overrides[7]: an override needs a "filter" or a "platform"
+> warning: profile.ci.overrides[8]: an override needs a "filter" or a "platform"
+> warning: profile.ci.overrides[9]: an override needs a "filter" or a "platform"
+> warning: profile.ci.overrides[10]: an override needs a "filter" or a "platform"
+> warning: profile.ci.overrides[11]: an override needs a "filter" or a "platform"
 
 === unknown keys of a table before those of the tables in it | repository
 [[profile.ci.overrides]]
@@ -204,6 +240,8 @@ b = 1
 > warning: profile.ci.overrides[0].junit: unknown key "a"
 > warning: profile.ci.overrides[0].junit: unknown key "b"
 > warning: profile.ci.overrides[1]: unknown key "a"
+> warning: profile.ci.overrides[0]: an override needs a "filter" or a "platform"
+> warning: profile.ci.overrides[1]: an override needs a "filter" or a "platform"
 
 === what is wrong with a table doesn't hide what stands beside it | repository
 profile.ci = 1
@@ -216,6 +254,7 @@ profile.b = []
 > error: profile.ci: invalid type: integer `1`, expected a table
 > warning: profile.a: unknown key "b"
 > warning: profile.a.overrides[1]: unknown key "b"
+> warning: profile.a.overrides[1]: an override needs a "filter" or a "platform"
 
 === a tool's file where features stand in a table alone | tool tables
 zone = 1

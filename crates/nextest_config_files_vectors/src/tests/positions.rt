@@ -340,7 +340,7 @@ impl Subject for LinesOfIndex {
     }
 }
 
-// The line and the column of the beginning and of the place behind the end.
+// The line and the column of the beginning and of the place after the end.
 fn place_text(rt: &impl Runner, span: Option<Span>) -> String {
     match span {
         Some(Span { begin, end }) => done(

@@ -4,7 +4,7 @@ use crate::tests::runner::Test;
 use nextest_config_rows::rows::{Runner, Subject, check, cut, unknown};
 use nextest_config_rows::told::tell;
 use nextest_config_rows::values::{FromRow, expected, word};
-use nextest_config_values::read::{FaultKind, ReadFault};
+use nextest_config_values::read::{FaultKind, ReadFault, ValueFault};
 use toml::Value;
 
 const ROWS: &str = r#"
@@ -29,11 +29,24 @@ unknown_variant `a` | p, x | p: unknown variant `x`, expected `a`
 missing_field | p, k | p: missing configuration field "p.k"
 missing_field | , k | missing configuration field "k"
 memory | ,  | out of memory
+unknown_field `a` | p, k | p: unknown field `k`, expected `a`
+no_duration | p, 'x' | p: invalid value: string "x", expected a duration
+
+# a fault of what stands at a key or an index is told at the path of that
+key invalid_type a boolean | p, 1 | p.k: invalid type: integer `1`, expected a boolean
+key invalid_type a boolean | , 1 | k: invalid type: integer `1`, expected a boolean
+key no_duration | p, 'x' | p.k: invalid value: string "x", expected a duration
+index invalid_type a boolean | p, 1 | p[7]: invalid type: integer `1`, expected a boolean
+index missing_field | p, x | p[7]: missing configuration field "p[7].x"
+element missing_field | p, x | p.k[7]: missing configuration field "p.k[7].x"
+element missing_field | , x | k[7]: missing configuration field "k[7].x"
+element memory | p,  | out of memory
 
 # faults keep their kind while memory lasts, and say whether it did
 kept new | p, Custom PreRelease | ReadFault { path: "p", kind: Custom(PreRelease) }, false
 kept invalid_type a string | p, true | ReadFault { path: "p", kind: InvalidType { found: "boolean `true`", expected: "a string" } }, false
 kept new | p, Memory | ReadFault { path: "", kind: Memory }, true
+kept key new | p, Memory | ReadFault { path: "", kind: Memory }, true
 
 # at every size
 new | p«p», UnknownField «f» / `a` | p«p»: unknown field `«f»`, expected `a`
@@ -42,6 +55,7 @@ invalid_type a boolean | p«p», '«x»' | p«p»: invalid type: string "«x»",
 invalid_value a string | p«p», '«x»' | p«p»: invalid value: string "«x»", expected a string
 unknown_variant `a` | p«p», x«x» | p«p»: unknown variant `x«x»`, expected `a`
 missing_field | p«p», k«k» | p«p»: missing configuration field "p«p».k«k»"
+element missing_field | p«p», x«x» | p«p».k[7]: missing configuration field "p«p».k[7].x«x»"
 "#;
 
 struct Faults;
@@ -49,35 +63,47 @@ struct Faults;
 impl Subject for Faults {
     fn answer(rt: &impl Runner, call: &str, input: &str) -> String {
         let maker = call.strip_prefix("kept ").unwrap_or(call);
-        tell(rt, call, fault(rt, maker, input))
+        let (at, given) = cut(rt, input, ", ");
+        tell(rt, call, told(rt, maker, given, at))
     }
 }
 
-// The fault that a maker makes at a path of what is given there.
-fn fault(rt: &impl Runner, call: &str, input: &str) -> ReadFault {
-    let (at, given) = cut(rt, input, ", ");
+// What is told at a path of the fault that a maker makes of what is given there: of the value
+// itself, or of what stands below a key `k` or an index 7.
+fn told(rt: &impl Runner, call: &str, given: &str, at: &str) -> ReadFault {
+    let alloc = rt.alloc();
+    let (place, maker) = word(call);
+    match place {
+        "key" => fault(rt, maker, given).below_key(alloc, "k").at(alloc, at),
+        "index" => fault(rt, maker, given).below_index(alloc, 7).at(alloc, at),
+        "element" => {
+            let fault = fault(rt, maker, given).below_index(alloc, 7);
+            fault.below_key(alloc, "k").at(alloc, at)
+        }
+        _ => fault(rt, call, given).at(alloc, at),
+    }
+}
+
+// The fault that a maker makes of what is given to it.
+fn fault(rt: &impl Runner, call: &str, given: &str) -> ValueFault {
     let (maker, wanted) = word(call);
     let wanted = expected(wanted);
     match maker {
-        "new" => ReadFault::new(rt.alloc(), at, FaultKind::from_row(rt, given)),
-        "unknown_variant" => ReadFault::unknown_variant(rt.alloc(), given, at, wanted),
-        "missing_field" => ReadFault::missing_field(rt.alloc(), given, at),
-        "memory" => ReadFault::memory(rt.alloc()),
-        _ => mismatch(rt, maker, given, at, wanted),
+        "new" => ValueFault::new(rt.alloc(), FaultKind::from_row(rt, given)),
+        "unknown_variant" => ValueFault::unknown_variant(rt.alloc(), given, wanted),
+        "missing_field" => ValueFault::missing_field(rt.alloc(), given),
+        "memory" => ValueFault::memory(rt.alloc()),
+        "unknown_field" => ValueFault::unknown_field(rt.alloc(), given, wanted),
+        _ => mismatch(rt, maker, given, wanted),
     }
 }
 
-fn mismatch(
-    rt: &impl Runner,
-    maker: &str,
-    given: &str,
-    at: &str,
-    wanted: &'static str,
-) -> ReadFault {
+fn mismatch(rt: &impl Runner, maker: &str, given: &str, wanted: &'static str) -> ValueFault {
     let value = Value::from_row(rt, given);
     match maker {
-        "invalid_type" => ReadFault::invalid_type(rt.alloc(), &value, at, wanted),
-        "invalid_value" => ReadFault::invalid_value(rt.alloc(), &value, at, wanted),
+        "invalid_type" => ValueFault::invalid_type(rt.alloc(), &value, wanted),
+        "invalid_value" => ValueFault::invalid_value(rt.alloc(), &value, wanted),
+        "no_duration" => ValueFault::no_duration(rt.alloc(), &value),
         _ => unknown(rt, maker),
     }
 }

@@ -7,7 +7,7 @@ ghost use Rattle.nextest_config_values.specs.Read.{number_reading};
 use crate::tests::runner::Test;
 use nextest_config_rows::rows::{Runner, Subject, check, cut, done, made, unknown};
 use nextest_config_rows::values::FromRow;
-use nextest_config_values::read::{FromToml, ReadFault, field_or, optional_field, required_field};
+use nextest_config_values::read::{FromToml, ValueFault, field_or, optional_field, required_field};
 use nextest_config_values::track_default::TrackDefault;
 use std::alloc::Global;
 use toml::{Table, Value};
@@ -25,13 +25,13 @@ impl FromToml for Percent {
     ghost reading = { number_reading (λ n. n < 101) (λ n. below_decided n 101)
         (codes "a percentage") };
 
-    fn read(alloc: Global, value: &Value, at: &str) -> Result<Self, ReadFault> {
+    fn read_value(alloc: Global, value: &Value) -> Result<Self, ValueFault> {
         let Some(number) = value.as_integer() else {
-            return Err(ReadFault::invalid_type(alloc, value, at, "a percentage"));
+            return Err(ValueFault::invalid_type(alloc, value, "a percentage"));
         };
         match u8::try_from(number) {
             Ok(percent) if percent <= 100 => Ok(Percent { percent }),
-            _ => Err(ReadFault::invalid_value(alloc, value, at, "a percentage")),
+            _ => Err(ValueFault::invalid_value(alloc, value, "a percentage")),
         }
     }
 }

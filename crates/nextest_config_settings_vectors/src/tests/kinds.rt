@@ -1,4 +1,4 @@
-//! Values of each kind, at the readers of settings.
+//! Values of each kind, at the readers of what isn't a setting by itself.
 
 use crate::tests::durations::Durations;
 use crate::tests::fields::Fields;
@@ -6,7 +6,6 @@ use crate::tests::junit::Reports;
 use crate::tests::paths::Paths;
 use crate::tests::readers::Readers;
 use crate::tests::runner::Test;
-use crate::tests::settings::Settings;
 use nextest_config_rows::rows::{Runner, Subject, cut, unknown};
 use nextest_config_rows::wrong_kinds::check_kinds;
 
@@ -41,38 +40,6 @@ field tracked k at p | { k = @ } | integer | p.k | a percentage
 field optional k at p | { k = @ } | integer | p.k | a percentage
 field or 50 k at p | { k = @ } | integer | p.k | a percentage
 
-# fail-fast
-setting fail-fast p | @ | boolean, map | p | a boolean or { max-fail = ... }
-setting fail-fast p | { max-fail = @, terminate = 1 } | integer, string | p.max-fail | a positive integer or the string "all"
-setting fail-fast p | { max-fail = 1, terminate = @ } | string | p.terminate | a string
-setting fail-fast p | { max-fail = 'all', terminate = @ } | string | p.terminate | a string
-
-# retries
-setting retries p | @ | integer, map | p | a table ({ backoff = "fixed", count = 5 }) or a number (5)
-setting retries p | { backoff = @, count = true } | string | p.backoff | a string
-setting retries p | { backoff = 'fixed', count = @, delay = 1 } | integer | p.count | u32
-setting retries p | { backoff = 'fixed', count = 1, delay = @, jitter = 1 } | string | p.delay | a duration
-setting retries p | { backoff = 'fixed', count = 1, delay = '1s', jitter = @, x = 1 } | boolean | p.jitter | a boolean
-setting retries p | { backoff = 'exponential', count = @, delay = 1 } | integer | p.count | u32
-setting retries p | { backoff = 'exponential', count = 1, delay = @, jitter = 1 } | string | p.delay | a duration
-setting retries p | { backoff = 'exponential', count = 1, delay = '1s', jitter = @, max-delay = 1 } | boolean | p.jitter | a boolean
-setting retries p | { backoff = 'exponential', count = 1, delay = '1s', max-delay = @, x = 1 } | string | p.max-delay | a duration
-
-# timeouts
-setting slow p | @ | string, map | p | a table ({ period = "60s", terminate-after = 2 }) or a string ("60s")
-setting slow p | { period = @, terminate-after = true } | string | p.period | a duration
-setting slow p | { period = '1s', terminate-after = @, grace-period = 1 } | integer | p.terminate-after | a nonzero usize
-setting slow p | { period = '1s', grace-period = @, on-timeout = 1 } | string | p.grace-period | a duration
-setting slow p | { period = '1s', on-timeout = @ } | string | p.on-timeout | a string
-setting leak p | @ | string, map | p | a table ({ period = "500ms", result = "fail" }) or a string ("100ms")
-setting leak p | { period = @, result = 1 } | string | p.period | a duration
-setting leak p | { period = '1s', result = @ } | string | p.result | a string
-setting global p | @ | string | p | a duration
-
-# threads and priorities
-setting threads p | @ | integer, string | p | an integer, the string "num-cpus" or the string "num-test-threads"
-setting priority p | @ | integer | p | i8
-
 # reports
 report read p | @ | map | p | a table
 report read p | { path = @, report-name = 1 } | string | p.path | a string
@@ -94,7 +61,6 @@ impl Subject for Kinds {
             "path" => Paths::answer(rt, call, input),
             "reader" => Readers::answer(rt, call, input),
             "report" => Reports::answer(rt, call, input),
-            "setting" => Settings::answer(rt, call, input),
             _ => unknown(rt, subject),
         }
     }

@@ -1,4 +1,4 @@
-//! Fail limits, threads and priorities, beside their settings.
+//! Fail limits and priorities, beside their settings.
 
 use crate::tests::ThisCrate;
 use crate::tests::runner::Test;
@@ -7,7 +7,6 @@ use nextest_config_elements::max_fail::{CountFault, MaxFail, MaxFailParseError, 
 use nextest_config_elements::priority::{TestPriority, TestPriorityOutOfRange};
 use nextest_config_elements::retry_policy::RetryPolicy;
 use nextest_config_elements::slow_timeout::SlowTimeout;
-use nextest_config_elements::threads_required::ThreadsRequired;
 use nextest_config_rows::rows::{Runner, Subject, check, copied, done, shown, unknown, written};
 use nextest_config_rows::values::{FromRow, both, word};
 
@@ -72,11 +71,6 @@ reached 0 | 0 immediate | Some(Immediate)
 fail-fast | true | Count { max_fail: 1, terminate: Wait }
 fail-fast | false | All
 
-# threads: of 1 thread that runs tests and 8 processors
-compute | 2 | 2
-compute | num-cpus | 8
-compute | num-test-threads | 1
-
 # priorities
 priority | 100 | Ok(TestPriority(100)) 100
 priority | -100 | Ok(TestPriority(-100)) -100
@@ -117,7 +111,6 @@ impl Subject for Limits {
             "printed" => printed(rt, input),
             "reached" => reached(rt, given, input),
             "fail-fast" => written(rt, MaxFail::from_fail_fast(input == "true")),
-            "compute" => compute(rt, input),
             "priority" => priority(rt, i8::from_row(rt, input)),
             "sorted" => sorted(rt, input),
             _ => value(rt, input),
@@ -188,15 +181,6 @@ fn reached(rt: &impl Runner, failed: &str, input: &str) -> String {
     written(rt, limit.is_exceeded(usize::from_row(rt, failed)))
 }
 
-fn compute(rt: &impl Runner, input: &str) -> String {
-    let threads = match input {
-        "num-cpus" => ThreadsRequired::NumCpus,
-        "num-test-threads" => ThreadsRequired::NumTestThreads,
-        count => ThreadsRequired::Count(usize::from_row(rt, count)),
-    };
-    written(rt, threads.compute(1, 8))
-}
-
 fn priority(rt: &impl Runner, number: i8) -> String {
     let answer = TestPriority::new(number);
     let line = match answer {
@@ -245,6 +229,6 @@ fn policy(rt: &impl Runner, policy: RetryPolicy) -> String {
 }
 
 #[test]
-fn limits_threads_and_priorities(rt: HostRuntime) {
+fn limits_and_priorities(rt: HostRuntime) {
     check::<Limits>(&(Test(&rt), rt.alloc()), ROWS);
 }

@@ -8,80 +8,81 @@ use nextest_config_elements::priority::TestPriority;
 use nextest_config_elements::retry_policy::deserialize_retry_policy;
 use nextest_config_elements::slow_timeout::deserialize_slow_timeout;
 use nextest_config_elements::threads_required::ThreadsRequired;
-use nextest_config_rows::rows::{Runner, Subject, check, made, unknown};
+use nextest_config_rows::rows::{Runner, Subject, check, done, made, unknown, written};
 use nextest_config_rows::values::{FromRow, word};
+use nextest_config_rows::wrong_kinds::check_kinds;
 use nextest_config_values::read::FromToml;
 use toml::Value;
 
 const TIMEOUTS: &str = r#"
 # slow timeouts
-- slow s | { period = "60s", terminate-after = 3, grace-period = "1s" } | Some(SlowTimeout { period: 60s, terminate_after: Some(NonZeroCount { count: 3 }), grace_period: 1s, on_timeout: Fail })
-- slow s | '' | None
-- slow s | '30s' | Some(SlowTimeout { period: 30s, terminate_after: None, grace_period: 10s, on_timeout: Fail })
-- slow s | { period = "60s", on-timeout = "pass" } | Some(SlowTimeout { period: 60s, terminate_after: None, grace_period: 10s, on_timeout: Pass })
-- slow s | { period = "60s", x = 1 } | Some(SlowTimeout { period: 60s, terminate_after: None, grace_period: 10s, on_timeout: Fail })
-slow s | ' ' | s: invalid value: string " ", expected a duration
-slow s | '5' | s: invalid value: string "5", expected a duration
-slow s | { period = "" } | s.period: invalid value: string "", expected a duration
-slow s | { terminate-after = 0 } | s: missing configuration field "s.period"
-slow  | {} | missing configuration field "period"
-slow s | { period = "60s", terminate-after = 0 } | s.terminate-after: invalid value: integer `0`, expected a nonzero usize
-slow s | { period = "60s", terminate-after = 0, grace-period = "x" } | s.terminate-after: invalid value: integer `0`, expected a nonzero usize
-slow s | { period = "60s", grace-period = "x", on-timeout = 1 } | s.grace-period: invalid value: string "x", expected a duration
-slow s | { period = 1, terminate-after = 0 } | s.period: invalid type: integer `1`, expected a duration
-slow s | { period = "60s", grace-period = "" } | s.grace-period: invalid value: string "", expected a duration
-slow s | { period = "60s", on-timeout = "Pass" } | s.on-timeout: unknown variant `Pass`, expected `fail` or `pass`
-slow s | true | s: invalid type: boolean `true`, expected a table ({ period = "60s", terminate-after = 2 }) or a string ("60s")
-slow s | 123 | s: invalid type: integer `123`, expected a table ({ period = "60s", terminate-after = 2 }) or a string ("60s")
-slow s | ["60s"] | s: invalid type: sequence, expected a table ({ period = "60s", terminate-after = 2 }) or a string ("60s")
-slow s | 1.5 | s: invalid type: floating point, expected a table ({ period = "60s", terminate-after = 2 }) or a string ("60s")
-slow s | 1979-05-27 | s: invalid type: datetime, expected a table ({ period = "60s", terminate-after = 2 }) or a string ("60s")
+- slow-timeout s | { period = "60s", terminate-after = 3, grace-period = "1s" } | Some(SlowTimeout { period: 60s, terminate_after: Some(NonZeroCount { count: 3 }), grace_period: 1s, on_timeout: Fail })
+- slow-timeout s | '' | None
+- slow-timeout s | '30s' | Some(SlowTimeout { period: 30s, terminate_after: None, grace_period: 10s, on_timeout: Fail })
+- slow-timeout s | { period = "60s", on-timeout = "pass" } | Some(SlowTimeout { period: 60s, terminate_after: None, grace_period: 10s, on_timeout: Pass })
+- slow-timeout s | { period = "60s", x = 1 } | Some(SlowTimeout { period: 60s, terminate_after: None, grace_period: 10s, on_timeout: Fail })
+slow-timeout s | ' ' | s: invalid value: string " ", expected a duration
+slow-timeout s | '5' | s: invalid value: string "5", expected a duration
+slow-timeout s | { period = "" } | s.period: invalid value: string "", expected a duration
+slow-timeout s | { terminate-after = 0 } | s: missing configuration field "s.period"
+slow-timeout  | {} | missing configuration field "period"
+slow-timeout s | { period = "60s", terminate-after = 0 } | s.terminate-after: invalid value: integer `0`, expected a nonzero usize
+slow-timeout s | { period = "60s", terminate-after = 0, grace-period = "x" } | s.terminate-after: invalid value: integer `0`, expected a nonzero usize
+slow-timeout s | { period = "60s", grace-period = "x", on-timeout = 1 } | s.grace-period: invalid value: string "x", expected a duration
+slow-timeout s | { period = 1, terminate-after = 0 } | s.period: invalid type: integer `1`, expected a duration
+slow-timeout s | { period = "60s", grace-period = "" } | s.grace-period: invalid value: string "", expected a duration
+slow-timeout s | { period = "60s", on-timeout = "Pass" } | s.on-timeout: unknown variant `Pass`, expected `fail` or `pass`
+slow-timeout s | true | s: invalid type: boolean `true`, expected a table ({ period = "60s", terminate-after = 2 }) or a string ("60s")
+slow-timeout s | 123 | s: invalid type: integer `123`, expected a table ({ period = "60s", terminate-after = 2 }) or a string ("60s")
+slow-timeout s | ["60s"] | s: invalid type: sequence, expected a table ({ period = "60s", terminate-after = 2 }) or a string ("60s")
+slow-timeout s | 1.5 | s: invalid type: floating point, expected a table ({ period = "60s", terminate-after = 2 }) or a string ("60s")
+slow-timeout s | 1979-05-27 | s: invalid type: datetime, expected a table ({ period = "60s", terminate-after = 2 }) or a string ("60s")
 
 # leak timeouts
-- leak l | '5s' | Some(LeakTimeout { period: 5s, result: Pass })
-- leak l | { period = "5s" } | Some(LeakTimeout { period: 5s, result: Pass })
-- leak l | { period = "1s", result = "fail" } | Some(LeakTimeout { period: 1s, result: Fail })
-leak l | '' | l: invalid value: string "", expected a duration
-leak l | { period = "" } | l.period: invalid value: string "", expected a duration
-leak l | { period = "5s", result = "x" } | l.result: unknown variant `x`, expected `fail` or `pass`
-leak profile.ci.leak-timeout | { result = "fail" } | profile.ci.leak-timeout: missing configuration field "profile.ci.leak-timeout.period"
-leak l | 123 | l: invalid type: integer `123`, expected a table ({ period = "500ms", result = "fail" }) or a string ("100ms")
-leak l | false | l: invalid type: boolean `false`, expected a table ({ period = "500ms", result = "fail" }) or a string ("100ms")
-leak l | [] | l: invalid type: sequence, expected a table ({ period = "500ms", result = "fail" }) or a string ("100ms")
-leak l | 1.5 | l: invalid type: floating point, expected a table ({ period = "500ms", result = "fail" }) or a string ("100ms")
-leak l | 1979-05-27 | l: invalid type: datetime, expected a table ({ period = "500ms", result = "fail" }) or a string ("100ms")
+- leak-timeout l | '5s' | Some(LeakTimeout { period: 5s, result: Pass })
+- leak-timeout l | { period = "5s" } | Some(LeakTimeout { period: 5s, result: Pass })
+- leak-timeout l | { period = "1s", result = "fail" } | Some(LeakTimeout { period: 1s, result: Fail })
+leak-timeout l | '' | l: invalid value: string "", expected a duration
+leak-timeout l | { period = "" } | l.period: invalid value: string "", expected a duration
+leak-timeout l | { period = "5s", result = "x" } | l.result: unknown variant `x`, expected `fail` or `pass`
+leak-timeout profile.ci.leak-timeout | { result = "fail" } | profile.ci.leak-timeout: missing configuration field "profile.ci.leak-timeout.period"
+leak-timeout l | 123 | l: invalid type: integer `123`, expected a table ({ period = "500ms", result = "fail" }) or a string ("100ms")
+leak-timeout l | false | l: invalid type: boolean `false`, expected a table ({ period = "500ms", result = "fail" }) or a string ("100ms")
+leak-timeout l | [] | l: invalid type: sequence, expected a table ({ period = "500ms", result = "fail" }) or a string ("100ms")
+leak-timeout l | 1.5 | l: invalid type: floating point, expected a table ({ period = "500ms", result = "fail" }) or a string ("100ms")
+leak-timeout l | 1979-05-27 | l: invalid type: datetime, expected a table ({ period = "500ms", result = "fail" }) or a string ("100ms")
 
 # global timeouts
-- global g | '30y' | GlobalTimeout { period: 946728000s }
-- global g | '30s' | GlobalTimeout { period: 30s }
-- global g | '60s' | GlobalTimeout { period: 60s }
-global g | '' | g: invalid value: string "", expected a duration
-global g | 30 | g: invalid type: integer `30`, expected a duration
-global g | true | g: invalid type: boolean `true`, expected a duration
-global g | ["30s"] | g: invalid type: sequence, expected a duration
-global g | { period = "30s" } | g: invalid type: map, expected a duration
-global g | 1.5 | g: invalid type: floating point, expected a duration
-global g | 1979-05-27 | g: invalid type: datetime, expected a duration
+- global-timeout g | '30y' | GlobalTimeout { period: 946728000s }
+- global-timeout g | '30s' | GlobalTimeout { period: 30s }
+- global-timeout g | '60s' | GlobalTimeout { period: 60s }
+global-timeout g | '' | g: invalid value: string "", expected a duration
+global-timeout g | 30 | g: invalid type: integer `30`, expected a duration
+global-timeout g | true | g: invalid type: boolean `true`, expected a duration
+global-timeout g | ["30s"] | g: invalid type: sequence, expected a duration
+global-timeout g | { period = "30s" } | g: invalid type: map, expected a duration
+global-timeout g | 1.5 | g: invalid type: floating point, expected a duration
+global-timeout g | 1979-05-27 | g: invalid type: datetime, expected a duration
 # at every size
-slow s | '«0»1s' | Some(SlowTimeout { period: 1s, terminate_after: None, grace_period: 10s, on_timeout: Fail })
-slow s | {«k@ = 1,» period = "1«#»s", terminate-after = 1«#», grace-period = "2«#»s", on-timeout = "pass" } | Some(SlowTimeout { period: 1«#»s, terminate_after: Some(NonZeroCount { count: 1«#» }), grace_period: 2«#»s, on_timeout: Pass })
-slow s«s» | 1«#» | s«s»: invalid type: integer `1«#»`, expected a table ({ period = "60s", terminate-after = 2 }) or a string ("60s")
-slow s«s» | 'x«x»' | s«s»: invalid value: string "x«x»", expected a duration
-slow s«s» | {«k@ = 1,»} | s«s»: missing configuration field "s«s».period"
-slow s«s» | { period = "x«x»" } | s«s».period: invalid value: string "x«x»", expected a duration
-slow s«s» | { period = "1s", terminate-after = -1«#» } | s«s».terminate-after: invalid value: integer `-1«#»`, expected a nonzero usize
-slow s«s» | { period = "1s", grace-period = "x«x»" } | s«s».grace-period: invalid value: string "x«x»", expected a duration
-slow s«s» | { period = "1s", on-timeout = "x«x»" } | s«s».on-timeout: unknown variant `x«x»`, expected `fail` or `pass`
-leak l | '«0»5s' | Some(LeakTimeout { period: 5s, result: Pass })
-leak l | {«k@ = 1,» period = "1«#»s", result = "fail" } | Some(LeakTimeout { period: 1«#»s, result: Fail })
-leak l«l» | 1«#» | l«l»: invalid type: integer `1«#»`, expected a table ({ period = "500ms", result = "fail" }) or a string ("100ms")
-leak l«l» | 'x«x»' | l«l»: invalid value: string "x«x»", expected a duration
-leak l«l» | {«k@ = 1,»} | l«l»: missing configuration field "l«l».period"
-leak l«l» | { period = "x«x»" } | l«l».period: invalid value: string "x«x»", expected a duration
-leak l«l» | { period = "5s", result = "x«x»" } | l«l».result: unknown variant `x«x»`, expected `fail` or `pass`
-global g | '1«#»s' | GlobalTimeout { period: 1«#»s }
-global g«g» | 1«#» | g«g»: invalid type: integer `1«#»`, expected a duration
-global g«g» | 'x«x»' | g«g»: invalid value: string "x«x»", expected a duration
+slow-timeout s | '«0»1s' | Some(SlowTimeout { period: 1s, terminate_after: None, grace_period: 10s, on_timeout: Fail })
+slow-timeout s | {«k@ = 1,» period = "1«#»s", terminate-after = 1«#», grace-period = "2«#»s", on-timeout = "pass" } | Some(SlowTimeout { period: 1«#»s, terminate_after: Some(NonZeroCount { count: 1«#» }), grace_period: 2«#»s, on_timeout: Pass })
+slow-timeout s«s» | 1«#» | s«s»: invalid type: integer `1«#»`, expected a table ({ period = "60s", terminate-after = 2 }) or a string ("60s")
+slow-timeout s«s» | 'x«x»' | s«s»: invalid value: string "x«x»", expected a duration
+slow-timeout s«s» | {«k@ = 1,»} | s«s»: missing configuration field "s«s».period"
+slow-timeout s«s» | { period = "x«x»" } | s«s».period: invalid value: string "x«x»", expected a duration
+slow-timeout s«s» | { period = "1s", terminate-after = -1«#» } | s«s».terminate-after: invalid value: integer `-1«#»`, expected a nonzero usize
+slow-timeout s«s» | { period = "1s", grace-period = "x«x»" } | s«s».grace-period: invalid value: string "x«x»", expected a duration
+slow-timeout s«s» | { period = "1s", on-timeout = "x«x»" } | s«s».on-timeout: unknown variant `x«x»`, expected `fail` or `pass`
+leak-timeout l | '«0»5s' | Some(LeakTimeout { period: 5s, result: Pass })
+leak-timeout l | {«k@ = 1,» period = "1«#»s", result = "fail" } | Some(LeakTimeout { period: 1«#»s, result: Fail })
+leak-timeout l«l» | 1«#» | l«l»: invalid type: integer `1«#»`, expected a table ({ period = "500ms", result = "fail" }) or a string ("100ms")
+leak-timeout l«l» | 'x«x»' | l«l»: invalid value: string "x«x»", expected a duration
+leak-timeout l«l» | {«k@ = 1,»} | l«l»: missing configuration field "l«l».period"
+leak-timeout l«l» | { period = "x«x»" } | l«l».period: invalid value: string "x«x»", expected a duration
+leak-timeout l«l» | { period = "5s", result = "x«x»" } | l«l».result: unknown variant `x«x»`, expected `fail` or `pass`
+global-timeout g | '1«#»s' | GlobalTimeout { period: 1«#»s }
+global-timeout g«g» | 1«#» | g«g»: invalid type: integer `1«#»`, expected a duration
+global-timeout g«g» | 'x«x»' | g«g»: invalid value: string "x«x»", expected a duration
 "#;
 
 const RETRIES: &str = r#"
@@ -178,18 +179,23 @@ fail-fast f | 1.5 | f: invalid type: floating point, expected a boolean or { max
 fail-fast f | 1979-05-27 | f: invalid type: datetime, expected a boolean or { max-fail = ... }
 
 # threads-required
-- threads t | 2 | Count(2)
-- threads t | 9223372036854775807 | Count(9223372036854775807)
-- threads t | 'num-cpus' | NumCpus
-- threads t | 'num-test-threads' | NumTestThreads
-threads t | 0 | t: invalid value: integer `0`, expected an integer, the string "num-cpus" or the string "num-test-threads"
-threads t | -1 | t: invalid value: integer `-1`, expected an integer, the string "num-cpus" or the string "num-test-threads"
-threads t | 'x' | t: invalid value: string "x", expected an integer, the string "num-cpus" or the string "num-test-threads"
-threads t | true | t: invalid type: boolean `true`, expected an integer, the string "num-cpus" or the string "num-test-threads"
-threads t | {} | t: invalid type: map, expected an integer, the string "num-cpus" or the string "num-test-threads"
-threads t | [2] | t: invalid type: sequence, expected an integer, the string "num-cpus" or the string "num-test-threads"
-threads t | 1.5 | t: invalid type: floating point, expected an integer, the string "num-cpus" or the string "num-test-threads"
-threads t | 1979-05-27 | t: invalid type: datetime, expected an integer, the string "num-cpus" or the string "num-test-threads"
+- threads-required t | 2 | Count(2)
+- threads-required t | 9223372036854775807 | Count(9223372036854775807)
+- threads-required t | 'num-cpus' | NumCpus
+- threads-required t | 'num-test-threads' | NumTestThreads
+threads-required t | 0 | t: invalid value: integer `0`, expected an integer, the string "num-cpus" or the string "num-test-threads"
+threads-required t | -1 | t: invalid value: integer `-1`, expected an integer, the string "num-cpus" or the string "num-test-threads"
+threads-required t | 'x' | t: invalid value: string "x", expected an integer, the string "num-cpus" or the string "num-test-threads"
+threads-required t | true | t: invalid type: boolean `true`, expected an integer, the string "num-cpus" or the string "num-test-threads"
+threads-required t | {} | t: invalid type: map, expected an integer, the string "num-cpus" or the string "num-test-threads"
+threads-required t | [2] | t: invalid type: sequence, expected an integer, the string "num-cpus" or the string "num-test-threads"
+threads-required t | 1.5 | t: invalid type: floating point, expected an integer, the string "num-cpus" or the string "num-test-threads"
+threads-required t | 1979-05-27 | t: invalid type: datetime, expected an integer, the string "num-cpus" or the string "num-test-threads"
+
+# of 1 thread that runs tests and 8 processors
+ThreadsRequired::compute t | 2 | 2
+ThreadsRequired::compute t | 'num-cpus' | 8
+ThreadsRequired::compute t | 'num-test-threads' | 1
 
 # priority
 - priority r | -100 | TestPriority(-100)
@@ -216,10 +222,10 @@ fail-fast f«f» | { max-fail = "x«x»" } | f«f».max-fail: invalid value: str
 fail-fast f«f» | { max-fail = "«0»5" } | f«f».max-fail: invalid value: string "«0»5", expected the string "all" (numbers must be specified without quotes)
 fail-fast f«f» | { max-fail = "«0»0" } | f«f».max-fail: invalid value: string "«0»0", expected the string "all" (numbers must be positive and without quotes)
 fail-fast f«f» | { max-fail = "all", terminate = "x«x»" } | f«f».terminate: unknown variant `x«x»`, expected `wait` or `immediate`
-threads t | 1«#» | Count(1«#»)
-threads t«t» | [«1,»] | t«t»: invalid type: sequence, expected an integer, the string "num-cpus" or the string "num-test-threads"
-threads t«t» | -1«#» | t«t»: invalid value: integer `-1«#»`, expected an integer, the string "num-cpus" or the string "num-test-threads"
-threads t«t» | 'x«x»' | t«t»: invalid value: string "x«x»", expected an integer, the string "num-cpus" or the string "num-test-threads"
+threads-required t | 1«#» | Count(1«#»)
+threads-required t«t» | [«1,»] | t«t»: invalid type: sequence, expected an integer, the string "num-cpus" or the string "num-test-threads"
+threads-required t«t» | -1«#» | t«t»: invalid value: integer `-1«#»`, expected an integer, the string "num-cpus" or the string "num-test-threads"
+threads-required t«t» | 'x«x»' | t«t»: invalid value: string "x«x»", expected an integer, the string "num-cpus" or the string "num-test-threads"
 priority r«r» | 'x«x»' | r«r»: invalid type: string "x«x»", expected i8
 priority r«r» | 1000000«#» | r«r»: invalid value: integer `1000000«#»`, expected i8
 priority r«r» | -200«#» | r«r»: invalid value: integer `-200«#»`, expected i8
@@ -227,7 +233,42 @@ priority r«r» | 101 | r«r»: priority 101 must be between -100 and 100
 priority r«r» | -128 | r«r»: priority -128 must be between -100 and 100
 "#;
 
-pub(crate) struct Settings;
+// Values of each kind.
+const KINDS: &str = r#"
+# fail-fast
+fail-fast p | @ | boolean, map | p | a boolean or { max-fail = ... }
+fail-fast p | { max-fail = @, terminate = 1 } | integer, string | p.max-fail | a positive integer or the string "all"
+fail-fast p | { max-fail = 1, terminate = @ } | string | p.terminate | a string
+fail-fast p | { max-fail = 'all', terminate = @ } | string | p.terminate | a string
+
+# retries
+retries p | @ | integer, map | p | a table ({ backoff = "fixed", count = 5 }) or a number (5)
+retries p | { backoff = @, count = true } | string | p.backoff | a string
+retries p | { backoff = 'fixed', count = @, delay = 1 } | integer | p.count | u32
+retries p | { backoff = 'fixed', count = 1, delay = @, jitter = 1 } | string | p.delay | a duration
+retries p | { backoff = 'fixed', count = 1, delay = '1s', jitter = @, x = 1 } | boolean | p.jitter | a boolean
+retries p | { backoff = 'exponential', count = @, delay = 1 } | integer | p.count | u32
+retries p | { backoff = 'exponential', count = 1, delay = @, jitter = 1 } | string | p.delay | a duration
+retries p | { backoff = 'exponential', count = 1, delay = '1s', jitter = @, max-delay = 1 } | boolean | p.jitter | a boolean
+retries p | { backoff = 'exponential', count = 1, delay = '1s', max-delay = @, x = 1 } | string | p.max-delay | a duration
+
+# timeouts
+slow-timeout p | @ | string, map | p | a table ({ period = "60s", terminate-after = 2 }) or a string ("60s")
+slow-timeout p | { period = @, terminate-after = true } | string | p.period | a duration
+slow-timeout p | { period = '1s', terminate-after = @, grace-period = 1 } | integer | p.terminate-after | a nonzero usize
+slow-timeout p | { period = '1s', grace-period = @, on-timeout = 1 } | string | p.grace-period | a duration
+slow-timeout p | { period = '1s', on-timeout = @ } | string | p.on-timeout | a string
+leak-timeout p | @ | string, map | p | a table ({ period = "500ms", result = "fail" }) or a string ("100ms")
+leak-timeout p | { period = @, result = 1 } | string | p.period | a duration
+leak-timeout p | { period = '1s', result = @ } | string | p.result | a string
+global-timeout p | @ | string | p | a duration
+
+# threads and priorities
+threads-required p | @ | integer, string | p | an integer, the string "num-cpus" or the string "num-test-threads"
+priority p | @ | integer | p | i8
+"#;
+
+struct Settings;
 
 impl Subject for Settings {
     fn answer(rt: &impl Runner, call: &str, input: &str) -> String {
@@ -240,14 +281,21 @@ impl Subject for Settings {
 fn read(rt: &impl Runner, setting: &str, value: &Value, at: &str) -> String {
     match setting {
         "fail-fast" => made(rt, deserialize_fail_fast(rt.alloc(), value, at)),
-        "global" => made(rt, GlobalTimeout::read(rt.alloc(), value, at)),
-        "leak" => made(rt, deserialize_leak_timeout(rt.alloc(), value, at)),
+        "global-timeout" => made(rt, GlobalTimeout::read(rt.alloc(), value, at)),
+        "leak-timeout" => made(rt, deserialize_leak_timeout(rt.alloc(), value, at)),
         "priority" => made(rt, TestPriority::read(rt.alloc(), value, at)),
         "retries" => made(rt, deserialize_retry_policy(rt.alloc(), value, at)),
-        "slow" => made(rt, deserialize_slow_timeout(rt.alloc(), value, at)),
-        "threads" => made(rt, ThreadsRequired::read(rt.alloc(), value, at)),
+        "slow-timeout" => made(rt, deserialize_slow_timeout(rt.alloc(), value, at)),
+        "threads-required" => made(rt, ThreadsRequired::read(rt.alloc(), value, at)),
+        "ThreadsRequired::compute" => computed(rt, value, at),
         _ => unknown(rt, setting),
     }
+}
+
+// So many threads, of 1 that runs tests and 8 processors.
+fn computed(rt: &impl Runner, value: &Value, at: &str) -> String {
+    let threads = done(rt, ThreadsRequired::read(rt.alloc(), value, at));
+    written(rt, threads.compute(1, 8))
 }
 
 #[test]
@@ -263,4 +311,9 @@ fn retries_are_read_or_refused(rt: HostRuntime) {
 #[test]
 fn limits_threads_and_priorities_are_read_or_refused(rt: HostRuntime) {
     check::<Settings>(&(Test(&rt), rt.alloc()), LIMITS);
+}
+
+#[test]
+fn values_of_other_kinds_are_refused(rt: HostRuntime) {
+    check_kinds::<Settings>(&(Test(&rt), rt.alloc()), KINDS);
 }

@@ -37,8 +37,8 @@ fn read_list(
     }
 }
 
-// The edition that a call begins with, if it names one, and what stands behind it.
-fn edition_of(call: &str) -> (Option<Edition>, &str) {
+// The edition that a call begins with, if it names one, and what stands after it.
+pub(crate) fn edition_of(call: &str) -> (Option<Edition>, &str) {
     match call.split_once(": ") {
         Some(("ArrayAllowed", call)) => (Some(Edition::ArrayAllowed), call),
         Some(("TableOnly", call)) => (Some(Edition::TableOnly), call),
@@ -192,7 +192,7 @@ fn kept(rt: &impl Runner, req: &NextestVersionReq) -> String {
 impl Told<ThisCrate> for NextestVersionEval {
     fn told(&self, rt: &impl Runner, _call: &str) -> String {
         let severity = self.severity();
-        let Some(unmet) = self.unmet() else {
+        let Some(unmet) = self.unmet_version() else {
             return written(rt, severity);
         };
         let mark = if unmet.overridden { "overridden " } else { "" };

@@ -151,7 +151,7 @@ impl Told<ThisCrate> for ExperimentalDeserialize {
     }
 }
 
-/// The words of features, each behind a space.
+/// The words of features, each after a space.
 pub(crate) fn words(rt: &impl Runner, known: &BTreeSet<ConfigExperimental>) -> String {
     let mut line = String::new(rt.alloc());
     for feature in known {
@@ -160,7 +160,7 @@ pub(crate) fn words(rt: &impl Runner, known: &BTreeSet<ConfigExperimental>) -> S
     line
 }
 
-/// Names, each behind a space.
+/// Names, each after a space.
 pub(crate) fn joined(rt: &impl Runner, names: &BTreeSet<String>) -> String {
     let mut line = String::new(rt.alloc());
     for name in names {

@@ -33,7 +33,7 @@ impl FromRow<ThisCrate> for ConfigSource {
     }
 }
 
-// What stands in front of an arrow, and the contents behind it where there is one.
+// What stands in front of an arrow, and the contents after it where there is one.
 fn parts<'t>(rt: &impl Runner, text: &'t str) -> (&'t str, Option<String>) {
     match text.split_once(" => ") {
         Some((source, contents)) => (source, Some(copied(rt, contents))),
@@ -77,7 +77,7 @@ impl FromRow<ThisCrate> for RepositoryText {
     }
 }
 
-/// What a text lists, with ` && ` behind each but the last.
+/// What a text lists, with ` && ` after each but the last.
 pub(crate) fn listed<T: FromRow<ThisCrate> + Drop>(rt: &impl Runner, text: &str) -> Vec<T> {
     let mut values = Vec::new(rt.alloc());
     for part in text.split(" && ") {

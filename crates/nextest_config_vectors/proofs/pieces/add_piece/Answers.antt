@@ -31,11 +31,11 @@ returns-in-Ok-merge-clause-stands c =
       experimental = record { same = ap (λ (seen : SeenConfiguration). seen.experimental) joined; in_order = c.law_known_in_order.ensures c.merge.new.self };
     } in
     let pieces = front f xs c.args.from c.args.to c.requires.in_order ∷ piece f xs c.args.from c.args.to c.requires.in_order ∷ [] in
-    (c.law_cut.ensures.stands (map f (take c.args.to xs)) pieces (old ∷ more ∷ []) new (cut_to f xs c.args.from c.args.to c.requires.in_order) (c.requires.stands, (c.in-Ok.ensures.stands, tt))).1 is
+    (c.law_cut.ensures.stands (map f (take c.args.to xs)) pieces (old ∷ more ∷ []) new (cut_to f xs c.args.from c.args.to c.requires.in_order) (c.requires.stands, (c.in-Ok.ensures.read.stands, tt))).1 is
 
 pub overflow_add-result : goal.overflow_add-result
 overflow_add-result c =
-    let (refusal, told, first) = refused_at _ c.in-Err-Refused.field-0 c.in-Err-Refused.position c.in-Err-Refused.error c.in-Err-Refused.field-0-is c.in-Err-Refused.ensures.refused in
+    let (refusal, told, first) = refused_at _ c.in-Err-Refused.field-0 c.in-Err-Refused.position c.in-Err-Refused.error c.in-Err-Refused.field-0-is c.in-Err-Refused.ensures.refused.refused in
     let long = piece_long (source_under c.args.edition) c.args.sources.now c.args.from c.args.to c.requires.in_order c.requires.within in
     omega (arith, within_list _ c.in-Err-Refused.position refusal first, long, c.requires.in_order, c.ranges.to.fits)
 
@@ -45,13 +45,13 @@ returns-in-Err-Refused-clause-only c reads =
     let xs = c.args.sources.now in
     let pieces : List (List Source) = front f xs c.args.from c.args.to c.requires.in_order ∷ piece f xs c.args.from c.args.to c.requires.in_order ∷ behind f xs c.args.from c.args.to c.requires.in_order ∷ [] in
     let all : AllByRecursion Reads pieces = (c.law_cut.ensures.reads (map f xs) pieces (cut_whole f xs c.args.from c.args.to c.requires.in_order)).0 reads in
-    cc (c.in-Err-Refused.field-0-is, c.in-Err-Refused.ensures.only all.1.0)
+    cc (c.in-Err-Refused.field-0-is, c.in-Err-Refused.ensures.refused.only all.1.0)
 
 pub returns-in-Err-Refused-clause-refused : goal.returns-in-Err-Refused-clause-refused
 returns-in-Err-Refused-clause-refused c =
     let f = source_under c.args.edition in
     let xs = c.args.sources.now in
-    let (refusal, told, first) = refused_at _ c.in-Err-Refused.field-0 c.in-Err-Refused.position c.in-Err-Refused.error c.in-Err-Refused.field-0-is c.in-Err-Refused.ensures.refused in
+    let (refusal, told, first) = refused_at _ c.in-Err-Refused.field-0 c.in-Err-Refused.position c.in-Err-Refused.error c.in-Err-Refused.field-0-is c.in-Err-Refused.ensures.refused.refused in
     let pieces : List (List Source) = front f xs c.args.from c.args.to c.requires.in_order ∷ piece f xs c.args.from c.args.to c.requires.in_order ∷ behind f xs c.args.from c.args.to c.requires.in_order ∷ [] in
     let within : c.args.from ≤ length xs = omega (arith, c.requires.in_order, c.requires.within) in
     let among : IsFirstRefusedAmong pieces (c.args.from + c.in-Err-Refused.position) refusal = record {

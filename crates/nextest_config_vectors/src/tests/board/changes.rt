@@ -60,7 +60,7 @@ fn new_board(rt: &impl Runner) -> Followed {
     }
 }
 
-// The number behind this one, in a row that repeats none of its first 65536.
+// The number after this one, in a row that repeats none of its first 65536.
 fn next(number: usize) -> usize {
     (number % 65537 * 75 + 74) % 65537
 }
