@@ -1,6 +1,8 @@
 """What is put together at random, for tests/random. Each function takes the source of randomness."""
 
 import collections
+import pathlib
+import re
 import unicodedata
 
 from reports import FLAGS, GREATEST, WORDS, Ask, Current, dotted, source_of_line, word_of
@@ -19,10 +21,10 @@ TOKENS = [
     *[b"experimental = []\n", b"experimental = [1]\n"],
 ]
 KEYS = ["a", "b", "x", "required", "recommended", "period", "count", "backoff", *WORDS, '"é\\u0085"', "''"]
-SETTINGS = [
-    *["fail-fast", "retries", "slow-timeout", "leak-timeout", "global-timeout", "threads-required"],
-    *["priority", "junit"],
-]
+# The keys that are read in a profile or in an override, by the table of places.
+TABLE = pathlib.Path(__file__).resolve().parent.parent / "crates/nextest_config_findings/src/schema.rt"
+PROFILES = TABLE.read_text().split("const PROFILE: ")[1].split("const OVERRIDE_JUNIT: ")[0]
+SETTINGS = sorted(set(re.findall(r'"([\w-]+)",\s+Reader::(?!Unread|Table|Array)', PROFILES)))
 VERSIONS = [
     *["1.0", "0.9", "1", "01.2", ".", "", "1.2.3.4", "0.9.50-rc.1", "0.9.50+b", " 0.9.50"],
     *[f"{GREATEST}.0", f"{GREATEST + 1}.0"],

@@ -24,7 +24,7 @@ pub fn ask_twice<C: Calls>(rt: &impl Runner, words: &[String]) -> u8 {
     }
 }
 
-/// The first word, and what stands behind it, or else this text.
+/// The first word, and what stands after it, or else this text.
 pub fn parted<'t>(words: &'t str, otherwise: &'t str) -> (&'t str, &'t str) {
     words.split_once(' ').unwrap_or((words, otherwise))
 }

@@ -2,10 +2,11 @@
 
 use nextest_config_calls::announced::{Runner, begin, end};
 use nextest_config_calls::inputs::FromInput;
-use nextest_config_findings::{Finding, LocatedFinding, findings, located};
+use nextest_config_findings::{Defined, FileContents, Finding, LocatedFinding, findings, located};
 use nextest_config_sources::nextest_version::{ConfigSourceKind, Edition};
 use nextest_config_values::identifier::ToolName;
-use std::alloc::AllocError;
+use std::alloc::{AllocError, Global};
+use toml::Table;
 
 /// Finds what is wrong in the document that the input is, of a source of this kind.
 pub(crate) fn find(rt: &impl Runner, kind: &str, input: &str) -> Option<()> {
@@ -13,7 +14,7 @@ pub(crate) fn find(rt: &impl Runner, kind: &str, input: &str) -> Option<()> {
     let document = toml::table_from_str(rt.alloc(), input).ok()?;
     let alloc = rt.alloc();
     begin(rt);
-    let found = findings(alloc, &source, Edition::ArrayAllowed, &document);
+    let found = find_alone(alloc, &source, &document);
     tell(rt, found)
 }
 
@@ -24,8 +25,29 @@ pub(crate) fn locate(rt: &impl Runner, kind: &str, input: &str) -> Option<()> {
     let contents = contents_of(rt, input)?;
     let alloc = rt.alloc();
     begin(rt);
-    let found = located(alloc, &source, Edition::TableOnly, contents.as_slice());
+    let found = locate_alone(alloc, &source, contents.as_slice());
     tell_located(rt, found)
+}
+
+// What is found in a document that is its whole list.
+fn find_alone(
+    alloc: Global,
+    source: &ConfigSourceKind,
+    document: &Table,
+) -> Result<Vec<Finding>, AllocError> {
+    let defined = Defined::of_one(alloc, source, Some(document))?;
+    findings(alloc, source, Edition::ArrayAllowed, document, &defined, 0)
+}
+
+// What is found in a file that is its whole list.
+fn locate_alone(
+    alloc: Global,
+    source: &ConfigSourceKind,
+    contents: &[u8],
+) -> Result<Vec<LocatedFinding>, AllocError> {
+    let read = FileContents::of(alloc, contents)?;
+    let defined = Defined::of_one(alloc, source, read.document())?;
+    located(alloc, source, Edition::TableOnly, contents, &defined, 0)
 }
 
 fn source_of(rt: &impl Runner, kind: &str) -> Option<ConfigSourceKind> {
@@ -65,7 +87,8 @@ fn tell_located(rt: &impl Runner, found: Result<Vec<LocatedFinding>, AllocError>
     match found {
         Ok(findings) => {
             for it in &findings {
-                print!(rt; "{}: {}; ", it.line, it.finding).ok()?;
+                let place = it.span.begin;
+                print!(rt; "{}:{}: {}; ", place.line, place.column, it.finding).ok()?;
             }
             println!(rt; "{}", findings.len()).ok()
         }

@@ -1,7 +1,7 @@
 //! Lines of values.
 
 use nextest_config_calls::announced::{Runner, begin, end};
-use nextest_config_findings::{Step, line_of};
+use nextest_config_positions::{Step, line_of};
 
 /// Finds the line of the value that a path leads to, whose steps are parted by slashes.
 pub(crate) fn ask(rt: &impl Runner, path: &str, input: &str) -> Option<()> {

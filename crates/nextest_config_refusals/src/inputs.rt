@@ -63,7 +63,7 @@ impl FromInput<ThisCrate> for ConfigSource {
     }
 }
 
-// What stands in front of an arrow, and the contents behind it where there is one.
+// What stands in front of an arrow, and the contents after it where there is one.
 fn parts<'t>(rt: &impl Runner, text: &'t str) -> (&'t str, Option<String>) {
     match text.split_once(" => ") {
         Some((source, contents)) => (source, String::from_input(rt, contents)),

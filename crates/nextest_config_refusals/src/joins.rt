@@ -91,7 +91,7 @@ impl FromInput<ThisCrate> for Ask {
     }
 }
 
-/// Takes in what a source asks behind others.
+/// Takes in what a source asks after others.
 pub(crate) fn accumulate(rt: &impl Runner, input: &str) -> Option<()> {
     let (config, ask) = input.split_once(" // ")?;
     let mut config = NextestVersionConfig::from_input(rt, config)?;

@@ -4,7 +4,7 @@ use crate::told::{Told, answered, tell};
 use nextest_config::merge::{ReadPiece, read_halves};
 use nextest_config::nextest_version::{
     ConfigParseError, Edition, ExperimentalConfig, ExperimentalDeserialize, ListRefusal,
-    NextestVersionConfig, NextestVersionReq, RepositoryText, SourceText, ToolText,
+    NextestVersionConfig, NextestVersionReq, RepositoryText, SourceDocument, SourceText, ToolText,
     VersionOnlyConfig,
 };
 use nextest_config_calls::announced::{Runner, begin, end};
@@ -12,8 +12,9 @@ use nextest_config_calls::asked::parted;
 use nextest_config_calls::inputs::{FromInput, listed};
 use semver::Version;
 use std::alloc::Global;
+use toml::Table;
 
-/// Reads a list by the call that is named, under the edition behind its name if there is one.
+/// Reads a list by the call that is named, under the edition after its name if there is one.
 pub(crate) fn read(rt: &impl Runner, words: &str, input: &str) -> Option<()> {
     let (name, edition) = parted(words, "ArrayAllowed");
     let edition = edition_of(edition)?;
@@ -21,6 +22,9 @@ pub(crate) fn read(rt: &impl Runner, words: &str, input: &str) -> Option<()> {
         return read_files(rt, name, edition, input);
     }
     let sources: Vec<SourceText> = listed(rt, input, " && ")?;
+    if name == "from_documents" {
+        return read_documents(rt, edition, &sources);
+    }
     let alloc = rt.alloc();
     begin(rt);
     match name {
@@ -62,6 +66,44 @@ fn one(
     source: &SourceText,
 ) -> Result<VersionOnlyConfig, ListRefusal> {
     Ok(VersionOnlyConfig::read_one(alloc, &edition, source)?)
+}
+
+fn read_documents(rt: &impl Runner, edition: Edition, sources: &[SourceText]) -> Option<()> {
+    let tables = tables_of(rt.alloc(), sources)?;
+    let documents = documents_of(rt.alloc(), sources, &tables)?;
+    begin(rt);
+    answered(rt, at_hand(rt.alloc(), edition, &documents))
+}
+
+fn tables_of(alloc: Global, sources: &[SourceText]) -> Option<Vec<Table>> {
+    let mut tables = Vec::new(alloc);
+    for source in sources {
+        let text = source.contents.as_ref()?;
+        let table = toml::table_from_str(alloc, text.as_str()).ok()?;
+        tables.push(table).ok()?;
+    }
+    Some(tables)
+}
+
+fn documents_of<'a>(
+    alloc: Global,
+    sources: &'a [SourceText],
+    tables: &'a [Table],
+) -> Option<Vec<SourceDocument<'a>>> {
+    let mut documents = Vec::new(alloc);
+    for (text, document) in sources.iter().zip(tables) {
+        let source = &text.source;
+        documents.push(SourceDocument { source, document }).ok()?;
+    }
+    Some(documents)
+}
+
+fn at_hand(
+    alloc: Global,
+    edition: Edition,
+    documents: &[SourceDocument<'_>],
+) -> Result<VersionOnlyConfig, ListRefusal> {
+    VersionOnlyConfig::from_documents(alloc, edition, documents)
 }
 
 fn read_files(rt: &impl Runner, name: &str, edition: Edition, input: &str) -> Option<()> {

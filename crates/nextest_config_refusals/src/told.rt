@@ -68,7 +68,7 @@ impl Told for ExperimentalConfig {
     }
 }
 
-// What a set holds, each behind a space.
+// What a set holds, each after a space.
 fn tell_all<T: Display + Ord>(rt: &impl Runner, set: &BTreeSet<T>) -> Option<()> {
     for member in set {
         print!(rt; " {member}").ok()?;

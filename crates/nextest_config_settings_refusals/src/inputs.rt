@@ -18,7 +18,7 @@ impl FromInput<ThisCrate> for TestPriority {
     }
 }
 
-/// Writes `all`, or a number, perhaps with `:immediate` behind it.
+/// Writes `all`, or a number, perhaps with `:immediate` after it.
 impl FromInput<ThisCrate> for MaxFail {
     fn from_input(_rt: &impl Runner, text: &str) -> Option<Self> {
         if text == "all" {

@@ -36,7 +36,7 @@ impl Calls for Settings {
     fn ask(rt: &impl Runner, group: &str, name: &str, input: &str) -> Option<()> {
         match group {
             "read" => readers::read(rt, name, input),
-            "deserialize" => readers::deserialize(rt, name, input),
+            "setting" => readers::setting(rt, name, input),
             "optional_field" | "required_field" | "field_or" => fields::ask(rt, group, name, input),
             "fault" => faults::make(rt, name, input),
             "clone" => copies::copy(rt, name, input),

@@ -38,16 +38,7 @@ fn read_plain(rt: &impl Runner, name: &str, value: &Value, at: &str) -> Option<(
         "TrackDefault<String>" => read_as::<TrackDefault<String>>(rt, value, at),
         "ConfigIdentifier" => read_as::<ConfigIdentifier>(rt, value, at),
         "ToolName" => read_as::<ToolName>(rt, value, at),
-        _ => read_setting(rt, name, value, at),
-    }
-}
-
-fn read_setting(rt: &impl Runner, name: &str, value: &Value, at: &str) -> Option<()> {
-    match name {
-        "GlobalTimeout" => read_as::<GlobalTimeout>(rt, value, at),
         "JunitImpl" => read_as::<JunitImpl>(rt, value, at),
-        "TestPriority" => read_as::<TestPriority>(rt, value, at),
-        "ThreadsRequired" => read_as::<ThreadsRequired>(rt, value, at),
         _ => read_word(rt, name, value, at),
     }
 }
@@ -69,18 +60,27 @@ fn read_as<T: FromToml + Debug + Drop>(rt: &impl Runner, value: &Value, at: &str
     made(rt, T::read(rt.alloc(), value, at))
 }
 
-/// Reads a value by a setting's own reader.
-pub(crate) fn deserialize(rt: &impl Runner, name: &str, input: &str) -> Option<()> {
+/// Reads a value of a setting, which its key names, or a relative path.
+pub(crate) fn setting(rt: &impl Runner, name: &str, input: &str) -> Option<()> {
     let (name, at) = parted(name, "p");
+    let value = &Value::from_input(rt, input)?;
+    match name {
+        "global-timeout" => read_as::<GlobalTimeout>(rt, value, at),
+        "priority" => read_as::<TestPriority>(rt, value, at),
+        "threads-required" => read_as::<ThreadsRequired>(rt, value, at),
+        _ => deserialize(rt, name, value, at),
+    }
+}
+
+fn deserialize(rt: &impl Runner, name: &str, value: &Value, at: &str) -> Option<()> {
     let alloc = rt.alloc();
-    let value = Value::from_input(rt, input)?;
     begin(rt);
     match name {
-        "fail_fast" => made(rt, deserialize_fail_fast(alloc, &value, at)),
-        "leak_timeout" => made(rt, deserialize_leak_timeout(alloc, &value, at)),
-        "relative_path" => made(rt, deserialize_relative_path(alloc, &value, at)),
-        "retry_policy" => made(rt, deserialize_retry_policy(alloc, &value, at)),
-        "slow_timeout" => made(rt, deserialize_slow_timeout(alloc, &value, at)),
+        "fail-fast" => made(rt, deserialize_fail_fast(alloc, value, at)),
+        "leak-timeout" => made(rt, deserialize_leak_timeout(alloc, value, at)),
+        "relative-path" => made(rt, deserialize_relative_path(alloc, value, at)),
+        "retries" => made(rt, deserialize_retry_policy(alloc, value, at)),
+        "slow-timeout" => made(rt, deserialize_slow_timeout(alloc, value, at)),
         _ => None,
     }
 }
