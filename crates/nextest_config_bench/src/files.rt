@@ -1,8 +1,8 @@
 //! Standard input, judged as the configuration file of a repository.
 
-use nextest_config_findings::{findings, located};
+use nextest_config_findings::{Defined, FileContents, findings};
 use nextest_config_sources::nextest_version::{ConfigSourceKind, Edition};
-use std::alloc::Global;
+use std::alloc::{AllocError, Global};
 use std::io::{Input, Read};
 use std::str;
 
@@ -12,7 +12,7 @@ pub(crate) fn judge(rt: &HostRuntime, what: &str) -> Option<()> {
     rt.reader().read_to_end(&mut contents).ok()?;
     let count = match what {
         "findings" => in_document(rt.alloc(), &contents)?,
-        "located" => in_file(rt.alloc(), &contents)?,
+        "located" => in_file(rt.alloc(), &contents).ok()?,
         _ => return None,
     };
     println!(rt; "{count}").ok()
@@ -22,12 +22,17 @@ fn in_document(alloc: Global, contents: &[u8]) -> Option<usize> {
     let text = str::from_utf8(contents).ok()?;
     let document = toml::table_from_str(alloc, text).ok()?;
     let source = ConfigSourceKind::DiscoveredRepository;
-    let found = findings(alloc, &source, Edition::ArrayAllowed, &document).ok()?;
+    let defined = Defined::of_one(alloc, &source, Some(&document)).ok()?;
+    let edition = Edition::ArrayAllowed;
+    let found = findings(alloc, &source, edition, &document, &defined, 0).ok()?;
     Some(found.len())
 }
 
-fn in_file(alloc: Global, contents: &[u8]) -> Option<usize> {
+fn in_file(alloc: Global, contents: &[u8]) -> Result<usize, AllocError> {
     let source = ConfigSourceKind::DiscoveredRepository;
-    let found = located(alloc, &source, Edition::ArrayAllowed, contents).ok()?;
-    Some(found.len())
+    let read = FileContents::of(alloc, contents)?;
+    let defined = Defined::of_one(alloc, &source, read.document())?;
+    let edition = Edition::ArrayAllowed;
+    let found = read.located(alloc, &source, edition, &defined, 0)?;
+    Ok(found.len())
 }

@@ -6,12 +6,12 @@
 //! - `text` reads standard input as a text, and does nothing more; `document` then reads it with
 //!   `toml` alone, as one document, and `index` makes the index of its places.
 //! - `places` prints, of each document on standard input, where all that it holds stands. A NUL stands
-//!   between two documents, and a blank line behind each.
+//!   between two documents, and a blank line after each.
 //! - `findings` and `located` judge standard input as a configuration file, the first without its
 //!   lines, and print how much is found.
 //! - `sources SIZE CHANGES` makes so many sources of one version each, `list` reads them as a list,
 //!   too, and `board` puts them on a board and makes so many changes there, each with the verdict
-//!   behind it, which has to be an error that names the greatest version.
+//!   after it, which has to be an error that names the greatest version.
 //! - `make OF GIVEN SIZE` makes so many `sources`, or files of `tools`, that ask nothing: their
 //!   contents are `empty` or `absent`. `read` reads them, too.
 #![tactic(auto)]

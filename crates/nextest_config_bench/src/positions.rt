@@ -140,7 +140,7 @@ fn size(value: &Value) -> usize {
     }
 }
 
-// Prints a path, the places of its key and of its value, and its line, with a word behind where the
+// Prints a path, the places of its key and of its value, and its line, with a word after where the
 // index tells another one.
 fn print_path(asked: &Asked<'_>, path: &[Step]) -> Option<()> {
     let rt = asked.rt;
