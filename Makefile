@@ -39,6 +39,7 @@ test: toolchain
 	bench/measure-nothing --small --alone $(BENCH)
 	bench/measure-findings --small --alone $(BENCH)
 	bench/measure-positions --small --alone $(BENCH)
+	bench/measure-check --small $(COMMAND)/out/nextest_config_cli $(BENCH)
 
 run: toolchain
 	@$(MAKE) --no-print-directory --jobs=2 --output-sync run-list run-lint
