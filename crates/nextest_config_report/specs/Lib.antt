@@ -1,3 +1,4 @@
 pub mod ExitStatus
 pub mod Lines
+pub mod Show
 pub mod Streams

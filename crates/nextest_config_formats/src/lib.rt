@@ -1,0 +1,19 @@
+//! How findings are told.
+#![tactic(auto)]
+
+mod escapes;
+mod excerpt;
+mod format;
+mod github;
+mod human;
+mod json;
+pub mod laws;
+mod summary;
+#[cfg(test)]
+mod tests;
+mod told;
+
+pub use format::Format;
+pub use json::json_text;
+pub use summary::Summary;
+pub use told::{ToldFinding, push_finding};
