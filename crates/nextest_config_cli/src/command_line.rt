@@ -1,229 +1,209 @@
-//! The words of the command line.
+//! The command line that `clap` reads.
 
-use crate::refusal::Refusal;
-use clap::{Arg, ArgAction, ArgMatches, Command};
-use nextest_config_command::{Check, Format, RepositoryFile, Request, Task};
-use nextest_config_sources::nextest_version::Edition;
-use nextest_config_values::helpers::join_path;
+use clap::{Arg, ArgAction, Command};
+use nextest_config_command::{FindingCode, Format, ShowFormat};
 use nextest_config_values::read::Word;
-use nextest_config_values::tool_config::{ToolConfigFile, ToolConfigFileParseError};
-use semver::Version;
 use std::alloc::{AllocError, Global};
 
 // The version of this project, and that of the crate that is ported.
 const VERSION: &str = "0.1.0 (nextest-runner 0.129.0)";
 
-// Where a repository's file is looked for in its folder.
-const USUAL_PATH: &str = ".config/nextest.toml";
-
 // The subcommands, and the names of what they take.
-const CHECK: &str = "check";
+pub(crate) const CHECK: &str = "check";
 
-const LINT: &str = "lint";
+pub(crate) const LINT: &str = "lint";
 
-const SHOW: &str = "show";
+pub(crate) const SHOW: &str = "show";
 
-const CURRENT: &str = "current";
+pub(crate) const EXPLAIN: &str = "explain";
 
-const OVERRIDE: &str = "override";
+pub(crate) const CURRENT: &str = "current";
 
-const TABLE_ONLY: &str = "table-only";
+pub(crate) const OVERRIDE: &str = "override";
 
-const STRICT: &str = "strict";
+pub(crate) const STRICT: &str = "strict";
 
-const FORMAT: &str = "format";
+pub(crate) const ALLOW: &str = "allow";
 
-const CONFIG_FILE: &str = "config-file";
+pub(crate) const FORMAT: &str = "format";
 
-const TOOL_CONFIG_FILE: &str = "tool-config-file";
+pub(crate) const TABLE_ONLY: &str = "table-only";
 
-const DIR: &str = "DIR";
+pub(crate) const CONFIG_FILE: &str = "config-file";
 
-/// The words of the formats.
-pub(crate) fn format_words(alloc: Global) -> Result<Vec<&'static str>, AllocError> {
+pub(crate) const TOOL_CONFIG_FILE: &str = "tool-config-file";
+
+pub(crate) const STDIN_PATH: &str = "stdin-path";
+
+pub(crate) const DEFAULT_PATH: &str = "default-path";
+
+pub(crate) const PATH: &str = "PATH";
+
+pub(crate) const CODE: &str = "CODE";
+
+/// The words that some flags take, lent.
+#[derive(Clone, Copy, Debug)]
+pub(crate) struct Choices<'a> {
+    pub formats: &'a [&'a str],
+    pub show_formats: &'a [&'a str],
+    pub codes: &'a [&'a str],
+}
+
+/// All words that some flags take.
+#[derive(Debug, Drop)]
+pub(crate) struct Vocabulary {
+    formats: Vec<&'static str>,
+    show_formats: Vec<&'static str>,
+    codes: Vec<&'static str>,
+}
+
+impl Vocabulary {
+    pub fn new(alloc: Global) -> Result<Self, AllocError> {
+        Ok(Vocabulary {
+            formats: words::<Format>(alloc)?,
+            show_formats: words::<ShowFormat>(alloc)?,
+            codes: words::<FindingCode>(alloc)?,
+        })
+    }
+
+    pub fn choices(&self) -> Choices<'_> {
+        Choices {
+            formats: self.formats.as_slice(),
+            show_formats: self.show_formats.as_slice(),
+            codes: self.codes.as_slice(),
+        }
+    }
+}
+
+// The words of all values.
+fn words<T: Word>(alloc: Global) -> Result<Vec<&'static str>, AllocError> {
     let mut words = Vec::new(alloc);
-    for format in Format::all() {
-        words.push(format.as_word())?;
+    for value in T::all() {
+        words.push(value.as_word())?;
     }
     Ok(words)
 }
 
-/// What the words ask for, the first of which is the program's name; `formats` are the words of the
-/// formats.
-pub(crate) fn parse<'a>(
-    alloc: Global,
-    words: &'a [String],
-    formats: &'a [&'a str],
-) -> Result<Request, Refusal<'a>> {
-    let matches = command(alloc, formats)?.try_get_matches_from(words)?;
-    match matches.subcommand() {
-        Some((name, matches)) => request(alloc, name, matches),
-        None => Err(Refusal::Words("no subcommand is named")),
-    }
-}
-
-fn command<'a>(alloc: Global, formats: &'a [&'a str]) -> Result<Command<'a>, AllocError> {
+/// The command with its subcommands.
+pub(crate) fn command<'a>(alloc: Global, choices: Choices<'a>) -> Result<Command<'a>, AllocError> {
     Command::new(alloc, "nextest-config")
         .about("Says what configuration files of nextest ask, and what is wrong in them")
         .version(VERSION)
         .subcommand_required(true)
         .arg_required_else_help(true)
-        .subcommand(check_command(alloc)?)?
-        .subcommand(lint_command(alloc, formats)?)?
-        .subcommand(show_command(alloc)?)
+        .subcommand(check_command(alloc, choices)?)?
+        .subcommand(lint_command(alloc, choices)?)?
+        .subcommand(show_command(alloc, choices)?)?
+        .subcommand(explain_command(alloc)?)
 }
 
-fn check_command<'a>(alloc: Global) -> Result<Command<'a>, AllocError> {
-    let current = Arg::new(alloc, CURRENT)
-        .long(CURRENT)
-        .value_name("VERSION")
-        .required(true)
-        .help("The current version of nextest");
+fn check_command<'a>(alloc: Global, choices: Choices<'a>) -> Result<Command<'a>, AllocError> {
+    let current = value(alloc, CURRENT, "VERSION", "The current version of nextest").required(true);
     let command = Command::new(alloc, CHECK)
         .about("Says whether the current version is enough, and what is wrong in the files")
         .arg(current)?
-        .arg(flag(alloc, OVERRIDE, "Pass where the version isn't enough, too"))?
-        .arg(table_only(alloc))?
-        .arg(strict(alloc))?;
-    with_files(alloc, command)
+        .arg(flag(alloc, OVERRIDE, "Pass where the version isn't enough, too")?)?;
+    with_list(alloc, with_lint(alloc, command, choices)?, path(alloc))
 }
 
-fn lint_command<'a>(alloc: Global, formats: &'a [&'a str]) -> Result<Command<'a>, AllocError> {
-    let format = Arg::new(alloc, FORMAT)
-        .long(FORMAT)
-        .value_name("FORMAT")
-        .value_parser(formats)
-        .default_value(Format::Human.as_word())
-        .help("How findings are told: as lines, or as commands of a workflow of GitHub");
-    let command = Command::new(alloc, LINT)
-        .about("Tells all that is wrong in the files, each with its line")
-        .arg(table_only(alloc))?
-        .arg(strict(alloc))?
-        .arg(format)?;
-    with_files(alloc, command)
+fn lint_command<'a>(alloc: Global, choices: Choices<'a>) -> Result<Command<'a>, AllocError> {
+    let command = Command::new(alloc, LINT).about(
+        "Tells all that is wrong in the files, each with its place",
+    );
+    let command = with_lint(alloc, command, choices)?;
+    with_list(alloc, command, path(alloc).action(ArgAction::Append))
 }
 
-fn show_command<'a>(alloc: Global) -> Result<Command<'a>, AllocError> {
-    let command = Command::new(alloc, SHOW)
-        .about("Shows which versions and which experimental features the files ask for")
-        .arg(table_only(alloc))?;
-    with_files(alloc, command)
+fn show_command<'a>(alloc: Global, choices: Choices<'a>) -> Result<Command<'a>, AllocError> {
+    let about = "Shows which versions and which experimental features the files ask for";
+    let help = "How it is shown: as lines, or as a JSON object";
+    let command = Command::new(alloc, SHOW).about(about).arg(format(
+        alloc,
+        help,
+        choices.show_formats,
+        ShowFormat::Human.as_word(),
+    ))?;
+    with_list(alloc, command, path(alloc))
 }
 
-fn flag<'a>(alloc: Global, name: &'a str, help: &'a str) -> Arg<'a> {
+fn explain_command<'a>(alloc: Global) -> Result<Command<'a>, AllocError> {
+    let code = Arg::new(alloc, CODE).required(true).help(
+        "The code of a finding, as it stands at the end of its line, or nextest-version",
+    );
+    Command::new(alloc, EXPLAIN)
+        .about("Says what a code means, with an example and the same mended")
+        .arg(code)
+}
+
+// The command with what says how findings are told, and which count.
+fn with_lint<'a>(
+    alloc: Global,
+    command: Command<'a>,
+    choices: Choices<'a>,
+) -> Result<Command<'a>, AllocError> {
+    let strict = "Fail at a warning, too, and where no .config/nextest.toml is found";
+    let allow = "Leave out the findings of a code; a check tells those for which it refuses";
+    let help = "How findings are told: as lines, with the lines of the file, as commands of a \
+         workflow of GitHub, or as lines of JSON";
+    let allow = value(alloc, ALLOW, "CODE", allow)
+        .value_parser(choices.codes)
+        .action(ArgAction::Append);
+    command.arg(flag(alloc, STRICT, strict)?)?.arg(allow)?.arg(format(
+        alloc,
+        help,
+        choices.formats,
+        Format::Human.as_word(),
+    ))
+}
+
+// The flag that names a format, which is one of these words.
+fn format<'a>(alloc: Global, help: &'a str, words: &'a [&'a str], default: &'a str) -> Arg<'a> {
+    value(alloc, FORMAT, "FORMAT", help)
+        .value_parser(words)
+        .default_value(default)
+}
+
+// The command with what says which files are read, and how; `path` names the repository's.
+fn with_list<'a>(
+    alloc: Global,
+    command: Command<'a>,
+    path: Arg<'a>,
+) -> Result<Command<'a>, AllocError> {
+    let table_only = "Refuse a file whose `experimental` is an array, the deprecated form";
+    let config_file = "The repository's file, as an explicit one; no PATH may stand beside it";
+    let tool_file = "A tool's file, by its absolute path; the first one has the highest priority";
+    let stdin_path = "What the PATH `-` is called; else <stdin>";
+    let default_path = "The folder that counts where neither PATH nor --config-file is given";
+    command
+        .arg(flag(alloc, TABLE_ONLY, table_only)?)?
+        .arg(value(alloc, CONFIG_FILE, "FILE", config_file))?
+        .arg(value(alloc, TOOL_CONFIG_FILE, "NAME:FILE", tool_file).action(ArgAction::Append))?
+        .arg(value(alloc, STDIN_PATH, "PATH", stdin_path))?
+        .arg(value(alloc, DEFAULT_PATH, "FOLDER", default_path))?
+        .arg(path)
+}
+
+// What the repository's files are named by.
+fn path<'a>(alloc: Global) -> Arg<'a> {
+    Arg::new(alloc, PATH).help(
+        "A file, `-` for standard input, or a folder, whose .config/nextest.toml is read; \
+         else the nearest folder that has one, from the current one upwards",
+    )
+}
+
+// A flag without a value, which may stand more than once.
+fn flag<'a>(alloc: Global, name: &'a str, help: &'a str) -> Result<Arg<'a>, AllocError> {
     Arg::new(alloc, name)
         .long(name)
         .action(ArgAction::SetTrue)
         .help(help)
+        .overrides_with(name)
 }
 
-fn table_only<'a>(alloc: Global) -> Arg<'a> {
-    flag(
-        alloc,
-        TABLE_ONLY,
-        "Refuse a file whose `experimental` is an array, the deprecated form",
-    )
-}
-
-fn strict<'a>(alloc: Global) -> Arg<'a> {
-    flag(alloc, STRICT, "Fail at a warning, too")
-}
-
-// The command with what says which files are read.
-fn with_files<'a>(alloc: Global, command: Command<'a>) -> Result<Command<'a>, AllocError> {
-    let config_file = Arg::new(alloc, CONFIG_FILE)
-        .long(CONFIG_FILE)
-        .value_name("FILE")
-        .help("The repository's file; else .config/nextest.toml in DIR, if it is there");
-    let tool_config_file = Arg::new(alloc, TOOL_CONFIG_FILE)
-        .long(TOOL_CONFIG_FILE)
-        .value_name("NAME:FILE")
-        .action(ArgAction::Append)
-        .help("A tool's file, by its absolute path; the first one has the highest priority");
-    let dir = Arg::new(alloc, DIR).help("The repository's folder; else the current one");
-    command.arg(config_file)?.arg(tool_config_file)?.arg(dir)
-}
-
-// What a subcommand asks for.
-fn request<'a>(
-    alloc: Global,
-    name: &str,
-    matches: &ArgMatches<'a>,
-) -> Result<Request, Refusal<'a>> {
-    let task = task(alloc, name, matches)?;
-    let tools = tools(alloc, matches.get_strs(TOOL_CONFIG_FILE).unwrap_or(&[]))?;
-    let repository = repository(alloc, matches.get_str(CONFIG_FILE), matches.get_str(DIR))?;
-    let edition = if matches.get_flag(TABLE_ONLY) {
-        Edition::TableOnly
-    } else {
-        Edition::ArrayAllowed
-    };
-    Ok(Request {
-        tools,
-        repository,
-        edition,
-        task,
-    })
-}
-
-fn task<'a>(alloc: Global, name: &str, matches: &ArgMatches<'a>) -> Result<Task, Refusal<'a>> {
-    match name {
-        CHECK => Ok(Task::Check(Check {
-            current: version(alloc, matches.get_str(CURRENT).unwrap_or(""))?,
-            override_version_check: matches.get_flag(OVERRIDE),
-            strict: matches.get_flag(STRICT),
-        })),
-        LINT => Ok(Task::Lint {
-            format: format(matches.get_str(FORMAT)),
-            strict: matches.get_flag(STRICT),
-        }),
-        _ => Ok(Task::Show),
-    }
-}
-
-fn version<'a>(alloc: Global, word: &'a str) -> Result<Version, Refusal<'a>> {
-    match Version::parse(alloc, word) {
-        Ok(version) => Ok(version),
-        Err(error) if error == semver::Error::from(AllocError) => Err(Refusal::Memory),
-        Err(_) => Err(Refusal::NotVersion(word)),
-    }
-}
-
-fn format(word: Option<&str>) -> Format {
-    for format in Format::all() {
-        if word == Some(format.as_word()) {
-            return *format;
-        }
-    }
-    Format::Human
-}
-
-// The files of tools, as the words name them.
-fn tools(alloc: Global, words: &[&str]) -> Result<Vec<ToolConfigFile>, ToolConfigFileParseError> {
-    let mut tools = Vec::new(alloc);
-    for word in words {
-        let tool = ToolConfigFile::from_str(alloc, word)?;
-        let Ok(()) = tools.push(tool) else {
-            return Err(ToolConfigFileParseError::Memory);
-        };
-    }
-    Ok(tools)
-}
-
-// The explicit file, or the one that is looked for in the folder.
-fn repository(
-    alloc: Global,
-    config_file: Option<&str>,
-    dir: Option<&str>,
-) -> Result<RepositoryFile, AllocError> {
-    match config_file {
-        Some(path) => Ok(RepositoryFile {
-            explicit: true,
-            path: String::from_str(alloc, path)?,
-        }),
-        None => Ok(RepositoryFile {
-            explicit: false,
-            path: join_path(alloc, dir.unwrap_or(""), USUAL_PATH)?,
-        }),
-    }
+// A flag with a value.
+fn value<'a>(alloc: Global, name: &'a str, value_name: &'a str, help: &'a str) -> Arg<'a> {
+    Arg::new(alloc, name)
+        .long(name)
+        .value_name(value_name)
+        .help(help)
 }

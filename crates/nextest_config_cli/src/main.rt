@@ -1,15 +1,18 @@
 //! `nextest-config` checks, lints and shows what configuration files of nextest ask, and what is
-//! wrong in them.
+//! wrong in them, and explains the codes of what it finds.
 #![tactic(auto)]
 
 mod command_line;
 mod file_system;
 mod refusal;
+mod request;
 
-use command_line::{format_words, parse};
+use command_line::Vocabulary;
 use file_system::FileSystem;
 use nextest_config_command::serve;
-use refusal::{Refusal, refuse};
+use nextest_config_explain::Explanation;
+use refusal::{Refusal, refuse, show};
+use request::{Asked, parse};
 use std::process::ExitCode;
 use std::{env, io};
 
@@ -29,17 +32,21 @@ fn words(rt: &HostRuntime) -> io::Result<Vec<String>> {
 
 // Does what the words ask for, and answers the number that the program ends with.
 fn run(rt: &HostRuntime, words: &[String]) -> u8 {
-    let Ok(formats) = format_words(rt.alloc()) else {
+    let Ok(vocabulary) = Vocabulary::new(rt.alloc()) else {
         return refuse_words(rt, &Refusal::Memory);
     };
-    match parse(rt.alloc(), words, formats.as_slice()) {
-        Ok(request) => serve(
+    match parse(rt, words, vocabulary.choices()) {
+        Ok(Asked::Request(request)) => serve(
             rt.alloc(),
             &request,
             &FileSystem { rt },
             &mut rt.stdout(),
             &mut rt.stderr(),
         ),
+        Ok(Asked::Explanation(topic)) => {
+            let text = Explanation::of(topic).to_string(rt.alloc());
+            show(text, &mut rt.stdout(), &mut rt.stderr()).code()
+        }
         Err(refusal) => refuse_words(rt, &refusal),
     }
 }

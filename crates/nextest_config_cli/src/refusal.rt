@@ -18,8 +18,12 @@ pub(crate) enum Refusal<'a> {
     Words(&'static str),
     /// This word is no version.
     NotVersion(&'a str),
+    /// This word is no code.
+    NotCode(&'a str),
     /// A word names no tool's file.
     Tool(ToolConfigFileParseError),
+    /// The system doesn't name the current folder, from which files are looked for.
+    CurrentFolder(io::Error),
     /// A request for memory was refused.
     Memory,
 }
@@ -30,6 +34,14 @@ impl Refusal<'_> {
         match error.kind() {
             ErrorKind::OutOfMemory => Refusal::Memory,
             _ => Refusal::Words("the words of the command line aren't UTF-8"),
+        }
+    }
+
+    /// Why there is no current folder.
+    pub fn of_current_folder(error: io::Error) -> Self {
+        match error.kind() {
+            ErrorKind::OutOfMemory => Refusal::Memory,
+            _ => Refusal::CurrentFolder(error),
         }
     }
 }
@@ -66,37 +78,43 @@ pub(crate) fn refuse<W: Write, E: Write>(
     faults: &mut E,
 ) -> ExitStatus {
     match refusal {
-        Refusal::Clap(error) if !error.use_stderr() => show(alloc, error, writer, faults),
+        Refusal::Clap(error) if !error.use_stderr() => {
+            show(error.to_string(alloc), writer, faults)
+        }
         Refusal::Clap(error) => match error.to_string(alloc) {
             Ok(said) => {
                 let _ = write_report(faults, said.as_bytes());
                 ExitStatus::Refused
             }
-            Err(AllocError) => give_up(faults, OUT_OF_MEMORY),
+            Err(AllocError) => give_up(faults, OUT_OF_MEMORY, ""),
         },
         Refusal::Words(said) => misused(faults, said, ""),
         Refusal::NotVersion(word) => misused(faults, NOT_VERSION, word),
+        Refusal::NotCode(word) => misused(faults, "not a code: ", word),
         Refusal::Tool(error) => match error.to_string(alloc) {
             Ok(said) => misused(faults, said.as_str(), ""),
-            Err(AllocError) => give_up(faults, OUT_OF_MEMORY),
+            Err(AllocError) => give_up(faults, OUT_OF_MEMORY, ""),
         },
-        Refusal::Memory => give_up(faults, OUT_OF_MEMORY),
+        Refusal::CurrentFolder(error) => match error.to_string(alloc) {
+            Ok(reason) => give_up(faults, "current folder: ", reason.as_str()),
+            Err(AllocError) => give_up(faults, OUT_OF_MEMORY, ""),
+        },
+        Refusal::Memory => give_up(faults, OUT_OF_MEMORY, ""),
     }
 }
 
-// Shows help or the version.
-fn show<W: Write, E: Write>(
-    alloc: Global,
-    shown: &clap::Error,
+/// Shows a text, if there was memory for it, and tells how the program ends.
+pub(crate) fn show<W: Write, E: Write>(
+    text: Result<String, AllocError>,
     writer: &mut W,
     faults: &mut E,
 ) -> ExitStatus {
-    match shown.to_string(alloc) {
+    match text {
         Ok(text) => match write_report(writer, text.as_bytes()) {
             Ok(()) => ExitStatus::Success,
-            Err(_) => give_up(faults, CANNOT_WRITE),
+            Err(_) => give_up(faults, CANNOT_WRITE, ""),
         },
-        Err(AllocError) => give_up(faults, OUT_OF_MEMORY),
+        Err(AllocError) => give_up(faults, OUT_OF_MEMORY, ""),
     }
 }
 
@@ -105,7 +123,7 @@ fn misused<E: Write>(faults: &mut E, complaint: &str, word: &str) -> ExitStatus 
     ExitStatus::Refused
 }
 
-fn give_up<E: Write>(faults: &mut E, complaint: &str) -> ExitStatus {
-    let _ = complain(faults, complaint, "");
+fn give_up<E: Write>(faults: &mut E, complaint: &str, word: &str) -> ExitStatus {
+    let _ = complain(faults, complaint, word);
     ExitStatus::NoOutcome
 }

@@ -1,16 +1,19 @@
 -- What cuts the command short.
-use Rattle.std.proofs.Common.{◌≡◌, ◌⊎◌, ◌∙◌, ℕ, Bool, false, List, Option, ap, inl, inr, rules, string_bytes, subst, sym, if◌then◌else◌}
+use Rattle.std.proofs.Common.{◌≡◌, ◌⊎◌, ◌∙◌, ℕ, Bool, false, true, List, Option, ap, inl, inr, rules, subst, sym}
+use Rattle.std.specs.Prelude.{◌&&◌, ◌||◌}
 use Rattle.std.proofs.KnownBytes.{Keeps-refl}
 use Rattle.nextest_config_report.specs.ExitStatus.{exit_code}
 use Rattle.nextest_config_report.specs.Streams.{AddsOrFails}
 use Rattle.nextest_config_report.specs.declared.exit_status.ExitStatus.{ExitStatus}
-use Rattle.nextest_config_report.specs.declared.exit_status.ExitStatus.TheVariants.{Failure}
+use Rattle.nextest_config_report.specs.declared.exit_status.ExitStatus.TheVariants.{Failure, NoOutcome, Refused, Success}
 use Rattle.nextest_config_sources.specs.declared.nextest_version.edition.Edition.{Edition}
-use Rattle.nextest_config_findings.specs.declared.finding.FindingSeverity.{FindingSeverity}
-use Rattle.nextest_config_command.specs.Answer.{IsDone, enough, not_enough, refused_files, refused_list, shown}
-use Rattle.nextest_config_command.specs.Files.{File, IsUnreadAmong, PathStates, unanswered_text}
-use Rattle.nextest_config_command.specs.LintLines.{gravest_of, lint_status}
-use Rattle.nextest_config_command.specs.Request.{places_of}
+use Rattle.nextest_config_formats.specs.declared.format.Format.TheVariants.{Human}
+use Rattle.nextest_config_report.specs.declared.show.ShowFormat.{ShowFormat}
+use Rattle.nextest_config_report.specs.declared.show.ShowFormat.TheVariants as shows
+use Rattle.nextest_config_command.specs.Answer.{answer_of, AnswerView, IsDone, enough, failing_if, is_said, not_enough, refused_files, refused_list, shown, shown_refusal, status_checked, warns}
+use Rattle.nextest_config_command.specs.Files.{PathStates, unanswered_text, UnlessMemory}
+use Rattle.nextest_config_command.specs.Found.{FilesRead, IsFirstUnread}
+use Rattle.nextest_config_command.specs.Lint.{failure_if, fails_by, lint_status, lint_text, summary_of}
 use Rattle.nextest_config_command.specs.Streams.{cut_off, IsCutShort, IsReply, IsServed, IsTold, IsUnwritten, line_of, no_memory, unread}
 use Rattle.nextest_config_command.specs.declared.files.Unanswered.{Unanswered}
 use Rattle.nextest_config_command.specs.declared.files.Unanswered.TheVariants as fails
@@ -21,17 +24,33 @@ use Rattle.nextest_config_command.specs.declared.streams.Reply.{Reply}
 
 -- ---- no answer has the status of a command that is cut short
 
--- the status of what is found, or a failure
-found_or_failed : (b strict : Bool) (gravest : Option FindingSeverity) → ◌≡◌ {A = ℕ} (exit_code (if b then Failure else lint_status strict gravest)) 3 → ⊥
-found_or_failed b strict gravest is = search rules
+-- a status that is a failure or a success
+failed_or_not : (b : Bool) → ◌≡◌ {A = ℕ} (exit_code (failure_if b)) 3 → ⊥
+failed_or_not b is = search rules
 
-pub not_cut_short : (edition : Edition) (task : Task) (files : List File) (text : List ℕ) (status : ExitStatus) → IsDone edition task files text status → exit_code status ≡ 3 → ⊥
-not_cut_short edition (tasks.Check check) files text status (refused_list t s refused with) is = cc (with.status_is, is)
-not_cut_short edition (tasks.Check check) files text status (not_enough configuration v listed selected fails) is = cc is
-not_cut_short edition (tasks.Check check) files text status (enough configuration v findings listed selected passes are) is = found_or_failed _ _ (gravest_of findings) is
-not_cut_short edition (tasks.Lint format strict) files text status linted is = found_or_failed false strict (gravest_of linted.findings) (ap exit_code (sym linted.status_is) ∙ is)
-not_cut_short edition tasks.Show files text status (refused_files t s refused with) is = cc (with.status_is, is)
-not_cut_short edition tasks.Show files text status (shown configuration listed) is = cc is
+-- a missing file makes no other status that of a command that is cut short
+cut_anyway : (failing : Bool) (status : ExitStatus) → ◌≡◌ {A = ℕ} (exit_code (failing_if failing status)) 3 → exit_code status ≡ 3
+cut_anyway false status is = is
+cut_anyway true Success is = cc is
+cut_anyway true Failure is = is
+cut_anyway true Refused is = is
+cut_anyway true NoOutcome is = is
+
+shown_otherwise : (format : ShowFormat) (text : List ℕ) → ◌≡◌ {A = ℕ} (exit_code (shown_refusal format text).status) 3 → ⊥
+shown_otherwise shows.Human text is = cc is
+shown_otherwise shows.Json text is = cc is
+
+pub not_cut_short : (edition : Edition) (task : Task) (files : FilesRead) (answer : AnswerView) → IsDone edition task files answer → exit_code answer.status ≡ 3 → ⊥
+not_cut_short edition (tasks.Check check) files answer (refused_list found refused are) is = cc is
+not_cut_short edition (tasks.Check check) files answer (not_enough configuration v front listed selected fails told) is = cc is
+not_cut_short edition (tasks.Check check) files answer (enough configuration v front found listed selected passes told are) is =
+    failed_or_not ((check.lint.strict && warns v) || fails_by check.lint.strict (summary_of found))
+    (cut_anyway (check.lint.strict && is_said files.notices) (status_checked check.lint.strict v (summary_of found)) is)
+not_cut_short edition (tasks.Lint options) files answer linted is =
+    failed_or_not (fails_by options.strict (summary_of linted.found))
+    (cut_anyway (options.strict && is_said files.notices) (lint_status options.strict (summary_of linted.found)) (ap (λ a. exit_code a.status) (sym linted.is) ∙ is))
+not_cut_short edition (tasks.Show format) files answer (refused_files found refused are) is = shown_otherwise format (lint_text Human found) is
+not_cut_short edition (tasks.Show format) files answer (shown configuration listed) is = cc is
 
 -- ---- what serves it
 
@@ -41,12 +60,11 @@ pub told_served : (holds : PathStates) (request : Request) (reply : Reply) (stat
 told_served holds request reply status number unwritten unsaid old new said says (files, read, about) is (inl told) = inr (record {
   files = files;
   read = read;
-  text = string_bytes reply.answer.text;
-  status = reply.answer.status;
+  answer = answer_of reply.answer;
   done = about.answers;
   number_is = is ∙ ap exit_code told.status_is;
   written = told.written;
-  noticed = subst (AddsOrFails unsaid said says) about.notice told.noticed;
+  noticed = subst (AddsOrFails unsaid said says) about.notices told.noticed;
 })
 told_served holds request reply status number unwritten unsaid old new said says reply_is is (inr failed) = inl (is ∙ ap exit_code failed.status_is)
 
@@ -56,12 +74,12 @@ told_served holds request reply status number unwritten unsaid old new said says
 pub told_cut_short : (holds : PathStates) (request : Request) (reply : Reply) (status : ExitStatus) (unwritten unsaid : Type 0) (old new said says : Option (List ℕ)) → IsReply holds request reply
     → IsTold reply status old new unsaid said says ⊎ IsUnwritten reply status unwritten old new unsaid said says → exit_code status ≡ 3 → IsCutShort holds request unwritten old new unsaid said says
 told_cut_short holds request reply status unwritten unsaid old new said says (files, read, about) (inl told) three =
-    absurd (not_cut_short request.edition request.task files _ reply.answer.status about.answers (ap exit_code (sym told.status_is) ∙ three))
+    absurd (not_cut_short request.edition request.task files (answer_of reply.answer) about.answers (ap exit_code (sym told.status_is) ∙ three))
 told_cut_short holds request reply status unwritten unsaid old new said says (files, read, about) (inr failed) three =
-    cut_off files (string_bytes reply.answer.text) reply.answer.status failed.between read about.answers failed.failed failed.front (subst (AddsOrFails unsaid said failed.between) about.notice failed.noticed) failed.told
+    cut_off files (answer_of reply.answer) failed.between read about.answers failed.failed failed.front (subst (AddsOrFails unsaid said failed.between) about.notices failed.noticed) failed.told
 
 -- there was no answer, and nothing was written
-pub unanswered_cut_short : (holds : PathStates) (request : Request) (unanswered : Unanswered) (unwritten unsaid : Type 0) (old said says : Option (List ℕ)) → IsUnreadAmong holds (places_of request) unanswered
+pub unanswered_cut_short : (holds : PathStates) (request : Request) (unanswered : Unanswered) (unwritten unsaid : Type 0) (old said says : Option (List ℕ)) → UnlessMemory (IsFirstUnread holds request) unanswered
     → AddsOrFails unsaid said says (line_of (unanswered_text unanswered)) → IsCutShort holds request unwritten old old unsaid said says
 unanswered_cut_short holds request (fails.Unread complaint) unwritten unsaid old said says is told = unread _ is (Keeps-refl old) told
 unanswered_cut_short holds request fails.Memory unwritten unsaid old said says is told = no_memory (Keeps-refl old) told

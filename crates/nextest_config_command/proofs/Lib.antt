@@ -1,5 +1,11 @@
+pub mod AskedVersions
+pub mod Counts
 pub mod CutShort
 pub mod FileLists
-pub mod InTurn
+pub mod FilesFound
+pub mod FirstFailures
 pub mod LintStatus
-pub mod Told
+pub mod VerdictsTold
+pub mod Walks
+pub mod WantedPaths
+pub mod ZipFrom

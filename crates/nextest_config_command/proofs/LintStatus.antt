@@ -1,97 +1,108 @@
 -- The status of a lint, by what is found in its files.
 use mathlib.Core.Logic.Iff as iff
-use Rattle.std.specs.Prelude.{◌≡◌, ◌≢◌, ◌↔◌, ℕ, suc, List, [], ◌∷◌, ◌++◌, map, Option, Some, None, false}
-use Rattle.std.proofs.Common.{ap, refl, ◌∙◌}
-use Rattle.std.specs.List.{AllByRecursion}
+use Rattle.std.specs.Prelude.{◌≡◌, ◌≢◌, ◌↔◌, ◌+◌, ◌||◌, ℕ, suc, Bool, false, true, List, [], ◌∷◌, ◌++◌, cond, count_by, filter, length, map, nat_lt}
+use Rattle.std.proofs.Common.{ap, arith, refl}
+use Rattle.std.proofs.lemmas.Bool.Decides.{nat_tests}
+use Rattle.std.proofs.lemmas.Grind.{flat_map-append}
+use Rattle.std.proofs.lemmas.List.Concat.{flat_map-cons}
+use Rattle.std.proofs.lemmas.List.Sums.{sum_by-append, sum_by-cons}
+use Rattle.std.specs.List.{AllByRecursion, AllZip}
+use Rattle.nextest_config_values.proofs.Elements.{all_joined, all_left, all_right}
 use Rattle.nextest_config_report.specs.ExitStatus.{exit_code}
-use Rattle.nextest_config_report.specs.declared.exit_status.ExitStatus.{ExitStatus}
 use Rattle.nextest_config_sources.specs.declared.nextest_version.edition.Edition.{Edition}
 use Rattle.nextest_config_findings.proofs.NoErrorFiles.{no_error_in_file}
 use Rattle.nextest_config_findings.specs.Defined.{ListFile}
-use Rattle.nextest_config_findings.specs.Finding.{finding_severity}
 use Rattle.nextest_config_findings.specs.FindingsLaws.{IsNoLocatedError}
 use Rattle.nextest_config_findings.specs.declared.file.LocatedFinding.{LocatedFinding}
 use Rattle.nextest_config_findings.specs.declared.finding.FindingSeverity.{FindingSeverity}
 use Rattle.nextest_config_findings.specs.declared.finding.FindingSeverity.TheVariants.{Error, Note, Warning}
-use Rattle.nextest_config_command.specs.Answer.{IsLinted}
+use Rattle.nextest_config_command.specs.Answer.{AnswerView, IsLinted, judging}
+use Rattle.nextest_config_command.specs.FileFindings.{FileFound, HasNoError, is_error, IsFoundAfter, IsFoundIn, tells}
 use Rattle.nextest_config_command.specs.Files.{File}
-use Rattle.nextest_config_command.specs.LintLines.{AreFoundFrom, AtPath, at_path, graver, gravest_of, HasNoError, IsFoundIn, lint_status}
-use Rattle.nextest_config_command.specs.declared.format.Format.{Format}
+use Rattle.nextest_config_command.specs.Found.{all_files, FilesRead}
+use Rattle.nextest_config_command.specs.Lint.{failure_if, severities_in, severities_of, severity_of}
+use Rattle.nextest_config_command.specs.Positions.{AllZipFrom}
+use Rattle.nextest_config_command.specs.declared.request.LintOptions.{LintOptions}
 
--- ---- the graver of two
+-- ---- no error is counted
 
-pub graver_of_three : (a b c : Option FindingSeverity) → graver a (graver b c) ≡ graver (graver a b) c
-graver_of_three None b c = refl
-graver_of_three (Some Error) b c = refl
-graver_of_three (Some Warning) None c = refl
-graver_of_three (Some Warning) (Some Error) c = refl
-graver_of_three (Some Warning) (Some Warning) None = refl
-graver_of_three (Some Warning) (Some Warning) (Some Error) = refl
-graver_of_three (Some Warning) (Some Warning) (Some Warning) = refl
-graver_of_three (Some Warning) (Some Warning) (Some Note) = refl
-graver_of_three (Some Warning) (Some Note) None = refl
-graver_of_three (Some Warning) (Some Note) (Some Error) = refl
-graver_of_three (Some Warning) (Some Note) (Some Warning) = refl
-graver_of_three (Some Warning) (Some Note) (Some Note) = refl
-graver_of_three (Some Note) None c = refl
-graver_of_three (Some Note) (Some Error) c = refl
-graver_of_three (Some Note) (Some Warning) None = refl
-graver_of_three (Some Note) (Some Warning) (Some Error) = refl
-graver_of_three (Some Note) (Some Warning) (Some Warning) = refl
-graver_of_three (Some Note) (Some Warning) (Some Note) = refl
-graver_of_three (Some Note) (Some Note) None = refl
-graver_of_three (Some Note) (Some Note) (Some c) = refl
+abbrev counted : List FindingSeverity → ℕ
+counted severities = count_by is_error severities
 
-pub gravest_of_both : (here rest : List AtPath) → gravest_of (here ++ rest) ≡ graver (gravest_of here) (gravest_of rest)
-gravest_of_both [] rest = refl
-gravest_of_both (at ∷ here) rest =
-    let severity = Some (finding_severity at.located.finding.kind) in
-    ap (graver severity) (gravest_of_both here rest) ∙ graver_of_three severity (gravest_of here) (gravest_of rest)
+abbrev HasNone : List FindingSeverity → Type 0
+HasNone severities = counted severities ≡ 0
 
--- ---- no error
+counted_cons : (severity : FindingSeverity) (rest : List FindingSeverity) → counted (severity ∷ rest) ≡ cond (is_error severity) 1 0 + counted rest
+counted_cons severity rest = sum_by-cons (λ one. cond (is_error one) 1 0) severity rest
 
--- a check that isn't strict passes where this is the gravest finding
-abbrev Passes : Option FindingSeverity → Type 0
-Passes gravest = exit_code (lint_status false gravest) ≡ 0
+one_more : (severity : FindingSeverity) (rest : List FindingSeverity) → HasNone (severity ∷ rest) ↔ ((severity ≢ Error) × HasNone rest)
+one_more Error rest = (λ h. absurd (omega (arith, counted_cons Error rest, h)), λ h. absurd (h.0 refl))
+one_more Warning rest = (λ h. (λ same. cc same, omega (arith, counted_cons Warning rest, h)), λ h. omega (arith, counted_cons Warning rest, h.1))
+one_more Note rest = (λ h. (λ same. cc same, omega (arith, counted_cons Note rest, h)), λ h. omega (arith, counted_cons Note rest, h.1))
 
-both_pass : (a b : Option FindingSeverity) → Passes (graver a b) ↔ (Passes a × Passes b)
-both_pass None b = (λ h. (refl, h), λ h. h.1)
-both_pass (Some Error) b = (λ h. cc h, λ h. cc (h.0))
-both_pass (Some Warning) None = (λ h. (refl, refl), λ h. refl)
-both_pass (Some Warning) (Some Error) = (λ h. cc h, λ h. cc (h.1))
-both_pass (Some Warning) (Some Warning) = (λ h. (refl, refl), λ h. refl)
-both_pass (Some Warning) (Some Note) = (λ h. (refl, refl), λ h. refl)
-both_pass (Some Note) None = (λ h. (refl, refl), λ h. refl)
-both_pass (Some Note) (Some b) = (λ h. (refl, h), λ h. h.1)
+both_none : (xs ys : List FindingSeverity) → HasNone (xs ++ ys) ↔ (HasNone xs × HasNone ys)
+both_none xs ys =
+    let sum = sum_by-append (λ one. cond (is_error one) 1 0) xs ys in
+    (λ h. (omega (arith, sum, h), omega (arith, sum, h)), λ h. omega (arith, sum, h.0, h.1))
 
-one_passes : (severity : FindingSeverity) → Passes (Some severity) ↔ (severity ≢ Error)
-one_passes Error = (λ h. cc h, λ h. absurd (h refl))
-one_passes Warning = (λ h same. cc same, λ h. refl)
-one_passes Note = (λ h same. cc same, λ h. refl)
+none_located : (located : List LocatedFinding) → HasNone (map severity_of located) ↔ AllByRecursion IsNoLocatedError located
+none_located [] = (λ h. tt, λ h. refl)
+none_located (one ∷ located) =
+    iff.trans (one_more (severity_of one) (map severity_of located))
+    (iff.and (λ h. h, λ h. h) (none_located located))
 
 -- ---- files
 
--- the findings of a file pass exactly where none is an error
-all_pass : (path : List ℕ) (located : List LocatedFinding) → Passes (gravest_of (map (at_path path) located)) ↔ AllByRecursion IsNoLocatedError located
-all_pass path [] = (λ h. tt, λ h. refl)
-all_pass path (one ∷ located) =
-    iff.trans (both_pass (Some (finding_severity one.finding.kind)) (gravest_of (map (at_path path) located)))
-    (iff.and (one_passes (finding_severity one.finding.kind)) (all_pass path located))
+-- where no code is allowed, each finding is told
+all_told : (edition : Edition) (located : List LocatedFinding) → filter (tells (judging edition [] false)) located ≡ located
+all_told edition [] = refl
+all_told edition (one ∷ located) = ap (λ rest. one ∷ rest) (all_told edition located)
 
-file_passes : (edition : Edition) (list : List ListFile) (position : ℕ) (file : File) (findings : List AtPath) → IsFoundIn edition list position file findings
-    → Passes (gravest_of findings) ↔ HasNoError edition file
-file_passes edition list position file findings (located, are, is) =
-    rw is (iff.trans (all_pass file.place.path located) (no_error_in_file edition file.place.kind list position file.contents located are))
+file_passes : (edition : Edition) (list : List ListFile) (position : ℕ) (file : File) (found : FileFound) → IsFoundIn (judging edition [] false) list position file found
+    → HasNone (severities_in found) ↔ HasNoError edition file
+file_passes edition list position file found is =
+    rw (is.located, all_told edition is.all)
+    (iff.trans (none_located is.all) (no_error_in_file edition file.place.kind list position file.contents is.all is.are_located))
 
-files_pass : (edition : Edition) (list : List ListFile) (position : ℕ) (files : List File) (findings : List AtPath) → AreFoundFrom edition list position files findings
-    → Passes (gravest_of findings) ↔ AllByRecursion (HasNoError edition) files
-files_pass edition list position [] findings none = rw none (λ h. tt, λ h. refl)
-files_pass edition list position (file ∷ files) findings (here, rest, is, are, whole) =
-    rw (whole, gravest_of_both here rest)
-    (iff.trans (both_pass (gravest_of here) (gravest_of rest)) (iff.and (file_passes edition list position file here is) (files_pass edition list (suc position) files rest are)))
+files_pass : (edition : Edition) (list : List ListFile) (position : ℕ) (files : List File) (found : List FileFound) → AllZipFrom (IsFoundIn (judging edition [] false) list) position files found
+    → HasNone (severities_of found) ↔ AllByRecursion (HasNoError edition) files
+files_pass edition list position [] [] none = (λ h. tt, λ h. refl)
+files_pass edition list position [] (one ∷ found) none = absurd none
+files_pass edition list position (file ∷ files) [] none = absurd none
+files_pass edition list position (file ∷ files) (one ∷ found) (here, rest) =
+    rw (flat_map-cons severities_in one found)
+    (iff.trans (both_none (severities_in one) (severities_of found))
+    (iff.and (file_passes edition list position file one here) (files_pass edition list (suc position) files found rest)))
 
-pub lint_passes : (edition : Edition) (format : Format) (files : List File) (text : List ℕ) (status : ExitStatus) → IsLinted edition format false files text status
-    → (exit_code status ≡ 0) ↔ AllByRecursion (HasNoError edition) files
-lint_passes edition format files text status linted =
-    let found = linted.are_found in
-    rw linted.status_is (files_pass edition found.0 0 files linted.findings found.2)
+-- and so do files after those of tools
+after_pass : (edition : Edition) (tools files : List File) (found : List FileFound) → AllZip (IsFoundAfter (judging edition [] false) tools) files found
+    → HasNone (severities_of found) ↔ AllByRecursion (HasNoError edition) files
+after_pass edition tools [] [] none = (λ h. tt, λ h. refl)
+after_pass edition tools [] (one ∷ found) none = absurd none
+after_pass edition tools (file ∷ files) [] none = absurd none
+after_pass edition tools (file ∷ files) (one ∷ found) ((list, listed, is), rest) =
+    rw (flat_map-cons severities_in one found)
+    (iff.trans (both_none (severities_in one) (severities_of found))
+    (iff.and (file_passes edition list (length tools) file one is) (after_pass edition tools files found rest)))
+
+-- both lists are so exactly where all of it is
+all_of_both : {A : Type 0} (P : A → Type 0) (xs ys : List A) → (AllByRecursion P xs × AllByRecursion P ys) ↔ AllByRecursion P (xs ++ ys)
+all_of_both P xs ys = (λ h. all_joined P xs ys h.0 h.1, λ h. (all_left P xs ys h, all_right P xs ys h))
+
+-- ---- the status
+
+passes_by : (is_some : Bool) (n : ℕ) → nat_lt 0 n ≡ is_some → (exit_code (failure_if (is_some || false)) ≡ 0) ↔ (n ≡ 0)
+passes_by true n some = (λ h. cc h, λ h. absurd (grind (arith, nat_tests, some, h)))
+passes_by false n some = (λ h. grind (arith, nat_tests, some), λ h. refl)
+
+pub lint_passes : (edition : Edition) (options : LintOptions) (files : FilesRead) (answer : AnswerView) → options.strict ≡ false → options.allowed.items ≡ []
+    → IsLinted edition options files answer → (exit_code answer.status ≡ 0) ↔ AllByRecursion (HasNoError edition) (all_files files)
+lint_passes edition options files answer lax none linted =
+    let found = rw none at linted.are_found in
+    let of_tools = files_pass edition found.in_tools.0 0 files.tools found.of_tools found.in_tools.2 in
+    let of_repository = after_pass edition files.tools files.repository found.of_repository found.in_repository in
+    rw (linted.is, lax)
+    (iff.trans (passes_by _ (counted (severities_of linted.found)) refl)
+    (rw (found.whole, flat_map-append severities_in found.of_tools found.of_repository)
+    (iff.trans (both_none (severities_of found.of_tools) (severities_of found.of_repository))
+    (iff.trans (iff.and of_tools of_repository) (all_of_both (HasNoError edition) files.tools files.repository)))))

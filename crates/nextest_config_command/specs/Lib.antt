@@ -1,9 +1,13 @@
 pub mod Answer
-pub mod Escapes
+pub mod Asked
+pub mod Distinct
+pub mod FileFindings
 pub mod FileList
 pub mod Files
-pub mod Format
-pub mod InTurn
-pub mod LintLines
+pub mod Found
+pub mod Lint
+pub mod Positions
 pub mod Request
 pub mod Streams
+pub mod Verdict
+pub mod Words

@@ -1,27 +1,30 @@
 //! What the command answers about files that were read.
 
-ghost use Rattle.std.specs.Prelude.{◌≡◌, ◌++◌, IfOk, OnOk, string_bytes};
-ghost use Rattle.semver.specs.Identifiers.{parts_of};
-ghost use Rattle.nextest_config.specs.NextestVersion.{configuration_of, kept_of, verdict_of};
-ghost use Rattle.nextest_config_command.specs.Answer.{ChecksListed, fails, IsAnswer, IsCheckOf, IsCheckWith, IsLintOf, IsRefusedAnswer, IsShowOf, role_line, ShowsListed, status_checked, warns};
+ghost use Rattle.std.specs.Prelude.{◌≡◌, IfOk, string_bytes};
+ghost use Rattle.nextest_config.specs.NextestVersion.{configuration_of, verdict_of};
+ghost use Rattle.nextest_config_command.specs.Answer.{answer_of, check_judging, fails, IsAnswer, IsChecked, IsCheckWith, IsLinted, IsShown, shown_refusal, status_checked, status_found, warns, writes};
+ghost use Rattle.nextest_config_command.specs.FileList.{IsListedAs};
+ghost use Rattle.nextest_config_command.specs.Found.{all_files, files_of};
+ghost use Rattle.nextest_config_command.specs.Lint.{IsLint};
 
+use crate::file_findings::{Rules, findings_in};
 use crate::file_list::configuration_of_files;
-use crate::format::Format;
-use crate::lint_lines::Lint;
-use crate::parsed_file::ParsedFile;
-use crate::request::{Check, Task};
-use nextest_config::nextest_version::{
-    Edition, NextestVersionEval, NextestVersionReq, VersionOnlyConfig,
-};
+use crate::lint::Lint;
+use crate::parsed_file::ParsedFiles;
+use crate::request::{Check, LintOptions, Task};
+use crate::verdict::verdict_text;
+use nextest_config::nextest_version::{Edition, NextestVersionEval, VersionOnlyConfig};
+use nextest_config_formats::Format;
 use nextest_config_report::exit_status::ExitStatus;
-use nextest_config_report::lines::{push_features, report_text};
+use nextest_config_report::show::{ShowFormat, show_text};
 use std::alloc::{AllocError, Global};
-use std::fmt::Write;
 
-/// What the command answers: what it writes, and the status that it ends with.
+/// What the command answers: what it writes, what it says on the second stream, and the status that
+/// it ends with.
 #[derive(Debug, PartialEq, Eq, Drop)]
 pub(crate) struct Answer {
     pub text: String,
+    pub said: String,
     pub status: ExitStatus,
 }
 
@@ -30,14 +33,24 @@ pub(crate) fn answer_to(
     alloc: Global,
     edition: Edition,
     task: &Task,
-    files: &[ParsedFile<'_>],
+    files: &ParsedFiles<'_>,
 ) -> Result<Answer, AllocError>
-    ensures { IfOk result (IsAnswer edition task.now files.now) }
+    ensures { IfOk result (IsAnswer edition task.now (files_of files.now)) }
 {
     match task {
         Task::Check(task) => check(alloc, edition, task, files),
-        Task::Lint { format, strict } => lint(alloc, edition, *format, *strict, files),
-        Task::Show => show(alloc, edition, files),
+        Task::Lint(options) => lint(alloc, edition, options, files),
+        Task::Show(format) => show(alloc, edition, *format, files),
+    }
+}
+
+impl Answer {
+    // This is written.
+    fn writes(alloc: Global, text: String, status: ExitStatus) -> Self
+        ensures { answer_of result ≡ writes (string_bytes text) status }
+    {
+        let said = String::new(alloc);
+        Answer { text, said, status }
     }
 }
 
@@ -45,91 +58,115 @@ pub(crate) fn answer_to(
 fn lint(
     alloc: Global,
     edition: Edition,
-    format: Format,
-    strict: bool,
-    files: &[ParsedFile<'_>],
+    options: &LintOptions,
+    files: &ParsedFiles<'_>,
 ) -> Result<Answer, AllocError>
-    ensures { IfOk result (IsLintOf edition format strict files.now) }
+    ensures { IfOk result (λ answer.
+        IsLinted edition options.now (files_of files.now) (answer_of answer)) }
 {
-    let lint = Lint::of(alloc, edition, format, files)?;
-    let status = lint.status(strict);
-    Ok(Answer {
-        text: lint.text,
-        status,
-    })
-}
-
-// What is found in the files of a list that is refused.
-fn refused(alloc: Global, edition: Edition, files: &[ParsedFile<'_>]) -> Result<Answer, AllocError>
-    ensures { IfOk result (IsRefusedAnswer edition files.now) }
-{
-    let lint = Lint::of(alloc, edition, Format::Human, files)?;
-    Ok(Answer {
-        text: lint.text,
-        status: ExitStatus::Refused,
-    })
+    let rules = Rules {
+        edition,
+        allowed: options.allowed.as_slice(),
+        tells_refusals: false,
+    };
+    let lint = Lint::of(alloc, rules, options.format, files)?;
+    let status = status_found(options.strict, files, lint.status(options.strict));
+    Ok(Answer::writes(alloc, lint.text, status))
 }
 
 // The current version, checked against what the files ask.
 fn check(
     alloc: Global,
     edition: Edition,
-    task: &Check,
-    files: &[ParsedFile<'_>],
+    check: &Check,
+    files: &ParsedFiles<'_>,
 ) -> Result<Answer, AllocError>
-    ensures { IfOk result (IsCheckOf edition files.now task.now) }
+    ensures { IfOk result (λ answer.
+        IsChecked edition (files_of files.now) check.now (answer_of answer)) }
 {
     match configuration_of_files(alloc, edition, files)? {
-        Some(config) => check_listed(alloc, edition, task, files, &config),
-        None => refused(alloc, edition, files),
+        Some(config) => check_listed(alloc, edition, check, files, &config),
+        None => {
+            let lint = check_lint(alloc, edition, &check.lint, files)?;
+            Ok(Answer::writes(alloc, lint.text, ExitStatus::Refused))
+        }
     }
+}
+
+// What is told of files that are checked.
+fn check_lint(
+    alloc: Global,
+    edition: Edition,
+    options: &LintOptions,
+    files: &ParsedFiles<'_>,
+) -> Result<Lint, AllocError>
+    ensures { IfOk result (IsLint (check_judging edition options.now) options.now.format
+        (files_of files.now)) }
+{
+    let rules = Rules {
+        edition,
+        allowed: options.allowed.as_slice(),
+        tells_refusals: true,
+    };
+    let lint = Lint::of(alloc, rules, options.format, files)?;
+    Ok(lint)
 }
 
 // The current version, checked against the configuration that stands for the files.
 fn check_listed(
     alloc: Global,
     edition: Edition,
-    task: &Check,
-    files: &[ParsedFile<'_>],
+    check: &Check,
+    files: &ParsedFiles<'_>,
     config: &VersionOnlyConfig,
 ) -> Result<Answer, AllocError>
-    ensures { IfOk result (ChecksListed edition files.now task.now
-        (configuration_of config.now)) }
+    requires { IsListedAs edition (all_files (files_of files.now)) (configuration_of config.now) }
+    ensures { IfOk result (λ answer.
+        IsChecked edition (files_of files.now) check.now (answer_of answer)) }
 {
     let kept = config.nextest_version();
-    let eval = kept.eval(alloc, &task.current, task.override_version_check)?;
-    let report = report_text(alloc, &eval, &task.current, config.experimental())?;
-    check_with(alloc, edition, task.strict, files, &eval, report)
+    let eval = kept.eval(alloc, &check.current, check.override_version_check)?;
+    let front = verdict_text(alloc, check, files, &eval, config.experimental())?;
+    check_with(alloc, edition, check, files, &eval, front)
 }
 
-// The report on a verdict, and what is found in the files, unless the verdict is an error.
+// The verdict, and what is found in the files, unless the verdict is an error.
 fn check_with(
     alloc: Global,
     edition: Edition,
-    strict: bool,
-    files: &[ParsedFile<'_>],
+    check: &Check,
+    files: &ParsedFiles<'_>,
     eval: &NextestVersionEval,
-    report: String,
+    front: String,
 ) -> Result<Answer, AllocError>
-    ensures { IfOk result (IsCheckWith edition files.now strict (verdict_of eval.now)
-        (string_bytes report)) }
+    ensures { IfOk result (IsCheckWith edition (files_of files.now) check.now (verdict_of eval.now)
+        (string_bytes front)) }
 {
     if fails(eval) {
-        return Ok(Answer {
-            text: report,
-            status: ExitStatus::Failure,
-        });
+        return Ok(Answer::writes(alloc, front, ExitStatus::Failure));
     }
-    let lint = Lint::of(alloc, edition, Format::Human, files)?;
-    let mut text = report;
+    let lint = check_lint(alloc, edition, &check.lint, files)?;
+    let mut text = front;
     text.push_str(lint.text.as_str())?;
-    let status = status_checked(strict, eval, &lint);
-    Ok(Answer { text, status })
+    let strict = check.lint.strict;
+    let status = status_found(strict, files, status_checked(strict, eval, &lint));
+    Ok(Answer::writes(alloc, text, status))
+}
+
+// The status of what is found in files: a strict check of what passes fails where a file that is
+// looked for is missing.
+fn status_found(strict: bool, files: &ParsedFiles<'_>, status: ExitStatus) -> ExitStatus
+    ensures { result ≡ status_found strict (files_of files.now) status }
+{
+    match status {
+        ExitStatus::Success if strict && !files.notices.is_empty() => ExitStatus::Failure,
+        status => status,
+    }
 }
 
 // How a check ends whose verdict doesn't fail.
 fn status_checked(strict: bool, eval: &NextestVersionEval, lint: &Lint) -> ExitStatus
-    ensures { result ≡ status_checked strict (verdict_of eval.now) lint.now.gravest }
+    ensures { result ≡ status_checked strict (verdict_of eval.now) lint.now.summary }
 {
     if strict && warns(eval) {
         return ExitStatus::Failure;
@@ -152,39 +189,42 @@ fn warns(eval: &NextestVersionEval) -> bool
 }
 
 // What the files ask.
-fn show(alloc: Global, edition: Edition, files: &[ParsedFile<'_>]) -> Result<Answer, AllocError>
-    ensures { IfOk result (IsShowOf edition files.now) }
+fn show(
+    alloc: Global,
+    edition: Edition,
+    format: ShowFormat,
+    files: &ParsedFiles<'_>,
+) -> Result<Answer, AllocError>
+    ensures { IfOk result (λ answer.
+        IsShown edition (files_of files.now) format (answer_of answer)) }
 {
     match configuration_of_files(alloc, edition, files)? {
-        Some(config) => show_listed(alloc, &config),
-        None => refused(alloc, edition, files),
+        Some(config) => {
+            let text = show_text(alloc, format, &config)?;
+            Ok(Answer::writes(alloc, text, ExitStatus::Success))
+        }
+        None => {
+            let rules = Rules {
+                edition,
+                allowed: &[],
+                tells_refusals: true,
+            };
+            let lint = Lint::of(alloc, rules, Format::Human, files)?;
+            Ok(show_refusal(alloc, format, lint.text))
+        }
     }
 }
 
-// What the configuration asks.
-fn show_listed(alloc: Global, config: &VersionOnlyConfig) -> Result<Answer, AllocError>
-    ensures { IfOk result (ShowsListed (configuration_of config.now)) }
+// What is told of the files of a list that is refused: on the second stream, where JSON is wanted.
+fn show_refusal(alloc: Global, format: ShowFormat, text: String) -> Answer
+    ensures { answer_of result ≡ shown_refusal format (string_bytes text) }
 {
-    let kept = config.nextest_version();
-    let mut text = String::new(alloc);
-    push_role(&mut text, "required", &kept.required)?;
-    push_role(&mut text, "recommended", &kept.recommended)?;
-    push_features(&mut text, config.experimental())?;
-    Ok(Answer {
-        text,
-        status: ExitStatus::Success,
-    })
-}
-
-// Pushes the line of the version that is kept in a role.
-fn push_role(text: &mut String, role: &str, kept: &NextestVersionReq) -> Result<(), AllocError>
-    ensures { OnOk result (string_bytes text.new ≡ string_bytes text.old
-        ++ role_line role.now (kept_of kept.now)) }
-{
-    match kept {
-        NextestVersionReq::Version { version, source } => {
-            writeln!(text, "{role}: {version} by {source}")
-        }
-        NextestVersionReq::None => writeln!(text, "{role}: none"),
+    match format {
+        ShowFormat::Human => Answer::writes(alloc, text, ExitStatus::Refused),
+        ShowFormat::Json => Answer {
+            text: String::new(alloc),
+            said: text,
+            status: ExitStatus::Refused,
+        },
     }
 }

@@ -3,8 +3,9 @@
 ghost use Rattle.std.specs.Prelude.{IfOk, map, MatchOption};
 ghost use Rattle.nextest_config.specs.NextestVersion.{AreDocumentsOf};
 ghost use Rattle.nextest_config_command.specs.FileList.{AreDocuments, given_file, IsListed, IsRefusedList};
+ghost use Rattle.nextest_config_command.specs.Found.{all_files, files_of};
 
-use crate::parsed_file::ParsedFile;
+use crate::parsed_file::{ParsedFile, ParsedFiles};
 use nextest_config::nextest_version::{Edition, ListRefusal, SourceDocument, VersionOnlyConfig};
 use std::alloc::{AllocError, Global};
 
@@ -12,12 +13,13 @@ use std::alloc::{AllocError, Global};
 pub(crate) fn configuration_of_files(
     alloc: Global,
     edition: Edition,
-    files: &[ParsedFile<'_>],
+    files: &ParsedFiles<'_>,
 ) -> Result<Option<VersionOnlyConfig>, AllocError>
-    ensures { IfOk result (λ config. MatchOption config (IsRefusedList edition files.now)
-        (IsListed edition files.now)) }
+    ensures { IfOk result (λ config. MatchOption config
+        (IsRefusedList edition (all_files (files_of files.now)))
+        (IsListed edition (all_files (files_of files.now)))) }
 {
-    let Some(documents) = documents(alloc, files)? else {
+    let Some(documents) = all_documents(alloc, files)? else {
         return Ok(None);
     };
     match VersionOnlyConfig::from_documents(alloc, edition, documents.as_slice()) {
@@ -25,6 +27,26 @@ pub(crate) fn configuration_of_files(
         Err(ListRefusal::Refused { .. }) => Ok(None),
         Err(ListRefusal::Memory) => Err(AllocError),
     }
+}
+
+// All files as sources, if each of them is a document.
+fn all_documents<'f>(
+    alloc: Global,
+    files: &'f ParsedFiles<'_>,
+) -> Result<Option<Vec<SourceDocument<'f>>>, AllocError>
+    ensures { IfOk result (λ documents.
+        MatchOption documents (¬ AreDocuments (all_files (files_of files.now)))
+        (λ documents. AreDocuments (all_files (files_of files.now))
+        × AreDocumentsOf (map given_file (all_files (files_of files.now))) documents.items)) }
+{
+    let Some(mut all) = documents(alloc, files.tools.as_slice())? else {
+        return Ok(None);
+    };
+    let Some(mut rest) = documents(alloc, files.repository.as_slice())? else {
+        return Ok(None);
+    };
+    all.append(&mut rest)?;
+    Ok(Some(all))
 }
 
 // The files as sources, if each of them is a document.

@@ -3,17 +3,24 @@
 #![tactic(auto)]
 
 mod answer;
-mod escapes;
+mod asked;
+mod distinct;
+mod file_findings;
 mod file_list;
 mod files;
-mod format;
+mod found;
 pub mod laws;
-mod lint_lines;
+mod lint;
 mod parsed_file;
 mod request;
 mod streams;
+mod verdict;
+mod words;
 
 pub use files::{FileRead, Files};
-pub use format::Format;
-pub use request::{Check, RepositoryFile, Request, Task};
+pub use nextest_config_findings::FindingCode;
+pub use nextest_config_formats::Format;
+pub use nextest_config_report::show::ShowFormat;
+pub use request::{Check, LintOptions, RepositoryFile, Request, Task};
 pub use streams::serve;
+pub use words::{Misuse, Words};

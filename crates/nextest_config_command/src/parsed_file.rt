@@ -1,19 +1,26 @@
 //! Files, each parsed once.
 
-ghost use Rattle.std.specs.Prelude.{◌≡◌, IfOk, List, map, MatchOption};
+ghost use Rattle.std.specs.Prelude.{◌≡◌, IfOk, List, map, MatchOption, OnOk, Some};
+ghost use Rattle.toml.specs.Parse.{parse_document};
+ghost use Rattle.toml.specs.View.{table_view};
+ghost use Rattle.nextest_config_sources.specs.NextestVersion.{place_of};
 ghost use Rattle.nextest_config.specs.NextestVersion.{IsDocumentOf};
 ghost use Rattle.nextest_config_findings.specs.Defined.{IsDefinedBy, ListFile};
-ghost use Rattle.nextest_config_findings.specs.File.{AreLocated, IsReadOf};
+ghost use Rattle.nextest_config_findings.specs.File.{AreLocated, IsReadOf, IsTextOf};
 ghost use Rattle.nextest_config_command.specs.FileList.{given_file, IsDocumentFile};
 ghost use Rattle.nextest_config_command.specs.Files.{File, file_of};
-ghost use Rattle.nextest_config_command.specs.LintLines.{AreListed, IsListed};
+ghost use Rattle.nextest_config_command.specs.Found.{files_of, list_of, outcome_of, with_outcome};
+ghost use Rattle.nextest_config_command.specs.FileFindings.{AreListed, IsListed};
 
 use crate::files::SourceFile;
+use crate::found::Found;
 use nextest_config::nextest_version::SourceDocument;
 use nextest_config_findings::{Defined, FileContents, ListedFile, LocatedFinding};
-use nextest_config_sources::nextest_version::Edition;
+use nextest_config_sources::nextest_version::{ConfigSource, Edition};
 use std::alloc::{AllocError, Global};
+use std::fmt::Write;
 use std::marker::Model;
+use toml::Table;
 
 /// A file that was read, whose bytes are judged as UTF-8 and parsed. It is seen as the file.
 #[derive(Drop)]
@@ -23,6 +30,9 @@ pub(crate) struct ParsedFile<'a> {
 }
 
 impl<'a> Model for ParsedFile<'a> {
+    ghost use Rattle.nextest_config_findings.specs.File.{IsReadOf};
+    ghost use Rattle.nextest_config_command.specs.Files.{File, file_of};
+
     ghost Value = { File };
 
     ghost view = { λ parsed. file_of parsed.file.now };
@@ -43,6 +53,31 @@ impl<'a> ParsedFile<'a> {
         ensures { result.now ≡ self.now.place.path }
     {
         self.file.source.path.as_str()
+    }
+
+    pub fn contents(&self) -> &[u8]
+        ensures { result.now ≡ self.now.contents }
+    {
+        self.file.contents.as_slice()
+    }
+
+    /// Where the file comes from.
+    pub fn source(&self) -> &ConfigSource
+        ensures { place_of result.now ≡ self.now.place }
+    {
+        &self.file.source
+    }
+
+    /// The text of the file, and the document that it is, if it is one.
+    pub fn text(&self) -> Option<(&str, &Table)>
+        ensures { MatchOption result (¬ IsDocumentFile self.now)
+            (λ text. IsTextOf self.now.contents text.0.now
+            × (parse_document self.now.contents ≡ Some (table_view text.1.now))) }
+    {
+        match &self.contents {
+            FileContents::Document { text, document } => Some((text, document)),
+            FileContents::NotUtf8 { .. } | FileContents::NotToml { .. } => None,
+        }
     }
 
     /// The file as a source, if it is a document.
@@ -84,11 +119,53 @@ impl<'a> ParsedFile<'a> {
     }
 }
 
-/// The files, each parsed.
-pub(crate) fn parse_files(
-    alloc: Global,
-    files: &[SourceFile],
-) -> Result<Vec<ParsedFile<'_>>, AllocError>
+/// The files that were read, each parsed.
+#[derive(Drop)]
+pub(crate) struct ParsedFiles<'a> {
+    pub tools: Vec<ParsedFile<'a>>,
+    pub repository: Vec<ParsedFile<'a>>,
+    /// A line for each file that is looked for and missing.
+    pub notices: String,
+}
+
+impl<'a> ParsedFiles<'a> {
+    /// Judges and parses the files of tools, and what was found of the repository's.
+    pub fn of(
+        alloc: Global,
+        tools: &'a [SourceFile],
+        found: &'a [Found],
+    ) -> Result<Self, AllocError>
+        ensures { IfOk result (λ parsed. files_of parsed
+            ≡ list_of (map file_of tools.now) (map outcome_of found.now)) }
+    {
+        let mut parsed = ParsedFiles {
+            tools: parse_files(alloc, tools)?,
+            repository: Vec::new(alloc),
+            notices: String::new(alloc),
+        };
+        for outcome in found {
+            parsed.add(alloc, outcome)?;
+        }
+        Ok(parsed)
+    }
+
+    // Adds what was found of one of the repository's files.
+    fn add(&mut self, alloc: Global, outcome: &'a Found) -> Result<(), AllocError>
+        ensures { OnOk result
+            (files_of self.new ≡ with_outcome (files_of self.old) (outcome_of outcome.now)) }
+    {
+        match outcome {
+            Found::File(file) => self.repository.push(ParsedFile::of(alloc, file)?)?,
+            Found::Missing(path) => {
+                writeln!(self.notices, "no configuration file: {path} isn't there")?;
+            }
+        }
+        Ok(())
+    }
+}
+
+// The files, each parsed.
+fn parse_files(alloc: Global, files: &[SourceFile]) -> Result<Vec<ParsedFile<'_>>, AllocError>
     ensures { IfOk result (λ parsed. parsed.items ≡ map file_of files.now) }
 {
     let mut parsed = Vec::new(alloc);

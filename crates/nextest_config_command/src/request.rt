@@ -1,32 +1,38 @@
 //! What the command is asked for.
 
-ghost use Rattle.std.specs.Prelude.{◌≡◌, IfOk, map};
-ghost use Rattle.nextest_config_sources.specs.NextestVersion.{place_of};
-ghost use Rattle.nextest_config_command.specs.Request.{places_of};
-
-use crate::format::Format;
-use nextest_config_sources::nextest_version::{ConfigSource, Edition};
+use nextest_config_findings::FindingCode;
+use nextest_config_formats::Format;
+use nextest_config_report::show::ShowFormat;
+use nextest_config_sources::nextest_version::Edition;
 use nextest_config_values::tool_config::ToolConfigFile;
 use semver::Version;
-use std::alloc::{AllocError, Global};
 
 /// What the command is asked for: which files it reads, and what it does with them.
 #[derive(Debug, Drop)]
 pub struct Request {
     /// The files of tools, of which the first has the highest priority.
     pub tools: Vec<ToolConfigFile>,
-    /// The repository's file, above those of tools.
-    pub repository: RepositoryFile,
+    /// The repository's files, above those of tools. Each is judged with those of tools as a list of
+    /// its own.
+    pub repository: Vec<RepositoryFile>,
     pub edition: Edition,
     pub task: Task,
 }
 
-/// A repository's file.
+/// Which file is read as a repository's.
 #[derive(Debug, PartialEq, Eq, Drop)]
-pub struct RepositoryFile {
-    /// Whether the user named the file, rather than that it is looked for at its usual path.
-    pub explicit: bool,
-    pub path: String,
+pub enum RepositoryFile {
+    /// The file that the user names as the configuration.
+    Explicit(String),
+    /// The file at a path, or the usual one in the folder there.
+    At(String),
+    /// Standard input, called by this name.
+    Input(String),
+    /// The usual one in a folder.
+    In(String),
+    /// The nearest one: in the current folder, which is named by its absolute path with a slash at
+    /// its end, or in those above it.
+    Nearest(String),
 }
 
 /// What is done with the files.
@@ -36,9 +42,9 @@ pub enum Task {
     /// told.
     Check(Check),
     /// What is found in the files is told.
-    Lint { format: Format, strict: bool },
+    Lint(LintOptions),
     /// What the files ask is told.
-    Show,
+    Show(ShowFormat),
 }
 
 /// A check of the current version.
@@ -46,22 +52,18 @@ pub enum Task {
 pub struct Check {
     pub current: Version,
     pub override_version_check: bool,
-    /// Whether a warning fails the check, too.
-    pub strict: bool,
+    /// How it is told what is found. Where it is strict, a version that is recommended and not
+    /// reached fails the check, too.
+    pub lint: LintOptions,
 }
 
-impl Request {
-    /// The sources in the order in which they are read, lowest priority first: the tools' in
-    /// reverse, and then the repository's.
-    pub(crate) fn sources(&self, alloc: Global) -> Result<Vec<ConfigSource>, AllocError>
-        ensures { IfOk result (λ sources. map place_of sources.items ≡ places_of self.now) }
-    {
-        let mut sources = Vec::new(alloc);
-        for tool in self.tools.iter().rev() {
-            sources.push(ConfigSource::of_tool(alloc, tool)?)?;
-        }
-        let RepositoryFile { explicit, path } = &self.repository;
-        sources.push(ConfigSource::of_repository(alloc, *explicit, path.as_str())?)?;
-        Ok(sources)
-    }
+/// How it is told what is found in files.
+#[derive(Debug, PartialEq, Eq, Drop)]
+pub struct LintOptions {
+    pub format: Format,
+    /// Whether a warning counts, and a file that is looked for and missing.
+    pub strict: bool,
+    /// The codes of findings that are left out. A finding for which a check refuses the files is
+    /// told in any case.
+    pub allowed: Vec<FindingCode>,
 }

@@ -1,29 +1,31 @@
 //! From a request to what is written, and to a status.
 
-ghost use Rattle.std.specs.Prelude.{◌≡◌, ◌≢◌, ◌⊎◌, IfErr, IfOk, map};
+ghost use Rattle.std.specs.Prelude.{◌≡◌, ◌≢◌, ◌⊎◌, IfErr, IfOk, string_bytes};
 ghost use Rattle.nextest_config_report.specs.declared.exit_status.ExitStatus.TheVariants.{NoOutcome};
 ghost use Rattle.nextest_config_report.specs.Streams.{AddsOrFails};
-ghost use Rattle.nextest_config_command.specs.Files.{file_of, IsUnreadAmong, unanswered_text};
-ghost use Rattle.nextest_config_command.specs.Request.{places_of};
-ghost use Rattle.nextest_config_command.specs.Streams.{IsCutShort, IsNoticeFor, IsReply, IsReplyAbout, IsServed, IsTold, IsUnwritten, line_of, notice_said};
+ghost use Rattle.nextest_config_command.specs.Files.{unanswered_text, UnlessMemory};
+ghost use Rattle.nextest_config_command.specs.Found.{files_of, IsFirstUnread};
+ghost use Rattle.nextest_config_command.specs.Streams.{IsCutShort, IsReply, IsReplyAbout, IsServed, IsTold, IsUnwritten, line_of};
 
 use crate::answer::{Answer, answer_to};
-use crate::files::{Files, SourceFile, Unanswered, read_sources};
-use crate::parsed_file::parse_files;
+use crate::files::{Files, Unanswered};
+use crate::found::{find_all, read_tools};
+use crate::parsed_file::ParsedFiles;
 use crate::request::Request;
 use nextest_config_report::exit_status::ExitStatus;
 use nextest_config_report::streams::{CANNOT_WRITE, Stream, complain, write_report};
 use std::alloc::{AllocError, Global};
 
-/// An answer, and what is said before it, if anything.
+/// An answer, and what is said before it: a line for each file that is missing, and what the answer
+/// says beside what it writes.
 #[derive(Debug, PartialEq, Eq, Drop)]
 pub(crate) struct Reply {
-    notice: Option<String>,
+    notices: String,
     answer: Answer,
 }
 
-/// Does what is asked for, and answers the number that the command ends with. Where no file was
-/// read, the third stream says so, and the command goes on as for no source.
+/// Does what is asked for, and answers the number that the command ends with. Where a file is looked
+/// for and missing, the second stream says so, and the command goes on without it.
 pub fn serve<F: Files, W: Stream, E: Stream>(
     alloc: Global,
     request: &Request,
@@ -47,38 +49,30 @@ pub fn serve<F: Files, W: Stream, E: Stream>(
 // The reply to a request, whose files are read.
 fn reply_to<F: Files>(alloc: Global, request: &Request, files: &F) -> Result<Reply, Unanswered>
     ensures reply { IfOk result (IsReply (F.holds files.now) request.now) }
-    ensures unread { IfErr result (IsUnreadAmong (F.holds files.now) (places_of request.now)) }
+    ensures unread { IfErr result (UnlessMemory (IsFirstUnread (F.holds files.now) request.now)) }
 {
-    let sources = request.sources(alloc)?;
-    let read = read_sources(alloc, files, sources.as_slice())?;
-    let reply = reply_about(alloc, request, read.as_slice())?;
+    let tools = read_tools(alloc, files, request)?;
+    let found = find_all(alloc, files, request)?;
+    let parsed = ParsedFiles::of(alloc, tools.as_slice(), found.as_slice())?;
+    let reply = reply_about(alloc, request, &parsed)?;
     Ok(reply)
 }
 
 // The reply to a request of which these are the files.
-fn reply_about(alloc: Global, request: &Request, files: &[SourceFile]) -> Result<Reply, AllocError>
-    ensures { IfOk result (IsReplyAbout request.now (map file_of files.now)) }
+fn reply_about(
+    alloc: Global,
+    request: &Request,
+    files: &ParsedFiles<'_>,
+) -> Result<Reply, AllocError>
+    ensures { IfOk result (IsReplyAbout request.now (files_of files.now)) }
 {
-    let notice = notice(alloc, request.repository.path.as_str(), files)?;
-    let parsed = parse_files(alloc, files)?;
-    let answer = answer_to(alloc, request.edition, &request.task, parsed.as_slice())?;
-    Ok(Reply { notice, answer })
+    let mut notices = String::from_str(alloc, files.notices.as_str())?;
+    let answer = answer_to(alloc, request.edition, &request.task, files)?;
+    notices.push_str(answer.said.as_str())?;
+    Ok(Reply { notices, answer })
 }
 
-// That no file was read, if none was.
-fn notice(alloc: Global, path: &str, files: &[SourceFile]) -> Result<Option<String>, AllocError>
-    ensures { IfOk result (IsNoticeFor path.now (map file_of files.now)) }
-{
-    match files {
-        [] => {
-            let notice = format!(in alloc; "no configuration file: {path} isn't there")?;
-            Ok(Some(notice))
-        }
-        [..] => Ok(None),
-    }
-}
-
-// Says the notice, writes the answer, and tells how the command ends.
+// Says the notices, writes the answer, and tells how the command ends.
 fn tell<W: Stream, E: Stream>(reply: &Reply, writer: &mut W, faults: &mut E) -> ExitStatus
     ensures { IsTold reply.now result (W.contents writer.old) (W.contents writer.new)
         (E.may_have_failed faults.new) (E.contents faults.old) (E.contents faults.new)
@@ -86,7 +80,7 @@ fn tell<W: Stream, E: Stream>(reply: &Reply, writer: &mut W, faults: &mut E) -> 
         (W.contents writer.new) (E.may_have_failed faults.new) (E.contents faults.old)
         (E.contents faults.new) }
 {
-    say(&reply.notice, faults);
+    say(reply.notices.as_str(), faults);
     match write_report(writer, reply.answer.text.as_bytes()) {
         Ok(()) => reply.answer.status,
         Err(_) => {
@@ -96,13 +90,13 @@ fn tell<W: Stream, E: Stream>(reply: &Reply, writer: &mut W, faults: &mut E) -> 
     }
 }
 
-// Says a notice as a line, if there is one.
-fn say<E: Stream>(notice: &Option<String>, faults: &mut E)
+// Says notices, if there are any.
+fn say<E: Stream>(notices: &str, faults: &mut E)
     ensures { AddsOrFails (E.may_have_failed faults.new) (E.contents faults.old)
-        (E.contents faults.new) (notice_said notice.now) }
+        (E.contents faults.new) notices.now }
 {
-    if let Some(notice) = notice {
-        let _ = complain(faults, notice.as_str(), "");
+    if !notices.is_empty() {
+        let _ = write_report(faults, notices.as_bytes());
     }
 }
 

@@ -1,7 +1,7 @@
 -- What the command says over streams of which no call fails.
 use Rattle.std.specs.Prelude.{◌≡◌, ◌⊎◌, ℕ, List, ◌++◌, codes}
-use Rattle.nextest_config_command.specs.Files.{IsFirstUnread, PathStates}
-use Rattle.nextest_config_command.specs.Request.{places_of}
+use Rattle.nextest_config_command.specs.Files.{PathStates}
+use Rattle.nextest_config_command.specs.Found.{IsFirstUnread}
 use Rattle.nextest_config_command.specs.Streams.{line_of}
 use Rattle.nextest_config_command.specs.declared.request.Request.{Request}
 
@@ -9,5 +9,5 @@ use Rattle.nextest_config_command.specs.declared.request.Request.{Request}
 -- said before
 abbrev pub SaysWhy : PathStates → Request → List ℕ → List ℕ → Type 0
 SaysWhy holds request said says = (why : List ℕ)
-    × (IsFirstUnread holds (places_of request) why ⊎ (why ≡ codes "out of memory"))
+    × (IsFirstUnread holds request why ⊎ (why ≡ codes "out of memory"))
     × (says ≡ said ++ line_of why)

@@ -1,12 +1,12 @@
 //! Tables of runs, in blocks: a line `=== NAME`, the files, and runs over them.
 //!
-//! A file is a line `@ PATH` and its lines, or `@ PATH | REASON` where it can't be read. A run is a
-//! line `$ WORDS = STATUS`, the lines that it writes, each after `> `, and what it complains of,
+//! A file is a line `@ PATH` and its lines, `@ PATH | folder`, or `@ PATH | REASON` where it can't be
+//! read; `@ -` is standard input. A run is a line `$ WORDS = STATUS`, the lines that it writes, each after `> `, and what it complains of,
 //! each line after `! `. A line feed within a line is `¶`, a carriage return `←`. A file has a
 //! byte for each character, as in Latin-1. What is written may have `*` for what `toml` says of the
 //! file that is no document.
 
-use crate::memory::MemoryFiles;
+use crate::memory::{Held, MemoryFiles};
 use crate::tests::streams::check_run;
 use nextest_config_rows::rows::{Runner, copied, cut, done, push, unknown};
 use std::collections::BTreeMap;
@@ -44,8 +44,9 @@ fn files(rt: &impl Runner, block: &str) -> MemoryFiles {
     for file in files {
         let (heading, lines) = file.split_once('\n').unwrap_or((file, ""));
         let (path, held) = match heading.split_once(" | ") {
-            Some((path, reason)) => (path, Err(copied(rt, reason))),
-            None => (heading, Ok(contents(rt, lines))),
+            Some((path, "folder")) => (path, Held::Folder),
+            Some((path, reason)) => (path, Held::Unreadable(copied(rt, reason))),
+            None => (heading, Held::Contents(contents(rt, lines))),
         };
         done(rt, table.insert(characters(rt, path), held));
     }
@@ -68,7 +69,7 @@ fn contents(rt: &impl Runner, lines: &str) -> Vec<u8> {
 // What `toml` says of the file that is no document.
 fn message(rt: &impl Runner, files: &MemoryFiles) -> String {
     for held in files.table.values() {
-        if let Ok(contents) = held
+        if let Held::Contents(contents) = held
             && let Ok(text) = str::from_utf8(contents.as_slice())
             && let Err(error) = toml::table_from_str(rt.alloc(), text)
         {

@@ -65,6 +65,7 @@ $ check --current=0.9.49 --strict --override = 0
 > known: none
 
 === tools, of which the first is read last, and the repository above them
+@ other | folder
 @ /a.toml
 nextest-version = "0.9.50"
 zone = 1
@@ -91,6 +92,7 @@ $ lint --tool-config-file=b:/b.toml --tool-config-file=a:/a.toml --tool-config-f
 > /a.toml:2:1: warning: unknown key "zone" [unknown-key]
 > /a.toml:2:1: warning: unknown key "zone" [unknown-key]
 > /b.toml:1:1: warning: unknown key "zone" [unknown-key]
+! no configuration file: other/.config/nextest.toml isn't there
 $ lint --config-file=/b.toml --strict = 1
 > /b.toml:1:1: warning: unknown key "zone" [unknown-key]
 $ check --current=0.9.50 --config-file=/b.toml --strict = 1
@@ -111,6 +113,7 @@ $ check --current=0.9.49 --override = 1
 > .config/nextest.toml:3:13: error: profile.ci.overrides: invalid type: integer `1`, expected an array [invalid-type]
 
 === files that are refused beside one that isn't
+@ other | folder
 @ /t.toml
 experimental = ["benchmarks", "a"]
 @ /u.toml
@@ -142,6 +145,7 @@ $ show --config-file=/u.toml = 2
 > /u.toml:1:5: error: * [not-toml]
 $ show --tool-config-file=t:/t.toml other = 2
 > /t.toml:1:16: error: experimental: experimental features in a tool configuration: "a", "benchmarks" [tool-features]
+! no configuration file: other/.config/nextest.toml isn't there
 $ lint --tool-config-file=u:/u.toml --config-file=ci.toml --format=github --strict = 1
 > ::error file=/u.toml,line=1,endLine=1,col=5,endColumn=10,title=not-toml::*
 > ::error file=ci.toml,line=2,endLine=2,col=13,endColumn=14,title=invalid-type::profile.ci.overrides: invalid type: integer `1`, expected an array
@@ -343,6 +347,7 @@ $ show --config-file=a←¶b.toml = 0
 > known: none
 
 === files that ask for nothing
+@ other | folder
 @ /t.toml
 @ .config/nextest.toml
 # nothing
@@ -351,40 +356,139 @@ $ show --tool-config-file=t:/t.toml other = 0
 > required: none
 > recommended: none
 > known: none
+! no configuration file: other/.config/nextest.toml isn't there
 $ check --current=0.0.0 = 0
 > satisfied: 0.0.0
 > known: none
 
 === no file
-$ check --current=1.0.0 --strict = 0
+@ a/b | folder
+@ c.toml
+zone = 1
+$ check --current=1.0.0 = 0
+> satisfied: 1.0.0
+> known: none
+! no configuration file: .config/nextest.toml isn't there
+$ check --current=1.0.0 --strict = 1
 > satisfied: 1.0.0
 > known: none
 ! no configuration file: .config/nextest.toml isn't there
 $ lint --format=github = 0
 ! no configuration file: .config/nextest.toml isn't there
-$ show a/b/.config/nextest.toml --table-only = 0
+$ lint --strict a/b = 1
+! no configuration file: a/b/.config/nextest.toml isn't there
+$ lint --strict --default-path=a/b = 1
+! no configuration file: a/b/.config/nextest.toml isn't there
+$ show a/b --table-only = 0
 > required: none
 > recommended: none
 > known: none
 ! no configuration file: a/b/.config/nextest.toml isn't there
+$ lint a/b c.toml a/b = 0
+> c.toml:1:1: warning: unknown key "zone" [unknown-key]
+! no configuration file: a/b/.config/nextest.toml isn't there
+! no configuration file: a/b/.config/nextest.toml isn't there
+
+=== the nearest file
+@ ../.config/nextest.toml
+zone = 1
+@ ../../.config/nextest.toml
+nextest-version = "0.9.50"
+$ lint = 0
+> ../.config/nextest.toml:1:1: warning: unknown key "zone" [unknown-key]
+$ lint ../../.config/nextest.toml = 0
+$ show ../../.config/nextest.toml = 0
+> required: 0.9.50 by repository ../../.config/nextest.toml
+> recommended: none
+> known: none
+
+=== the nearest file, where folders stand in its place
+@ .config/nextest.toml | folder
+@ ../.config/nextest.toml | folder
+@ ../../.config/nextest.toml
+zone = 1
+@ ../../../.config/nextest.toml
+zone = 1
+@ x | folder
+@ x/.config/nextest.toml | folder
+$ lint = 0
+> ../../.config/nextest.toml:1:1: warning: unknown key "zone" [unknown-key]
+$ lint x = 3
+! x/.config/nextest.toml: it is a folder
+$ lint .config/nextest.toml = 0
+! no configuration file: .config/nextest.toml/.config/nextest.toml isn't there
+
+=== the walk ends at the root
+@ ../../../.config/nextest.toml
+zone = 1
+$ lint = 0
+! no configuration file: .config/nextest.toml isn't there
+
+=== files, folders and standard input
+@ -
+zone = 1
+@ a | folder
+@ a/.config/nextest.toml
+[profile.a]
+inherits = "b"
+@ b.toml
+[profile.b]
+zone = 1
+@ .config/nextest.toml
+other = 1
+@ /t.toml
+[profile.t]
+inherits = "b"
+$ lint -=<stdin> = 0
+> <stdin>:1:1: warning: unknown key "zone" [unknown-key]
+$ lint -=x/nextest.toml = 0
+> x/nextest.toml:1:1: warning: unknown key "zone" [unknown-key]
+$ lint --default-path=a = 0
+> a/.config/nextest.toml:2:12: warning: profile.a.inherits: no file defines the profile "b" [undefined-profile]
+$ lint a b.toml -=<stdin> = 0
+> a/.config/nextest.toml:2:12: warning: profile.a.inherits: no file defines the profile "b" [undefined-profile]
+> b.toml:2:1: warning: profile.b: unknown key "zone" [unknown-key]
+> <stdin>:1:1: warning: unknown key "zone" [unknown-key]
+$ lint b.toml a --tool-config-file=t:/t.toml = 0
+> b.toml:2:1: warning: profile.b: unknown key "zone" [unknown-key]
+> a/.config/nextest.toml:2:12: warning: profile.a.inherits: no file defines the profile "b" [undefined-profile]
+$ lint a --tool-config-file=t:/t.toml = 0
+> /t.toml:2:12: warning: profile.t.inherits: no file defines the profile "b" [undefined-profile]
+> a/.config/nextest.toml:2:12: warning: profile.a.inherits: no file defines the profile "b" [undefined-profile]
 
 === files that can't be read
 @ /a.toml
 zone = 1
 @ /b.toml | Permission denied (os error 13)
-@ .config/nextest.toml | Is a directory (os error 21)
+@ .config/nextest.toml | Permission denied (os error 13)
+@ d | folder
+@ - | Input/output error (os error 5)
 $ lint --tool-config-file=a:/a.toml = 3
-! cannot read .config/nextest.toml: Is a directory (os error 21)
+! .config/nextest.toml: Permission denied (os error 13)
 $ lint --config-file=/a.toml = 0
 > /a.toml:1:1: warning: unknown key "zone" [unknown-key]
 $ lint --tool-config-file=a:/a.toml --config-file=ci.toml = 3
-! cannot read ci.toml: nothing is there
+! ci.toml: nothing is there
 $ show --config-file=/b.toml = 3
-! cannot read /b.toml: Permission denied (os error 13)
+! /b.toml: Permission denied (os error 13)
+$ show --config-file=d = 3
+! d: it is a folder
+$ lint typo-folder = 3
+! typo-folder: nothing is there
+$ lint /a.toml /b.toml typo = 3
+! /b.toml: Permission denied (os error 13)
+$ lint -=<stdin> = 3
+! <stdin>: Input/output error (os error 5)
+$ lint --default-path=/a.toml = 3
+! /a.toml: not a folder
+$ lint --default-path=typo --strict = 3
+! typo: nothing is there
+$ lint --default-path=/b.toml = 3
+! /b.toml: Permission denied (os error 13)
 $ check --current=1.0.0 --tool-config-file=b:/b.toml --tool-config-file=c:/c.toml = 3
-! cannot read /c.toml: nothing is there
-$ check --current=1.0.0 --tool-config-file=c:/c.toml --tool-config-file=a:/a.toml --tool-config-file=b:/b.toml = 3
-! cannot read /b.toml: Permission denied (os error 13)
+! /c.toml: nothing is there
+$ check --current=1.0.0 --tool-config-file=c:/c.toml --tool-config-file=a:/a.toml --tool-config-file=b:/b.toml typo = 3
+! /b.toml: Permission denied (os error 13)
 "#;
 
 #[test]

@@ -1,49 +1,74 @@
 //! What the words of a run ask for.
 
 use crate::tests::blocks::characters;
-use nextest_config_command::{Check, Format, RepositoryFile, Request, Task};
+use nextest_config_command::{Check, LintOptions, RepositoryFile, Request, Task};
 use nextest_config_rows::rows::{Runner, copied, done, unknown};
 use nextest_config_rows::values::{FromRow, word};
 use nextest_config_sources::nextest_version::Edition;
+use nextest_config_values::read::Word;
 use nextest_config_values::tool_config::ToolConfigFile;
 use semver::Version;
 
-/// What is asked for by words, which are those of the command, each with its value after a `=`.
-/// One that begins with no `-` is the path at which the repository's file is looked for.
+// The current folder of all runs, with a slash at its end.
+const FOLDER: &str = "/my/repository/";
+
+/// What is asked for by words, which are those of the command, each with its value after a `=`; `-`
+/// is standard input, which may have a name after a `=`.
 pub(crate) fn request(rt: &impl Runner, words: &str) -> Request {
     let words = characters(rt, words);
     let (subcommand, words) = word(words.as_str());
     let mut tools = Vec::new(rt.alloc());
-    let mut repository = repository_file(rt, false, ".config/nextest.toml");
+    let mut repository = Vec::new(rt.alloc());
+    let mut unless_named = RepositoryFile::Nearest(copied(rt, FOLDER));
     let mut edition = Edition::ArrayAllowed;
     let mut current = Version::new(0, 0, 0);
     let mut override_version_check = false;
     let mut strict = false;
-    let mut format = Format::Human;
+    let mut format = "human";
+    let mut allowed = Vec::new(rt.alloc());
     for word in words.split(' ') {
         match word.split_once('=').unwrap_or((word, "")) {
             ("--tool-config-file", tool) => {
                 done(rt, tools.push(ToolConfigFile::from_row(rt, tool)));
             }
-            ("--config-file", path) => repository = repository_file(rt, true, path),
+            ("--config-file", path) => {
+                done(
+                    rt,
+                    repository.push(RepositoryFile::Explicit(copied(rt, path))),
+                );
+            }
+            ("--default-path", path) => unless_named = RepositoryFile::In(copied(rt, path)),
+            ("-", name) => done(rt, repository.push(RepositoryFile::Input(copied(rt, name)))),
             ("--table-only", "") => edition = Edition::TableOnly,
             ("--current", version) => current = Version::from_row(rt, version),
             ("--override", "") => override_version_check = true,
             ("--strict", "") => strict = true,
-            ("--format", "github") => format = Format::Github,
+            ("--format", word) => format = word,
+            ("--allow", code) => done(rt, allowed.push(named(rt, code))),
             ("", "") => {}
             _ if word.starts_with('-') => unknown(rt, word),
-            _ => repository = repository_file(rt, false, word),
+            _ => done(rt, repository.push(RepositoryFile::At(copied(rt, word)))),
         }
+    }
+    if repository.is_empty() {
+        done(rt, repository.push(unless_named));
     }
     let task = match subcommand {
         "check" => Task::Check(Check {
             current,
             override_version_check,
-            strict,
+            lint: LintOptions {
+                format: named(rt, format),
+                strict,
+                allowed,
+            },
         }),
-        "lint" => Task::Lint { format, strict },
-        "show" => Task::Show,
+        "lint" => Task::Lint(LintOptions {
+            format: named(rt, format),
+            strict,
+            allowed,
+        }),
+        "show" => Task::Show(named(rt, format)),
         _ => unknown(rt, subcommand),
     };
     Request {
@@ -54,9 +79,12 @@ pub(crate) fn request(rt: &impl Runner, words: &str) -> Request {
     }
 }
 
-fn repository_file(rt: &impl Runner, explicit: bool, path: &str) -> RepositoryFile {
-    RepositoryFile {
-        explicit,
-        path: copied(rt, path),
+// The value of a word.
+fn named<T: Word>(rt: &impl Runner, word: &str) -> T {
+    for value in T::all() {
+        if value.as_word() == word {
+            return *value;
+        }
     }
+    unknown(rt, word)
 }

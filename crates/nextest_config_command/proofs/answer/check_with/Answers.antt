@@ -1,19 +1,19 @@
 use Rattle.std.proofs.Common.{◌≡◌, ◌++◌, rules, string_bytes}
 use Rattle.nextest_config.specs.NextestVersion.{verdict_of}
-use Rattle.nextest_config_report.specs.Lines.{read_text}
-use Rattle.nextest_config_command.specs.Answer.{enough, not_enough, status_checked}
-use Rattle.nextest_config_command.specs.LintLines.{gravest_of, lint_text}
-use Rattle.nextest_config_command.specs.declared.format.Format.TheVariants.{Human}
+use Rattle.nextest_config_command.specs.Answer.{enough, not_enough, status_checked, status_found}
+use Rattle.nextest_config_command.specs.Found.{files_of}
+use Rattle.nextest_config_command.specs.Lint.{lint_text, summary_of}
 use Rattle.nextest_config_command.proofs.answer.check_with.Goals as goal
 
 pub returns-then-fails : goal.returns-then-fails
-returns-then-fails c = λ configuration current overridden listed selected report.
-    rw report (not_enough configuration (verdict_of c.args.eval.now) listed selected (search rules))
+returns-then-fails c = λ configuration listed selected told.
+    rw c.writes.ensures (not_enough configuration (verdict_of c.args.eval.now) (string_bytes c.args.front) listed selected (search rules) told)
 
 pub returns : goal.returns
-returns c = λ configuration current overridden listed selected report.
-    let found = c.in_ok-lint.ensures in
+returns c = λ configuration listed selected told.
+    let lint = c.in_ok-lint.ensures in
     let v = verdict_of c.args.eval.now in
-    let text : string_bytes c.push_str.new.self ≡ read_text current v configuration.experimental ++ lint_text Human found.0 = search rules in
-    let status : c.status_checked-status.result ≡ status_checked c.args.strict v (gravest_of found.0) = search rules in
-    rw (text, status) (enough configuration v found.0 listed selected (search rules) found.1)
+    let check = c.args.check.now in
+    let text : string_bytes c.push_str.new.self ≡ string_bytes c.args.front ++ lint_text check.lint.format lint.found = search rules in
+    let status : c.status_found-status.result ≡ status_found check.lint.strict (files_of c.args.files.now) (status_checked check.lint.strict v (summary_of lint.found)) = search rules in
+    rw (c.writes-2.ensures, text, status) (enough configuration v (string_bytes c.args.front) lint.found listed selected (search rules) told lint.are_found)

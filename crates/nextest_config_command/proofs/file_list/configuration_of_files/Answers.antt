@@ -1,5 +1,6 @@
 use Rattle.std.proofs.Common.{inr, map}
 use Rattle.nextest_config_command.specs.FileList.{given_file}
+use Rattle.nextest_config_command.specs.Found.{all_files, files_of}
 use Rattle.nextest_config_command.proofs.FileLists.{document_texts, refused_documents}
 use Rattle.nextest_config_command.proofs.file_list.configuration_of_files.Goals as goal
 
@@ -9,12 +10,12 @@ returns-in_default c = refused_documents _ _ (rw c.in_default.is at c.in_ok-docu
 pub returns-in-Ok : goal.returns-in-Ok
 returns-in-Ok c =
     let documents = rw c.in-Some.is at c.in_ok-documents.ensures in
-    let read = c.in-Ok.ensures.read (map given_file c.args.files.now) (rw (← c.as_slice.ensures.value) at documents.1) in
+    let read = c.in-Ok.ensures.read (map given_file (all_files (files_of c.args.files.now))) (rw (← c.as_slice.ensures.value) at documents.1) in
     (document_texts _ documents.0, (read.stands, read.selected))
 
 pub returns-in-Err-Refused : goal.returns-in-Err-Refused
 returns-in-Err-Refused c =
     let documents = rw c.in-Some.is at c.in_ok-documents.ensures in
-    let refused = (c.in-Err-Refused.ensures.refused (map given_file c.args.files.now) (rw (← c.as_slice.ensures.value) at documents.1)).refused in
+    let refused = (c.in-Err-Refused.ensures.refused (map given_file (all_files (files_of c.args.files.now))) (rw (← c.as_slice.ensures.value) at documents.1)).refused in
     let told = rw c.in-Err-Refused.field-0-is at refused in
     inr (document_texts _ documents.0, (c.in-Err-Refused.field-0-0, told.0, told.2))

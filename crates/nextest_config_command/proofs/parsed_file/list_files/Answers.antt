@@ -1,7 +1,7 @@
 use Rattle.std.proofs.lemmas.List.{map_push, take_more}
 use Rattle.nextest_config_lists.proofs.Lists.{zip_push}
 use Rattle.nextest_config_findings.specs.Defined as findings
-use Rattle.nextest_config_command.specs.LintLines.{IsListFile}
+use Rattle.nextest_config_command.specs.FileFindings.{IsListFile}
 use Rattle.nextest_config_command.proofs.parsed_file.list_files.Goals as goal
 
 pub loop-file-preserved : goal.loop-file-preserved

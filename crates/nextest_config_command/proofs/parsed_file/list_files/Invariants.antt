@@ -1,5 +1,5 @@
 use Rattle.std.proofs.Common.{take}
-use Rattle.nextest_config_command.specs.LintLines.{AreListed}
+use Rattle.nextest_config_command.specs.FileFindings.{AreListed}
 use Rattle.nextest_config_command.proofs.parsed_file.list_files.Given as goal
 
 -- the files so far are listed

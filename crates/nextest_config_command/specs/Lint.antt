@@ -1,0 +1,119 @@
+-- What is told of the findings of files.
+use Rattle.std.specs.Prelude.{◌≡◌, ℕ, Bool, true, false, ◌&&◌, ◌||◌, List, [], ◌∷◌, ◌++◌, codes, count_by, flat_map, map, nat_lt, string_bytes, if◌then◌else◌}
+use Rattle.std.specs.Str.Lines.{lines}
+use Rattle.std.specs.Str.Lossy.{utf8_lossy}
+use Rattle.nextest_config_positions.specs.Step.{printed_path, step_of}
+use Rattle.nextest_config_findings.specs.Finding.{finding_kind_text, finding_severity}
+use Rattle.nextest_config_findings.specs.declared.file.LocatedFinding.{LocatedFinding}
+use Rattle.nextest_config_findings.specs.declared.finding.FindingSeverity.{FindingSeverity}
+use Rattle.nextest_config_findings.specs.declared.finding.FindingSeverity.TheVariants.{Error, Note, Warning}
+use Rattle.nextest_config_formats.specs.Summary.{summary_text}
+use Rattle.nextest_config_formats.specs.Told.{Told, told_text}
+use Rattle.nextest_config_formats.specs.declared.format.Format.{Format}
+use Rattle.nextest_config_formats.specs.declared.format.Format.TheVariants.{Full, Github, Human, Json}
+use Rattle.nextest_config_formats.specs.declared.summary.Summary.{Summary}
+use Rattle.nextest_config_report.specs.declared.exit_status.ExitStatus.{ExitStatus}
+use Rattle.nextest_config_report.specs.declared.exit_status.ExitStatus.TheVariants.{Failure, Success}
+use Rattle.nextest_config_command.specs.Distinct.{distinct}
+use Rattle.nextest_config_command.specs.FileFindings.{AreFound, code_text, FileFound, is_error, Judging}
+use Rattle.nextest_config_command.specs.Found.{FilesRead}
+use Rattle.nextest_config_command.specs.declared.lint.Lint.{Lint}
+
+-- ---- how many findings there are
+
+abbrev pub is_warning : FindingSeverity → Bool
+is_warning Error = false
+is_warning Warning = true
+is_warning Note = false
+
+abbrev pub is_note : FindingSeverity → Bool
+is_note Error = false
+is_note Warning = false
+is_note Note = true
+
+-- how grave the findings of a file are, and those of all files
+abbrev pub severity_of : LocatedFinding → FindingSeverity
+severity_of located = finding_severity located.finding.kind
+
+abbrev pub severities_in : FileFound → List FindingSeverity
+severities_in found = map severity_of found.located
+
+abbrev pub severities_of : List FileFound → List FindingSeverity
+severities_of found = flat_map severities_in found
+
+-- the path of a file in which something is found
+abbrev pub path_if : List ℕ → List LocatedFinding → List (List ℕ)
+path_if path [] = []
+path_if path (located ∷ rest) = path ∷ []
+
+abbrev pub paths_in : List FileFound → List (List ℕ)
+paths_in found = flat_map (λ file. path_if file.path file.located) found
+
+-- how many there are of each severity, and in how many files
+abbrev pub summary_of : List FileFound → Summary
+summary_of found = record {
+  errors = count_by is_error (severities_of found);
+  warnings = count_by is_warning (severities_of found);
+  notes = count_by is_note (severities_of found);
+  files = distinct (paths_in found);
+}
+
+-- an error fails, and so does a warning where the check is strict
+abbrev pub fails_by : Bool → Summary → Bool
+fails_by strict summary = nat_lt 0 summary.errors || (strict && nat_lt 0 summary.warnings)
+
+abbrev pub failure_if : Bool → ExitStatus
+failure_if is_failing = if is_failing then Failure else Success
+
+abbrev pub lint_status : Bool → Summary → ExitStatus
+lint_status strict summary = failure_if (fails_by strict summary)
+
+-- ---- how they are told
+
+-- a finding of the file at a path
+abbrev pub told_at : List ℕ → LocatedFinding → Told
+told_at path located = record {
+  file = path;
+  span = located.span;
+  severity = severity_of located;
+  code = code_text located.finding.kind;
+  key = printed_path (map step_of located.finding.path.items);
+  message = finding_kind_text located.finding.kind;
+}
+
+-- the lines of a file that a format shows: U+FFFD stands for what isn't UTF-8
+abbrev pub shown_text : Format → List ℕ → List ℕ
+shown_text Human contents = []
+shown_text Full contents = utf8_lossy contents
+shown_text Github contents = []
+shown_text Json contents = []
+
+-- the findings of a file, with its lines
+abbrev pub located_text : Format → List ℕ → List (List ℕ) → List LocatedFinding → List ℕ
+located_text format path shown located = flat_map (λ one. told_text format (told_at path one) shown) located
+
+abbrev pub file_text : Format → FileFound → List ℕ
+file_text format found =
+    located_text format found.path (lines (shown_text format found.contents)) found.located
+
+-- how many there are, where there are any
+abbrev pub summary_line : Format → Summary → List ℕ
+summary_line Human summary = []
+summary_line Full summary =
+    if nat_lt 0 summary.files then summary_text summary ++ codes "\n" else []
+summary_line Github summary = []
+summary_line Json summary = []
+
+-- the findings of files
+abbrev pub lint_text : Format → List FileFound → List ℕ
+lint_text format found = flat_map (file_text format) found ++ summary_line format (summary_of found)
+
+-- ---- what is made of it
+
+-- what is found in the files is told in a format
+pub record IsLint (judging : Judging) (format : Format) (files : FilesRead) (lint : Lint) : Type 0
+  where
+    pub found : List FileFound
+    pub are_found : AreFound judging files found
+    pub text : string_bytes lint.text ≡ lint_text format found
+    pub summary : lint.summary ≡ summary_of found
