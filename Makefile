@@ -30,6 +30,7 @@ test: toolchain
 	rt ci | tests/wrong --behind
 	tests/run $(PROGRAM) $(COMMAND)/out/nextest_config_cli
 	tests/random $(PROGRAM)
+	tests/random-files $(COMMAND)/out/nextest_config_cli
 	tests/positions $(BENCH)
 	tests/refusals $(REFUSALS) $(PROGRAM) $(COMMAND)/out/nextest_config_cli
 	bench/measure --small --program $(PROGRAM) --alone $(BENCH)
