@@ -9,8 +9,6 @@ mod human;
 mod json;
 pub mod laws;
 mod summary;
-#[cfg(test)]
-mod tests;
 mod told;
 
 pub use format::Format;
