@@ -14,4 +14,4 @@ pub says_why : (holds : PathStates) (request : Request) (unwritten unsaid : Type
     → IsCutShort holds request unwritten (Some old) (Some new) unsaid (Some said) (Some says) → SaysWhy holds request said says
 says_why holds request unwritten unsaid old new said says written never (unread complaint is kept told) = (complaint, inl is, whole_line unsaid said says _ never told)
 says_why holds request unwritten unsaid old new said says written never (no_memory kept told) = (codes "out of memory", inr refl, whole_line unsaid said says _ never told)
-says_why holds request unwritten unsaid old new said says written never (cut_off files text status between read answers failed front noticed told) = absurd (written failed)
+says_why holds request unwritten unsaid old new said says written never (cut_off files answer between read answers failed front noticed told) = absurd (written failed)

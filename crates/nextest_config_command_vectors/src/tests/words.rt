@@ -1,7 +1,9 @@
 //! What the words of a run ask for.
 
 use crate::tests::blocks::characters;
-use nextest_config_command::{Check, LintOptions, RepositoryFile, Request, Task};
+use nextest_config_command::{
+    Check, FindingCode, Format, LintOptions, RepositoryFile, Request, ShowFormat, Task,
+};
 use nextest_config_rows::rows::{Runner, copied, done, unknown};
 use nextest_config_rows::values::{FromRow, word};
 use nextest_config_sources::nextest_version::Edition;
@@ -24,7 +26,8 @@ pub(crate) fn request(rt: &impl Runner, words: &str) -> Request {
     let mut current = Version::new(0, 0, 0);
     let mut override_version_check = false;
     let mut strict = false;
-    let mut format = "human";
+    let mut format = Format::Human;
+    let mut show_format = ShowFormat::Human;
     let mut allowed = Vec::new(rt.alloc());
     for word in words.split(' ') {
         match word.split_once('=').unwrap_or((word, "")) {
@@ -43,8 +46,13 @@ pub(crate) fn request(rt: &impl Runner, words: &str) -> Request {
             ("--current", version) => current = Version::from_row(rt, version),
             ("--override", "") => override_version_check = true,
             ("--strict", "") => strict = true,
-            ("--format", word) => format = word,
-            ("--allow", code) => done(rt, allowed.push(named(rt, code))),
+            ("--format", "full") => format = Format::Full,
+            ("--format", "github") => format = Format::Github,
+            ("--format", "json") => {
+                format = Format::Json;
+                show_format = ShowFormat::Json;
+            }
+            ("--allow", word) => done(rt, allowed.push(code(rt, word))),
             ("", "") => {}
             _ if word.starts_with('-') => unknown(rt, word),
             _ => done(rt, repository.push(RepositoryFile::At(copied(rt, word)))),
@@ -58,17 +66,17 @@ pub(crate) fn request(rt: &impl Runner, words: &str) -> Request {
             current,
             override_version_check,
             lint: LintOptions {
-                format: named(rt, format),
+                format,
                 strict,
                 allowed,
             },
         }),
         "lint" => Task::Lint(LintOptions {
-            format: named(rt, format),
+            format,
             strict,
             allowed,
         }),
-        "show" => Task::Show(named(rt, format)),
+        "show" => Task::Show(show_format),
         _ => unknown(rt, subcommand),
     };
     Request {
@@ -79,11 +87,11 @@ pub(crate) fn request(rt: &impl Runner, words: &str) -> Request {
     }
 }
 
-// The value of a word.
-fn named<T: Word>(rt: &impl Runner, word: &str) -> T {
-    for value in T::all() {
-        if value.as_word() == word {
-            return *value;
+// The code with this word.
+fn code(rt: &impl Runner, word: &str) -> FindingCode {
+    for code in FindingCode::all() {
+        if code.as_word() == word {
+            return *code;
         }
     }
     unknown(rt, word)
