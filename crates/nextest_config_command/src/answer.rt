@@ -7,7 +7,7 @@ ghost use Rattle.nextest_config_command.specs.FileList.{IsListedAs};
 ghost use Rattle.nextest_config_command.specs.Found.{all_files, files_of};
 ghost use Rattle.nextest_config_command.specs.Lint.{IsLint};
 
-use crate::file_findings::{Rules, findings_in};
+use crate::file_findings::Rules;
 use crate::file_list::configuration_of_files;
 use crate::lint::Lint;
 use crate::parsed_file::ParsedFiles;
