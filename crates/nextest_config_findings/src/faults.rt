@@ -90,8 +90,9 @@ fn kind_at(alloc: Global, path: &[Step], cause: FaultCause) -> Result<FaultKind,
     Ok(kind)
 }
 
-// Whether what is wrong is a text that isn't taken for a duration, and may be one for nextest.
-fn is_unjudged(alloc: Global, value: &Value, fault: &ValueFault) -> Result<bool, AllocError>
+/// Whether what is wrong with a value is a text that isn't taken for a duration, and may be one for
+/// nextest.
+pub fn is_unjudged(alloc: Global, value: &Value, fault: &ValueFault) -> Result<bool, AllocError>
     ensures { IfOk result (λ answer. IfSome (fault_of fault.now) (λ told.
         IsTrue answer ↔ IsUnjudged (view value.now) told)) }
 {

@@ -1,0 +1,9 @@
+pub mod Members
+pub mod Laying
+pub mod Selection
+pub mod LaidOver
+pub mod LastSaid
+pub mod Names
+pub mod Ways
+pub mod DefaultsParse
+pub mod Given

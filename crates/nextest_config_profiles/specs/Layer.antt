@@ -1,0 +1,19 @@
+-- The files of a list, as layers.
+use Rattle.std.specs.Prelude.{codes, List, ◌∷◌, map, Option, option_and_then}
+use Rattle.toml.specs.Data.{Data, get_member, Members}
+use Rattle.toml.specs.Parse.{parse_document}
+use Rattle.toml.specs.View.{table_view}
+use Rattle.nextest_config_profiles.specs.Defaults.{default_text}
+use Rattle.nextest_config_profiles.specs.Laid.{Layers}
+use Rattle.nextest_config_profiles.specs.declared.layer.Layer.{Layer}
+
+-- what a document has for profiles
+abbrev pub profiles_at : Members → Option Data
+profiles_at = get_member (codes "profile")
+
+abbrev pub profiles_in : List Layer → Layers
+profiles_in layers = map (λ layer. profiles_at (table_view layer.document.now)) layers
+
+-- the layers of a list: what nextest sets itself, and above that the files
+abbrev pub all_layers : List Layer → Layers
+all_layers layers = option_and_then profiles_at (parse_document default_text) ∷ profiles_in layers

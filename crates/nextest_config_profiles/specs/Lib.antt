@@ -1,0 +1,12 @@
+pub mod Said
+pub mod Selection
+pub mod Laid
+pub mod Laying
+pub mod Reach
+pub mod LastValue
+pub mod Profiles
+pub mod Chain
+pub mod Effective
+pub mod Defaults
+pub mod Layer
+pub mod Profile

@@ -1,0 +1,23 @@
+-- Where paths lead to.
+use Rattle.std.specs.Prelude.{ℕ, List, map, Option, option_map, Some}
+use Rattle.std.proofs.Common.{Bor}
+use Rattle.toml.specs.Data.{Data}
+use Rattle.toml.specs.View.{view}
+use Rattle.toml.specs.declared.value.Value.{Value}
+use Rattle.nextest_config_profiles.specs.Said.{barred, Path, Said, said_at, silent}
+use Rattle.nextest_config_profiles.specs.declared.reach.Reach.{Reach}
+use Rattle.nextest_config_profiles.specs.declared.reach.Reach.TheVariants as reached
+
+-- the keys of a path, as texts
+abbrev pub words_of : List (Bor (List ℕ)) → Path
+words_of words = map (λ word. word.now) words
+
+-- what is said of a path below where another one leads to
+abbrev pub said_below : Path → Reach → Said
+said_below below reached.Nothing = silent
+said_below below reached.Barred = barred
+said_below below (reached.Value value) = said_at below (Some (view value.now))
+
+-- layers as they are lent
+abbrev pub layers_of : List (Option (Bor Value)) → List (Option Data)
+layers_of layers = map (option_map (λ value. view value.now)) layers

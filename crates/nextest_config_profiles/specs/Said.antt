@@ -1,0 +1,34 @@
+-- What a layer says of a path of keys.
+use Rattle.std.specs.Prelude.{ℕ, List, [], ◌∷◌, Option, Some, None}
+use Rattle.toml.specs.Data.{array, boolean, Data, datetime, float, get_member, integer, member, no_members, string, table}
+
+-- keys, each in the table at those before it
+abbrev pub Path : Type 0
+Path = List (List ℕ)
+
+-- nothing; that a value which is no table stands on the way; a table, with keys or without; or a
+-- value that is no table
+pub data Said : Type 0 where
+  silent : Said
+  barred : Said
+  branch : Said
+  bare : Said
+  leaf : Data → Said
+
+-- what a value says of itself
+abbrev pub said_here : Data → Said
+said_here (table no_members) = bare
+said_here (table (member key value rest)) = branch
+said_here (string text) = leaf (string text)
+said_here (integer number) = leaf (integer number)
+said_here (float number) = leaf (float number)
+said_here (boolean truth) = leaf (boolean truth)
+said_here (datetime time) = leaf (datetime time)
+said_here (array items) = leaf (array items)
+
+-- what a value, if there is one, says of a path below it
+abbrev pub said_at : Path → Option Data → Said
+said_at path None = silent
+said_at [] (Some value) = said_here value
+said_at (key ∷ path) (Some (table members)) = said_at path (get_member key members)
+said_at (key ∷ path) (Some value) = barred

@@ -1,0 +1,40 @@
+//! Which layer decides a path.
+
+ghost use Rattle.std.specs.Prelude.{◌≡◌, ◌++◌, ◌∷◌, [], List, length, map};
+ghost use Rattle.nextest_config_profiles.specs.LastValue.{IsLastValue};
+ghost use Rattle.nextest_config_profiles.specs.Reach.{layers_of, said_below, words_of};
+ghost use Rattle.nextest_config_profiles.specs.Said.{Said, said_at};
+
+use crate::reach::{Reach, follow};
+use toml::Value;
+
+/// A value of a layer.
+#[derive(Clone, Copy)]
+pub(crate) struct LayerValue<'a> {
+    /// The position of the layer, from the lowest.
+    pub layer: usize,
+    pub value: &'a Value,
+}
+
+/// What the last of the layers that say anything of a path has there, if that is a value.
+pub(crate) fn last_value<'a>(layers: &[Option<&'a Value>], path: &[&str]) -> Option<LayerValue<'a>>
+    ensures { IsLastValue (map (said_at (words_of path.now)) (layers_of layers.now)) result }
+{
+    let mut last = None;
+    for (position, layer) in layers.iter().enumerate() {
+        last = later(last, position, follow(*layer, path));
+    }
+    last
+}
+
+// The same with one more layer, in which the path leads there.
+fn later<'a>(last: Option<LayerValue<'a>>, layer: usize, reach: Reach<'a>) -> Option<LayerValue<'a>>
+    ensures { (all : List Said) → length all ≡ layer → IsLastValue all last.entry
+        → IsLastValue (all ++ said_below [] reach.entry ∷ []) result }
+{
+    match reach {
+        Reach::Nothing => last,
+        Reach::Barred => None,
+        Reach::Value(value) => Some(LayerValue { layer, value }),
+    }
+}

@@ -1,0 +1,45 @@
+//! The files of a list, as layers.
+
+ghost use Rattle.std.specs.Prelude.{◌≡◌, ◌∷◌, IfOk, map, option_map};
+ghost use Rattle.toml.specs.View.{table_view, view};
+ghost use Rattle.nextest_config_profiles.specs.Layer.{profiles_at, profiles_in};
+ghost use Rattle.nextest_config_profiles.specs.Reach.{layers_of};
+
+use nextest_config_positions::Index;
+use nextest_config_sources::nextest_version::ConfigSource;
+use nextest_config_values::read::value_at;
+use std::alloc::{AllocError, Global};
+use toml::{Table, Value};
+
+/// A file of a list, with its document and the index of its places.
+#[derive(Clone, Copy)]
+pub struct Layer<'a> {
+    pub source: &'a ConfigSource,
+    pub document: &'a Table,
+    pub index: &'a Index,
+}
+
+// What a document has for profiles.
+fn profiles_at(document: &Table) -> Option<&Value>
+    ensures { option_map (λ value. view value.now) result
+        ≡ profiles_at (table_view document.now) }
+{
+    value_at(document, "profile")
+}
+
+/// What the layers have for profiles, below them what nextest sets itself.
+pub(crate) fn profiles_in<'a>(
+    alloc: Global,
+    defaults: &'a Table,
+    layers: &[Layer<'a>],
+) -> Result<Vec<Option<&'a Value>>, AllocError>
+    ensures { IfOk result (λ profiles. layers_of profiles.items
+        ≡ profiles_at (table_view defaults.now) ∷ profiles_in layers.now) }
+{
+    let mut profiles = Vec::new(alloc);
+    profiles.push(profiles_at(defaults))?;
+    for layer in layers {
+        profiles.push(profiles_at(layer.document))?;
+    }
+    Ok(profiles)
+}

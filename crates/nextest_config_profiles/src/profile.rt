@@ -1,0 +1,165 @@
+//! A profile with what it falls back on.
+
+ghost use Rattle.std.specs.Prelude.{◌≡◌, ◌⊎◌, ◌∷◌, IfErr, IfOk, map, MatchOption, None, string_bytes};
+ghost use Rattle.toml.specs.View.{table_view, view};
+ghost use Rattle.nextest_config_profiles.specs.Effective.{IsEffective};
+ghost use Rattle.nextest_config_profiles.specs.Chain.{chain_wrong, IsChain};
+ghost use Rattle.nextest_config_profiles.specs.Layer.{all_layers, profiles_at, profiles_in};
+ghost use Rattle.nextest_config_profiles.specs.Laid.{HasNoValue, IsLaidOver};
+ghost use Rattle.nextest_config_profiles.specs.Profile.{chain_in, IsProfileFault, layers_in, profile_wrong};
+ghost use Rattle.nextest_config_profiles.specs.Reach.{words_of};
+
+use crate::chain::{ChainFault, chain_of};
+use crate::defaults::default_document;
+use crate::effective::{Effective, first_given};
+use crate::laid::laid_over;
+use crate::layer::{Layer, profiles_in};
+use crate::setting::Setting;
+use std::alloc::{AllocError, Global};
+use toml::{Table, Value};
+
+/// A profile of the layers of a list, with those whose settings it falls back on.
+#[derive(Drop)]
+pub struct EffectiveProfile<'a> {
+    defaults: Table,
+    layers: &'a [Layer<'a>],
+    chain: Vec<String>,
+}
+
+/// Why a profile has no effective settings.
+#[derive(Debug, PartialEq, Eq, Drop)]
+pub enum ProfileFault {
+    /// There is no profile of the name.
+    NoProfile,
+    /// What the profile inherits from comes back to this one.
+    Ring { profile: String },
+    /// This one inherits from what is no profile.
+    NotDefined { profile: String, parent: String },
+    /// What this one has at `inherits` is no text.
+    NotText { profile: String },
+    Memory,
+}
+
+impl<'a> EffectiveProfile<'a> {
+    /// The profile of this name, by layers that have no error, the lowest first.
+    pub fn of(alloc: Global, layers: &'a [Layer<'a>], name: &str) -> Result<Self, ProfileFault>
+        ensures layers { IfOk result (λ profile. layers_in profile ≡ all_layers layers.now) }
+        ensures chain { IfOk result (λ profile.
+            IsChain (all_layers layers.now) name.now (chain_in profile)) }
+        ensures fault { IfErr result (IsProfileFault (all_layers layers.now) name.now) }
+    {
+        let defaults = default_document(alloc)?;
+        let chain = owned_chain(alloc, &defaults, layers, name)?;
+        Ok(EffectiveProfile {
+            defaults,
+            layers,
+            chain,
+        })
+    }
+
+    /// The names of the profile and of those that it falls back on, `default` last.
+    pub fn chain(&self) -> &[String]
+        ensures { map string_bytes result.now ≡ chain_in self.now }
+    {
+        self.chain.as_slice()
+    }
+
+    /// What the profile gets for the setting at these keys.
+    pub fn setting<T: Setting>(
+        &self,
+        alloc: Global,
+        keys: &[&str],
+    ) -> Result<Effective<'_, T>, AllocError>
+        ensures { IfOk result (IsEffective T.seen T.reading (layers_in self.now)
+            (words_of keys.now) (chain_in self.now)) }
+    {
+        let profiles = profiles_in(alloc, &self.defaults, self.layers)?;
+        let given = first_given(alloc, profiles.as_slice(), self.chain.as_slice(), keys)?;
+        Ok(given)
+    }
+
+    /// What the layers, laid over one another, have at a path below `profile`.
+    pub fn value(&self, alloc: Global, path: &[&str]) -> Result<Option<Value>, AllocError>
+        ensures { IfOk result (λ value. MatchOption value
+            (HasNoValue (layers_in self.now) (words_of path.now))
+            (λ value. IsLaidOver (layers_in self.now) (words_of path.now) (view value))) }
+    {
+        let profiles = profiles_in(alloc, &self.defaults, self.layers)?;
+        let value = laid_over(alloc, profiles.as_slice(), path)?;
+        Ok(value)
+    }
+}
+
+impl From<AllocError> for ProfileFault {
+    ghost use Rattle.std.specs.Prelude.{◌≡◌};
+    ghost use Rattle.nextest_config_profiles.specs.declared.profile.ProfileFault.TheVariants.{Memory};
+
+    ghost from_gives = { λ _ fault. fault ≡ Memory };
+
+    fn from(_: AllocError) -> Self {
+        ProfileFault::Memory
+    }
+}
+
+// The chain of a profile, as texts of their own.
+fn owned_chain(
+    alloc: Global,
+    defaults: &Table,
+    layers: &[Layer<'_>],
+    name: &str,
+) -> Result<Vec<String>, ProfileFault>
+    ensures chain { IfOk result (λ chain. IsChain
+        (profiles_at (table_view defaults.now) ∷ profiles_in layers.now) name.now
+        (map string_bytes chain.items)) }
+    ensures fault { IfErr result (IsProfileFault
+        (profiles_at (table_view defaults.now) ∷ profiles_in layers.now) name.now) }
+{
+    let profiles = profiles_in(alloc, defaults, layers)?;
+    match chain_of(alloc, profiles.as_slice(), name) {
+        Ok(chain) => {
+            let chain = copies(alloc, chain.as_slice())?;
+            Ok(chain)
+        }
+        Err(fault) => Err(told(alloc, fault)),
+    }
+}
+
+// Copies of names.
+fn copies(alloc: Global, names: &[&str]) -> Result<Vec<String>, AllocError>
+    ensures { IfOk result (λ copies. map string_bytes copies.items ≡ words_of names.now) }
+{
+    let mut copies = Vec::new(alloc);
+    for name in names {
+        copies.push(String::from_str(alloc, name)?)?;
+    }
+    Ok(copies)
+}
+
+// The fault with texts of its own.
+fn told(alloc: Global, fault: ChainFault<'_>) -> ProfileFault
+    ensures { (profile_wrong result ≡ None) ⊎ (profile_wrong result ≡ chain_wrong fault.entry) }
+{
+    match owned(alloc, fault) {
+        Ok(fault) => fault,
+        Err(AllocError) => ProfileFault::Memory,
+    }
+}
+
+fn owned(alloc: Global, fault: ChainFault<'_>) -> Result<ProfileFault, AllocError>
+    ensures { IfOk result (λ owned. profile_wrong owned ≡ chain_wrong fault.entry) }
+{
+    Ok(match fault {
+        ChainFault::NoProfile => ProfileFault::NoProfile,
+        ChainFault::Ring { profile } => ProfileFault::Ring {
+            profile: String::from_str(alloc, profile)?,
+        },
+        ChainFault::NotDefined { profile, parent } => ProfileFault::NotDefined {
+            profile: String::from_str(alloc, profile)?,
+            parent: String::from_str(alloc, parent)?,
+        },
+        ChainFault::NotText { profile } => ProfileFault::NotText {
+            profile: String::from_str(alloc, profile)?,
+        },
+        ChainFault::Memory => ProfileFault::Memory,
+    })
+}
