@@ -248,8 +248,8 @@ fn span_at(index: &Index, path: &[Step], of_key: bool) -> Option<Span>
     }
 }
 
-// The range of the value of a path, or without one that of its key.
-fn value_or_key(index: &Index, path: &[Step]) -> Option<Span>
+/// The range of the value of a path, or without one that of its key.
+pub fn value_or_key(index: &Index, path: &[Step]) -> Option<Span>
     ensures { (text : List ℕ) → IsIndexOf text index.now
         → IsSpanOf text (range_at false (ranges_in index.now) (map step_of path.now)) result }
 {

@@ -7,3 +7,4 @@ pub mod Names
 pub mod Ways
 pub mod DefaultsParse
 pub mod Given
+pub mod LeafLaws

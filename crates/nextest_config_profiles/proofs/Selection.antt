@@ -112,7 +112,7 @@ emptied_below below branch rest [] recent h whole ends empty =
 emptied_below below said rest (first ∷ old) recent h whole ends empty =
     record { old = said ∷ first ∷ old; recent = recent; whole = ap (λ all. said ∷ all) whole; value_last = ends; empty = empty }
 
-emptied_on : (below : Said) (all : List Said) → all_over below all ≡ bare → IsEmptied all
+pub emptied_on : (below : Said) (all : List Said) → all_over below all ≡ bare → IsEmptied all
 emptied_on below [] h = record { old = []; recent = []; whole = refl; value_last = tt; empty = tt }
 emptied_on below (said ∷ rest) h =
     let later = emptied_on (over below said) rest h in
@@ -151,17 +151,21 @@ leaf_selected all value (inr seen) = elim (last_on bare bare_decides silent all 
   | inr last ↦ (last.0, inr (last.1, emptied_on silent all seen.0, seen.1))
 ]
 
-pub selected_leaf : (all : List Said) (position : ℕ) (value : Data) → IsLeafAmong all position value → IsSeenLeaf (all_over silent all) value
-selected_leaf all position value (inl last) = inl (
-    ap (all_over silent) last.whole ∙ all_over_both silent last.below (leaf value ∷ last.above) ∙ stays (leaf value) last.above last.silent_above)
-selected_leaf all position value (inr (last, emptied, is)) =
+-- over an empty table that is left, nothing else is seen
+pub bare_left : (all : List Said) (position : ℕ) → IsLast all position bare → IsEmptied all → all_over silent all ≡ bare
+bare_left all position last emptied =
     let before = all_over silent last.below in
     let ends : all_over silent all ≡ over before bare =
     ap (all_over silent) last.whole ∙ all_over_both silent last.below (bare ∷ last.above) ∙ stays (over before bare) last.above last.silent_above in
     let old : IsNoBranch (all_over silent emptied.old) = value_no_branch silent emptied.old (λ e. cc e) emptied.value_last in
     let none : IsNoBranch (all_over silent all) =
     λ e. makes_no_branch (all_over silent emptied.old) emptied.recent old emptied.empty (sym (all_over_both silent emptied.old emptied.recent) ∙ ap (all_over silent) (sym emptied.whole) ∙ e) in
-    inr (ends ∙ over_bare before (λ is_branch. none (ends ∙ rw is_branch refl)), is)
+    ends ∙ over_bare before (λ is_branch. none (ends ∙ rw is_branch refl))
+
+pub selected_leaf : (all : List Said) (position : ℕ) (value : Data) → IsLeafAmong all position value → IsSeenLeaf (all_over silent all) value
+selected_leaf all position value (inl last) = inl (
+    ap (all_over silent) last.whole ∙ all_over_both silent last.below (leaf value ∷ last.above) ∙ stays (leaf value) last.above last.silent_above)
+selected_leaf all position value (inr (last, emptied, is)) = inr (bare_left all position last emptied, is)
 
 pub seen_leaf : (said : Said) (value : Data) → leaf_of said ≡ Some value → IsSeenLeaf (seen said) value
 seen_leaf silent value h = absurd (cc h)

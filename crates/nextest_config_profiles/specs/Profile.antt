@@ -1,9 +1,19 @@
 -- A profile with what it falls back on.
-use Rattle.std.specs.Prelude.{ℕ, List, ◌∷◌, map, MatchOption, Option, Some, None, string_bytes}
+use Rattle.std.specs.Prelude.{◌≡◌, ℕ, zero, suc, codes, List, ◌∷◌, false, map, MatchOption, Option, Some, None, slice_get, string_bytes}
+use Rattle.toml.specs.Data.{Data}
 use Rattle.toml.specs.View.{table_view}
+use Rattle.nextest_config_values.specs.Read.{Reading}
+use Rattle.nextest_config_positions.specs.Index.{IsIndexOf, IsSpanOf, ranges_in}
+use Rattle.nextest_config_findings.specs.File.{range_at}
+use Rattle.nextest_config_positions.specs.Step.{key, PathStep}
+use Rattle.nextest_config_positions.specs.declared.place.Span.{Span}
 use Rattle.nextest_config_profiles.specs.Chain.{IsWrong, no_profile, not_defined, not_text, ring, Wrong}
+use Rattle.nextest_config_profiles.specs.Effective.{IsEffective}
 use Rattle.nextest_config_profiles.specs.Laid.{Layers}
 use Rattle.nextest_config_profiles.specs.Layer.{profiles_at, profiles_in}
+use Rattle.nextest_config_profiles.specs.Said.{Path}
+use Rattle.nextest_config_profiles.specs.declared.effective.Effective.{Effective}
+use Rattle.nextest_config_profiles.specs.declared.layer.Layer.{Layer}
 use Rattle.nextest_config_profiles.specs.declared.profile.EffectiveProfile.{EffectiveProfile}
 use Rattle.nextest_config_profiles.specs.declared.profile.ProfileFault.{ProfileFault}
 use Rattle.nextest_config_profiles.specs.declared.profile.ProfileFault.TheVariants as faults
@@ -29,3 +39,26 @@ profile_wrong faults.Memory = None
 abbrev pub IsProfileFault : Layers → List ℕ → ProfileFault → Type 0
 IsProfileFault layers name fault =
     MatchOption (profile_wrong fault) (Unit {0}) (IsWrong layers name)
+
+-- ---- where values stand
+
+-- the steps of a path below `profile`, from the top
+abbrev pub steps_to : Path → List PathStep
+steps_to path = key (codes "profile") ∷ map key path
+
+-- the file of a layer; the first layer is none
+abbrev pub file_at : List Layer → ℕ → Option Layer
+file_at files zero = None
+file_at files (suc position) = slice_get files position
+
+-- the range of a path below `profile` in the file of a layer, by its index: that of its value, or
+-- without one that of its key
+abbrev pub IsSpanIn : EffectiveProfile → ℕ → Path → Option Span → Type 0
+IsSpanIn profile layer path span = MatchOption (file_at profile.layers.now layer) (span ≡ None)
+    (λ file. (text : List ℕ) → IsIndexOf text file.index.now
+    → IsSpanOf text (range_at false (ranges_in file.index.now) (steps_to path)) span)
+
+-- what a profile gets for the setting at these keys
+abbrev pub Gets : {X Y : Type 0} → (X → Y) → Reading Data (Option Y) → EffectiveProfile → Path → Effective X → Type 0
+Gets seen reading profile keys effective =
+    IsEffective seen reading (layers_in profile) keys (chain_in profile) effective

@@ -10,8 +10,9 @@ use toml::Value;
 
 /// A value of a layer.
 #[derive(Clone, Copy)]
-pub(crate) struct LayerValue<'a> {
-    /// The position of the layer, from the lowest.
+pub struct LayerValue<'a> {
+    /// The position of the layer: what nextest sets itself has the first, 0, and then come the
+    /// files.
     pub layer: usize,
     pub value: &'a Value,
 }

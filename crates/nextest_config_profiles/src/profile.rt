@@ -1,20 +1,26 @@
 //! A profile with what it falls back on.
 
-ghost use Rattle.std.specs.Prelude.{◌≡◌, ◌⊎◌, ◌∷◌, IfErr, IfOk, map, MatchOption, None, string_bytes};
+ghost use Rattle.std.specs.Prelude.{◌≡◌, ◌⊎◌, ◌∷◌, IfErr, IfOk, map, MatchOption, None, option_map, string_bytes};
 ghost use Rattle.toml.specs.View.{table_view, view};
+ghost use Rattle.nextest_config_positions.specs.Step.{step_of};
 ghost use Rattle.nextest_config_profiles.specs.Effective.{IsEffective};
 ghost use Rattle.nextest_config_profiles.specs.Chain.{chain_wrong, IsChain};
 ghost use Rattle.nextest_config_profiles.specs.Layer.{all_layers, profiles_at, profiles_in};
 ghost use Rattle.nextest_config_profiles.specs.Laid.{HasNoValue, IsLaidOver};
-ghost use Rattle.nextest_config_profiles.specs.Profile.{chain_in, IsProfileFault, layers_in, profile_wrong};
+ghost use Rattle.nextest_config_profiles.specs.Profile.{chain_in, file_at, IsProfileFault, IsSpanIn, layers_in, profile_wrong, steps_to};
+ghost use Rattle.nextest_config_profiles.specs.LastValue.{IsLastValue};
 ghost use Rattle.nextest_config_profiles.specs.Reach.{words_of};
+ghost use Rattle.nextest_config_profiles.specs.Said.{said_at};
 
 use crate::chain::{ChainFault, chain_of};
 use crate::defaults::default_document;
 use crate::effective::{Effective, first_given};
 use crate::laid::laid_over;
+use crate::last_value::{LayerValue, last_value};
 use crate::layer::{Layer, profiles_in};
 use crate::setting::Setting;
+use nextest_config_findings::value_or_key;
+use nextest_config_positions::{Span, Step};
 use std::alloc::{AllocError, Global};
 use toml::{Table, Value};
 
@@ -78,6 +84,46 @@ impl<'a> EffectiveProfile<'a> {
         Ok(given)
     }
 
+    /// What the last of the layers that say anything of a path below `profile` has there, if that
+    /// is a value. Where it is no table, it is what the profile gets, and this layer is its source.
+    pub fn last_value(
+        &self,
+        alloc: Global,
+        path: &[&str],
+    ) -> Result<Option<LayerValue<'_>>, AllocError>
+        ensures { IfOk result (IsLastValue (map (said_at (words_of path.now)) (layers_in self.now))) }
+    {
+        let profiles = profiles_in(alloc, &self.defaults, self.layers)?;
+        Ok(last_value(profiles.as_slice(), path))
+    }
+
+    /// Where the value, or without one the key, of a path below `profile` stands in the file of a
+    /// layer; `None` for what nextest sets itself, and where the path leads to nothing.
+    pub fn span(
+        &self,
+        alloc: Global,
+        layer: usize,
+        path: &[&str],
+    ) -> Result<Option<Span>, AllocError>
+        ensures { IfOk result (IsSpanIn self.now layer (words_of path.now)) }
+    {
+        let steps = steps_to(alloc, path)?;
+        match self.file(layer) {
+            Some(file) => Ok(value_or_key(file.index, steps.as_slice())),
+            None => Ok(None),
+        }
+    }
+
+    /// The file of a layer; `None` for what nextest sets itself.
+    pub fn file(&self, layer: usize) -> Option<&Layer<'a>>
+        ensures { option_map (λ file. file.now) result ≡ file_at self.now.layers.now layer }
+    {
+        match layer {
+            0 => None,
+            layer => self.layers.get(layer - 1),
+        }
+    }
+
     /// What the layers, laid over one another, have at a path below `profile`.
     pub fn value(&self, alloc: Global, path: &[&str]) -> Result<Option<Value>, AllocError>
         ensures { IfOk result (λ value. MatchOption value
@@ -99,6 +145,18 @@ impl From<AllocError> for ProfileFault {
     fn from(_: AllocError) -> Self {
         ProfileFault::Memory
     }
+}
+
+// The steps of a path below `profile`, from the top.
+fn steps_to(alloc: Global, path: &[&str]) -> Result<Vec<Step>, AllocError>
+    ensures { IfOk result (λ steps. map step_of steps.items ≡ steps_to (words_of path.now)) }
+{
+    let mut steps = Vec::new(alloc);
+    steps.push(Step::Key(String::from_str(alloc, "profile")?))?;
+    for key in path {
+        steps.push(Step::Key(String::from_str(alloc, key)?))?;
+    }
+    Ok(steps)
 }
 
 // The chain of a profile, as texts of their own.
