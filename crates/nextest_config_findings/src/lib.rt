@@ -32,4 +32,3 @@ pub use faults::is_unjudged;
 pub use file::{FileContents, LocatedFinding, located, value_or_key};
 pub use finding::{Finding, FindingKind, FindingSeverity, Hint, Home};
 pub use nextest_config_positions::{PathText, Place, Span, Step};
-pub use schema::{keys_in_override, keys_in_profile};

@@ -217,20 +217,6 @@ pub(crate) fn keys_of(alloc: Global, rows: &[Row]) -> Result<Vec<&'static str>, 
     Ok(keys)
 }
 
-/// The keys that are known in a profile, in the order in which they are judged.
-pub fn keys_in_profile(alloc: Global) -> Result<Vec<&'static str>, AllocError>
-    ensures { IfOk result (λ keys. words_of keys.items ≡ row_words (rows_in profile_table)) }
-{
-    keys_of(alloc, profile_keys())
-}
-
-/// The keys that are known in an override, in the order in which they are judged.
-pub fn keys_in_override(alloc: Global) -> Result<Vec<&'static str>, AllocError>
-    ensures { IfOk result (λ keys. words_of keys.items ≡ row_words (rows_in override_table)) }
-{
-    keys_of(alloc, override_keys())
-}
-
 /// The keys of a profile.
 pub(crate) fn profile_keys() -> &'static [Row]
     ensures { rows_told result.now ≡ rows_in profile_table }
