@@ -1,0 +1,109 @@
+-- Values that are written, item by item and member by member.
+use Rattle.std.proofs.Common.{◌≡◌, ◌∙◌, ℕ, ◌<◌, ◌+◌, ◌==◌, Bool, true, false, List, [], ◌∷◌, ◌++◌, length, take, get_or, codes, map, map-id, Option, Some, None, IfSome, option_map, Result, string_bytes, refl, sym, ap}
+use Rattle.std.proofs.lemmas.Bool.{true≢false}
+use Rattle.std.proofs.lemmas.List.{take_more}
+use Rattle.std.proofs.Output.{has_written_append, has_written_of_eq}
+use Rattle.std.specs.declared.fmt.Error.{Error}
+use Rattle.std.specs.declared.fmt.Formatter.{Formatter}
+use Rattle.std.specs.Fmt.{DisplaysOnOk, HasWritten}
+use Rattle.toml.proofs.Views.{Entry}
+use Rattle.toml.specs.Data.{Data, string, integer, float, boolean, datetime, array, table, Items, no_items, item, Members, no_members, member}
+use Rattle.toml.specs.View.{items_view, members_view, view}
+use Rattle.toml.specs.declared.value.Value.{Value}
+use Rattle.toml_writer.specs.Writing.{WritesSome}
+use Rattle.nextest_config_values.proofs.Joined.{joined_more, separator_after}
+use Rattle.nextest_config_values.specs.Read.{comma_list}
+use Rattle.nextest_config_literals.specs.Value.{AreItems, AreMembers, IsLiteral, item_texts, literal_text, member_text, member_texts, one_more, table_text}
+
+-- one more of the items that come
+pub next_taken : {X : Type 0} (xs : List X) (i : ℕ) (x : X) → i < length xs → x ≡ get_or xs i x → take (i + 1) xs ≡ take i xs ++ x ∷ []
+next_taken xs i x within is = take_more xs i x within ∙ ap (λ y. take i xs ++ y ∷ []) (sym is)
+
+pub one_more_item : (values : List Value) (value : Value) (texts : List (List ℕ)) (text : List ℕ) → AreItems (items_view values) texts → IsLiteral (view value) text
+    → AreItems (items_view (values ++ value ∷ [])) (texts ++ text ∷ [])
+one_more_item [] value texts text none is = (text, [], ap (λ all. all ++ text ∷ []) none, is, refl)
+one_more_item (first ∷ rest) value texts text are is =
+    (are.0, are.1 ++ text ∷ [], ap (λ all. all ++ text ∷ []) are.2, are.3, one_more_item rest value are.1 text are.4 is)
+
+pub one_more_member : (entries : List Entry) (entry : Entry) (texts : List (List ℕ)) (text : List ℕ) → AreMembers (members_view entries) texts
+    → (literal : List ℕ) × IsLiteral (view entry.1) literal × (text ≡ member_text (string_bytes entry.0) literal)
+    → AreMembers (members_view (entries ++ entry ∷ [])) (texts ++ text ∷ [])
+one_more_member [] entry texts text none one = (one.0, [], ap (λ all. all ++ text ∷ []) none ∙ ap (λ t. t ∷ []) one.2, one.1, refl)
+one_more_member (first ∷ rest) entry texts text are one =
+    (are.0, are.1 ++ text ∷ [], ap (λ all. all ++ text ∷ []) are.2, are.3, one_more_member rest entry are.1 text are.4 one)
+
+-- what stands before the next item, and before the next member
+pub separator_of_items : (values : List Value) (texts : List (List ℕ)) → AreItems (items_view values) texts → separator_after values ≡ separator_after texts
+separator_of_items [] texts none = sym (ap separator_after none)
+separator_of_items (value ∷ values) texts are = sym (ap separator_after are.2)
+
+pub separator_of_members : (entries : List Entry) (texts : List (List ℕ)) → AreMembers (members_view entries) texts → separator_after entries ≡ separator_after texts
+separator_of_members [] texts none = sym (ap separator_after none)
+separator_of_members (entry ∷ entries) texts are = sym (ap separator_after are.2)
+
+-- members that there are stand between braces with blanks
+pub table_of : (entries : List Entry) (texts : List (List ℕ)) → (length entries == 0) ≡ false → AreMembers (members_view entries) texts
+    → codes "{ " ++ (comma_list texts ++ codes " }") ≡ table_text texts
+table_of [] texts some are = absurd (true≢false some)
+table_of (entry ∷ entries) texts some are = rw are.2 refl
+
+joined : (texts : List (List ℕ)) (text : List ℕ) → comma_list texts ++ (separator_after texts ++ text) ≡ comma_list (texts ++ text ∷ [])
+joined texts text =
+    ap (λ all. comma_list all ++ (separator_after texts ++ text)) (sym (map-id texts))
+    ∙ sym (joined_more (λ t. t) texts text)
+    ∙ ap comma_list (map-id (texts ++ text ∷ []))
+
+module _ {W : Type 0} {took : W → List ℕ → W → Type 0} {f g h k : Formatter W} where
+  -- three writes in turn
+  pub three_written : {a b c : List ℕ} → HasWritten took f a g → HasWritten took g b h → HasWritten took h c k → HasWritten took f (a ++ (b ++ c)) k
+  three_written one two three = has_written_append took f _ g _ k one (has_written_append took g _ h _ k two three)
+
+  -- one more text, after what stands before it
+  pub more_written : (texts : List (List ℕ)) {separator text : List ℕ} → separator ≡ separator_after texts → HasWritten took f (comma_list texts) g
+      → HasWritten took g separator h → HasWritten took h text k → HasWritten took f (comma_list (texts ++ text ∷ [])) k
+  more_written texts {text = text} is so_far before more =
+      has_written_of_eq took f _ _ k (ap (λ s. comma_list texts ++ (s ++ text)) is ∙ joined texts text) (three_written so_far before more)
+
+-- ---- what is told of what is written
+
+mapped : {A B : Type 0} (make : A → B) (told : Option A) (one : A) (made : B) → IfSome told (λ all. one ≡ all) → made ≡ make one
+    → IfSome (option_map make told) (λ all. made ≡ all)
+mapped make None one made same is = tt
+mapped make (Some all) one made same is = is ∙ ap make same
+
+in_front : (text : Option (List ℕ)) (rest : Option (List (List ℕ))) (first : List ℕ) (later all : List (List ℕ)) → all ≡ first ∷ later
+    → IfSome text (λ told. first ≡ told) → IfSome rest (λ told. later ≡ told) → IfSome (one_more text rest) (λ told. all ≡ told)
+in_front None rest first later all split one more = tt
+in_front (Some text) None first later all split one more = tt
+in_front (Some text) (Some rest) first later all split one more = split ∙ ap (λ t. t ∷ later) one ∙ ap (λ ts. text ∷ ts) more
+
+mutual
+  told : (value : Data) (text : List ℕ) → IsLiteral value text → IfSome (literal_text value) (λ all. text ≡ all)
+  told (string s) text is = is
+  told (integer z) text is = is
+  told (float x) text is = tt
+  told (boolean b) text is = is
+  told (datetime moment) text is = is
+  told (array items) text is = mapped _ (item_texts items) is.0 text (items_told items is.0 is.1) is.2
+  told (table members) text is = mapped _ (member_texts members) is.0 text (members_told members is.0 is.1) is.2
+
+  items_told : (items : Items) (texts : List (List ℕ)) → AreItems items texts → IfSome (item_texts items) (λ all. texts ≡ all)
+  items_told no_items texts none = none
+  items_told (item value rest) texts are =
+      in_front (literal_text value) (item_texts rest) are.0 are.1 texts are.2 (told value are.0 are.3) (items_told rest are.1 are.4)
+
+  members_told : (members : Members) (texts : List (List ℕ)) → AreMembers members texts → IfSome (member_texts members) (λ all. texts ≡ all)
+  members_told no_members texts none = none
+  members_told (member key value rest) texts are =
+      in_front (option_map (member_text key) (literal_text value)) (member_texts rest) (member_text key are.0) are.1 texts are.2
+      (mapped (member_text key) (literal_text value) are.0 (member_text key are.0) (told value are.0 are.3) refl) (members_told rest are.1 are.4)
+
+module _ {W : Type 0} (took : W → List ℕ → W → Type 0) (f g : Formatter W) (done : Result (Unit {0}) Error) where
+  told_by : (text : Option (List ℕ)) (Writes : List ℕ → Type 0) → ((t : List ℕ) → Writes t → IfSome text (λ all. t ≡ all))
+      → WritesSome took f done Writes g → DisplaysOnOk took f done text g
+  told_by None Writes each writes = tt
+  told_by (Some all) Writes each writes = λ plain ok. let (t, wrote, is) = writes plain ok in has_written_of_eq took f t all g (each t is) wrote
+
+  -- a value that is written displays what is told of it
+  pub displays : (value : Data) → WritesSome took f done (IsLiteral value) g → DisplaysOnOk took f done (literal_text value) g
+  displays value = told_by (literal_text value) (IsLiteral value) (told value)

@@ -1,0 +1,4 @@
+pub mod Json
+pub mod Key
+pub mod Text
+pub mod Value
