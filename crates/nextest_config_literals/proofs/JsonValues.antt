@@ -1,5 +1,5 @@
 -- Values of JSON beside the values of TOML that they stand for.
-use Rattle.std.proofs.Common.{◌≡◌, ◌∙◌, ℕ, List, [], ◌∷◌, ◌++◌, Ordering, Less, Equal, Greater, map, string_bytes, refl, ap}
+use Rattle.std.proofs.Common.{◌≡◌, ◌∙◌, List, [], ◌∷◌, ◌++◌, Less, Greater, map, string_bytes, refl, ap}
 use Rattle.std.proofs.lemmas.Cmp.{nat_list_cmp_total}
 use Rattle.std.specs.Cmp.Lexicographic.{slice_cmp}
 use Rattle.std.specs.List.{AllByRecursion}
@@ -9,7 +9,6 @@ use Rattle.std.specs.Ordering.{nat_cmp, ordering_reverse}
 use Rattle.std.specs.String.{string_cmp}
 use Rattle.serde_json.specs.Data as json
 use Rattle.serde_json.specs.View as json_view
-use Rattle.serde_json.specs.declared.value.Value as json_value
 use Rattle.toml.proofs.Views.{Entry}
 use Rattle.toml.specs.View.{items_view, members_view, view}
 use Rattle.toml.specs.declared.value.Value.{Value}

@@ -26,7 +26,8 @@ abbrev pub one_more : Option (List ℕ) → Option (List (List ℕ)) → Option 
 one_more None texts = None
 one_more (Some text) texts = option_map (λ rest. text ∷ rest) texts
 
--- how a value is written; this tells nothing of one that holds a float
+-- how a value is written (TOML 1.1, "Integer", "Boolean" and "Offset Date-Time" to "Local Time", and
+-- the sections named above); this tells nothing of one that holds a float
 abbrev mutual
   pub literal_text : Data → Option (List ℕ)
   literal_text (string text) = Some (basic_text text)

@@ -11,14 +11,8 @@ use toml::{Table, Value};
 
 /// What stands for a value in JSON: an object for a table, and the text of TOML for a date-time and
 /// for a float that JSON can't write.
-pub fn json_value(alloc: Global, value: &Value) -> Result<Json, AllocError>
-    ensures { IfOk result (λ json. json_view json ≡ json_data (view value.now)) }
-{
-    value_in_json(alloc, value)
-}
-
 #[cycle(json)]
-fn value_in_json(alloc: Global, value: &Value) -> Result<Json, AllocError>
+pub fn json_value(alloc: Global, value: &Value) -> Result<Json, AllocError>
     ensures { IfOk result (λ json. json_view json ≡ json_data (view value.now)) }
 {
     match value {
@@ -39,7 +33,7 @@ fn items_in_json(alloc: Global, items: &Vec<Value>) -> Result<Vec<Json>, AllocEr
 {
     let mut values = Vec::new(alloc);
     for item in items {
-        values.push(value_in_json(alloc, item)?)?;
+        values.push(json_value(alloc, item)?)?;
     }
     Ok(values)
 }
@@ -52,7 +46,7 @@ fn members_in_json(alloc: Global, members: &Table) -> Result<Map<String, Json>, 
     let mut object = Map::new(alloc);
     for (key, value) in members {
         let name = key.clone()?;
-        drop(object.insert(name, value_in_json(alloc, value)?)?);
+        drop(object.insert(name, json_value(alloc, value)?)?);
     }
     Ok(object)
 }

@@ -100,11 +100,7 @@ fn write_members<W: fmt::Write>(f: &mut fmt::Formatter<W>, members: &Table) -> f
 
 // A key and its value.
 #[cycle(write)]
-fn write_member<W: fmt::Write>(
-    f: &mut fmt::Formatter<W>,
-    key: &str,
-    value: &Value,
-) -> fmt::Result
+fn write_member<W: fmt::Write>(f: &mut fmt::Formatter<W>, key: &str, value: &Value) -> fmt::Result
     ensures { WritesSome W.write_str_gives f.old result (IsMemberText key.now (view value.now)) f.new }
 {
     write_key(f, key)?;

@@ -1,4 +1,4 @@
-use Rattle.std.proofs.Common.{◌≡◌, ◌∙◌, ℕ, List, ◌++◌, codes, flat_map, map, refl, sym, ap, rules, append_assoc}
+use Rattle.std.proofs.Common.{◌≡◌, ◌∙◌, ℕ, List, ◌++◌, codes, flat_map, map, true, refl, sym, ap, rules, append_assoc}
 use Rattle.std.proofs.lemmas.Iterator.{YieldsList-from_chars}
 use Rattle.std.proofs.lemmas.Iterator.Consumers.{YieldsList-end}
 use Rattle.std.proofs.lemmas.List.{flat_map_more, map-id}
@@ -16,7 +16,7 @@ pub loop-c-preserved : goal.loop-c-preserved
 loop-c-preserved g c plain =
     let so_far = c.loop-c.invariant plain in
     has_written_of_eq _ _ _ _ _ (flat_map_more basic_character (codes "\"") c.loop-c.yielded c.in-Some.c)
-    (has_written_append _ _ _ _ _ _ so_far (c.in_ok-write_character.ensures so_far.plain refl))
+    (has_written_append _ _ _ _ _ _ so_far (c.in_ok-write_character.ensures so_far.plain (refl {a = true})))
 
 pub returns : goal.returns
 returns g c plain ok =
