@@ -19,6 +19,7 @@ pub struct ValueText<'a>(pub &'a Value);
 impl fmt::Display for ValueText<'_> {
     ghost output = { λ value. literal_text (view value.0.now) };
 
+    #[tactic(auto, using(crate::proofs::Literals::displays))]
     fn fmt<W: fmt::Write>(&self, f: &mut fmt::Formatter<W>) -> fmt::Result
         ensures writes { DisplaysOnOk W.write_str_gives f.old result
             (literal_text (view self.now.0.now)) f.new }
