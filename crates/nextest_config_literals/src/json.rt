@@ -26,6 +26,7 @@ pub fn json_value(alloc: Global, value: &Value) -> Result<Json, AllocError>
     }
 }
 
+// What stands for the items of an array, in their order.
 #[cycle(json)]
 fn items_in_json(alloc: Global, items: &Vec<Value>) -> Result<Vec<Json>, AllocError>
     ensures { IfOk result (λ values. json_items_view values.items
@@ -38,6 +39,7 @@ fn items_in_json(alloc: Global, items: &Vec<Value>) -> Result<Vec<Json>, AllocEr
     Ok(values)
 }
 
+// What stands for the members of a table, by their keys.
 #[cycle(json)]
 fn members_in_json(alloc: Global, members: &Table) -> Result<Map<String, Json>, AllocError>
     ensures { IfOk result (λ object. json_members_view object.entries
@@ -51,6 +53,7 @@ fn members_in_json(alloc: Global, members: &Table) -> Result<Map<String, Json>, 
     Ok(object)
 }
 
+// A number, or the text of a float for which JSON has none.
 fn float_in_json(alloc: Global, number: f64) -> Result<Json, AllocError>
     ensures { IfOk result (λ json. json_view json ≡ float_data number) }
 {

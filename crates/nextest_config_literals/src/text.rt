@@ -17,6 +17,7 @@ pub(crate) fn write_basic<W: fmt::Write>(f: &mut fmt::Formatter<W>, text: &str) 
     f.write_str("\"")
 }
 
+// A character of a basic string.
 fn write_character<W: fmt::Write>(f: &mut fmt::Formatter<W>, c: char) -> fmt::Result
     ensures { WritesOnOk W.write_str_gives f.old result (basic_character c) f.new }
 {

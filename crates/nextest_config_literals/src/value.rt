@@ -30,6 +30,7 @@ impl fmt::Display for ValueText<'_> {
     }
 }
 
+// Writes a value.
 #[cycle(write)]
 fn write_value<W: fmt::Write>(f: &mut fmt::Formatter<W>, value: &Value) -> fmt::Result
     ensures { WritesSome W.write_str_gives f.old result (IsLiteral (view value.now)) f.new }
