@@ -64,6 +64,10 @@ fn in_tools<'f>(
     let mut list = list_files(alloc, files.tools.as_slice())?;
     let mut rest = list_files(alloc, files.repository.as_slice())?;
     list.append(&mut rest)?;
+    if files.tools.is_empty() {
+        // Then it doesn't matter what the list defines.
+        return Ok(Vec::new(alloc));
+    }
     let defined = Defined::of(alloc, list.as_slice())?;
     in_list(alloc, rules, &defined, files.tools.as_slice())
 }
@@ -148,6 +152,9 @@ impl Rules<'_> {
     ) -> Result<Vec<LocatedFinding>, AllocError>
         ensures { IfOk result (λ told. told.items ≡ filter (tells (judging_of self.now)) all.items) }
     {
+        if self.allowed.is_empty() {
+            return Ok(all);
+        }
         let mut told = Vec::new(alloc);
         for located in all {
             if self.tells(&located.finding) {

@@ -18,9 +18,11 @@ pub mod OtherNames
 pub mod Places
 pub mod Profiles
 pub mod DefinedNames
+pub mod NameSets
 pub mod RingProfiles
 pub mod Rings
 pub mod ReferencesFound
+pub mod SeenSorted
 pub mod Severities
 pub mod ToldReferences
 pub mod NoErrorFiles

@@ -192,16 +192,36 @@ fn add_profiles(
     }
 }
 
-// Adds the keys of a table.
+// Adds the keys of a table. They come in order, so that a set is made of them faster than it grows.
 fn add_keys(alloc: Global, table: &Table, names: &mut BTreeSet<String>) -> Result<(), AllocError>
     ensures { OnOk result (AddsNames
         (λ name. SomeOf (λ key. key ≡ name) (names_of (table_view table.now)))
         (map string_bytes names.old.keys) (map string_bytes names.new.keys)) }
 {
-    for key in table.keys() {
-        add_name(alloc, key.as_str(), names)?;
-    }
+    let mut keys = key_set(alloc, table)?;
+    names.append(&mut keys)?;
     Ok(())
+}
+
+// The keys of a table as a set.
+fn key_set(alloc: Global, table: &Table) -> Result<BTreeSet<String>, AllocError>
+    ensures { IfOk result (λ set. (name : List ℕ) → Contains (map string_bytes set.keys) name
+        ↔ Contains (names_of (table_view table.now)) name) }
+{
+    let keys = copies_of_keys(alloc, table)?;
+    keys.into_iter().collect(alloc)
+}
+
+// Copies of the keys of a table, in their order.
+fn copies_of_keys(alloc: Global, table: &Table) -> Result<Vec<String>, AllocError>
+    ensures { IfOk result
+        (λ copies. map string_bytes copies.items ≡ names_of (table_view table.now)) }
+{
+    let mut copies = Vec::new(alloc);
+    for key in table.keys() {
+        copies.push(String::from_str(alloc, key.as_str())?)?;
+    }
+    Ok(copies)
 }
 
 // Adds the tool whose file this is, if it is one's.

@@ -1,16 +1,17 @@
 //! All that is found in a file, and where each finding stands.
 
-ghost use Rattle.std.specs.Prelude.{◌≡◌, ℕ, [], ◌∷◌, IfOk, List, OnOk, Some, false, map, option_map, take, true};
+ghost use Rattle.std.specs.Prelude.{◌≡◌, ℕ, [], ◌∷◌, ◌++◌, IfOk, List, MatchOption, OnOk, Some, false, map, option_map, take, true};
 ghost use Rattle.std.specs.List.{AllByRecursion, AllZip};
 ghost use Rattle.toml.specs.Errors.{IsMemory, IsWithin, span_end, span_start};
 ghost use Rattle.toml.specs.Parse.{parse_document};
 ghost use Rattle.toml.specs.View.{table_view};
 ghost use Rattle.nextest_config_positions.specs.Index.{IsIndexOf, IsSpanOf, ranges_in};
-ghost use Rattle.nextest_config_positions.specs.Step.{step_of};
+ghost use Rattle.nextest_config_positions.specs.Step.{key, step_of};
 ghost use Rattle.nextest_config_findings.specs.Defined.{IsDefinedBy, ListFile};
 ghost use Rattle.nextest_config_findings.specs.File.{AreIn, AreLocated, AreLocatedIn, HasRange, IsAlone, IsDocument, IsLocated, IsLocatedBy, IsReadOf, is_group, is_of_key, located_told, range_at, range_of, whole_path};
 ghost use Rattle.nextest_config_findings.specs.Found.{Found, found_at, found_of, kind_told, not_toml, not_utf8};
 
+use crate::by_place::sorted_by_place;
 use crate::defined::Defined;
 use crate::document::findings;
 use crate::finding::{Finding, FindingKind};
@@ -178,9 +179,8 @@ fn located_in_document(
         located.items) }
 {
     let findings = findings(alloc, source, edition, document, defined, position)?;
-    let mut located = locate_all(alloc, text, findings)?;
-    located.sort_by_key(|it| it.span.begin)?;
-    Ok(located)
+    let located = locate_all(alloc, text, findings)?;
+    sorted_by_place(alloc, located)
 }
 
 // Where each finding stands in the document. Where nothing was found, no index is made.
@@ -229,10 +229,30 @@ fn span_of(alloc: Global, index: &Index, finding: &Finding) -> Result<Span, Allo
         → found_of finding.now ≡ Some found
         → IsSpanOf text (range_of (ranges_in index.now) found) (Some span)) }
 {
-    let path = whole_path(alloc, finding)?;
-    match span_at(index, path.as_slice(), is_of_key(finding)) {
+    match range_in(alloc, index, finding)? {
         Some(span) => Ok(span),
         None => unreachable!(),
+    }
+}
+
+// The range of a finding, if the text has one: of an unknown key that of the key. Other paths are
+// looked up as they are, and not copied.
+fn range_in(
+    alloc: Global,
+    index: &Index,
+    finding: &Finding,
+) -> Result<Option<Span>, AllocError>
+    ensures { IfOk result (λ span. (text : List ℕ) (found : Found) → IsIndexOf text index.now
+        → found_of finding.now ≡ Some found
+        → IsSpanOf text (range_of (ranges_in index.now) found) span) }
+{
+    let of_key = is_of_key(finding);
+    match unknown_key(finding) {
+        Some(name) => {
+            let path = path_of_key(alloc, finding.path.as_slice(), name)?;
+            Ok(span_at(index, path.as_slice(), of_key))
+        }
+        None => Ok(span_at(index, finding.path.as_slice(), of_key)),
     }
 }
 
@@ -295,16 +315,26 @@ fn is_group(path: &[Step]) -> bool
     }
 }
 
-// The path that a finding is located by: of an unknown key the path of the key.
-fn whole_path(alloc: Global, finding: &Finding) -> Result<Vec<Step>, AllocError>
-    ensures { IfOk result (λ path. (found : Found) → found_of finding.now ≡ Some found
-        → map step_of path.items ≡ whole_path found) }
+// The key that isn't known, where that is what is found: the finding is located by its path.
+fn unknown_key(finding: &Finding) -> Option<&str>
+    ensures { (found : Found) → found_of finding.now ≡ Some found → MatchOption result
+        (whole_path found ≡ map step_of finding.now.path.items)
+        (λ name. whole_path found ≡ map step_of finding.now.path.items ++ (key name.now ∷ [])) }
 {
-    let mut path = copy_of(alloc, finding.path.as_slice())?;
-    if let FindingKind::UnknownKey { key, .. } = &finding.kind {
-        path.push(Step::Key(String::from_str(alloc, key.as_str())?))?;
+    match &finding.kind {
+        FindingKind::UnknownKey { key, .. } => Some(key.as_str()),
+        _ => None,
     }
-    Ok(path)
+}
+
+// The path of a key of the table at a path.
+fn path_of_key(alloc: Global, path: &[Step], name: &str) -> Result<Vec<Step>, AllocError>
+    ensures { IfOk result
+        (λ whole. map step_of whole.items ≡ map step_of path.now ++ (key name.now ∷ [])) }
+{
+    let mut whole = copy_of(alloc, path)?;
+    whole.push(Step::Key(String::from_str(alloc, name)?))?;
+    Ok(whole)
 }
 
 // A copy of a path.

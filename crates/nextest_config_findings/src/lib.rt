@@ -1,6 +1,7 @@
 //! What is wrong in a whole configuration file, and where.
 #![tactic(auto)]
 
+mod by_place;
 mod code;
 mod conversion;
 mod defined;

@@ -1,1 +1,2 @@
 pub mod FirstCharacters
+pub mod PlainTexts

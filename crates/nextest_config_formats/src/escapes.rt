@@ -1,6 +1,6 @@
 //! Texts that stand within a line.
 
-ghost use Rattle.std.specs.Prelude.{Some};
+ghost use Rattle.std.specs.Prelude.{◌≡◌, IsTrue, Some, encode_utf8, false};
 ghost use Rattle.std.specs.Fmt.{WritesOnOk};
 ghost use Rattle.nextest_config_formats.specs.Escapes.{escaped_character, escaped_text};
 
@@ -32,10 +32,31 @@ impl fmt::Display for Escaped<'_> {
 fn write_text<W: fmt::Write>(f: &mut fmt::Formatter<W>, escapes: Escapes, text: &str) -> fmt::Result
     ensures { WritesOnOk W.write_str_gives f.old result (escaped_text escapes text.now) f.new }
 {
+    if is_plain(escapes, text) {
+        return f.write_str(text);
+    }
     for c in text.chars() {
         write_escaped(f, escapes, c)?;
     }
     Ok(())
+}
+
+// Whether nothing in a text is escaped.
+fn is_plain(escapes: Escapes, text: &str) -> bool
+    ensures { IsTrue result → escaped_text escapes text.now ≡ text.now }
+{
+    text.chars().all(|c| !is_escaped(escapes, c))
+}
+
+// Whether something stands for a character.
+fn is_escaped(escapes: Escapes, c: char) -> bool
+    ensures { result ≡ false → escaped_character escapes c ≡ encode_utf8 c }
+{
+    match escapes {
+        Escapes::LineEnds => matches!(c, '\r' | '\n'),
+        Escapes::Message => matches!(c, '%' | '\r' | '\n'),
+        Escapes::Property => matches!(c, '%' | '\r' | '\n' | ':' | ','),
+    }
 }
 
 fn write_escaped<W: fmt::Write>(f: &mut fmt::Formatter<W>, escapes: Escapes, c: char) -> fmt::Result

@@ -1,21 +1,16 @@
-use Rattle.std.proofs.Common.{◌≡◌, ℕ, List, map, string_bytes, subst, ◌∙◌}
-use Rattle.std.proofs.lemmas.List.{map-id, map_push}
-use Rattle.std.proofs.lemmas.Map.Iter.{iter_end}
-use Rattle.std.specs.BTreeMap.{keys}
-use Rattle.std.specs.Map.Iter.{deref}
-use Rattle.nextest_config_findings.specs.Defined.{AddsNames, SomeOf}
-use Rattle.nextest_config_findings.proofs.DefinedNames.{adds_next}
-use Rattle.nextest_config_findings.proofs.Keys.{all_names}
+use Rattle.std.proofs.Common.{refl, string_bytes, string_cmp}
+use mathlib.Core.Logic.{⊎_map}
+use Rattle.nextest_config_sources.proofs.Members.{seen_in_order}
+use Rattle.nextest_config_findings.proofs.NameSets.{of_both, some_name}
 use Rattle.nextest_config_findings.proofs.defined.add_keys.Goals as goal
 
-pub loop-key-preserved : goal.loop-key-preserved
-loop-key-preserved c =
-    rw (map_push (λ key. string_bytes key.now) c.loop-key.yielded c.in-Some.key)
-    (adds_next (λ (key name : List ℕ). key ≡ name) (map (λ key. string_bytes key.now) c.loop-key.yielded) (string_bytes c.in-Some.key.now) _ _ _ c.loop-key.invariant
-    (rw c.as_str.ensures.value at c.in_ok-add_name.ensures))
-
 pub returns : goal.returns
-returns c =
-    let ended = iter_end deref (keys c.args.table.now) c.loop-key.yielded _ _ _ _ (c.into_iter-key-iterator.ensures.into_iter_gives ∙ c.keys-key-items.ensures.rest) c.loop-key.yielded_by c.in-None.is c.next.ensures.steps in
-    subst (λ (l : List (List ℕ)). AddsNames (λ name. SomeOf (λ key. key ≡ name) l) (map string_bytes c.args.names.now.keys) (map string_bytes c.loop-key.names.keys))
-    (all_names c.args.table.now.entries c.loop-key.yielded (λ name. name) ended.0 ∙ map-id _) c.loop-key.invariant
+returns c = record {
+  in_order = λ _. seen_in_order string_cmp _ string_bytes (λ x y. refl) c.append.new.self.keys c.append.ensures.ordered;
+  each = λ name. let both = of_both c.args.names.now.keys c.in_ok-keys.keys.keys c.append.new.self.keys c.in_ok-append.ensures.inserts_all.0 name in
+      let of_table = c.in_ok-keys.ensures name in
+      let some = some_name _ name in (
+        λ there. ⊎_map (λ h. h) (λ h. some.1 (of_table.0 h)) (both.0 there),
+        λ holds. both.1 (⊎_map (λ h. h) (λ h. of_table.1 (some.0 h)) holds),
+      );
+}

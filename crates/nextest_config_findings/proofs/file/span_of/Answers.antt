@@ -8,10 +8,8 @@ pub unreachable-requires : goal.unreachable-requires
 unreachable-requires c =
     let (text, of_text) = c.requires.of_text in
     let (found, told, some) = c.requires.range in
-    let none : IsSpanOf text (range_of (ranges_in c.args.index.now) found) None =
-    rw (c.as_slice.ensures.value, c.in_ok-path.ensures found told, c.is_of_key.ensures found told, c.in-None.is) at (c.span_at.ensures text of_text) in
+    let none : IsSpanOf text (range_of (ranges_in c.args.index.now) found) None = rw c.in-None.is at (c.in_ok-span.ensures text found of_text told) in
     has_span text (range_of (ranges_in c.args.index.now) found) some none
 
 pub returns : goal.returns
-returns c text found of_text told =
-    rw (c.as_slice.ensures.value, c.in_ok-path.ensures found told, c.is_of_key.ensures found told, c.in-Some.is) at (c.span_at.ensures text of_text)
+returns c text found of_text told = rw c.in-Some.is at (c.in_ok-span.ensures text found of_text told)
