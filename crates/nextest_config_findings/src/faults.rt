@@ -76,8 +76,19 @@ fn refused_at(alloc: Global, setting: &Setting, fault: ValueFault) -> Result<Fin
     Ok(Finding { path, kind })
 }
 
-// The cause, as it is told at the path.
+// The cause, as it is told at the path. What is told already is told so at any path.
 fn kind_at(alloc: Global, path: &[Step], cause: FaultCause) -> Result<FaultKind, AllocError>
+    ensures { IfOk result (λ kind. IfSome (cause_of cause) (λ told.
+        reason_of kind ≡ Some (reason_at (printed_path (map step_of path.now)) told))) }
+{
+    match cause {
+        FaultCause::Told(kind) => Ok(kind),
+        cause => kind_told_at(alloc, path, cause),
+    }
+}
+
+// The same of a cause that waits for the path.
+fn kind_told_at(alloc: Global, path: &[Step], cause: FaultCause) -> Result<FaultKind, AllocError>
     ensures { IfOk result (λ kind. IfSome (cause_of cause) (λ told.
         reason_of kind ≡ Some (reason_at (printed_path (map step_of path.now)) told))) }
 {
