@@ -1,2 +1,3 @@
 pub mod FirstCharacters
+pub mod PlainLines
 pub mod PlainTexts

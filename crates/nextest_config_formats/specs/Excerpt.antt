@@ -1,6 +1,6 @@
 -- The line of a file where a finding begins, with marks under what is found.
 pub mod Shown
-use Rattle.std.specs.Prelude.{ℕ, ◌+◌, ◌-◌, ◌==◌, max, nat_lt, Bool, ◌&&◌, List, [], ◌++◌, codes, decimal, drop, flat_map, length, slice_index_or, take, if◌then◌else◌}
+use Rattle.std.specs.Prelude.{ℕ, ◌+◌, ◌-◌, ◌==◌, max, nat_le, nat_lt, Bool, ◌&&◌, List, [], ◌++◌, codes, decimal, drop, flat_map, length, slice_index_or, take, if◌then◌else◌}
 use Rattle.std.specs.List.{repeat}
 use Rattle.std.specs.Str.{chars}
 use Rattle.nextest_config_positions.specs.declared.place.Span.{Span}
@@ -24,6 +24,10 @@ cut_text characters = if is_cut characters then codes " .." else []
 abbrev pub shown_line : List ℕ → List ℕ
 shown_line characters =
     flat_map shown_character (take most_shown characters) ++ cut_text characters
+
+-- the byte of a printable character of ASCII
+abbrev pub is_printable : ℕ → Bool
+is_printable byte = nat_le 32 byte && nat_le byte 126
 
 -- ---- what is marked
 

@@ -1,7 +1,8 @@
 //! The line of a file where a finding begins, with marks under what is found.
 
-ghost use Rattle.std.specs.Prelude.{◌≡◌, ◌++◌, chars, drop, IfOk, map, OnOk, string_bytes, take};
-ghost use Rattle.nextest_config_formats.specs.Excerpt.{begins_past_cut, blank_count, cut_text, excerpt, excerpt_of, held, line_numbered, mark_count};
+ghost use Rattle.std.specs.Prelude.{◌≡◌, ◌++◌, chars, drop, IfOk, IsTrue, map, OnOk, string_bytes, take};
+ghost use Rattle.std.specs.List.{list_all};
+ghost use Rattle.nextest_config_formats.specs.Excerpt.{begins_past_cut, blank_count, cut_text, excerpt, excerpt_of, held, is_printable, line_numbered, mark_count, shown_line};
 
 mod shown;
 
@@ -25,7 +26,33 @@ pub(crate) fn push_excerpt(
 {
     let line = line_numbered(lines, span.begin.line);
     let characters = first_characters(alloc, line)?;
-    push_marked(alloc, text, span, characters.as_slice())
+    if is_plain(line) {
+        return push_marked(alloc, text, span, characters.as_slice(), line);
+    }
+    let shown = shown_line(alloc, characters.as_slice())?;
+    push_marked(alloc, text, span, characters.as_slice(), shown.as_str())
+}
+
+// Whether a line is shown as it is: all of it is printable ASCII, and it isn't cut.
+#[tactic(auto, using(crate::proofs::PlainLines::plain_line))]
+fn is_plain(line: &str) -> bool
+    ensures { IsTrue result → shown_line (take 201 (chars line.now)) ≡ line.now }
+{
+    line.len() <= MOST_SHOWN && are_printable(line)
+}
+
+// Whether all bytes of a line are those of printable characters of ASCII.
+fn are_printable(line: &str) -> bool
+    ensures { result ≡ list_all is_printable line.now }
+{
+    line.bytes().all(|byte| is_printable(byte))
+}
+
+// Whether a byte is that of a printable character of ASCII.
+fn is_printable(byte: u8) -> bool
+    ensures { result ≡ is_printable byte }
+{
+    matches!(byte, b' '..=b'~')
 }
 
 // The line with this number, from 1; the empty line where there is none.
@@ -45,25 +72,34 @@ fn first_characters(alloc: Global, line: &str) -> Result<Vec<char>, AllocError>
     line.chars().take(MOST_SHOWN + 1).collect(alloc)
 }
 
-// Pushes a line with these characters, with marks.
+// What is shown of a line with these characters.
+fn shown_line(alloc: Global, characters: &[char]) -> Result<String, AllocError>
+    ensures { IfOk result (λ shown. string_bytes shown ≡ shown_line characters.now) }
+{
+    let shown = Shown(front(characters, MOST_SHOWN));
+    let cut = cut_text(characters);
+    format!(in alloc; "{shown}{cut}")
+}
+
+// Pushes a line with these characters, of which this is shown, with marks.
 fn push_marked(
     alloc: Global,
     text: &mut String,
     span: Span,
     characters: &[char],
+    shown: &str,
 ) -> Result<(), AllocError>
+    requires { shown.now ≡ shown_line characters.now }
     ensures { OnOk result
         (string_bytes text.new ≡ string_bytes text.old ++ excerpt_of span characters.now) }
 {
     let number = span.begin.line.to_string(alloc)?;
     let margin = " ".repeat(alloc, number.len())?;
-    let shown = Shown(front(characters, MOST_SHOWN));
-    let cut = cut_text(characters);
     let blanks = " ".repeat(alloc, blank_count(span, characters))?;
     let marks = "^".repeat(alloc, mark_count(span, characters))?;
     writeln!(
         text,
-        "{margin} |\n{number} | {shown}{cut}\n{margin} | {blanks}{marks}"
+        "{margin} |\n{number} | {shown}\n{margin} | {blanks}{marks}"
     )
 }
 
