@@ -5,6 +5,7 @@ use Rattle.std.specs.Str.Lossy.{utf8_lossy}
 use Rattle.nextest_config_positions.specs.Step.{printed_path, step_of}
 use Rattle.nextest_config_findings.specs.Finding.{finding_kind_text, finding_severity}
 use Rattle.nextest_config_findings.specs.declared.file.LocatedFinding.{LocatedFinding}
+use Rattle.nextest_config_findings.specs.declared.finding.Finding.{Finding}
 use Rattle.nextest_config_findings.specs.declared.finding.FindingSeverity.{FindingSeverity}
 use Rattle.nextest_config_findings.specs.declared.finding.FindingSeverity.TheVariants.{Error, Note, Warning}
 use Rattle.nextest_config_formats.specs.Summary.{summary_text}
@@ -17,6 +18,7 @@ use Rattle.nextest_config_report.specs.declared.exit_status.ExitStatus.TheVarian
 use Rattle.nextest_config_command.specs.Distinct.{distinct}
 use Rattle.nextest_config_command.specs.FileFindings.{AreFound, code_text, FileFound, is_error, Judging}
 use Rattle.nextest_config_command.specs.Found.{FilesRead}
+use Rattle.nextest_config_command.specs.declared.lint.FindingTexts.{FindingTexts}
 use Rattle.nextest_config_command.specs.declared.lint.Lint.{Lint}
 
 -- ---- how many findings there are
@@ -80,6 +82,11 @@ told_at path located = record {
   key = printed_path (map step_of located.finding.path.items);
   message = finding_kind_text located.finding.kind;
 }
+
+-- these are the texts of the finding: its printed path, and what is found
+abbrev pub AreTextsOf : Finding → FindingTexts → Type 0
+AreTextsOf finding texts = (string_bytes texts.key ≡ printed_path (map step_of finding.path.items))
+    × (string_bytes texts.message ≡ finding_kind_text finding.kind)
 
 -- the lines of a file that a format shows: U+FFFD stands for what isn't UTF-8
 abbrev pub shown_text : Format → List ℕ → List ℕ

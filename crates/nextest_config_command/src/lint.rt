@@ -4,13 +4,13 @@ ghost use Rattle.std.specs.Prelude.{◌≡◌, ◌++◌, IfOk, OnOk, count_by, f
 ghost use Rattle.std.specs.Str.Lines.{lines};
 ghost use Rattle.nextest_config_command.specs.FileFindings.{found_of, is_error, judging_of};
 ghost use Rattle.nextest_config_command.specs.Found.{files_of};
-ghost use Rattle.nextest_config_command.specs.Lint.{fails_by, file_text, is_note, IsLint, is_warning, lint_status, lint_text, located_text, path_if, paths_in, severities_of, severity_of, shown_text, summary_line, summary_of, told_at};
+ghost use Rattle.nextest_config_command.specs.Lint.{AreTextsOf, fails_by, file_text, is_note, IsLint, is_warning, lint_status, lint_text, located_text, path_if, paths_in, severities_of, severity_of, shown_text, summary_line, summary_of, told_at};
 ghost use Rattle.nextest_config_formats.specs.Told.{told_text};
 
 use crate::distinct::count_distinct;
 use crate::file_findings::{FileFindings, Rules, findings_in};
 use crate::parsed_file::ParsedFiles;
-use nextest_config_findings::{FindingSeverity, LocatedFinding, PathText};
+use nextest_config_findings::{Finding, FindingSeverity, LocatedFinding, PathText};
 use nextest_config_formats::{Format, Summary, ToldFinding, push_finding};
 use nextest_config_report::exit_status::ExitStatus;
 use nextest_config_values::read::Word;
@@ -247,13 +247,37 @@ fn push_located(
     ensures { OnOk result (string_bytes text.new ≡ string_bytes text.old
         ++ located_text format path.now (map (λ line. line.now) lines.now) located.now) }
 {
+    let mut texts = FindingTexts {
+        key: String::new(alloc),
+        message: String::new(alloc),
+    };
     for one in located {
-        push_one(alloc, text, format, path, lines, one)?;
+        texts.rewrite(&one.finding)?;
+        push_one(alloc, text, format, path, lines, one, &texts)?;
     }
     Ok(())
 }
 
-// Pushes one of them.
+// What is told of a finding in texts that are written anew for each, and so keep their memory.
+#[derive(Debug, Drop)]
+struct FindingTexts {
+    key: String,
+    message: String,
+}
+
+impl FindingTexts {
+    // Writes those of a finding.
+    fn rewrite(&mut self, finding: &Finding) -> Result<(), AllocError>
+        ensures { OnOk result (AreTextsOf finding.now self.new) }
+    {
+        self.key.clear();
+        write!(self.key, "{}", PathText(finding.path.as_slice()))?;
+        self.message.clear();
+        write!(self.message, "{}", &finding.kind)
+    }
+}
+
+// Pushes one of them, whose texts these are.
 fn push_one(
     alloc: Global,
     text: &mut String,
@@ -261,20 +285,20 @@ fn push_one(
     path: &str,
     lines: &[&str],
     located: &LocatedFinding,
+    texts: &FindingTexts,
 ) -> Result<(), AllocError>
+    requires { AreTextsOf located.now.finding texts.now }
     ensures { OnOk result (string_bytes text.new ≡ string_bytes text.old
         ++ told_text format (told_at path.now located.now) (map (λ line. line.now) lines.now)) }
 {
     let LocatedFinding { span, finding } = located;
-    let key = PathText(finding.path.as_slice()).to_string(alloc)?;
-    let message = finding.kind.to_string(alloc)?;
     let told = ToldFinding {
         file: path,
         span: *span,
         severity: finding.severity(),
         code: finding.code().as_word(),
-        key: key.as_str(),
-        message: message.as_str(),
+        key: texts.key.as_str(),
+        message: texts.message.as_str(),
     };
     push_finding(alloc, text, format, &told, lines)?;
     Ok(())
