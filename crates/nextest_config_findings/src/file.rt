@@ -237,11 +237,7 @@ fn span_of(alloc: Global, index: &Index, finding: &Finding) -> Result<Span, Allo
 
 // The range of a finding, if the text has one: of an unknown key that of the key. Other paths are
 // looked up as they are, and not copied.
-fn range_in(
-    alloc: Global,
-    index: &Index,
-    finding: &Finding,
-) -> Result<Option<Span>, AllocError>
+fn range_in(alloc: Global, index: &Index, finding: &Finding) -> Result<Option<Span>, AllocError>
     ensures { IfOk result (λ span. (text : List ℕ) (found : Found) → IsIndexOf text index.now
         → found_of finding.now ≡ Some found
         → IsSpanOf text (range_of (ranges_in index.now) found) span) }
