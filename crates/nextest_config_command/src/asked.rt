@@ -1,17 +1,17 @@
 //! Where a file asks the version that a verdict names.
 
-ghost use Rattle.std.specs.Prelude.{◌≡◌, ◌↔◌, ℕ, false, IfOk, IfSome, IsSome, IsTrue, List, map, MatchOption};
+ghost use Rattle.std.specs.Prelude.{◌≡◌, ◌↔◌, ℕ, IfOk, IfSome, IsSome, IsTrue, List, map, MatchOption};
 ghost use Rattle.toml.specs.View.{table_view};
 ghost use Rattle.nextest_config_sources.specs.NextestVersion.{place_of};
-ghost use Rattle.nextest_config_positions.specs.Index.{IsIndexOf, IsSpanOf, OfDocument, ranges_in};
+ghost use Rattle.nextest_config_positions.specs.Index.{OfDocument};
 ghost use Rattle.nextest_config_positions.specs.Line.{found_in};
 ghost use Rattle.nextest_config_positions.specs.Step.{step_of};
-ghost use Rattle.nextest_config_findings.specs.File.{range_at};
 ghost use Rattle.nextest_config_command.specs.Asked.{asked_of, AsksAt, has_version_table, IsAskedBy, IsAskedIn, IsRangeAt, NoneAsks, role_key, SomeAsks, version_path};
 ghost use Rattle.nextest_config_command.specs.Found.{all_files, files_of};
 
 use crate::parsed_file::{ParsedFile, ParsedFiles};
 use nextest_config::nextest_version::{UnmetVersion, VersionRole};
+use nextest_config_findings::value_or_key;
 use nextest_config_positions::{Index, Span, Step};
 use nextest_config_sources::nextest_version::ConfigSource;
 use nextest_config_values::read::value_at;
@@ -147,16 +147,5 @@ fn range_at(alloc: Global, text: &str, path: &[Step]) -> Result<Option<Span>, Al
     match Index::of(alloc, text)? {
         Some(index) => Ok(value_or_key(&index, path)),
         None => Ok(None),
-    }
-}
-
-// The range of the value of a path, or without one that of its key.
-fn value_or_key(index: &Index, path: &[Step]) -> Option<Span>
-    ensures { (text : List ℕ) → IsIndexOf text index.now
-        → IsSpanOf text (range_at false (ranges_in index.now) (map step_of path.now)) result }
-{
-    match index.value(path) {
-        Some(span) => Some(span),
-        None => index.key(path),
     }
 }
