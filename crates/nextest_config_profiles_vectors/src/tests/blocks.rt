@@ -121,7 +121,8 @@ impl Told<ThisCrate> for ProfileFault {
 
 impl Told<ThisCrate> for EffectiveProfile<'_> {
     fn told(&self, rt: &impl Runner, call: &str) -> String {
-        let (_, asked) = word(call);
+        let (name, call) = word(call);
+        let (asked, path) = word(call);
         match asked {
             "retries" => given::<RetryPolicy>(rt, self, asked),
             "flaky-result" => given::<FlakyResult>(rt, self, asked),
@@ -137,16 +138,17 @@ impl Told<ThisCrate> for EffectiveProfile<'_> {
             "junit.report-skipped" => given::<ReportSkipPolicy>(rt, self, asked),
             "junit.flaky-fail-status" => given::<JunitFlakyFailStatus>(rt, self, asked),
             "chain" => done(rt, self.chain().join(rt.alloc(), ", ")),
-            _ => value(rt, self, call),
+            "value" => value(rt, self, name, path),
+            _ => unknown(rt, call),
         }
     }
 }
 
-// What the layers come to at the path of a call `PROFILE value KEYS`.
-fn value(rt: &impl Runner, profile: &EffectiveProfile<'_>, call: &str) -> String {
-    let path = done(rt, call.replace(rt.alloc(), " value ", "."));
-    let path = path.as_str().strip_suffix(" value").unwrap_or(path.as_str());
-    match done(rt, profile.value(rt.alloc(), keys(rt, path).as_slice())) {
+// What the layers come to at the path of a profile, or at one within it.
+fn value(rt: &impl Runner, profile: &EffectiveProfile<'_>, name: &str, path: &str) -> String {
+    let path = done(rt, format!(in rt.alloc(); "{name}.{path}"));
+    let keys = keys(rt, path.as_str().trim_end_matches('.'));
+    match done(rt, profile.value(rt.alloc(), keys.as_slice())) {
         Some(value) => shown(rt, &value),
         None => copied(rt, "nothing"),
     }

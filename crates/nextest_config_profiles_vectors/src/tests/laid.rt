@@ -187,7 +187,7 @@ junit.report-name = "ci"
 > default value bench: { global-timeout = "30y", slow-timeout = { period = "30y" } }
 > default-miri value: nothing
 
-=== a text over a whole profile, and one over all of them
+=== a text over a whole profile
 --- tool other-tool
 [profile.a]
 inherits = "b"
@@ -201,6 +201,16 @@ profile.a = "x"
 > a value: "x"
 > a retries: Fixed { count: 0, delay: 0ns, jitter: false } (default)
 > b retries: Fixed { count: 2, delay: 0ns, jitter: false } (b)
+
+=== a number over nextest's own profile
+--- repository
+profile.default = 1
+profile.ci.retries = 2
+> default chain: default
+> default value: 1
+> default retries: nothing
+> ci retries: Fixed { count: 2, delay: 0ns, jitter: false } (ci)
+> ci slow-timeout: nothing
 
 === a text over all profiles
 --- tool my-tool
@@ -224,7 +234,7 @@ profile.a.flaky-result = "fail"
 > a retries: nothing
 > a flaky-result: Fail (a)
 
-=== one file changes nothing of another's document
+=== a file without profiles changes nothing
 --- tool my-tool
 [profile.ci]
 retries = 2
