@@ -21,11 +21,11 @@ use nextest_config_elements::threads_required::ThreadsRequired;
 use nextest_config_positions::Index;
 use nextest_config_profiles::{Effective, EffectiveProfile, Layer, ProfileFault, Setting};
 use nextest_config_rows::rows::{Runner, compare, copied, done, push, shown, unknown, written};
-use nextest_config_rows::told::{Told, answered};
+use nextest_config_rows::told::{self, Told, answered};
 use nextest_config_rows::values::{FromRow, word};
 use nextest_config_sources::nextest_version::{ConfigSource, ConfigSourceKind};
 use nextest_config_values::identifier::ToolName;
-use std::fmt::Debug;
+use std::fmt::{Debug, Display};
 use toml::Table;
 
 // A file of a list.
@@ -121,25 +121,11 @@ impl Told<ThisCrate> for ProfileFault {
 
 impl Told<ThisCrate> for EffectiveProfile<'_> {
     fn told(&self, rt: &impl Runner, call: &str) -> String {
-        let (name, call) = word(call);
-        let (asked, path) = word(call);
-        match asked {
-            "retries" => given::<RetryPolicy>(rt, self, asked),
-            "flaky-result" => given::<FlakyResult>(rt, self, asked),
-            "threads-required" => given::<ThreadsRequired>(rt, self, asked),
-            "fail-fast" => given::<MaxFail>(rt, self, asked),
-            "slow-timeout" | "bench.slow-timeout" => given::<SlowTimeout>(rt, self, asked),
-            "leak-timeout" => given::<LeakTimeout>(rt, self, asked),
-            "global-timeout" | "bench.global-timeout" => given::<GlobalTimeout>(rt, self, asked),
-            "junit.path" | "junit.report-name" => given::<String>(rt, self, asked),
-            "junit.store-success-output" | "junit.store-failure-output" => {
-                given::<bool>(rt, self, asked)
-            }
-            "junit.report-skipped" => given::<ReportSkipPolicy>(rt, self, asked),
-            "junit.flaky-fail-status" => given::<JunitFlakyFailStatus>(rt, self, asked),
-            "chain" => done(rt, self.chain().join(rt.alloc(), ", ")),
-            "value" => value(rt, self, name, path),
-            _ => unknown(rt, call),
+        let (name, asked) = word(call);
+        match word(asked) {
+            ("chain", _) => done(rt, self.chain().join(rt.alloc(), ", ")),
+            ("value", path) => value(rt, self, name, path),
+            _ => setting(rt, self, asked),
         }
     }
 }
@@ -148,14 +134,38 @@ impl Told<ThisCrate> for EffectiveProfile<'_> {
 fn value(rt: &impl Runner, profile: &EffectiveProfile<'_>, name: &str, path: &str) -> String {
     let path = done(rt, format!(in rt.alloc(); "{name}.{path}"));
     let keys = keys(rt, path.as_str().trim_end_matches('.'));
-    match done(rt, profile.value(rt.alloc(), keys.as_slice())) {
+    let value = profile.value(rt.alloc(), keys.as_slice());
+    shown_or_nothing(rt, done(rt, value))
+}
+
+fn keys<'t>(rt: &impl Runner, path: &'t str) -> Vec<&'t str> {
+    done(rt, path.split('.').collect(rt.alloc()))
+}
+
+fn shown_or_nothing<T: Display + Drop>(rt: &impl Runner, value: Option<T>) -> String {
+    match value {
         Some(value) => shown(rt, &value),
         None => copied(rt, "nothing"),
     }
 }
 
-fn keys<'t>(rt: &impl Runner, path: &'t str) -> Vec<&'t str> {
-    done(rt, path.split('.').collect(rt.alloc()))
+fn setting(rt: &impl Runner, profile: &EffectiveProfile<'_>, path: &str) -> String {
+    match path {
+        "retries" => given::<RetryPolicy>(rt, profile, path),
+        "flaky-result" => given::<FlakyResult>(rt, profile, path),
+        "threads-required" => given::<ThreadsRequired>(rt, profile, path),
+        "fail-fast" => given::<MaxFail>(rt, profile, path),
+        "slow-timeout" | "bench.slow-timeout" => given::<SlowTimeout>(rt, profile, path),
+        "leak-timeout" => given::<LeakTimeout>(rt, profile, path),
+        "global-timeout" | "bench.global-timeout" => given::<GlobalTimeout>(rt, profile, path),
+        "junit.path" | "junit.report-name" => given::<String>(rt, profile, path),
+        "junit.store-success-output" | "junit.store-failure-output" => {
+            given::<bool>(rt, profile, path)
+        }
+        "junit.report-skipped" => given::<ReportSkipPolicy>(rt, profile, path),
+        "junit.flaky-fail-status" => given::<JunitFlakyFailStatus>(rt, profile, path),
+        _ => unknown(rt, path),
+    }
 }
 
 fn given<T: Setting + Debug>(
@@ -169,16 +179,15 @@ fn given<T: Setting + Debug>(
 
 fn effective_text<T: Setting + Debug>(rt: &impl Runner, effective: Effective<'_, T>) -> String {
     match effective {
-        Effective::Value { profile, value } => {
-            done(rt, format!(in rt.alloc(); "{value:?} ({profile})"))
-        }
-        Effective::NotJudged { profile } => {
-            done(rt, format!(in rt.alloc(); "not judged ({profile})"))
-        }
+        Effective::Value { profile, value } => of_profile(rt, written(rt, value), profile),
+        Effective::NotJudged { profile } => of_profile(rt, copied(rt, "not judged"), profile),
         Effective::Fault { profile, fault } => {
-            let fault = fault.at(rt.alloc(), "");
-            done(rt, format!(in rt.alloc(); "{fault} ({profile})"))
+            of_profile(rt, told::tell(rt, "", fault.at(rt.alloc(), "")), profile)
         }
         Effective::Nothing => copied(rt, "nothing"),
     }
+}
+
+fn of_profile(rt: &impl Runner, text: String, profile: &str) -> String {
+    done(rt, format!(in rt.alloc(); "{text} ({profile})"))
 }
