@@ -1,5 +1,5 @@
 -- A text in which nothing is escaped stays as it is.
-use Rattle.std.proofs.Common.{◌≡◌, ◌∙◌, ℕ, Bool, true, false, IsTrue, List, [], ◌∷◌, ◌++◌, flat_map, length, refl, sym}
+use Rattle.std.proofs.Common.{◌≡◌, ◌∙◌, ℕ, Bool, true, false, IsTrue, List, [], ◌∷◌, flat_map, length, refl, sym}
 use Rattle.std.proofs.lemmas.Bool.{true≢false}
 use Rattle.std.proofs.lemmas.List.Elements.{All-from_all_within, recursion_from_All}
 use Rattle.std.proofs.lemmas.Str.{encodes-chars}
