@@ -1,6 +1,7 @@
-//! The tables of runs, and how a run is done.
+//! The tables of runs, how a run is done, and what runs find in the examples of explanations.
 
 mod blocks;
+mod explanations;
 mod formats;
 mod runner;
 mod runs;

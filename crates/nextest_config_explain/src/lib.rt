@@ -7,8 +7,6 @@ mod files;
 mod references;
 mod retries;
 mod settings;
-#[cfg(test)]
-mod tests;
 mod topic;
 mod versions;
 
