@@ -32,6 +32,7 @@ test: toolchain
 	tests/random $(PROGRAM)
 	tests/random-files $(COMMAND)/out/nextest_config_cli
 	tests/positions $(BENCH)
+	tests/random-profiles $(BENCH)
 	tests/refusals $(REFUSALS) $(PROGRAM) $(COMMAND)/out/nextest_config_cli
 	bench/measure --small --program $(PROGRAM) --alone $(BENCH)
 	bench/measure-durations --small --alone $(BENCH)
@@ -41,6 +42,7 @@ test: toolchain
 	bench/measure-findings --small --alone $(BENCH)
 	bench/measure-positions --small --alone $(BENCH)
 	bench/measure-check --small $(COMMAND)/out/nextest_config_cli $(BENCH)
+	bench/measure-profile --small $(COMMAND)/out/nextest_config_cli $(BENCH)
 
 run: toolchain
 	@$(MAKE) --no-print-directory --jobs=2 --output-sync run-list run-lint

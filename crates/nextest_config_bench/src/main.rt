@@ -7,6 +7,12 @@
 //!   `toml` alone, as one document, and `index` makes the index of its places.
 //! - `places` prints, of each document on standard input, where all that it holds stands. A NUL stands
 //!   between two documents, and a blank line after each.
+//! - `documents` reads the documents on standard input with `toml` alone, a NUL between two of them;
+//!   `indexes` makes the index of each, too, and `profile` then asks for the settings that the profile
+//!   `ci` gets of them, as files of one list.
+//! - `leaves` prints, of each such list on standard input, what it has below `profile` over what nextest
+//!   sets itself: of each leaf its path, the number of the layer that it comes from, where that has it,
+//!   and its value. U+0001 stands between two lists, and a blank line after each.
 //! - `findings` and `located` judge standard input as a configuration file, the first without its
 //!   lines, and print how much is found.
 //! - `sources SIZE CHANGES` makes so many sources of one version each, `list` reads them as a list,
@@ -21,6 +27,7 @@ mod board;
 mod files;
 mod nothing;
 mod positions;
+mod profiles;
 
 use std::env;
 use std::process::ExitCode;
@@ -38,6 +45,7 @@ fn run(rt: &HostRuntime) -> Option<()> {
         [what] => match what.as_str() {
             "findings" | "located" => files::judge(rt, what),
             "text" | "document" | "index" | "places" => positions::run(rt, what),
+            "documents" | "indexes" | "profile" | "leaves" => profiles::run(rt, what),
             _ => alone::read(rt, what),
         },
         [what, size, changes] => {

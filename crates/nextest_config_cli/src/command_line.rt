@@ -15,6 +15,8 @@ pub(crate) const LINT: &str = "lint";
 
 pub(crate) const SHOW: &str = "show";
 
+pub(crate) const PROFILE: &str = "profile";
+
 pub(crate) const EXPLAIN: &str = "explain";
 
 pub(crate) const CURRENT: &str = "current";
@@ -27,6 +29,8 @@ pub(crate) const ALLOW: &str = "allow";
 
 pub(crate) const FORMAT: &str = "format";
 
+pub(crate) const ALL: &str = "all";
+
 pub(crate) const TABLE_ONLY: &str = "table-only";
 
 pub(crate) const CONFIG_FILE: &str = "config-file";
@@ -36,6 +40,8 @@ pub(crate) const TOOL_CONFIG_FILE: &str = "tool-config-file";
 pub(crate) const STDIN_PATH: &str = "stdin-path";
 
 pub(crate) const DEFAULT_PATH: &str = "default-path";
+
+pub(crate) const NAME: &str = "NAME";
 
 pub(crate) const PATH: &str = "PATH";
 
@@ -94,6 +100,7 @@ pub(crate) fn command<'a>(alloc: Global, choices: Choices<'a>) -> Result<Command
         .subcommand(check_command(alloc, choices)?)?
         .subcommand(lint_command(alloc, choices)?)?
         .subcommand(show_command(alloc, choices)?)?
+        .subcommand(profile_command(alloc, choices)?)?
         .subcommand(explain_command(alloc)?)
 }
 
@@ -115,14 +122,23 @@ fn lint_command<'a>(alloc: Global, choices: Choices<'a>) -> Result<Command<'a>, 
 }
 
 fn show_command<'a>(alloc: Global, choices: Choices<'a>) -> Result<Command<'a>, AllocError> {
-    let about = "Shows which versions and which experimental features the files ask for";
-    let help = "How it is shown: as lines, or as a JSON object";
-    let command = Command::new(alloc, SHOW).about(about).arg(format(
-        alloc,
-        help,
-        choices.show_formats,
-        ShowFormat::Human.as_word(),
-    ))?;
+    let about = "Shows which versions and which experimental features the files ask for, and which \
+         profiles there are";
+    let command = Command::new(alloc, SHOW)
+        .about(about)
+        .arg(show_format(alloc, choices))?;
+    with_list(alloc, command, path(alloc))
+}
+
+fn profile_command<'a>(alloc: Global, choices: Choices<'a>) -> Result<Command<'a>, AllocError> {
+    let name = Arg::new(alloc, NAME)
+        .help("The profile")
+        .default_value("default");
+    let command = Command::new(alloc, PROFILE)
+        .about("Shows what a profile gets for its settings, and which file says so")
+        .arg(name)?
+        .arg(flag(alloc, ALL, "Show what each value hides, too")?)?
+        .arg(show_format(alloc, choices))?;
     with_list(alloc, command, path(alloc))
 }
 
@@ -154,6 +170,17 @@ fn with_lint<'a>(
         choices.formats,
         Format::Human.as_word(),
     ))
+}
+
+// The flag that names how something is shown.
+fn show_format<'a>(alloc: Global, choices: Choices<'a>) -> Arg<'a> {
+    let help = "How it is shown: as lines, or as a JSON object";
+    format(
+        alloc,
+        help,
+        choices.show_formats,
+        ShowFormat::Human.as_word(),
+    )
 }
 
 // The flag that names a format, which is one of these words.

@@ -1,5 +1,5 @@
-//! `nextest-config` checks, lints and shows what configuration files of nextest ask, and what is
-//! wrong in them, and explains the codes of what it finds.
+//! `nextest-config` checks, lints and shows what configuration files of nextest ask, what is wrong in
+//! them, and what profiles get for their settings, and explains the codes of what it finds.
 #![tactic(auto)]
 
 mod command_line;

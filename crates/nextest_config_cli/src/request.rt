@@ -1,14 +1,14 @@
 //! What the words of the command line ask for.
 
 use crate::command_line::{
-    ALLOW, CHECK, CODE, CONFIG_FILE, CURRENT, Choices, DEFAULT_PATH, EXPLAIN, FORMAT, LINT,
-    OVERRIDE, PATH, SHOW, STDIN_PATH, STRICT, TABLE_ONLY, TOOL_CONFIG_FILE, command,
+    ALL, ALLOW, CHECK, CODE, CONFIG_FILE, CURRENT, Choices, DEFAULT_PATH, EXPLAIN, FORMAT, LINT,
+    NAME, OVERRIDE, PATH, PROFILE, SHOW, STDIN_PATH, STRICT, TABLE_ONLY, TOOL_CONFIG_FILE, command,
 };
 use crate::file_system::current_folder;
 use crate::refusal::Refusal;
 use clap::ArgMatches;
 use nextest_config_command::{
-    Check, FindingCode, LintOptions, RepositoryFile, Request, Task, Words,
+    Check, FindingCode, LintOptions, ProfileTask, RepositoryFile, Request, Task, Words,
 };
 use nextest_config_explain::Topic;
 use nextest_config_sources::nextest_version::Edition;
@@ -83,6 +83,11 @@ fn task<'a>(alloc: Global, name: &str, matches: &ArgMatches<'a>) -> Result<Task,
             lint: lint_options(alloc, matches)?,
         })),
         LINT => Ok(Task::Lint(lint_options(alloc, matches)?)),
+        PROFILE => Ok(Task::Profile(ProfileTask {
+            name: profile_name(alloc, matches.get_str(NAME))?,
+            all: matches.get_flag(ALL),
+            format: format(matches)?,
+        })),
         SHOW => Ok(Task::Show(format(matches)?)),
         _ => Err(Refusal::Words("the subcommand isn't known")),
     }
@@ -120,6 +125,14 @@ fn version<'a>(alloc: Global, word: Option<&'a str>) -> Result<Version, Refusal<
         Err(error) if error == semver::Error::from(AllocError) => Err(Refusal::Memory),
         Err(_) => Err(Refusal::NotVersion(word)),
     }
+}
+
+fn profile_name<'a>(alloc: Global, word: Option<&'a str>) -> Result<String, Refusal<'a>> {
+    let Some(word) = word else {
+        return Err(Refusal::Words("no profile is named"));
+    };
+    let name = String::from_str(alloc, word)?;
+    Ok(name)
 }
 
 // The format that the words name.

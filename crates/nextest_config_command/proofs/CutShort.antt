@@ -8,15 +8,19 @@ use Rattle.nextest_config_report.specs.declared.exit_status.ExitStatus.{ExitStat
 use Rattle.nextest_config_report.specs.declared.exit_status.ExitStatus.TheVariants.{Failure, NoOutcome, Refused, Success}
 use Rattle.nextest_config_sources.specs.declared.nextest_version.edition.Edition.{Edition}
 use Rattle.nextest_config_formats.specs.declared.format.Format.TheVariants.{Human}
+use Rattle.nextest_config_profile_report.specs.Report.{has_fault}
 use Rattle.nextest_config_report.specs.declared.show.ShowFormat.{ShowFormat}
 use Rattle.nextest_config_report.specs.declared.show.ShowFormat.TheVariants as shows
-use Rattle.nextest_config_command.specs.Answer.{answer_of, AnswerView, IsDone, enough, failing_if, is_said, not_enough, refused_files, refused_list, shown, shown_refusal, status_checked, warns}
+use Rattle.nextest_config_command.specs.Answer.{answer_of, AnswerView, enough, failing_if, is_said, not_enough, refused_files, refused_list, shown, shown_refusal, status_checked, warns}
+use Rattle.nextest_config_command.specs.Done.{IsDone}
 use Rattle.nextest_config_command.specs.Files.{PathStates, unanswered_text, UnlessMemory}
 use Rattle.nextest_config_command.specs.Found.{FilesRead, IsFirstUnread}
 use Rattle.nextest_config_command.specs.Lint.{failure_if, fails_by, lint_status, lint_text, summary_of}
+use Rattle.nextest_config_command.specs.Profile.{faulty, IsProfiled, reported, sound, without}
 use Rattle.nextest_config_command.specs.Streams.{cut_off, IsCutShort, IsReply, IsServed, IsTold, IsUnwritten, line_of, no_memory, unread}
 use Rattle.nextest_config_command.specs.declared.files.Unanswered.{Unanswered}
 use Rattle.nextest_config_command.specs.declared.files.Unanswered.TheVariants as fails
+use Rattle.nextest_config_command.specs.declared.request.ProfileTask.{ProfileTask}
 use Rattle.nextest_config_command.specs.declared.request.Request.{Request}
 use Rattle.nextest_config_command.specs.declared.request.Task.{Task}
 use Rattle.nextest_config_command.specs.declared.request.Task.TheVariants as tasks
@@ -40,6 +44,16 @@ shown_otherwise : (format : ShowFormat) (text : List ℕ) → ◌≡◌ {A = ℕ
 shown_otherwise shows.Human text is = cc is
 shown_otherwise shows.Json text is = cc is
 
+-- an answer that is so has its status
+status_of : (answer other : AnswerView) → answer ≡ other → exit_code answer.status ≡ 3 → exit_code other.status ≡ 3
+status_of answer other same is = ap (λ a. exit_code a.status) (sym same) ∙ is
+
+profiled_otherwise : (edition : Edition) (files : FilesRead) (task : ProfileTask) (answer : AnswerView) → IsProfiled edition files task answer → exit_code answer.status ≡ 3 → ⊥
+profiled_otherwise edition files task answer (faulty found errors are told) is = cc (status_of answer _ told is)
+profiled_otherwise edition files task answer (sound passes (layers, are, without wrong is_wrong (said, told, same))) is = cc (status_of answer _ same is)
+profiled_otherwise edition files task answer (sound passes (layers, are, reported profile is_of (report, is_report, told))) is =
+    failed_or_not (has_fault report) (ap exit_code (sym told.status_is) ∙ is)
+
 pub not_cut_short : (edition : Edition) (task : Task) (files : FilesRead) (answer : AnswerView) → IsDone edition task files answer → exit_code answer.status ≡ 3 → ⊥
 not_cut_short edition (tasks.Check check) files answer (refused_list found refused are) is = cc is
 not_cut_short edition (tasks.Check check) files answer (not_enough configuration v front listed selected fails told) is = cc is
@@ -50,7 +64,8 @@ not_cut_short edition (tasks.Lint options) files answer linted is =
     failed_or_not (fails_by options.strict (summary_of linted.found))
     (cut_anyway (options.strict && is_said files.notices) (lint_status options.strict (summary_of linted.found)) (ap (λ a. exit_code a.status) (sym linted.is) ∙ is))
 not_cut_short edition (tasks.Show format) files answer (refused_files found refused are) is = shown_otherwise format (lint_text Human found) is
-not_cut_short edition (tasks.Show format) files answer (shown configuration listed) is = cc is
+not_cut_short edition (tasks.Show format) files answer (shown configuration text listed is_shown) is = cc is
+not_cut_short edition (tasks.Profile task) files answer profiled is = profiled_otherwise edition files task answer profiled is
 
 -- ---- what serves it
 

@@ -4,7 +4,9 @@ pub mod CutShort
 pub mod FileLists
 pub mod FilesFound
 pub mod FirstFailures
+pub mod LayersOfFiles
 pub mod LintStatus
+pub mod ProfilesTold
 pub mod VerdictsTold
 pub mod Walks
 pub mod WantedPaths

@@ -17,7 +17,7 @@ use Rattle.nextest_config_findings.specs.declared.file.LocatedFinding.{LocatedFi
 use Rattle.nextest_config_findings.specs.declared.finding.FindingSeverity.{FindingSeverity}
 use Rattle.nextest_config_findings.specs.declared.finding.FindingSeverity.TheVariants.{Error, Note, Warning}
 use Rattle.nextest_config_command.specs.Answer.{AnswerView, IsLinted, judging}
-use Rattle.nextest_config_command.specs.FileFindings.{FileFound, HasNoError, is_error, IsFoundAfter, IsFoundIn, tells}
+use Rattle.nextest_config_command.specs.FileFindings.{AreFound, FileFound, HasNoError, is_error, IsFoundAfter, IsFoundIn, tells}
 use Rattle.nextest_config_command.specs.Files.{File}
 use Rattle.nextest_config_command.specs.Found.{all_files, FilesRead}
 use Rattle.nextest_config_command.specs.Lint.{failure_if, severities_in, severities_of, severity_of}
@@ -26,10 +26,10 @@ use Rattle.nextest_config_command.specs.declared.request.LintOptions.{LintOption
 
 -- ---- no error is counted
 
-abbrev counted : List FindingSeverity → ℕ
+abbrev pub counted : List FindingSeverity → ℕ
 counted severities = count_by is_error severities
 
-abbrev HasNone : List FindingSeverity → Type 0
+abbrev pub HasNone : List FindingSeverity → Type 0
 HasNone severities = counted severities ≡ 0
 
 counted_cons : (severity : FindingSeverity) (rest : List FindingSeverity) → counted (severity ∷ rest) ≡ cond (is_error severity) 1 0 + counted rest
@@ -95,14 +95,19 @@ passes_by : (is_some : Bool) (n : ℕ) → nat_lt 0 n ≡ is_some → (exit_code
 passes_by true n some = (λ h. cc h, λ h. absurd (grind (arith, nat_tests, some, h)))
 passes_by false n some = (λ h. grind (arith, nat_tests, some), λ h. refl)
 
+-- no error is counted exactly where no file has one
+pub counts_none : (edition : Edition) (files : FilesRead) (found : List FileFound) → AreFound (judging edition [] false) files found
+    → HasNone (severities_of found) ↔ AllByRecursion (HasNoError edition) (all_files files)
+counts_none edition files found are =
+    let of_tools = files_pass edition are.in_tools.0 0 files.tools are.of_tools are.in_tools.2 in
+    let of_repository = after_pass edition files.tools files.repository are.of_repository are.in_repository in
+    rw (are.whole, flat_map-append severities_in are.of_tools are.of_repository)
+    (iff.trans (both_none (severities_of are.of_tools) (severities_of are.of_repository))
+    (iff.trans (iff.and of_tools of_repository) (all_of_both (HasNoError edition) files.tools files.repository)))
+
 pub lint_passes : (edition : Edition) (options : LintOptions) (files : FilesRead) (answer : AnswerView) → options.strict ≡ false → options.allowed.items ≡ []
     → IsLinted edition options files answer → (exit_code answer.status ≡ 0) ↔ AllByRecursion (HasNoError edition) (all_files files)
 lint_passes edition options files answer lax none linted =
     let found = rw none at linted.are_found in
-    let of_tools = files_pass edition found.in_tools.0 0 files.tools found.of_tools found.in_tools.2 in
-    let of_repository = after_pass edition files.tools files.repository found.of_repository found.in_repository in
     rw (linted.is, lax)
-    (iff.trans (passes_by _ (counted (severities_of linted.found)) refl)
-    (rw (found.whole, flat_map-append severities_in found.of_tools found.of_repository)
-    (iff.trans (both_none (severities_of found.of_tools) (severities_of found.of_repository))
-    (iff.trans (iff.and of_tools of_repository) (all_of_both (HasNoError edition) files.tools files.repository)))))
+    (iff.trans (passes_by _ (counted (severities_of linted.found)) refl) (counts_none edition files linted.found found))

@@ -7,6 +7,7 @@ use Rattle.nextest_config.specs.NextestVersion.Verdict.{Verdict}
 use Rattle.nextest_config_findings.specs.declared.code.FindingCode.{FindingCode}
 use Rattle.nextest_config_formats.specs.declared.format.Format.TheVariants.{Human}
 use Rattle.nextest_config_formats.specs.declared.summary.Summary.{Summary}
+use Rattle.nextest_config_profiles.specs.declared.layer.Layer.{Layer}
 use Rattle.nextest_config_report.specs.Show.{show_text}
 use Rattle.nextest_config_report.specs.declared.exit_status.ExitStatus.{ExitStatus}
 use Rattle.nextest_config_report.specs.declared.exit_status.ExitStatus.TheVariants.{Failure, Refused, Success}
@@ -14,14 +15,14 @@ use Rattle.nextest_config_report.specs.declared.show.ShowFormat.{ShowFormat}
 use Rattle.nextest_config_report.specs.declared.show.ShowFormat.TheVariants as shows
 use Rattle.nextest_config_command.specs.FileFindings.{AreFound, FileFound, Judging}
 use Rattle.nextest_config_command.specs.FileList.{IsListedAs, IsRefusedList, sources_of_files}
+use Rattle.nextest_config_command.specs.Files.{File}
 use Rattle.nextest_config_command.specs.Found.{all_files, FilesRead}
+use Rattle.nextest_config_command.specs.Layers.{AreLayers, AreProfileNames}
 use Rattle.nextest_config_command.specs.Lint.{failure_if, fails_by, lint_status, lint_text, summary_of}
 use Rattle.nextest_config_command.specs.Verdict.{IsVerdictTold}
 use Rattle.nextest_config_command.specs.declared.answer.Answer.{Answer}
 use Rattle.nextest_config_command.specs.declared.request.Check.{Check}
 use Rattle.nextest_config_command.specs.declared.request.LintOptions.{LintOptions}
-use Rattle.nextest_config_command.specs.declared.request.Task.{Task}
-use Rattle.nextest_config_command.specs.declared.request.Task.TheVariants as tasks
 
 -- ---- an answer
 
@@ -128,25 +129,25 @@ abbrev pub shown_refusal : ShowFormat → List ℕ → AnswerView
 shown_refusal shows.Human text = writes text Refused
 shown_refusal shows.Json text = says text Refused
 
+-- what is shown of files for which a configuration stands: with it the names of their profiles
+pub record IsTextShown (format : ShowFormat) (files : List File) (configuration : Configuration)
+    (text : List ℕ) : Type 0 where
+  pub layers : List Layer
+  pub are_layers : AreLayers files layers
+  pub profiles : List (List ℕ)
+  pub are_names : AreProfileNames layers profiles
+  pub text_is : text ≡ show_text format configuration profiles
+
 -- what the files ask: one constructor for each kind of answer
 pub data IsShown (edition : Edition) (files : FilesRead) (format : ShowFormat) : AnswerView → Type 0
   where
     refused_files : (found : List FileFound) → IsRefusedList edition (all_files files)
         → AreFound (judging edition [] true) files found
         → IsShown edition files format (shown_refusal format (lint_text Human found))
-    shown : (configuration : Configuration) → IsListedAs edition (all_files files) configuration
-        → IsShown edition files format (writes (show_text format configuration) Success)
-
--- ---- the task
-
--- the task is done: what is answered
-abbrev pub IsDone : Edition → Task → FilesRead → AnswerView → Type 0
-IsDone edition (tasks.Check check) files = IsChecked edition files check
-IsDone edition (tasks.Lint options) files = IsLinted edition options files
-IsDone edition (tasks.Show format) files = IsShown edition files format
-
-abbrev pub IsAnswer : Edition → Task → FilesRead → Answer → Type 0
-IsAnswer edition task files answer = IsDone edition task files (answer_of answer)
+    shown : (configuration : Configuration) (text : List ℕ)
+        → IsListedAs edition (all_files files) configuration
+        → IsTextShown format (all_files files) configuration text
+        → IsShown edition files format (writes text Success)
 
 -- ---- its parts
 

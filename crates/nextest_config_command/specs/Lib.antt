@@ -1,12 +1,15 @@
 pub mod Answer
 pub mod Asked
 pub mod Distinct
+pub mod Done
 pub mod FileFindings
 pub mod FileList
 pub mod Files
 pub mod Found
+pub mod Layers
 pub mod Lint
 pub mod Positions
+pub mod Profile
 pub mod Request
 pub mod Streams
 pub mod Verdict

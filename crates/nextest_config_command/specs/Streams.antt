@@ -5,7 +5,8 @@ use Rattle.nextest_config_report.specs.ExitStatus.{exit_code}
 use Rattle.nextest_config_report.specs.Streams.{AddsFront, AddsOrFails}
 use Rattle.nextest_config_report.specs.declared.exit_status.ExitStatus.{ExitStatus}
 use Rattle.nextest_config_report.specs.declared.exit_status.ExitStatus.TheVariants.{NoOutcome}
-use Rattle.nextest_config_command.specs.Answer.{AnswerView, IsAnswer, IsDone}
+use Rattle.nextest_config_command.specs.Answer.{AnswerView}
+use Rattle.nextest_config_command.specs.Done.{IsAnswer, IsDone}
 use Rattle.nextest_config_command.specs.Files.{PathStates}
 use Rattle.nextest_config_command.specs.Found.{FilesRead, IsFirstUnread, IsReadFor}
 use Rattle.nextest_config_command.specs.declared.request.Request.{Request}

@@ -2,19 +2,23 @@
 
 ghost use Rattle.std.specs.Prelude.{◌≡◌, IfOk, string_bytes};
 ghost use Rattle.nextest_config.specs.NextestVersion.{configuration_of, verdict_of};
-ghost use Rattle.nextest_config_command.specs.Answer.{answer_of, check_judging, fails, IsAnswer, IsChecked, IsCheckWith, IsLinted, IsShown, shown_refusal, status_checked, status_found, warns, writes};
-ghost use Rattle.nextest_config_command.specs.FileList.{IsListedAs};
+ghost use Rattle.nextest_config_command.specs.Answer.{answer_of, check_judging, fails, IsChecked, IsCheckWith, IsLinted, IsShown, IsTextShown, says, shown_refusal, status_checked, status_found, warns, writes};
+ghost use Rattle.nextest_config_command.specs.Done.{IsAnswer};
+ghost use Rattle.nextest_config_command.specs.FileList.{AreDocuments, IsListedAs};
 ghost use Rattle.nextest_config_command.specs.Found.{all_files, files_of};
 ghost use Rattle.nextest_config_command.specs.Lint.{IsLint};
 
 use crate::file_findings::Rules;
 use crate::file_list::configuration_of_files;
+use crate::layers::{indexed_files, layers};
 use crate::lint::Lint;
 use crate::parsed_file::ParsedFiles;
+use crate::profile::profile;
 use crate::request::{Check, LintOptions, Task};
 use crate::verdict::verdict_text;
 use nextest_config::nextest_version::{Edition, NextestVersionEval, VersionOnlyConfig};
 use nextest_config_formats::Format;
+use nextest_config_profiles::profile_names;
 use nextest_config_report::exit_status::ExitStatus;
 use nextest_config_report::show::{ShowFormat, show_text};
 use std::alloc::{AllocError, Global};
@@ -40,6 +44,7 @@ pub(crate) fn answer_to(
     match task {
         Task::Check(task) => check(alloc, edition, task, files),
         Task::Lint(options) => lint(alloc, edition, options, files),
+        Task::Profile(task) => profile(alloc, edition, task, files),
         Task::Show(format) => show(alloc, edition, *format, files),
     }
 }
@@ -50,6 +55,14 @@ impl Answer {
         ensures { answer_of result ≡ writes (string_bytes text) status }
     {
         let said = String::new(alloc);
+        Answer { text, said, status }
+    }
+
+    /// This is said, and nothing is written.
+    pub fn says(alloc: Global, said: String, status: ExitStatus) -> Self
+        ensures { answer_of result ≡ says (string_bytes said) status }
+    {
+        let text = String::new(alloc);
         Answer { text, said, status }
     }
 }
@@ -200,7 +213,7 @@ fn show(
 {
     match configuration_of_files(alloc, edition, files)? {
         Some(config) => {
-            let text = show_text(alloc, format, &config)?;
+            let text = shown_text(alloc, format, files, &config)?;
             Ok(Answer::writes(alloc, text, ExitStatus::Success))
         }
         None => {
@@ -215,16 +228,30 @@ fn show(
     }
 }
 
+// What is shown of files, each of which is a document, and for which this configuration stands.
+fn shown_text(
+    alloc: Global,
+    format: ShowFormat,
+    files: &ParsedFiles<'_>,
+    config: &VersionOnlyConfig,
+) -> Result<String, AllocError>
+    requires { AreDocuments (all_files (files_of files.now)) }
+    ensures { IfOk result (λ text. IsTextShown format (all_files (files_of files.now))
+        (configuration_of config.now) (string_bytes text)) }
+{
+    let indexed = indexed_files(alloc, files)?;
+    let layers = layers(alloc, indexed.as_slice())?;
+    let profiles = profile_names(alloc, layers.as_slice())?;
+    let text = show_text(alloc, format, config, profiles.as_slice())?;
+    Ok(text)
+}
+
 // What is told of the files of a list that is refused: on the second stream, where JSON is wanted.
 fn show_refusal(alloc: Global, format: ShowFormat, text: String) -> Answer
     ensures { answer_of result ≡ shown_refusal format (string_bytes text) }
 {
     match format {
         ShowFormat::Human => Answer::writes(alloc, text, ExitStatus::Refused),
-        ShowFormat::Json => Answer {
-            text: String::new(alloc),
-            said: text,
-            status: ExitStatus::Refused,
-        },
+        ShowFormat::Json => Answer::says(alloc, text, ExitStatus::Refused),
     }
 }

@@ -17,7 +17,8 @@ pub(crate) fn configuration_of_files(
 ) -> Result<Option<VersionOnlyConfig>, AllocError>
     ensures { IfOk result (λ config. MatchOption config
         (IsRefusedList edition (all_files (files_of files.now)))
-        (IsListed edition (all_files (files_of files.now)))) }
+        (λ config. AreDocuments (all_files (files_of files.now))
+        × IsListed edition (all_files (files_of files.now)) config)) }
 {
     let Some(documents) = all_documents(alloc, files)? else {
         return Ok(None);

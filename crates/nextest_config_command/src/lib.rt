@@ -1,5 +1,5 @@
 //! The engine of the command `nextest-config`: what is checked, linted or shown of the files that
-//! it is asked for, over any place that files are read from.
+//! it is asked for, or of a profile that they have, over any place that files are read from.
 #![tactic(auto)]
 
 mod answer;
@@ -10,8 +10,10 @@ mod file_list;
 mod files;
 mod found;
 pub mod laws;
+mod layers;
 mod lint;
 mod parsed_file;
+mod profile;
 mod request;
 mod streams;
 mod verdict;
@@ -21,6 +23,6 @@ pub use files::{FileRead, Files};
 pub use nextest_config_findings::FindingCode;
 pub use nextest_config_formats::Format;
 pub use nextest_config_report::show::ShowFormat;
-pub use request::{Check, LintOptions, RepositoryFile, Request, Task};
+pub use request::{Check, LintOptions, ProfileTask, RepositoryFile, Request, Task};
 pub use streams::serve;
 pub use words::{Misuse, Words};

@@ -43,7 +43,9 @@ pub enum Task {
     Check(Check),
     /// What is found in the files is told.
     Lint(LintOptions),
-    /// What the files ask is told.
+    /// It is told what a profile gets for its settings, and which file says so.
+    Profile(ProfileTask),
+    /// What the files ask is told, and which profiles they have.
     Show(ShowFormat),
 }
 
@@ -66,4 +68,13 @@ pub struct LintOptions {
     /// The codes of findings that are left out. A finding for which a check refuses the files is
     /// told in any case.
     pub allowed: Vec<FindingCode>,
+}
+
+/// A profile that is told.
+#[derive(Debug, PartialEq, Eq, Drop)]
+pub struct ProfileTask {
+    pub name: String,
+    /// Whether it is told, too, what each value hides.
+    pub all: bool,
+    pub format: ShowFormat,
 }

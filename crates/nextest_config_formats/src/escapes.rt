@@ -8,7 +8,7 @@ use std::fmt;
 
 /// What is escaped in a text.
 #[derive(Clone, Copy, Debug, PartialEq, Eq)]
-pub(crate) enum Escapes {
+pub enum Escapes {
     /// What ends a line: CR and LF, as `\r` and `\n`.
     LineEnds,
     /// What GitHub's commands can't have in a message: `%`, CR and LF, by their hexadecimal codes.
@@ -19,7 +19,7 @@ pub(crate) enum Escapes {
 
 /// A text that prints with what is escaped.
 #[derive(Clone, Copy, Debug, PartialEq, Eq)]
-pub(crate) struct Escaped<'a>(pub Escapes, pub &'a str);
+pub struct Escaped<'a>(pub Escapes, pub &'a str);
 
 impl fmt::Display for Escaped<'_> {
     ghost output = { λ text. Some (escaped_text text.0 text.1.now) };

@@ -11,6 +11,7 @@ pub mod laws;
 mod summary;
 mod told;
 
+pub use escapes::{Escaped, Escapes};
 pub use format::Format;
 pub use json::json_text;
 pub use summary::Summary;

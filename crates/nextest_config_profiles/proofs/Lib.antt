@@ -4,6 +4,7 @@ pub mod Selection
 pub mod LaidOver
 pub mod LastSaid
 pub mod Names
+pub mod NamesInOrder
 pub mod Ways
 pub mod DefaultsParse
 pub mod Given

@@ -1,5 +1,5 @@
 -- The files of a list, as layers.
-use Rattle.std.specs.Prelude.{codes, List, ◌∷◌, map, Option, option_and_then}
+use Rattle.std.specs.Prelude.{ℕ, zero, suc, codes, List, ◌∷◌, map, Option, None, option_and_then, slice_get}
 use Rattle.toml.specs.Data.{Data, get_member, Members}
 use Rattle.toml.specs.Parse.{parse_document}
 use Rattle.toml.specs.View.{table_view}
@@ -17,3 +17,8 @@ profiles_in layers = map (λ layer. profiles_at (table_view layer.document.now))
 -- the layers of a list: what nextest sets itself, and above that the files
 abbrev pub all_layers : List Layer → Layers
 all_layers layers = option_and_then profiles_at (parse_document default_text) ∷ profiles_in layers
+
+-- the file of a layer; the first layer is none
+abbrev pub file_at : List Layer → ℕ → Option Layer
+file_at files zero = None
+file_at files (suc position) = slice_get files position

@@ -10,3 +10,5 @@ pub mod Effective
 pub mod Defaults
 pub mod Layer
 pub mod Profile
+pub mod NameList
+pub mod Inherits

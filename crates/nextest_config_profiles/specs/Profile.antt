@@ -1,5 +1,5 @@
 -- A profile with what it falls back on.
-use Rattle.std.specs.Prelude.{◌≡◌, ℕ, zero, suc, codes, List, ◌∷◌, false, map, MatchOption, Option, Some, None, slice_get, string_bytes}
+use Rattle.std.specs.Prelude.{◌≡◌, ℕ, codes, List, ◌∷◌, false, map, MatchOption, Option, Some, None, option_and_then, slice_get, string_bytes}
 use Rattle.toml.specs.Data.{Data}
 use Rattle.toml.specs.View.{table_view}
 use Rattle.nextest_config_values.specs.Read.{Reading}
@@ -10,7 +10,7 @@ use Rattle.nextest_config_positions.specs.declared.place.Span.{Span}
 use Rattle.nextest_config_profiles.specs.Chain.{IsWrong, no_profile, not_defined, not_text, ring, Wrong}
 use Rattle.nextest_config_profiles.specs.Effective.{IsEffective}
 use Rattle.nextest_config_profiles.specs.Laid.{Layers}
-use Rattle.nextest_config_profiles.specs.Layer.{profiles_at, profiles_in}
+use Rattle.nextest_config_profiles.specs.Layer.{file_at, profiles_at, profiles_in}
 use Rattle.nextest_config_profiles.specs.Said.{Path}
 use Rattle.nextest_config_profiles.specs.declared.effective.Effective.{Effective}
 use Rattle.nextest_config_profiles.specs.declared.layer.Layer.{Layer}
@@ -46,17 +46,27 @@ IsProfileFault layers name fault =
 abbrev pub steps_to : Path → List PathStep
 steps_to path = key (codes "profile") ∷ map key path
 
--- the file of a layer; the first layer is none
-abbrev pub file_at : List Layer → ℕ → Option Layer
-file_at files zero = None
-file_at files (suc position) = slice_get files position
+-- the files by which it is told, and that of a layer
+abbrev pub files_in : EffectiveProfile → List Layer
+files_in profile = profile.layers.now
 
--- the range of a path below `profile` in the file of a layer, by its index: that of its value, or
--- without one that of its key
+abbrev pub file_in : EffectiveProfile → ℕ → Option Layer
+file_in profile = file_at (files_in profile)
+
+-- what the layer at a position has for profiles
+abbrev pub layer_at : Layers → ℕ → Option Data
+layer_at layers position = option_and_then (λ layer. layer) (slice_get layers position)
+
+-- the range of a path below `profile` in a file, by its index: that of its value, or without one
+-- that of its key
+abbrev pub IsSpanBy : Layer → Path → Option Span → Type 0
+IsSpanBy file path span = (text : List ℕ) → IsIndexOf text file.index.now
+    → IsSpanOf text (range_at false (ranges_in file.index.now) (steps_to path)) span
+
+-- the same in the file of a layer
 abbrev pub IsSpanIn : EffectiveProfile → ℕ → Path → Option Span → Type 0
-IsSpanIn profile layer path span = MatchOption (file_at profile.layers.now layer) (span ≡ None)
-    (λ file. (text : List ℕ) → IsIndexOf text file.index.now
-    → IsSpanOf text (range_at false (ranges_in file.index.now) (steps_to path)) span)
+IsSpanIn profile layer path span =
+    MatchOption (file_in profile layer) (span ≡ None) (λ file. IsSpanBy file path span)
 
 -- what a profile gets for the setting at these keys
 abbrev pub Gets : {X Y : Type 0} → (X → Y) → Reading Data (Option Y) → EffectiveProfile → Path → Effective X → Type 0

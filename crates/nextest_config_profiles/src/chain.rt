@@ -6,7 +6,7 @@ ghost use Rattle.nextest_config_profiles.specs.Profiles.{IsProfile};
 ghost use Rattle.nextest_config_profiles.specs.Reach.{layers_of, words_of};
 
 use crate::last_value::last_value;
-use crate::profiles::{DEFAULT, is_profile, profile_names};
+use crate::profiles::{DEFAULT, is_profile, name_set};
 use std::alloc::{AllocError, Global};
 use toml::Value;
 
@@ -51,7 +51,7 @@ pub(crate) fn chain_of<'a>(
     if !is_profile(layers, name) {
         return Err(ChainFault::NoProfile);
     }
-    let mut left = profile_names(alloc, layers)?;
+    let mut left = name_set(alloc, layers)?;
     let mut chain = Vec::new(alloc);
     let mut current = name;
     while current != DEFAULT {

@@ -1,6 +1,6 @@
 //! The files of a list, as layers.
 
-ghost use Rattle.std.specs.Prelude.{◌≡◌, ◌∷◌, IfOk, map, option_map};
+ghost use Rattle.std.specs.Prelude.{◌≡◌, ◌++◌, ◌∷◌, IfOk, OnOk, option_map};
 ghost use Rattle.toml.specs.View.{table_view, view};
 ghost use Rattle.nextest_config_profiles.specs.Layer.{profiles_at, profiles_in};
 ghost use Rattle.nextest_config_profiles.specs.Reach.{layers_of};
@@ -19,8 +19,8 @@ pub struct Layer<'a> {
     pub index: &'a Index,
 }
 
-// What a document has for profiles.
-fn profiles_at(document: &Table) -> Option<&Value>
+/// What a document has for profiles.
+pub(crate) fn profiles_at(document: &Table) -> Option<&Value>
     ensures { option_map (λ value. view value.now) result
         ≡ profiles_at (table_view document.now) }
 {
@@ -38,8 +38,32 @@ pub(crate) fn profiles_in<'a>(
 {
     let mut profiles = Vec::new(alloc);
     profiles.push(profiles_at(defaults))?;
+    push_profiles(&mut profiles, layers)?;
+    Ok(profiles)
+}
+
+/// What the files have for profiles.
+pub(crate) fn profiles_of_files<'a>(
+    alloc: Global,
+    layers: &[Layer<'a>],
+) -> Result<Vec<Option<&'a Value>>, AllocError>
+    ensures { IfOk result (λ profiles. layers_of profiles.items ≡ profiles_in layers.now) }
+{
+    let mut profiles = Vec::new(alloc);
+    push_profiles(&mut profiles, layers)?;
+    Ok(profiles)
+}
+
+// Pushes what the files have for profiles.
+fn push_profiles<'a>(
+    profiles: &mut Vec<Option<&'a Value>>,
+    layers: &[Layer<'a>],
+) -> Result<(), AllocError>
+    ensures { OnOk result (layers_of profiles.new.items
+        ≡ layers_of profiles.old.items ++ profiles_in layers.now) }
+{
     for layer in layers {
         profiles.push(profiles_at(layer.document))?;
     }
-    Ok(profiles)
+    Ok(())
 }

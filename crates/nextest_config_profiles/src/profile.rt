@@ -1,13 +1,13 @@
 //! A profile with what it falls back on.
 
-ghost use Rattle.std.specs.Prelude.{◌≡◌, ◌⊎◌, ◌∷◌, IfErr, IfOk, map, MatchOption, None, option_map, string_bytes};
+ghost use Rattle.std.specs.Prelude.{◌≡◌, ◌⊎◌, ◌∷◌, IfErr, IfOk, length, map, MatchOption, None, option_map, string_bytes};
 ghost use Rattle.toml.specs.View.{table_view, view};
 ghost use Rattle.nextest_config_positions.specs.Step.{step_of};
 ghost use Rattle.nextest_config_profiles.specs.Effective.{IsEffective};
 ghost use Rattle.nextest_config_profiles.specs.Chain.{chain_wrong, IsChain};
 ghost use Rattle.nextest_config_profiles.specs.Layer.{all_layers, profiles_at, profiles_in};
 ghost use Rattle.nextest_config_profiles.specs.Laid.{HasNoValue, IsLaidOver};
-ghost use Rattle.nextest_config_profiles.specs.Profile.{chain_in, file_at, IsProfileFault, IsSpanIn, layers_in, profile_wrong, steps_to};
+ghost use Rattle.nextest_config_profiles.specs.Profile.{chain_in, file_in, files_in, IsProfileFault, IsSpanIn, layer_at, layers_in, profile_wrong, steps_to};
 ghost use Rattle.nextest_config_profiles.specs.LastValue.{IsLastValue};
 ghost use Rattle.nextest_config_profiles.specs.Reach.{words_of};
 ghost use Rattle.nextest_config_profiles.specs.Said.{said_at};
@@ -17,7 +17,7 @@ use crate::defaults::default_document;
 use crate::effective::{Effective, first_given};
 use crate::laid::laid_over;
 use crate::last_value::{LayerValue, last_value};
-use crate::layer::{Layer, profiles_in};
+use crate::layer::{Layer, profiles_at, profiles_in};
 use crate::setting::Setting;
 use nextest_config_findings::value_or_key;
 use nextest_config_positions::{Span, Step};
@@ -49,6 +49,7 @@ pub enum ProfileFault {
 impl<'a> EffectiveProfile<'a> {
     /// The profile of this name, by layers that have no error, the lowest first.
     pub fn of(alloc: Global, layers: &'a [Layer<'a>], name: &str) -> Result<Self, ProfileFault>
+        ensures files { IfOk result (λ profile. files_in profile ≡ layers.now) }
         ensures layers { IfOk result (λ profile. layers_in profile ≡ all_layers layers.now) }
         ensures chain { IfOk result (λ profile.
             IsChain (all_layers layers.now) name.now (chain_in profile)) }
@@ -114,9 +115,36 @@ impl<'a> EffectiveProfile<'a> {
         }
     }
 
+    /// The files by which it is told, the lowest first.
+    pub fn files(&self) -> &'a [Layer<'a>]
+        ensures { result.now ≡ files_in self.now }
+    {
+        self.layers
+    }
+
+    /// How many layers there are: what nextest sets itself, and the files.
+    pub fn layer_count(&self) -> usize
+        ensures { result ≡ length (layers_in self.now) }
+    {
+        self.layers.len() + 1
+    }
+
+    /// What a layer alone has for profiles.
+    pub fn layer(&self, layer: usize) -> Option<&Value>
+        ensures { option_map (λ value. view value.now) result ≡ layer_at (layers_in self.now) layer }
+    {
+        match layer {
+            0 => profiles_at(&self.defaults),
+            layer => match self.layers.get(layer - 1) {
+                Some(file) => profiles_at(file.document),
+                None => None,
+            },
+        }
+    }
+
     /// The file of a layer; `None` for what nextest sets itself.
     pub fn file(&self, layer: usize) -> Option<&Layer<'a>>
-        ensures { option_map (λ file. file.now) result ≡ file_at self.now.layers.now layer }
+        ensures { option_map (λ file. file.now) result ≡ file_in self.now layer }
     {
         match layer {
             0 => None,
@@ -147,8 +175,8 @@ impl From<AllocError> for ProfileFault {
     }
 }
 
-// The steps of a path below `profile`, from the top.
-fn steps_to(alloc: Global, path: &[&str]) -> Result<Vec<Step>, AllocError>
+/// The steps of a path below `profile`, from the top.
+pub(crate) fn steps_to(alloc: Global, path: &[&str]) -> Result<Vec<Step>, AllocError>
     ensures { IfOk result (λ steps. map step_of steps.items ≡ steps_to (words_of path.now)) }
 {
     let mut steps = Vec::new(alloc);

@@ -14,8 +14,8 @@ pub(crate) const DEFAULT: &str = "default";
 
 pub(crate) const DEFAULT_MIRI: &str = "default-miri";
 
-/// The names of all profiles: those that some layer has, and those that nextest has itself.
-pub(crate) fn profile_names<'a>(
+/// The set of the names of all profiles: those that some layer has, and those that nextest has itself.
+pub(crate) fn name_set<'a>(
     alloc: Global,
     layers: &[Option<&'a Value>],
 ) -> Result<BTreeSet<&'a str>, AllocError>

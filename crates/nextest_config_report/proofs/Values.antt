@@ -23,12 +23,13 @@ no_float_kept : (kept : Option Kept) → has_float (kept_data kept) ≡ false
 no_float_kept (Some kept) = refl
 no_float_kept None = refl
 
-no_float_shown : (configuration : Configuration) → has_float (show_data configuration) ≡ false
-no_float_shown configuration =
+no_float_shown : (configuration : Configuration) (profiles : List (List ℕ)) → has_float (show_data configuration profiles) ≡ false
+no_float_shown configuration profiles =
     let names = no_float_in string (λ name. refl) in
     rw (
       no_float_in place_data (λ place. refl) configuration.experimental.arrays,
       no_float_in feature_data (λ feature. refl) configuration.experimental.known,
+      names profiles,
       no_float_kept configuration.roles.recommended,
       no_float_kept configuration.roles.required,
       no_float_in unknown_data (λ unknown. rw (names unknown.names) refl) configuration.experimental.unknown,
@@ -36,7 +37,7 @@ no_float_shown configuration =
     refl
 
 -- what is shown has no float, so its text is the compact one
-pub line_shown : (configuration : Configuration) (value : Data) (text line : List ℕ) → value ≡ show_data configuration → (has_float value ≡ false → text ≡ compact_text value) → line ≡ text ++ codes "\n" → line ≡ show_json configuration
-line_shown configuration value text line is prints ended =
-    let printed = prints (ap has_float is ∙ no_float_shown configuration) in
+pub line_shown : (configuration : Configuration) (profiles : List (List ℕ)) (value : Data) (text line : List ℕ) → value ≡ show_data configuration profiles → (has_float value ≡ false → text ≡ compact_text value) → line ≡ text ++ codes "\n" → line ≡ show_json configuration profiles
+line_shown configuration profiles value text line is prints ended =
+    let printed = prints (ap has_float is ∙ no_float_shown configuration profiles) in
     ended ∙ ap (λ front. front ++ codes "\n") (printed ∙ ap compact_text is)

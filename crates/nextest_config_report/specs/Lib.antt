@@ -1,4 +1,5 @@
 pub mod ExitStatus
 pub mod Lines
+pub mod Names
 pub mod Show
 pub mod Streams

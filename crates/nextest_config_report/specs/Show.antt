@@ -10,6 +10,7 @@ use Rattle.nextest_config_sources.specs.NextestVersion.{place_text, SourcePlace,
 use Rattle.nextest_config_sources.specs.declared.nextest_version.experimental.ConfigExperimental.{ConfigExperimental}
 use Rattle.nextest_config.specs.NextestVersion.{Configuration, Kept, Unknown}
 use Rattle.nextest_config_report.specs.Lines.{features_text}
+use Rattle.nextest_config_report.specs.Names.{names_text}
 use Rattle.nextest_config_report.specs.declared.show.ShowFormat.{ShowFormat}
 use Rattle.nextest_config_report.specs.declared.show.ShowFormat.TheVariants.{Human, Json}
 
@@ -35,12 +36,16 @@ role_line role (Some kept) =
     ++ (codes " by " ++ (place_text kept.place ++ codes "\n"))))
 role_line role None = role ++ codes ": none\n"
 
--- the lines of both roles, and those of the features
-abbrev pub show_lines : Configuration → List ℕ
-show_lines configuration =
+-- the line of the names of profiles
+abbrev pub profiles_line : List (List ℕ) → List ℕ
+profiles_line profiles = codes "profiles: " ++ (names_text profiles ++ codes "\n")
+
+-- the lines of both roles, those of the features, and that of the profiles
+abbrev pub show_lines : Configuration → List (List ℕ) → List ℕ
+show_lines configuration profiles =
     role_line (codes "required") configuration.roles.required
     ++ (role_line (codes "recommended") configuration.roles.recommended
-    ++ features_text configuration.experimental)
+    ++ (features_text configuration.experimental ++ profiles_line profiles))
 
 -- ---- JSON, for programs
 
@@ -69,23 +74,24 @@ unknown_data unknown = object
     (member (codes "features") (array_of string unknown.names)
     (member (codes "source") (place_data unknown.place) no_members))
 
--- both roles, the known features, the unknown ones by their sources, and the sources that name
--- theirs in an array
-abbrev pub show_data : Configuration → Data
-show_data configuration =
+-- both roles, the known features, the unknown ones by their sources, the sources that name theirs in
+-- an array, and the names of the profiles
+abbrev pub show_data : Configuration → List (List ℕ) → Data
+show_data configuration profiles =
     let experimental = configuration.experimental in object
     (member (codes "deprecated_arrays") (array_of place_data experimental.arrays)
     (member (codes "known") (array_of feature_data experimental.known)
+    (member (codes "profiles") (array_of string profiles)
     (member (codes "recommended") (kept_data configuration.roles.recommended)
     (member (codes "required") (kept_data configuration.roles.required)
-    (member (codes "unknown") (array_of unknown_data experimental.unknown) no_members)))))
+    (member (codes "unknown") (array_of unknown_data experimental.unknown) no_members))))))
 
 -- the object on a line of its own
-abbrev pub show_json : Configuration → List ℕ
-show_json configuration = compact_text (show_data configuration) ++ codes "\n"
+abbrev pub show_json : Configuration → List (List ℕ) → List ℕ
+show_json configuration profiles = compact_text (show_data configuration profiles) ++ codes "\n"
 
 -- ---- what is shown
 
-abbrev pub show_text : ShowFormat → Configuration → List ℕ
+abbrev pub show_text : ShowFormat → Configuration → List (List ℕ) → List ℕ
 show_text Human = show_lines
 show_text Json = show_json

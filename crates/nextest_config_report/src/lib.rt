@@ -5,5 +5,6 @@
 pub mod exit_status;
 pub mod laws;
 pub mod lines;
+pub mod names;
 pub mod show;
 pub mod streams;

@@ -5,9 +5,11 @@ ghost use Rattle.serde_json.specs.Data.{string};
 ghost use Rattle.serde_json.specs.View.{view};
 ghost use Rattle.nextest_config.specs.NextestVersion.{arrays_left, configuration_of, errors_left, kept_of};
 ghost use Rattle.nextest_config.specs.NextestVersion.ExperimentalConfig.{unknown_from};
-ghost use Rattle.nextest_config_report.specs.Show.{array_of, feature_data, format_reads_back, format_word, formats, kept_data, place_data, role_line, show_data, show_json, show_lines, show_text, unknown_data};
+ghost use Rattle.nextest_config_report.specs.Names.{texts_of};
+ghost use Rattle.nextest_config_report.specs.Show.{array_of, feature_data, format_reads_back, format_word, formats, kept_data, place_data, profiles_line, role_line, show_data, show_json, show_lines, show_text, unknown_data};
 
 use crate::lines::push_features;
+use crate::names::push_names;
 use nextest_config::nextest_version::{
     ArraySources, ConfigExperimental, ConfigSource, NextestVersionReq, SourceErrors,
     VersionOnlyConfig,
@@ -24,8 +26,8 @@ pub enum ShowFormat {
     /// Lines for people.
     Human,
     /// For programs, an object of JSON on a line of its own: `required` and `recommended`, each with
-    /// its `version` and `source` or null, `known`, `unknown` by their sources, and
-    /// `deprecated_arrays`.
+    /// its `version` and `source` or null, `known`, `unknown` by their sources,
+    /// `deprecated_arrays`, and `profiles`.
     Json,
 }
 
@@ -52,31 +54,49 @@ impl Word for ShowFormat {
     }
 }
 
-/// What a list asks: the versions, each with the source that asks it, and the features.
+/// What a list asks: the versions, each with the source that asks it, and the features; and the
+/// names of its profiles, which are these.
 pub fn show_text(
     alloc: Global,
     format: ShowFormat,
     config: &VersionOnlyConfig,
+    profiles: &[&str],
 ) -> Result<String, AllocError>
     ensures { IfOk result (λ text. string_bytes text
-        ≡ show_text format (configuration_of config.now)) }
+        ≡ show_text format (configuration_of config.now) (texts_of profiles.now)) }
 {
     match format {
-        ShowFormat::Human => show_lines(alloc, config),
-        ShowFormat::Json => show_json(alloc, config),
+        ShowFormat::Human => show_lines(alloc, config, profiles),
+        ShowFormat::Json => show_json(alloc, config, profiles),
     }
 }
 
 // The lines that people read.
-fn show_lines(alloc: Global, config: &VersionOnlyConfig) -> Result<String, AllocError>
-    ensures { IfOk result (λ text. string_bytes text ≡ show_lines (configuration_of config.now)) }
+fn show_lines(
+    alloc: Global,
+    config: &VersionOnlyConfig,
+    profiles: &[&str],
+) -> Result<String, AllocError>
+    ensures { IfOk result (λ text. string_bytes text
+        ≡ show_lines (configuration_of config.now) (texts_of profiles.now)) }
 {
     let kept = config.nextest_version();
     let mut text = String::new(alloc);
     push_role(&mut text, "required", &kept.required)?;
     push_role(&mut text, "recommended", &kept.recommended)?;
     push_features(&mut text, config.experimental())?;
+    push_profiles(&mut text, profiles)?;
     Ok(text)
+}
+
+// Pushes the line of the names of profiles.
+fn push_profiles(text: &mut String, profiles: &[&str]) -> Result<(), AllocError>
+    ensures { OnOk result (string_bytes text.new
+        ≡ string_bytes text.old ++ profiles_line (texts_of profiles.now)) }
+{
+    text.push_str("profiles: ")?;
+    push_names(text, profiles)?;
+    text.push_str("\n")
 }
 
 // Pushes the line of the version that is kept in a role.
@@ -93,18 +113,28 @@ fn push_role(text: &mut String, role: &str, kept: &NextestVersionReq) -> Result<
 }
 
 // The object that programs read, on a line of its own.
-fn show_json(alloc: Global, config: &VersionOnlyConfig) -> Result<String, AllocError>
-    ensures { IfOk result (λ text. string_bytes text ≡ show_json (configuration_of config.now)) }
+fn show_json(
+    alloc: Global,
+    config: &VersionOnlyConfig,
+    profiles: &[&str],
+) -> Result<String, AllocError>
+    ensures { IfOk result (λ text. string_bytes text
+        ≡ show_json (configuration_of config.now) (texts_of profiles.now)) }
 {
-    let value = show_value(alloc, config)?;
+    let value = show_value(alloc, config, profiles)?;
     let mut text = value.to_string(alloc)?;
     text.push_str("\n")?;
     Ok(text)
 }
 
 // What a list asks, as an object.
-fn show_value(alloc: Global, config: &VersionOnlyConfig) -> Result<Value, AllocError>
-    ensures { IfOk result (λ value. view value ≡ show_data (configuration_of config.now)) }
+fn show_value(
+    alloc: Global,
+    config: &VersionOnlyConfig,
+    profiles: &[&str],
+) -> Result<Value, AllocError>
+    ensures { IfOk result (λ value. view value
+        ≡ show_data (configuration_of config.now) (texts_of profiles.now)) }
 {
     let kept = config.nextest_version();
     let experimental = config.experimental();
@@ -114,6 +144,7 @@ fn show_value(alloc: Global, config: &VersionOnlyConfig) -> Result<Value, AllocE
         "known": known_value(alloc, experimental.known())?,
         "unknown": unknown_value(alloc, experimental.source_errors())?,
         "deprecated_arrays": arrays_value(alloc, experimental.array_sources())?,
+        "profiles": profiles_value(alloc, profiles)?,
     })
 }
 
@@ -187,4 +218,15 @@ fn arrays_value(alloc: Global, arrays: ArraySources<'_>) -> Result<Value, AllocE
         sources.push(Value::from(source.to_string(alloc)?))?;
     }
     Ok(Value::Array(sources))
+}
+
+// The names of profiles, as they are.
+fn profiles_value(alloc: Global, profiles: &[&str]) -> Result<Value, AllocError>
+    ensures { IfOk result (λ value. view value ≡ array_of string (texts_of profiles.now)) }
+{
+    let mut names = Vec::new(alloc);
+    for name in profiles {
+        names.push(Value::try_from_str(alloc, name)?)?;
+    }
+    Ok(Value::Array(names))
 }

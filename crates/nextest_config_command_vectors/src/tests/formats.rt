@@ -63,7 +63,7 @@ $ check --current=0.9.55 --tool-config-file=t:/t.toml --format=github = 0
 $ check --current=0.9.40 --tool-config-file=t:/t.toml --format=json = 1
 > {"path":"/t.toml","line":1,"column":32,"end_line":1,"end_column":40,"severity":"error","code":"nextest-version","key":"nextest-version.required","message":"0.9.50 required by tool t (/t.toml), current 0.9.40"}
 $ show --tool-config-file=t:/t.toml --format=json = 0
-> {"deprecated_arrays":["tool t (/t.toml)","repository .config/nextest.toml"],"known":["benchmarks"],"recommended":{"source":"tool t (/t.toml)","version":"0.9.60"},"required":{"source":"tool t (/t.toml)","version":"0.9.50"},"unknown":[{"features":["a","b"],"source":"repository .config/nextest.toml"}]}
+> {"deprecated_arrays":["tool t (/t.toml)","repository .config/nextest.toml"],"known":["benchmarks"],"profiles":["default","default-miri"],"recommended":{"source":"tool t (/t.toml)","version":"0.9.60"},"required":{"source":"tool t (/t.toml)","version":"0.9.50"},"unknown":[{"features":["a","b"],"source":"repository .config/nextest.toml"}]}
 $ lint --tool-config-file=t:/t.toml --format=full --allow=unknown-feature = 0
 > .config/nextest.toml:1:16: note: experimental: the array form is deprecated, use a table: { benchmarks = true } [deprecated-array]
 >   |

@@ -16,6 +16,7 @@ $ show --tool-config-file=my-tool:/etc/t.toml = 0
 > known: benchmarks
 > unknown in repository .config/nextest.toml: "future"
 > deprecated array form in repository .config/nextest.toml
+> profiles: default, default-miri
 $ check --current=0.9.55 --tool-config-file=my-tool:/etc/t.toml = 0
 > warning: 0.9.60 recommended by repository .config/nextest.toml, current 0.9.55
 > known: benchmarks
@@ -80,10 +81,12 @@ $ show --tool-config-file=a:/a.toml --tool-config-file=b:/b.toml = 0
 > required: 0.9.50 by tool a (/a.toml)
 > recommended: 0.9.50 by repository .config/nextest.toml
 > known: none
+> profiles: default, default-miri, ci
 $ show --tool-config-file=b:/b.toml --tool-config-file=a:/a.toml --config-file=/a.toml = 0
 > required: 0.9.50 by explicit /a.toml
 > recommended: 0.9.50 by tool b (/b.toml)
 > known: none
+> profiles: default, default-miri
 $ lint --tool-config-file=a:/a.toml --tool-config-file=b:/b.toml = 1
 > /b.toml:1:1: warning: unknown key "zone" [unknown-key]
 > /a.toml:2:1: warning: unknown key "zone" [unknown-key]
@@ -175,6 +178,7 @@ $ show --tool-config-file=t:/t.toml = 0
 > known: setup-scripts, wrapper-scripts
 > unknown in repository .config/nextest.toml: "x\n", "z"
 > deprecated array form in tool t (/t.toml)
+> profiles: default, default-miri
 $ show --tool-config-file=t:/t.toml --config-file=ci.toml = 0
 > required: none
 > recommended: none
@@ -182,11 +186,13 @@ $ show --tool-config-file=t:/t.toml --config-file=ci.toml = 0
 > unknown in explicit ci.toml: "x", "y"
 > deprecated array form in tool t (/t.toml)
 > deprecated array form in explicit ci.toml
+> profiles: default, default-miri
 $ show --table-only = 0
 > required: none
 > recommended: none
 > known: setup-scripts, wrapper-scripts
 > unknown in repository .config/nextest.toml: "x\n", "z"
+> profiles: default, default-miri
 $ show --tool-config-file=t:/t.toml --table-only = 2
 > /t.toml:1:16: error: experimental: the array form of `experimental` isn't supported, use a table [array-form]
 > .config/nextest.toml:1:18: warning: experimental.z: unknown feature "z" [unknown-feature]
@@ -345,6 +351,7 @@ $ show --config-file=a←¶b.toml = 0
 > required: 0.9.50 by explicit a←¶b.toml
 > recommended: none
 > known: none
+> profiles: default, default-miri, ci
 
 === files that ask for nothing
 @ other | folder
@@ -356,6 +363,7 @@ $ show --tool-config-file=t:/t.toml other = 0
 > required: none
 > recommended: none
 > known: none
+> profiles: default, default-miri
 ! no configuration file: other/.config/nextest.toml isn't there
 $ check --current=0.0.0 = 0
 > satisfied: 0.0.0
@@ -383,6 +391,7 @@ $ show a/b --table-only = 0
 > required: none
 > recommended: none
 > known: none
+> profiles: default, default-miri
 ! no configuration file: a/b/.config/nextest.toml isn't there
 $ lint a/b c.toml a/b = 0
 > c.toml:1:1: warning: unknown key "zone" [unknown-key]
@@ -401,6 +410,7 @@ $ show ../../.config/nextest.toml = 0
 > required: 0.9.50 by repository ../../.config/nextest.toml
 > recommended: none
 > known: none
+> profiles: default, default-miri
 
 === the nearest file, where folders stand in its place
 @ .config/nextest.toml | folder

@@ -11,7 +11,7 @@ pub returns-in-Ok : goal.returns-in-Ok
 returns-in-Ok c =
     let documents = rw c.in-Some.is at c.in_ok-documents.ensures in
     let read = c.in-Ok.ensures.read (map given_file (all_files (files_of c.args.files.now))) (rw (← c.as_slice.ensures.value) at documents.1) in
-    (document_texts _ documents.0, (read.stands, read.selected))
+    (documents.0, (document_texts _ documents.0, (read.stands, read.selected)))
 
 pub returns-in-Err-Refused : goal.returns-in-Err-Refused
 returns-in-Err-Refused c =

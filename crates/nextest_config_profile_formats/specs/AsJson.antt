@@ -1,0 +1,72 @@
+-- A profile as programs read it.
+use Rattle.std.specs.Prelude.{◌≡◌, ◌≤◌, ℕ, false, List, ◌∷◌, ◌++◌, codes, flat_map, fold, map, Option, Some, None, string_bytes}
+use Rattle.std.proofs.Common.{Global, Vec}
+use Rattle.json.specs.Lex.{tokens}
+use Rattle.json.specs.Print.{print}
+use Rattle.serde_json.specs.Data.{array, Data, depth, member, Members, no_members, null, object, put, string}
+use Rattle.serde_json.specs.Read.{max_depth, read}
+use Rattle.serde_json.specs.View.{items_of}
+use Rattle.serde_json.specs.Written.{compact_text, has_float, IsInOrder}
+use Rattle.nextest_config_report.specs.Show.{array_of}
+use Rattle.nextest_config_profile_report.specs.declared.report.ProfileReport.{ProfileReport}
+use Rattle.nextest_config_profile_report.specs.declared.told.Literal.{Literal}
+use Rattle.nextest_config_profile_report.specs.declared.told.Override.{Override}
+use Rattle.nextest_config_profile_report.specs.declared.told.OverrideSetting.{OverrideSetting}
+use Rattle.nextest_config_profile_report.specs.declared.told.Row.{Row}
+use Rattle.nextest_config_profile_formats.specs.Keys.{name_of}
+use Rattle.nextest_config_profile_formats.specs.Object.{hidden_data, literal_data, other_data, row_data}
+use Rattle.nextest_config_profile_formats.specs.Spot.{column_data, line_data, path_data, profile_data, spot_of}
+
+-- ---- the object of a profile
+
+-- a key, and behind it what it hides
+abbrev pub row_objects : Row → List Data
+row_objects row = row_data row ∷ map hidden_data row.hidden.items
+
+abbrev pub settings_data : List (Vec Row Global) → Data
+settings_data settings =
+    array (items_of (flat_map (λ rows. flat_map row_objects rows.items) settings))
+
+-- a value, or null
+abbrev pub literal_or_null : Option Literal → Data
+literal_or_null (Some literal) = literal_data literal
+literal_or_null None = null
+
+-- the keys that an override sets, each with its value
+abbrev pub pairs_data : List OverrideSetting → Members
+pairs_data settings =
+    fold (λ pairs setting. put setting.key.now (literal_data setting.literal) pairs) no_members settings
+
+-- an override: `column`, `filter`, `line`, `path`, `platform`, `profile` and `settings`
+abbrev pub override_data : Override → Data
+override_data one = let spot = spot_of one.source in object
+    (member (codes "column") (column_data spot)
+    (member (codes "filter") (literal_or_null one.filter)
+    (member (codes "line") (line_data spot)
+    (member (codes "path") (path_data spot)
+    (member (codes "platform") (literal_or_null one.platform)
+    (member (codes "profile") (profile_data spot)
+    (member (codes "settings") (object (pairs_data one.settings.items)) no_members)))))))
+
+-- a profile: `chain`, `others`, `overrides`, `profile` and `settings`
+abbrev pub report_data : ProfileReport → Data
+report_data report = object
+    (member (codes "chain") (array_of (λ name. string (string_bytes name)) report.chain.now)
+    (member (codes "others") (array_of other_data report.others.items)
+    (member (codes "overrides") (array_of override_data report.overrides.items)
+    (member (codes "profile") (string (name_of report.chain.now))
+    (member (codes "settings") (settings_data report.settings.items) no_members)))))
+
+-- ---- its text
+
+-- the value as `serde_json` writes it, without white space. Where it holds a float, whose digits
+-- `serde_json` doesn't promise, this is what its text reads as, and in which order
+pub record IsJsonText (value : Data) (text : List ℕ) : Type 0 where
+  pub exact : has_float value ≡ false → text ≡ compact_text value
+  pub compact : text ≡ print (tokens text)
+  pub order : IsInOrder text value
+  pub reads_back : depth value ≤ max_depth → read text ≡ Some value
+
+-- the same on a line of its own
+abbrev pub IsJsonLine : Data → List ℕ → Type 0
+IsJsonLine value line = (text : List ℕ) × (line ≡ text ++ codes "\n") × IsJsonText value text

@@ -1,0 +1,12 @@
+pub mod AsJson
+pub mod Columns
+pub mod Human
+pub mod Keys
+pub mod Line
+pub mod Lines
+pub mod Object
+pub mod Outside
+pub mod Overrides
+pub mod Profile
+pub mod Source
+pub mod Spot

@@ -1,0 +1,14 @@
+pub mod Setting
+pub mod Given
+pub mod Literal
+pub mod Source
+pub mod NoLimit
+pub mod Somes
+pub mod Standing
+pub mod Hidden
+pub mod Rows
+pub mod Others
+pub mod Elements
+pub mod Overrides
+pub mod Outside
+pub mod Report

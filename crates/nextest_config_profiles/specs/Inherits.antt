@@ -1,0 +1,27 @@
+-- Where profiles say what they inherit from.
+use Rattle.std.specs.Prelude.{◌≡◌, codes, List, [], ◌∷◌, ℕ, Option, Some, None, slice_get}
+use Rattle.nextest_config_profiles.specs.Chain.{of_inherits}
+use Rattle.nextest_config_profiles.specs.LastValue.{IsLastValue}
+use Rattle.nextest_config_profiles.specs.Layer.{profiles_in}
+use Rattle.nextest_config_profiles.specs.Profile.{IsSpanBy}
+use Rattle.nextest_config_profiles.specs.Said.{Path}
+use Rattle.nextest_config_profiles.specs.declared.inherits.InheritsPlace.{InheritsPlace}
+use Rattle.nextest_config_profiles.specs.declared.last_value.LayerValue.{LayerValue}
+use Rattle.nextest_config_profiles.specs.declared.layer.Layer.{Layer}
+
+-- this value of a file at a path below `profile`, with its range there
+pub record IsPlaceOf (files : List Layer) (found : LayerValue) (path : Path) (place : InheritsPlace) :
+    Type 0 where
+  pub in_file : slice_get files found.layer ≡ Some place.file.now
+  pub value_is : place.value.now ≡ found.value.now
+  pub at_span : IsSpanBy place.file.now path place.span
+
+-- what the last of the files that say anything of `inherits` of a profile has there
+pub record IsFoundPlace (files : List Layer) (profile : List ℕ) (place : InheritsPlace) : Type 0 where
+  pub found : LayerValue
+  pub last : IsLastValue (of_inherits (profiles_in files) profile) (Some found)
+  pub place_is : IsPlaceOf files found (profile ∷ codes "inherits" ∷ []) place
+
+abbrev pub IsInheritsPlace : List Layer → List ℕ → Option InheritsPlace → Type 0
+IsInheritsPlace files profile None = IsLastValue (of_inherits (profiles_in files) profile) None
+IsInheritsPlace files profile (Some place) = IsFoundPlace files profile place
