@@ -10,7 +10,7 @@ use Rattle.nextest_config_sources.specs.NextestVersion.{Ask, AsksVersions, IsBel
 use Rattle.nextest_config.specs.NextestVersion.{alone, AreRead, gravity, IsGravest, IsNoGraver, IsNoGreaterOfItsKind, IsOtherOfItsKind, IsSatisfied, IsSelected, IsSelectedFor, Kept, named_version, NamesNoGreater, not_met, role_from, SourceAsk, verdict_by}
 use Rattle.nextest_config.specs.NextestVersion.VersionOnlyLaws.{read_once}
 use Rattle.nextest_config_values.proofs.Elements.{one_last}
-use Rattle.nextest_config_lists.proofs.Lists.{all_mapped}
+use Rattle.nextest_config_merge.proofs.Lists.{all_mapped}
 use Rattle.nextest_config_sources.specs.declared.nextest_version.edition.Edition.{Edition}
 use Rattle.nextest_config_sources.specs.declared.nextest_version.source.ConfigSourceKind.{ConfigSourceKind}
 use Rattle.nextest_config_sources.proofs.Enough.{not_below_by_numbers}

@@ -8,7 +8,7 @@ use Rattle.nextest_config.specs.NextestVersion.Verdict.{Verdict}
 use Rattle.nextest_config_sources.specs.NextestVersion.{Ask, is_below, IsBelow, SourcePlace}
 use Rattle.nextest_config.specs.NextestVersion.{alone, AsksNoGreater, AsksNone, AsksOther, Configuration, error, gravity, IsConfigurationOf, IsGravest, IsGreatest, IsNoGraver, IsNoGreaterOfItsKind, IsOtherOfItsKind, IsSatisfied, IsSelected, Kept, named_version, not_met, role_from, Roles, satisfied, SelectsFor, short_of, Shortfall, SourceAsk, StandsFor, StandsIn, verdict_by, warn}
 use Rattle.nextest_config_sources.specs.NextestVersion.Source.{Source}
-use Rattle.nextest_config_lists.proofs.Lists.{all_mapped, map_agrees}
+use Rattle.nextest_config_merge.proofs.Lists.{all_mapped, map_agrees}
 use Rattle.nextest_config_values.proofs.Elements.{all_always, all_both, all_weaker}
 use Rattle.nextest_config_sources.specs.NextestVersion.PrecedenceLaws.{not_below_trans}
 

@@ -7,7 +7,7 @@ use Rattle.semver.specs.Parse.{Parts}
 use Rattle.semver.specs.declared.Version.{Version}
 use Rattle.nextest_config.specs.Board.RolePair.{later_asked, later_pair, no_pair, pair_in, slot_version, version_at}
 use Rattle.nextest_config.specs.Board.Slots.{AreHeld, ask_of_versions, board_list, BoardState, IsFrom, IsHeld, kept_in, roles_in, slot_of, slots_of}
-use Rattle.nextest_config_lists.specs.Merge.{total}
+use Rattle.nextest_config_merge.specs.Merge.{total}
 use Rattle.nextest_config.specs.NextestVersion.Verdict.{Verdict}
 use Rattle.nextest_config_sources.specs.NextestVersion.{place_of, plain, Versions, versions, versions_of}
 use Rattle.nextest_config.specs.NextestVersion.{alone, IsSelected, join_kept, join_roles, Kept, no_roles, not_met, role_from, Roles, roles_from, SourceAsk, StandsIn, verdict}

@@ -6,7 +6,7 @@ use Rattle.semver.specs.Parse.{Parts}
 use Rattle.nextest_config.specs.NextestVersion.Verdict.{Verdict}
 use Rattle.nextest_config_sources.specs.NextestVersion.{IsBelow, SourcePlace}
 use Rattle.nextest_config.specs.NextestVersion.{alone, gravity, IsFromSource, IsGravest, IsNoGraver, IsSatisfied, IsSelected, Kept, named_place, not_met, role_from, Roles, roles_from, satisfied, Shortfall, SourceAsk, verdict, verdict_by, warn}
-use Rattle.nextest_config_lists.proofs.Lists.{all_mapped}
+use Rattle.nextest_config_merge.proofs.Lists.{all_mapped}
 use Rattle.nextest_config_values.proofs.Elements.{all_middle, all_weaker}
 use Rattle.nextest_config_sources.specs.NextestVersion.PrecedenceLaws.{not_below_trans}
 use Rattle.nextest_config.proofs.Selection.{enough_met, not_short, unmet_is}

@@ -5,5 +5,5 @@ mod refusal;
 mod role_pair;
 
 pub use config_board::ConfigBoard;
-pub use nextest_config_lists::choice::{ChoiceTree, Choose};
+pub use nextest_config_merge::choice::{ChoiceTree, Choose};
 pub use refusal::BoardRefusal;

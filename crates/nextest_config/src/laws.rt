@@ -4,10 +4,10 @@ ghost use Rattle.std.specs.Prelude.{◌≡◌, ◌≢◌, ◌↔◌, ◌⊎◌, 
 ghost use Rattle.std.specs.List.{AllByRecursion, AllZip};
 ghost use Rattle.std.specs.Ordering.{nat_cmp};
 ghost use Rattle.semver.specs.Parse.{Parts};
-ghost use Rattle.nextest_config_lists.specs.Choice.{halvings};
+ghost use Rattle.nextest_config_merge.specs.Choice.{halvings};
 ghost use Rattle.nextest_config.specs.Board.Commands.{BoardCommand, ChangesInTurn, empty_board, HoldsLast, present, slot_in, sources_after};
 ghost use Rattle.nextest_config.specs.Board.Slots.{board_list, BoardState};
-ghost use Rattle.nextest_config_lists.specs.Merge.{IsCut, IsMonoid, IsReordering};
+ghost use Rattle.nextest_config_merge.specs.Merge.{IsCut, IsMonoid, IsReordering};
 ghost use Rattle.nextest_config.specs.NextestVersion.Verdict.{Verdict};
 ghost use Rattle.nextest_config_values.specs.Equality.{IsCopy, IsEquality};
 ghost use Rattle.nextest_config_sources.specs.NextestVersion.{FeaturesInOrder, IsBelow};
@@ -17,7 +17,7 @@ ghost use Rattle.nextest_config.specs.declared.nextest_version.verdict.Severity.
 ghost use Rattle.nextest_config.specs.declared.nextest_version.version_only.VersionOnlyConfig.{VersionOnlyConfig};
 
 use crate::nextest_version::Severity;
-pub use nextest_config_lists::laws::law_halvings;
+pub use nextest_config_merge::laws::law_halvings;
 pub use nextest_config_sources::laws::{law_enough, law_source_once, law_version_once};
 
 /// The rank of severities that the laws of verdicts speak of is the order of `Severity`.

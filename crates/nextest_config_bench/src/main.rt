@@ -5,11 +5,12 @@
 //! - `duration` reads standard input as one duration.
 //! - `text` reads standard input as a text, and does nothing more; `document` then reads it with
 //!   `toml` alone, as one document, and `index` makes the index of its places.
-//! - `places` prints, of each document on standard input, where all that it holds stands. A NUL stands
-//!   between two documents, and a blank line after each.
+//! - `places` prints, of each document on standard input, where all that it holds stands, with a word
+//!   behind a path of which a partial index tells another place. A NUL stands between two documents,
+//!   and a blank line after each.
 //! - `documents` reads the documents on standard input with `toml` alone, a NUL between two of them;
-//!   `indexes` makes the index of each, too, and `profile` then asks for the settings that the profile
-//!   `ci` gets of them, as files of one list.
+//!   `indexes` makes the partial index of each, too, which has the profiles at hand by which `ci` is
+//!   told, and `profile` then asks for the settings that `ci` gets of them, as files of one list.
 //! - `leaves` prints, of each such list on standard input, what it has below `profile` over what nextest
 //!   sets itself: of each leaf its path, the number of the layer that it comes from, where that has it,
 //!   and its value. U+0001 stands between two lists, and a blank line after each.

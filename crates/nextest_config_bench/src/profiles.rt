@@ -1,9 +1,10 @@
 //! What profiles get of lists of files.
 
-use nextest_config_positions::{Index, Span};
-use nextest_config_profiles::{EffectiveProfile, Layer, LayerValue};
+use nextest_config_positions::{PartialIndex, Span};
+use nextest_config_profiles::{EffectiveProfile, Layer, LayerValue, profiles_at_hand};
 use nextest_config_sources::nextest_version::{ConfigSource, ConfigSourceKind};
 use std::alloc::{AllocError, Global};
+use std::collections::BTreeSet;
 use std::io::{Input, Read};
 use std::str;
 use toml::{Table, Value};
@@ -28,9 +29,10 @@ const SETTINGS: [&str; 15] = [
 
 // A document with the index of its places.
 #[derive(Drop)]
-struct File {
+struct File<'t> {
+    source: ConfigSource,
     document: Table,
-    index: Index,
+    index: PartialIndex<'t>,
 }
 
 pub(crate) fn run(rt: &HostRuntime, what: &str) -> Option<()> {
@@ -47,32 +49,65 @@ pub(crate) fn run(rt: &HostRuntime, what: &str) -> Option<()> {
 }
 
 fn read(alloc: Global, list: &str) -> Option<()> {
+    documents(alloc, list)?;
+    Some(())
+}
+
+fn documents(alloc: Global, list: &str) -> Option<Vec<Table>> {
     let mut documents = Vec::new(alloc);
     for text in list.split('\0') {
         documents
             .push(toml::table_from_str(alloc, text).ok()?)
             .ok()?;
     }
-    Some(())
+    Some(documents)
 }
 
 fn place(alloc: Global, list: &str) -> Option<()> {
-    files(alloc, list)?;
+    let documents = documents(alloc, list)?;
+    let profiles = at_hand(alloc, &documents)?;
+    files(alloc, list, documents, &profiles)?;
     Some(())
 }
 
-fn files(alloc: Global, list: &str) -> Option<Vec<File>> {
+// The profiles whose places are asked for, where the profile `ci` is told.
+fn at_hand(alloc: Global, documents: &Vec<Table>) -> Option<BTreeSet<String>> {
+    let mut lent = Vec::new(alloc);
+    for document in documents {
+        lent.push(document).ok()?;
+    }
+    profiles_at_hand(alloc, lent.as_slice(), "ci").ok()
+}
+
+// The documents with their indexes, which have these profiles at hand.
+fn files<'t>(
+    alloc: Global,
+    list: &'t str,
+    documents: Vec<Table>,
+    profiles: &'t BTreeSet<String>,
+) -> Option<Vec<File<'t>>> {
+    let mut texts = list.split('\0');
     let mut files = Vec::new(alloc);
-    for text in list.split('\0') {
-        files.push(file_of(alloc, text)?).ok()?;
+    for document in documents {
+        let text = texts.next()?;
+        files
+            .push(file_of(alloc, text, document, profiles).ok()?)
+            .ok()?;
     }
     Some(files)
 }
 
-fn file_of(alloc: Global, text: &str) -> Option<File> {
-    let document = toml::table_from_str(alloc, text).ok()?;
-    let index = Index::of(alloc, text).ok()??;
-    Some(File { document, index })
+fn file_of<'t>(
+    alloc: Global,
+    text: &'t str,
+    document: Table,
+    profiles: &'t BTreeSet<String>,
+) -> Result<File<'t>, AllocError> {
+    Ok(File {
+        source: source(alloc)?,
+        document,
+        index: PartialIndex::of(alloc, text, "profile", profiles)?,
+    })
 }
 
 fn source(alloc: Global) -> Result<ConfigSource, AllocError> {
@@ -82,15 +117,11 @@ fn source(alloc: Global) -> Result<ConfigSource, AllocError> {
     })
 }
 
-fn layers<'a>(
-    alloc: Global,
-    source: &'a ConfigSource,
-    files: &'a [File],
-) -> Result<Vec<Layer<'a>>, AllocError> {
+fn layers<'a>(alloc: Global, files: &'a [File<'a>]) -> Result<Vec<Layer<'a>>, AllocError> {
     let mut layers = Vec::new(alloc);
     for file in files {
         layers.push(Layer {
-            source,
+            source: &file.source,
             document: &file.document,
             index: &file.index,
         })?;
@@ -100,9 +131,10 @@ fn layers<'a>(
 
 // Asks what the profile `ci` gets of a list.
 fn ask(alloc: Global, list: &str) -> Option<()> {
-    let files = files(alloc, list)?;
-    let source = source(alloc).ok()?;
-    let layers = layers(alloc, &source, files.as_slice()).ok()?;
+    let documents = documents(alloc, list)?;
+    let profiles = at_hand(alloc, &documents)?;
+    let files = files(alloc, list, documents, &profiles)?;
+    let layers = layers(alloc, files.as_slice()).ok()?;
     let profile = EffectiveProfile::of(alloc, layers.as_slice(), "ci").ok()?;
     ask_profiles(alloc, &profile).ok()
 }
@@ -160,9 +192,10 @@ fn print_lists(rt: &HostRuntime, text: &str) -> Option<()> {
 // Prints what a list has below `profile`.
 fn print_list(rt: &HostRuntime, list: &str) -> Option<()> {
     let alloc = rt.alloc();
-    let files = files(alloc, list)?;
-    let source = source(alloc).ok()?;
-    let layers = layers(alloc, &source, files.as_slice()).ok()?;
+    let documents = documents(alloc, list)?;
+    let profiles = at_hand(alloc, &documents)?;
+    let files = files(alloc, list, documents, &profiles)?;
+    let layers = layers(alloc, files.as_slice()).ok()?;
     let profile = EffectiveProfile::of(alloc, layers.as_slice(), "default").ok()?;
     let all = profile.value(alloc, &[]).ok()??;
     print_leaves(rt, &profile, &all)

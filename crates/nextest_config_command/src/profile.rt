@@ -1,15 +1,16 @@
 //! What the command answers about a profile.
 
 ghost use Rattle.std.specs.Prelude.{◌≡◌, ◌++◌, IfOk, MatchOption, OnOk, string_bytes};
+ghost use Rattle.nextest_config_profiles.specs.Inherits.{IsPlacedFault};
 ghost use Rattle.nextest_config_profiles.specs.Profile.{profile_wrong};
 ghost use Rattle.nextest_config_command.specs.Answer.{answer_of};
 ghost use Rattle.nextest_config_command.specs.FileList.{AreDocuments};
 ghost use Rattle.nextest_config_command.specs.Found.{all_files, files_of};
-ghost use Rattle.nextest_config_command.specs.Profile.{front_text, IsAnsweredBy, IsNoProfileTold, IsProfiled, IsProfileIn, IsRefusedFor, IsReported, IsReportTold, IsToldAt, IsWrongTold, line_text, lint_format, no_text, ring_text, status_told, undefined_text};
+ghost use Rattle.nextest_config_command.specs.Profile.{front_text, IsAnsweredBy, IsNoProfileTold, IsProfiled, IsProfileIn, IsRefusedFor, IsReported, IsReportTold, IsWrongTold, line_text, lint_format, no_text, ring_text, status_told, undefined_text};
 
 use crate::answer::Answer;
 use crate::file_findings::Rules;
-use crate::layers::{indexed_files, layers};
+use crate::layers::{indexed_files, layers, names_at_hand};
 use crate::lint::Lint;
 use crate::parsed_file::ParsedFiles;
 use crate::request::ProfileTask;
@@ -18,7 +19,7 @@ use nextest_config_positions::Span;
 use nextest_config_profile_formats::{outside_text, profile_text};
 use nextest_config_profile_report::ProfileReport;
 use nextest_config_profiles::{
-    EffectiveProfile, InheritsPlace, Layer, ProfileFault, inherits_place, profile_names,
+    EffectiveProfile, InheritsPlace, Layer, ProfileFault, profile_names,
 };
 use nextest_config_report::exit_status::ExitStatus;
 use nextest_config_report::names::push_names;
@@ -71,7 +72,8 @@ fn profile_in(
     ensures { IfOk result (λ answer.
         IsProfileIn (all_files (files_of files.now)) task.now (answer_of answer)) }
 {
-    let indexed = indexed_files(alloc, files)?;
+    let profiles = names_at_hand(alloc, files, task.name.as_str())?;
+    let indexed = indexed_files(alloc, files, &profiles)?;
     let layers = layers(alloc, indexed.as_slice())?;
     let answer = profile_by(alloc, task, layers.as_slice())?;
     Ok(answer)
@@ -135,8 +137,9 @@ fn refusal<'a>(
     alloc: Global,
     layers: &'a [Layer<'a>],
     name: &str,
-    fault: &ProfileFault,
+    fault: &ProfileFault<'a>,
 ) -> Result<Answer, AllocError>
+    requires { IsPlacedFault layers.now fault.now }
     ensures { IfOk result (λ answer. MatchOption (profile_wrong fault.now) ⊥
         (λ wrong. IsRefusedFor layers.now name.now wrong (answer_of answer))) }
 {
@@ -150,18 +153,19 @@ fn fault_text<'a>(
     alloc: Global,
     layers: &'a [Layer<'a>],
     name: &str,
-    fault: &ProfileFault,
+    fault: &ProfileFault<'a>,
 ) -> Result<String, AllocError>
+    requires { IsPlacedFault layers.now fault.now }
     ensures { IfOk result (λ text. MatchOption (profile_wrong fault.now) ⊥
         (λ wrong. IsWrongTold layers.now name.now wrong (string_bytes text))) }
 {
     match fault {
         ProfileFault::NoProfile => no_profile_text(alloc, layers, name),
-        ProfileFault::Ring { profile } => ring_text(alloc, layers, profile.as_str()),
-        ProfileFault::NotDefined { profile, parent } => {
-            undefined_text(alloc, layers, profile.as_str(), parent.as_str())
+        ProfileFault::Ring { profile, place } => ring_text(alloc, profile.as_str(), place),
+        ProfileFault::NotDefined { parent, place, .. } => {
+            undefined_text(alloc, parent.as_str(), place)
         }
-        ProfileFault::NotText { profile } => no_text(alloc, layers, profile.as_str()),
+        ProfileFault::NotText { place, .. } => no_text(alloc, place),
         ProfileFault::Memory => Err(AllocError),
     }
 }
@@ -177,17 +181,15 @@ fn no_profile_text(alloc: Global, layers: &[Layer<'_>], name: &str) -> Result<St
 }
 
 // That a profile inherits from itself, where it does.
-fn ring_text<'a>(
+fn ring_text(
     alloc: Global,
-    layers: &'a [Layer<'a>],
     profile: &str,
+    place: &Option<InheritsPlace<'_>>,
 ) -> Result<String, AllocError>
-    ensures { IfOk result (λ text. IsToldAt layers.now profile.now (λ place. ring_text profile.now)
-        (string_bytes text)) }
+    ensures { IfOk result (λ text. string_bytes text ≡ front_text place.now ++ ring_text profile.now) }
 {
-    let place = inherits_place(alloc, layers, profile)?;
     let mut text = String::new(alloc);
-    push_front(&mut text, &place)?;
+    push_front(&mut text, place)?;
     write!(
         text,
         "the profile {} inherits from itself",
@@ -197,30 +199,26 @@ fn ring_text<'a>(
 }
 
 // That a profile inherits from one that there isn't, where it does.
-fn undefined_text<'a>(
+fn undefined_text(
     alloc: Global,
-    layers: &'a [Layer<'a>],
-    profile: &str,
     parent: &str,
+    place: &Option<InheritsPlace<'_>>,
 ) -> Result<String, AllocError>
-    ensures { IfOk result (λ text. IsToldAt layers.now profile.now
-        (λ place. undefined_text parent.now) (string_bytes text)) }
+    ensures { IfOk result (λ text. string_bytes text ≡ front_text place.now ++ undefined_text parent.now) }
 {
-    let place = inherits_place(alloc, layers, profile)?;
     let mut text = String::new(alloc);
-    push_front(&mut text, &place)?;
+    push_front(&mut text, place)?;
     write!(text, "no file defines the profile {}", QuotedText(parent))?;
     Ok(text)
 }
 
 // That what a profile has at `inherits` is no text, where it stands.
-fn no_text<'a>(alloc: Global, layers: &'a [Layer<'a>], profile: &str) -> Result<String, AllocError>
-    ensures { IfOk result (λ text. IsToldAt layers.now profile.now no_text (string_bytes text)) }
+fn no_text(alloc: Global, place: &Option<InheritsPlace<'_>>) -> Result<String, AllocError>
+    ensures { IfOk result (λ text. string_bytes text ≡ front_text place.now ++ no_text place.now) }
 {
-    let place = inherits_place(alloc, layers, profile)?;
     let mut text = String::new(alloc);
-    push_front(&mut text, &place)?;
-    push_no_text(alloc, &mut text, &place)?;
+    push_front(&mut text, place)?;
+    push_no_text(alloc, &mut text, place)?;
     Ok(text)
 }
 

@@ -7,6 +7,7 @@ pub mod Cuts
 pub mod EntryLines
 pub mod Extension
 pub mod Growth
+pub mod LeftOut
 pub mod LongerCuts
 pub mod Lookups
 pub mod Monotone
@@ -15,6 +16,7 @@ pub mod Places
 pub mod Promised
 pub mod Quotes
 pub mod Search
+pub mod Skipping
 pub mod Statements
 pub mod Steps
 pub mod Trees

@@ -10,10 +10,12 @@ pub mod Key
 pub mod KeyViews
 pub mod Line
 pub mod Offsets
+pub mod Partial
 pub mod Place
 pub mod Ranges
 pub mod Refusal
 pub mod Search
+pub mod Skip
 pub mod Step
 pub mod Table
 pub mod TableViews

@@ -57,8 +57,8 @@ pub(crate) fn walk_over(alloc: Global, text: &str) -> Result<Walk, Refusal>
     }
 }
 
-// Without a byte order mark.
-fn skip_bom(text: &str) -> &str
+/// Without a byte order mark.
+pub(crate) fn skip_bom(text: &str) -> &str
     ensures rest { result.now ≡ grammar.skip_bom text.now }
     ensures within { length result.now ≤ length text.now }
 {
@@ -85,7 +85,8 @@ fn define(
     }
 }
 
-fn define_pair(
+/// Adds a pair to the table of a section.
+pub(crate) fn define_pair(
     alloc: Global,
     root: &mut Members,
     section: &Vec<Part>,
@@ -99,7 +100,8 @@ fn define_pair(
     along_header(alloc, root, section, &path, last, Definition::Pair(value))
 }
 
-fn define_header(
+/// Adds the table of a header, which becomes the section.
+pub(crate) fn define_header(
     alloc: Global,
     root: &mut Members,
     section: &mut Vec<Part>,
@@ -128,8 +130,11 @@ fn copy_of(part: &Part) -> Result<Part, AllocError>
     })
 }
 
-// A statement that has its line to itself.
-fn statement_line(alloc: Global, text: &str) -> Result<((KeyParts, Definition), &str), Refusal>
+/// A statement that has its line to itself.
+pub(crate) fn statement_line(
+    alloc: Global,
+    text: &str,
+) -> Result<((KeyParts, Definition), &str), Refusal>
     ensures value { Reads statement_of result (spec.statement_line text.now) }
     ensures shorter { Shortens text.now result }
 {

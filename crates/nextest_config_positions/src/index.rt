@@ -30,11 +30,11 @@ pub struct Index {
     places: Places,
 }
 
-// The pieces of what a path leads to: that of its key and that of its value, where it has one.
+/// The pieces of what a path leads to: that of its key and that of its value, where it has one.
 #[derive(Clone, Copy)]
-struct Pieces {
-    key: Option<Piece>,
-    value: Option<Piece>,
+pub(crate) struct Pieces {
+    pub(crate) key: Option<Piece>,
+    pub(crate) value: Option<Piece>,
 }
 
 impl Index {
@@ -85,7 +85,7 @@ impl Index {
             → IsSpanOf text ((ranges_in self.now).of_key (map step_of path.now)) result }
     {
         match pieces_at(&self.root, path) {
-            Some(pieces) => self.span(pieces.key),
+            Some(pieces) => self.places.span(pieces.key),
             None => None,
         }
     }
@@ -97,7 +97,7 @@ impl Index {
             → IsSpanOf text ((ranges_in self.now).of_value (map step_of path.now)) result }
     {
         match pieces_at(&self.root, path) {
-            Some(pieces) => self.span(pieces.value),
+            Some(pieces) => self.places.span(pieces.value),
             None => None,
         }
     }
@@ -119,20 +119,6 @@ impl Index {
             None => None,
         }
     }
-
-    // The places of a piece.
-    fn span(&self, piece: Option<Piece>) -> Option<Span>
-        ensures { (text : List ℕ) → IsIndexOf text self.now → IsSpanOf text
-            (option_map (λ p. spec.range_of (length text) (piece_of p)) piece) result }
-    {
-        match piece {
-            Some(piece) => Some(Span {
-                begin: self.places.before(piece.from),
-                end: self.places.before(piece.to),
-            }),
-            None => None,
-        }
-    }
 }
 
 // Where the first of the pieces begins.
@@ -146,8 +132,8 @@ fn first_of(pieces: Pieces) -> usize
     }
 }
 
-// The pieces of what a path leads to.
-fn pieces_at(members: &Members, path: &[Step]) -> Option<Pieces>
+/// The pieces of what a path leads to.
+pub(crate) fn pieces_at(members: &Members, path: &[Step]) -> Option<Pieces>
     ensures { option_map pieces_from result
         ≡ option_map trees.pieces_of (trees.tree_at (branches_of members.now) (map step_of path.now)) }
 {

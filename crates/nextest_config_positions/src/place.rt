@@ -4,6 +4,7 @@ ghost use Rattle.std.specs.Prelude.{◌≡◌, ◌<◌, ◌^◌, ℕ, count_by, 
 ghost use Rattle.std.specs.List.Sorted.{IsNonDecreasingBy};
 ghost use Rattle.nextest_config_positions.specs.Offsets.{AreOffsets, begins_character};
 
+use crate::entry::Piece;
 use std::alloc::{AllocError, Global};
 
 /// A place of a text: a line and a column, both from 1. A line ends with its line feed, and a
@@ -33,7 +34,10 @@ pub(crate) struct Places {
 }
 
 impl Places {
-    ghost use Rattle.std.specs.Prelude.{◌-◌, length, take};
+    ghost use Rattle.std.specs.Prelude.{◌-◌, length, option_map, take};
+    ghost use Rattle.nextest_config_positions.specs.EntryViews.{piece_of};
+    ghost use Rattle.nextest_config_positions.specs.Index.{IsSpanOf};
+    ghost use Rattle.nextest_config_positions.specs.Ranges.{range_of};
     ghost use Rattle.std.specs.Str.{IsAscii};
     ghost use Rattle.nextest_config_positions.specs.Place.{ArePlacesOf, IsPlace};
 
@@ -109,6 +113,20 @@ impl Places {
             → IsPlace (take (length text - bytes) text) result }
     {
         self.at(self.length.saturating_sub(bytes))
+    }
+
+    /// The places of a piece.
+    pub(crate) fn span(&self, piece: Option<Piece>) -> Option<Span>
+        ensures { (text : List ℕ) → ArePlacesOf text self.now → IsSpanOf text
+            (option_map (λ p. range_of (length text) (piece_of p)) piece) result }
+    {
+        match piece {
+            Some(piece) => Some(Span {
+                begin: self.before(piece.from),
+                end: self.before(piece.to),
+            }),
+            None => None,
+        }
     }
 }
 

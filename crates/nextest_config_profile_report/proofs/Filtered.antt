@@ -3,7 +3,7 @@ use Rattle.std.proofs.Common.{◌≡◌, ◌∙◌, ◌<◌, ◌+◌, ℕ, Bool,
 use Rattle.std.proofs.lemmas.List.{map_push, take_more}
 use Rattle.std.proofs.lemmas.List.Elements.{filter-append}
 use Rattle.std.specs.List.{AllZip, filter}
-use Rattle.nextest_config_lists.proofs.Lists.{zip_push}
+use Rattle.nextest_config_merge.proofs.Lists.{zip_push}
 
 module _ {X Y Z : Type 0} (R : Y → Z → Type 0) (p : Y → Bool) (f : X → Y) (xs : List X) (i : ℕ) (x : X) (zs : List Z) where
   pub more_kept : (z : Z) → i < length xs → (passes : Bool) → passes ≡ p (f (get_or xs i x)) → passes ≡ true → AllZip R (filter p (map f (take i xs))) zs → R (f (get_or xs i x)) z

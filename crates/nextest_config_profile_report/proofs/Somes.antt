@@ -1,7 +1,7 @@
 -- What keys have that may have nothing, with one key more.
 use Rattle.std.proofs.Common.{◌≡◌, ◌∙◌, ◌<◌, ◌+◌, ℕ, List, [], ◌∷◌, ◌++◌, Option, ap, append-nil, get_or, length, map, sym, take}
 use Rattle.std.proofs.lemmas.List.{append_assoc, map_push, take_more}
-use Rattle.nextest_config_lists.proofs.Lists.{zip_push}
+use Rattle.nextest_config_merge.proofs.Lists.{zip_push}
 use Rattle.nextest_config_profile_report.specs.Somes.{AreSomes, some_list, somes}
 
 pub somes_push : {A : Type 0} (all : List (Option A)) (x : Option A)

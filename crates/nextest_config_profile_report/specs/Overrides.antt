@@ -1,12 +1,11 @@
 -- What is told of overrides.
-use Rattle.std.specs.Prelude.{◌≡◌, ℕ, false, List, [], ◌∷◌, codes, filter, Option, Some, None, option_and_then}
+use Rattle.std.specs.Prelude.{◌≡◌, ℕ, List, [], ◌∷◌, codes, filter, Option, Some, None, option_and_then}
 use Rattle.std.specs.List.{AllZip}
 use Rattle.toml.specs.Data.{as_table, Data, get_member}
-use Rattle.nextest_config_findings.specs.File.{range_at}
 use Rattle.nextest_config_findings.specs.Schema.{override_table, row_words, rows_in}
-use Rattle.nextest_config_positions.specs.Index.{IsIndexOf, IsSpanOf, ranges_in}
 use Rattle.nextest_config_positions.specs.Step.{index, key, PathStep}
 use Rattle.nextest_config_positions.specs.declared.place.Span.{Span}
+use Rattle.nextest_config_profiles.specs.Layer.{IsSpanAt}
 use Rattle.nextest_config_profiles.specs.Profile.{chain_in, file_in, layers_in}
 use Rattle.nextest_config_profiles.specs.declared.layer.Layer.{Layer}
 use Rattle.nextest_config_profiles.specs.declared.profile.EffectiveProfile.{EffectiveProfile}
@@ -50,11 +49,10 @@ abbrev pub steps_to_element : ElementValue → List PathStep
 steps_to_element element = key (codes "profile") ∷ key element.profile ∷ key (codes "overrides")
     ∷ index element.position ∷ []
 
--- the range of a path in the file of a layer, by its index
+-- the range of a path in the file of a layer
 abbrev pub IsSpanOfElement : Option Layer → List PathStep → Option Span → Type 0
 IsSpanOfElement None steps span = span ≡ None
-IsSpanOfElement (Some file) steps span = (text : List ℕ) → IsIndexOf text file.index.now
-    → IsSpanOf text (range_at false (ranges_in file.index.now) steps) span
+IsSpanOfElement (Some file) steps span = IsSpanAt file steps span
 
 -- where an override begins
 pub record IsElementSource (effective : EffectiveProfile) (element : ElementValue) (source : Source)

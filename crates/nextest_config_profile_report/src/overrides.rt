@@ -14,7 +14,6 @@ ghost use Rattle.nextest_config_profile_report.specs.declared.told.OverrideSetti
 use crate::elements::{Element, all_elements};
 use crate::source::file_place;
 use crate::told::{Literal, Override, OverrideSetting, Source};
-use nextest_config_findings::value_or_key;
 use nextest_config_positions::{Span, Step};
 use nextest_config_profiles::EffectiveProfile;
 use nextest_config_values::read::value_at;
@@ -96,7 +95,7 @@ fn source_of<'p>(
     ensures { IfOk result (IsElementSource effective.now (element_of element.now)) }
 {
     let steps = steps_to(alloc, element)?;
-    let span = span_of(effective, element.layer, steps.as_slice());
+    let span = span_of(alloc, effective, element.layer, steps.as_slice())?;
     Ok(Source {
         profile: element.profile,
         file: file_place(effective, element.layer, span),
@@ -104,12 +103,17 @@ fn source_of<'p>(
 }
 
 // The range of a path in the file of a layer, if it is one.
-fn span_of(effective: &EffectiveProfile<'_>, layer: usize, steps: &[Step]) -> Option<Span>
-    ensures { IsSpanOfElement (file_in effective.now layer) (map step_of steps.now) result }
+fn span_of(
+    alloc: Global,
+    effective: &EffectiveProfile<'_>,
+    layer: usize,
+    steps: &[Step],
+) -> Result<Option<Span>, AllocError>
+    ensures { IfOk result (IsSpanOfElement (file_in effective.now layer) (map step_of steps.now)) }
 {
     match effective.file(layer) {
-        Some(file) => value_or_key(file.index, steps),
-        None => None,
+        Some(file) => file.span(alloc, steps),
+        None => Ok(None),
     }
 }
 

@@ -22,7 +22,7 @@ pub struct Source<'a> {
 #[derive(Clone, Copy)]
 pub struct FilePlace<'a> {
     pub path: &'a str,
-    /// `None` where the index of the file has no such path, and so is that of another text.
+    /// `None` where the index of the file is that of another text, which has no such path.
     pub place: Option<Place>,
 }
 

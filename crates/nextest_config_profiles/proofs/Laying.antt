@@ -18,7 +18,7 @@ pub over_nothing : (value : Option Data) → IsOver None value value
 over_nothing value path = sym (over_silent (said_at path value))
 
 -- a value is seen, whatever lies below it
-seen_value : (value : Data) → seen (said_here value) ≡ silent → ⊥
+pub seen_value : (value : Data) → seen (said_here value) ≡ silent → ⊥
 seen_value (table no_members) h = cc h
 seen_value (table (member key value rest)) h = cc h
 seen_value (string text) h = cc h

@@ -6,7 +6,7 @@ use Rattle.std.specs.List.{AllByRecursion}
 use Rattle.std.specs.Prelude.{unwrap_or}
 use Rattle.toml.specs.Data.{array, boolean, Data, datetime, float, get_member, integer, member, no_members, string, table}
 use Rattle.nextest_config_values.proofs.Elements.{all_left, all_right}
-use Rattle.nextest_config_lists.proofs.Lists.{all_mapped}
+use Rattle.nextest_config_merge.proofs.Lists.{all_mapped}
 use Rattle.nextest_config_profiles.specs.Chain.{IsChain, IsNext, of_inherits}
 use Rattle.nextest_config_profiles.specs.Laid.{IsLeaf, Layers, leaf_of}
 use Rattle.nextest_config_profiles.specs.Said.{bare, barred, branch, leaf, Path, Said, said_at, silent}
@@ -34,7 +34,7 @@ same_last (z ∷ b) a (w ∷ c) d s t same x y no_s no_t =
     let later = same_last b a c d s t (ap (drop 1) same) x y no_s no_t in
     (ap suc later.0, later.1)
 
-last_once : (all : List Said) (p q : ℕ) (s t : Said) → IsLast all p s → IsLast all q t → (s ≡ silent → ⊥) → (t ≡ silent → ⊥) → (p ≡ q) × (s ≡ t)
+pub last_once : (all : List Said) (p q : ℕ) (s t : Said) → IsLast all p s → IsLast all q t → (s ≡ silent → ⊥) → (t ≡ silent → ⊥) → (p ≡ q) × (s ≡ t)
 last_once all p q s t last other no_s no_t =
     let same = same_last last.below last.above other.below other.above s t (sym last.whole ∙ other.whole) last.silent_above other.silent_above no_s no_t in
     (sym last.place ∙ same.0 ∙ other.place, same.1)
@@ -166,9 +166,13 @@ none_above layers top path value key below is p v h =
 
 -- ---- one chain
 
+-- where there is nothing, the last says nothing
+pub nothing_or_said : (all : List Said) (q : ℕ) (said : Said) → HasNothing all → IsLast all q said → (said ≡ silent → ⊥) → (said ≡ barred → ⊥) → ⊥
+nothing_or_said all q said (inl none) last some free = some (all_right (λ said. said ≡ silent) last.below (said ∷ last.above) (subst AllSilent last.whole none)).0
+nothing_or_said all q said (inr (p, barred_last)) last some free = free (sym (last_once all p q barred said barred_last last (λ e. cc e) some).1)
+
 nothing_or_leaf : (all : List Said) (q : ℕ) (v : Data) → HasNothing all → IsLast all q (leaf v) → ⊥
-nothing_or_leaf all q v (inl none) last = cc (all_right (λ said. said ≡ silent) last.below (leaf v ∷ last.above) (subst AllSilent last.whole none)).0
-nothing_or_leaf all q v (inr (p, barred_last)) last = cc (last_once all p q barred (leaf v) barred_last last (λ e. cc e) (λ e. cc e)).1
+nothing_or_leaf all q v none last = nothing_or_said all q (leaf v) none last (λ e. cc e) (λ e. cc e)
 
 abbrev text_of : Said → List ℕ → List ℕ
 text_of (leaf (string text)) other = text

@@ -7,5 +7,13 @@ pub mod Names
 pub mod NamesInOrder
 pub mod Ways
 pub mod DefaultsParse
+pub mod FilesOfLayers
 pub mod Given
 pub mod LeafLaws
+pub mod Alike
+pub mod TakesAlike
+pub mod TakenSettings
+pub mod EffectiveOnce
+pub mod OneLeaf
+pub mod Placed
+pub mod Listing

@@ -1,8 +1,14 @@
 -- The files of a list, as layers.
-use Rattle.std.specs.Prelude.{ℕ, zero, suc, codes, List, ◌∷◌, map, Option, None, option_and_then, slice_get}
+use Rattle.std.specs.Prelude.{ℕ, zero, suc, codes, List, ◌∷◌, false, map, Option, None, option_and_then, slice_get}
 use Rattle.toml.specs.Data.{Data, get_member, Members}
 use Rattle.toml.specs.Parse.{parse_document}
 use Rattle.toml.specs.View.{table_view}
+use Rattle.nextest_config_positions.specs.Index.{IsSpanOf}
+use Rattle.nextest_config_positions.specs.Partial.{AreRangesOf, IsPartialIndexOf}
+use Rattle.nextest_config_positions.specs.Ranges.{Ranges}
+use Rattle.nextest_config_positions.specs.Step.{PathStep}
+use Rattle.nextest_config_positions.specs.declared.place.Span.{Span}
+use Rattle.nextest_config_findings.specs.File.{range_at}
 use Rattle.nextest_config_profiles.specs.Defaults.{default_text}
 use Rattle.nextest_config_profiles.specs.Laid.{Layers}
 use Rattle.nextest_config_profiles.specs.declared.layer.Layer.{Layer}
@@ -22,3 +28,8 @@ all_layers layers = option_and_then profiles_at (parse_document default_text) �
 abbrev pub file_at : List Layer → ℕ → Option Layer
 file_at files zero = None
 file_at files (suc position) = slice_get files position
+
+-- the range of a path from the top of a file: that of its value, or without one that of its key
+abbrev pub IsSpanAt : Layer → List PathStep → Option Span → Type 0
+IsSpanAt file path span = (text : List ℕ) (ranges : Ranges) → IsPartialIndexOf text file.index.now
+    → AreRangesOf text ranges → IsSpanOf text (range_at false ranges path) span

@@ -7,8 +7,12 @@ pub mod LastValue
 pub mod Profiles
 pub mod Chain
 pub mod Effective
+pub mod Alike
 pub mod Defaults
 pub mod Layer
 pub mod Profile
 pub mod NameList
+pub mod OneLeaf
 pub mod Inherits
+pub mod Junit
+pub mod Leaves

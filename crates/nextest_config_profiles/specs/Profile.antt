@@ -1,19 +1,19 @@
 -- A profile with what it falls back on.
-use Rattle.std.specs.Prelude.{◌≡◌, ℕ, codes, List, ◌∷◌, false, map, MatchOption, Option, Some, None, option_and_then, slice_get, string_bytes}
+use Rattle.std.specs.Prelude.{◌≡◌, ℕ, codes, List, ◌∷◌, map, MatchOption, Option, Some, None, option_and_then, slice_get, string_bytes}
 use Rattle.toml.specs.Data.{Data}
 use Rattle.toml.specs.View.{table_view}
 use Rattle.nextest_config_values.specs.Read.{Reading}
-use Rattle.nextest_config_positions.specs.Index.{IsIndexOf, IsSpanOf, ranges_in}
-use Rattle.nextest_config_findings.specs.File.{range_at}
 use Rattle.nextest_config_positions.specs.Step.{key, PathStep}
 use Rattle.nextest_config_positions.specs.declared.place.Span.{Span}
 use Rattle.nextest_config_profiles.specs.Chain.{IsWrong, no_profile, not_defined, not_text, ring, Wrong}
 use Rattle.nextest_config_profiles.specs.Effective.{IsEffective}
 use Rattle.nextest_config_profiles.specs.Laid.{Layers}
-use Rattle.nextest_config_profiles.specs.Layer.{file_at, profiles_at, profiles_in}
+use Rattle.nextest_config_profiles.specs.Layer.{file_at, IsSpanAt, profiles_at, profiles_in}
 use Rattle.nextest_config_profiles.specs.Said.{Path}
 use Rattle.nextest_config_profiles.specs.declared.effective.Effective.{Effective}
 use Rattle.nextest_config_profiles.specs.declared.layer.Layer.{Layer}
+use Rattle.nextest_config_profiles.specs.declared.owned_chain.OwnedFault.{OwnedFault}
+use Rattle.nextest_config_profiles.specs.declared.owned_chain.OwnedFault.TheVariants as owned
 use Rattle.nextest_config_profiles.specs.declared.profile.EffectiveProfile.{EffectiveProfile}
 use Rattle.nextest_config_profiles.specs.declared.profile.ProfileFault.{ProfileFault}
 use Rattle.nextest_config_profiles.specs.declared.profile.ProfileFault.TheVariants as faults
@@ -29,11 +29,19 @@ chain_in profile = map string_bytes profile.chain.items
 -- what a fault says, unless memory was refused
 abbrev pub profile_wrong : ProfileFault → Option Wrong
 profile_wrong faults.NoProfile = Some no_profile
-profile_wrong (faults.Ring profile) = Some (ring (string_bytes profile))
-profile_wrong (faults.NotDefined profile parent) =
+profile_wrong (faults.Ring profile place) = Some (ring (string_bytes profile))
+profile_wrong (faults.NotDefined profile parent place) =
     Some (not_defined (string_bytes profile) (string_bytes parent))
-profile_wrong (faults.NotText profile) = Some (not_text (string_bytes profile))
+profile_wrong (faults.NotText profile place) = Some (not_text (string_bytes profile))
 profile_wrong faults.Memory = None
+
+abbrev pub owned_wrong : OwnedFault → Option Wrong
+owned_wrong owned.NoProfile = Some no_profile
+owned_wrong (owned.Ring profile) = Some (ring (string_bytes profile))
+owned_wrong (owned.NotDefined profile parent) =
+    Some (not_defined (string_bytes profile) (string_bytes parent))
+owned_wrong (owned.NotText profile) = Some (not_text (string_bytes profile))
+owned_wrong owned.Memory = None
 
 -- the fault tells what is wrong with the chain of a profile
 abbrev pub IsProfileFault : Layers → List ℕ → ProfileFault → Type 0
@@ -57,11 +65,9 @@ file_in profile = file_at (files_in profile)
 abbrev pub layer_at : Layers → ℕ → Option Data
 layer_at layers position = option_and_then (λ layer. layer) (slice_get layers position)
 
--- the range of a path below `profile` in a file, by its index: that of its value, or without one
--- that of its key
+-- the range of a path below `profile` in a file
 abbrev pub IsSpanBy : Layer → Path → Option Span → Type 0
-IsSpanBy file path span = (text : List ℕ) → IsIndexOf text file.index.now
-    → IsSpanOf text (range_at false (ranges_in file.index.now) (steps_to path)) span
+IsSpanBy file path = IsSpanAt file (steps_to path)
 
 -- the same in the file of a layer
 abbrev pub IsSpanIn : EffectiveProfile → ℕ → Path → Option Span → Type 0

@@ -8,23 +8,22 @@ use crate::chain::INHERITS;
 use crate::last_value::{LayerValue, last_value};
 use crate::layer::{Layer, profiles_of_files};
 use crate::profile::steps_to;
-use nextest_config_findings::value_or_key;
 use nextest_config_positions::Span;
 use std::alloc::{AllocError, Global};
 use toml::Value;
 
 /// What a file has at `inherits` of a profile.
-#[derive(Clone, Copy)]
+#[derive(Clone, Copy, Debug)]
 pub struct InheritsPlace<'a> {
     pub file: &'a Layer<'a>,
     pub value: &'a Value,
-    /// The range of the value. The index of the file has it.
+    /// The range of the value, by the index of the file.
     pub span: Option<Span>,
 }
 
 /// What the last of the files that say anything of `inherits` of a profile has there, if that is a
 /// value.
-pub fn inherits_place<'a>(
+pub(crate) fn inherits_place<'a>(
     alloc: Global,
     layers: &'a [Layer<'a>],
     profile: &str,
@@ -57,6 +56,6 @@ fn place_of<'a>(
     Ok(InheritsPlace {
         file,
         value: found.value,
-        span: value_or_key(file.index, steps.as_slice()),
+        span: file.span(alloc, steps.as_slice())?,
     })
 }

@@ -1,11 +1,28 @@
 //! Laws of the definitions, for every value. They call nothing.
 
-ghost use Rattle.std.specs.Prelude.{◌≡◌, ◌↔◌, ◌∷◌, ◌++◌, [], ℕ, length, List, Option};
+ghost use Rattle.std.specs.Prelude.{◌≡◌, ◌↔◌, ◌∷◌, ◌++◌, [], ℕ, length, List, Option, Some};
 ghost use Rattle.std.specs.List.{AllByRecursion};
 ghost use Rattle.toml.specs.Data.{Data};
+ghost use Rattle.nextest_config_values.specs.Read.{made_of};
+ghost use Rattle.nextest_config_elements.specs.LeakTimeout.{leak_timeout_reading};
+ghost use Rattle.nextest_config_elements.specs.MaxFail.{fail_fast_reading};
+ghost use Rattle.nextest_config_elements.specs.RetryPolicy.{retry_policy_reading};
+ghost use Rattle.nextest_config_elements.specs.SlowTimeout.{slow_timeout_reading};
+ghost use Rattle.nextest_config_profiles.specs.Alike.{given_by, given_value, TakesAlike};
 ghost use Rattle.nextest_config_profiles.specs.Chain.{IsChain};
+ghost use Rattle.nextest_config_profiles.specs.Effective.{IsEffective};
 ghost use Rattle.nextest_config_profiles.specs.Laid.{IsLeaf, Layers};
+ghost use Rattle.nextest_config_profiles.specs.OneLeaf.{AreApart, HasLeafAlone};
 ghost use Rattle.nextest_config_profiles.specs.Said.{leaf, Path, said_at, silent};
+ghost use Rattle.nextest_config_profiles.specs.declared.effective.Effective.{Effective};
+
+use crate::setting::Setting;
+use nextest_config_elements::global_timeout::GlobalTimeout;
+use nextest_config_elements::junit::JunitFlakyFailStatus;
+use nextest_config_elements::report_skip_policy::ReportSkipPolicy;
+use nextest_config_elements::retry_policy::FlakyResult;
+use nextest_config_elements::threads_required::ThreadsRequired;
+use nextest_config_values::read::FromToml;
 
 /// Layers have at most one leaf at a path, by one of them.
 pub fn law_leaf_once()
@@ -19,6 +36,34 @@ pub fn law_chain_once()
         → IsChain layers name d → c ≡ d }
 {}
 
+/// A chain gives a setting at most one value, of one profile, where its reader takes tables alike
+/// whose keys stand in another order.
+pub fn law_effective_once<T: Setting>()
+    ensures value { (layers : Layers) (keys : Path) (chain : List (List ℕ)) (a b : Effective T)
+        → TakesAlike T.reading → IsEffective T.seen T.reading layers keys chain a
+        → IsEffective T.seen T.reading layers keys chain b
+        → given_value T.seen a ≡ given_value T.seen b }
+    ensures profile { (layers : Layers) (keys : Path) (chain : List (List ℕ)) (a b : Effective T)
+        → TakesAlike T.reading → IsEffective T.seen T.reading layers keys chain a
+        → IsEffective T.seen T.reading layers keys chain b → given_by a ≡ given_by b }
+{}
+
+/// The readers of all settings take tables so.
+pub fn law_settings_take_alike()
+    ensures retries { TakesAlike retry_policy_reading }
+    ensures flaky_result { TakesAlike (made_of Some ⟦<FlakyResult as FromToml>⟧.reading) }
+    ensures threads_required { TakesAlike (made_of Some ⟦<ThreadsRequired as FromToml>⟧.reading) }
+    ensures fail_fast { TakesAlike fail_fast_reading }
+    ensures slow_timeout { TakesAlike slow_timeout_reading }
+    ensures leak_timeout { TakesAlike leak_timeout_reading }
+    ensures global_timeout { TakesAlike (made_of Some ⟦<GlobalTimeout as FromToml>⟧.reading) }
+    ensures texts { TakesAlike (made_of Some ⟦<String as FromToml>⟧.reading) }
+    ensures booleans { TakesAlike (made_of Some ⟦<bool as FromToml>⟧.reading) }
+    ensures report_skipped { TakesAlike (made_of Some ⟦<ReportSkipPolicy as FromToml>⟧.reading) }
+    ensures flaky_fail_status { TakesAlike
+        (made_of Some ⟦<JunitFlakyFailStatus as FromToml>⟧.reading) }
+{}
+
 /// Layers that say nothing of a path change nothing there. So what no file names is what nextest
 /// sets itself.
 pub fn law_silent_layers()
@@ -28,7 +73,8 @@ pub fn law_silent_layers()
 {}
 
 /// A layer on top that has a value at a path, which is no table, gives the path this value, by this
-/// layer. It takes away the leaves below the path, and those that lead to it.
+/// layer. It takes away the leaves below the path, and those that lead to it. Where it has nothing
+/// else, it changes no other leaf.
 pub fn law_layer_on_top()
     ensures here { (layers : Layers) (top : Option Data) (path : Path) (value : Data)
         → said_at path top ≡ leaf value
@@ -39,4 +85,7 @@ pub fn law_layer_on_top()
     ensures above { (layers : Layers) (top : Option Data) (path : Path) (value : Data)
         (key : List ℕ) (below : Path) → said_at (path ++ key ∷ below) top ≡ leaf value
         → (p : ℕ) (v : Data) → IsLeaf (layers ++ top ∷ []) path p v → ⊥ }
+    ensures others { (layers : Layers) (top : Data) (path other : Path) → HasLeafAlone top path
+        → AreApart path other → (p : ℕ) (v : Data)
+        → IsLeaf (layers ++ Some top ∷ []) other p v ↔ IsLeaf layers other p v }
 {}

@@ -1,22 +1,36 @@
 //! The files of a list, as layers.
 
-ghost use Rattle.std.specs.Prelude.{◌≡◌, ◌++◌, ◌∷◌, IfOk, OnOk, option_map};
+ghost use Rattle.std.specs.Prelude.{◌≡◌, ◌++◌, ◌∷◌, IfOk, map, OnOk, option_map};
 ghost use Rattle.toml.specs.View.{table_view, view};
-ghost use Rattle.nextest_config_profiles.specs.Layer.{profiles_at, profiles_in};
+ghost use Rattle.nextest_config_positions.specs.Step.{step_of};
+ghost use Rattle.nextest_config_profiles.specs.Layer.{IsSpanAt, profiles_at, profiles_in};
 ghost use Rattle.nextest_config_profiles.specs.Reach.{layers_of};
 
-use nextest_config_positions::Index;
+use nextest_config_positions::{PartialIndex, Span, Step};
 use nextest_config_sources::nextest_version::ConfigSource;
 use nextest_config_values::read::value_at;
 use std::alloc::{AllocError, Global};
 use toml::{Table, Value};
 
 /// A file of a list, with its document and the index of its places.
-#[derive(Clone, Copy)]
+#[derive(Clone, Copy, Debug)]
 pub struct Layer<'a> {
     pub source: &'a ConfigSource,
     pub document: &'a Table,
-    pub index: &'a Index,
+    pub index: &'a PartialIndex<'a>,
+}
+
+impl Layer<'_> {
+    /// The range of the value of a path from the top, or without one that of its key; `None` where
+    /// the path leads to nothing.
+    pub fn span(&self, alloc: Global, path: &[Step]) -> Result<Option<Span>, AllocError>
+        ensures { IfOk result (IsSpanAt self.now (map step_of path.now)) }
+    {
+        match self.index.value(alloc, path)? {
+            Some(span) => Ok(Some(span)),
+            None => self.index.key(alloc, path),
+        }
+    }
 }
 
 /// What a document has for profiles.

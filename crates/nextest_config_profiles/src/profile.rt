@@ -1,25 +1,29 @@
 //! A profile with what it falls back on.
 
-ghost use Rattle.std.specs.Prelude.{◌≡◌, ◌⊎◌, ◌∷◌, IfErr, IfOk, length, map, MatchOption, None, option_map, string_bytes};
+ghost use Rattle.std.specs.Prelude.{◌≡◌, ◌∷◌, IfErr, IfOk, length, map, MatchOption, None, option_map, string_bytes};
+ghost use Rattle.std.specs.List.{AllByRecursion};
 ghost use Rattle.toml.specs.View.{table_view, view};
 ghost use Rattle.nextest_config_positions.specs.Step.{step_of};
 ghost use Rattle.nextest_config_profiles.specs.Effective.{IsEffective};
-ghost use Rattle.nextest_config_profiles.specs.Chain.{chain_wrong, IsChain};
+ghost use Rattle.nextest_config_profiles.specs.Chain.{IsChain};
+ghost use Rattle.nextest_config_profiles.specs.Inherits.{HasPlace, IsPlacedFault};
 ghost use Rattle.nextest_config_profiles.specs.Layer.{all_layers, profiles_at, profiles_in};
 ghost use Rattle.nextest_config_profiles.specs.Laid.{HasNoValue, IsLaidOver};
-ghost use Rattle.nextest_config_profiles.specs.Profile.{chain_in, file_in, files_in, IsProfileFault, IsSpanIn, layer_at, layers_in, profile_wrong, steps_to};
+ghost use Rattle.nextest_config_profiles.specs.Profile.{chain_in, file_in, files_in, IsProfileFault, IsSpanIn, layer_at, layers_in, owned_wrong, profile_wrong, steps_to};
 ghost use Rattle.nextest_config_profiles.specs.LastValue.{IsLastValue};
+ghost use Rattle.nextest_config_profiles.specs.Leaves.{AreAllLeaves, IsLeafBelow};
 ghost use Rattle.nextest_config_profiles.specs.Reach.{words_of};
 ghost use Rattle.nextest_config_profiles.specs.Said.{said_at};
 
-use crate::chain::{ChainFault, chain_of};
 use crate::defaults::default_document;
 use crate::effective::{Effective, first_given};
+use crate::inherits::{InheritsPlace, inherits_place};
 use crate::laid::laid_over;
 use crate::last_value::{LayerValue, last_value};
 use crate::layer::{Layer, profiles_at, profiles_in};
+use crate::leaves::{Leaf, leaves_below};
+use crate::owned_chain::{OwnedFault, owned_chain};
 use crate::setting::Setting;
-use nextest_config_findings::value_or_key;
 use nextest_config_positions::{Span, Step};
 use std::alloc::{AllocError, Global};
 use toml::{Table, Value};
@@ -32,36 +36,51 @@ pub struct EffectiveProfile<'a> {
     chain: Vec<String>,
 }
 
-/// Why a profile has no effective settings.
-#[derive(Debug, PartialEq, Eq, Drop)]
-pub enum ProfileFault {
+/// Why a profile has no effective settings. The place is where a file says what the profile inherits
+/// from: the last that says anything of that. There always is one.
+#[derive(Debug, Drop)]
+pub enum ProfileFault<'a> {
     /// There is no profile of the name.
     NoProfile,
     /// What the profile inherits from comes back to this one.
-    Ring { profile: String },
+    Ring {
+        profile: String,
+        place: Option<InheritsPlace<'a>>,
+    },
     /// This one inherits from what is no profile.
-    NotDefined { profile: String, parent: String },
+    NotDefined {
+        profile: String,
+        parent: String,
+        place: Option<InheritsPlace<'a>>,
+    },
     /// What this one has at `inherits` is no text.
-    NotText { profile: String },
+    NotText {
+        profile: String,
+        place: Option<InheritsPlace<'a>>,
+    },
     Memory,
 }
 
 impl<'a> EffectiveProfile<'a> {
     /// The profile of this name, by layers that have no error, the lowest first.
-    pub fn of(alloc: Global, layers: &'a [Layer<'a>], name: &str) -> Result<Self, ProfileFault>
+    pub fn of(alloc: Global, layers: &'a [Layer<'a>], name: &str) -> Result<Self, ProfileFault<'a>>
         ensures files { IfOk result (λ profile. files_in profile ≡ layers.now) }
         ensures layers { IfOk result (λ profile. layers_in profile ≡ all_layers layers.now) }
         ensures chain { IfOk result (λ profile.
             IsChain (all_layers layers.now) name.now (chain_in profile)) }
         ensures fault { IfErr result (IsProfileFault (all_layers layers.now) name.now) }
+        ensures place { IfErr result (IsPlacedFault layers.now) }
+        ensures in_a_file { IfErr result HasPlace }
     {
         let defaults = default_document(alloc)?;
-        let chain = owned_chain(alloc, &defaults, layers, name)?;
-        Ok(EffectiveProfile {
-            defaults,
-            layers,
-            chain,
-        })
+        match owned_chain(alloc, &defaults, layers, name) {
+            Ok(chain) => Ok(EffectiveProfile {
+                defaults,
+                layers,
+                chain,
+            }),
+            Err(fault) => Err(placed(alloc, layers, fault)?),
+        }
     }
 
     /// The names of the profile and of those that it falls back on, `default` last.
@@ -110,7 +129,7 @@ impl<'a> EffectiveProfile<'a> {
     {
         let steps = steps_to(alloc, path)?;
         match self.file(layer) {
-            Some(file) => Ok(value_or_key(file.index, steps.as_slice())),
+            Some(file) => file.span(alloc, steps.as_slice()),
             None => Ok(None),
         }
     }
@@ -162,9 +181,22 @@ impl<'a> EffectiveProfile<'a> {
         let value = laid_over(alloc, profiles.as_slice(), path)?;
         Ok(value)
     }
+
+    /// The leaves of what the layers, laid over one another, have at a path below `profile`, each
+    /// with the layer that it comes from.
+    pub fn leaves(&self, alloc: Global, path: &[&str]) -> Result<Vec<Leaf>, AllocError>
+        ensures each { IfOk result (λ leaves. AllByRecursion
+            (IsLeafBelow (layers_in self.now) (words_of path.now)) leaves.items) }
+        ensures all { IfOk result (λ leaves.
+            AreAllLeaves (layers_in self.now) (words_of path.now) leaves.items) }
+    {
+        let profiles = profiles_in(alloc, &self.defaults, self.layers)?;
+        let leaves = leaves_below(alloc, profiles.as_slice(), path)?;
+        Ok(leaves)
+    }
 }
 
-impl From<AllocError> for ProfileFault {
+impl From<AllocError> for ProfileFault<'_> {
     ghost use Rattle.std.specs.Prelude.{◌≡◌};
     ghost use Rattle.nextest_config_profiles.specs.declared.profile.ProfileFault.TheVariants.{Memory};
 
@@ -187,65 +219,30 @@ pub(crate) fn steps_to(alloc: Global, path: &[&str]) -> Result<Vec<Step>, AllocE
     Ok(steps)
 }
 
-// The chain of a profile, as texts of their own.
-fn owned_chain(
+// The fault with its place.
+fn placed<'a>(
     alloc: Global,
-    defaults: &Table,
-    layers: &[Layer<'_>],
-    name: &str,
-) -> Result<Vec<String>, ProfileFault>
-    ensures chain { IfOk result (λ chain. IsChain
-        (profiles_at (table_view defaults.now) ∷ profiles_in layers.now) name.now
-        (map string_bytes chain.items)) }
-    ensures fault { IfErr result (IsProfileFault
-        (profiles_at (table_view defaults.now) ∷ profiles_in layers.now) name.now) }
-{
-    let profiles = profiles_in(alloc, defaults, layers)?;
-    match chain_of(alloc, profiles.as_slice(), name) {
-        Ok(chain) => {
-            let chain = copies(alloc, chain.as_slice())?;
-            Ok(chain)
-        }
-        Err(fault) => Err(told(alloc, fault)),
-    }
-}
-
-// Copies of names.
-fn copies(alloc: Global, names: &[&str]) -> Result<Vec<String>, AllocError>
-    ensures { IfOk result (λ copies. map string_bytes copies.items ≡ words_of names.now) }
-{
-    let mut copies = Vec::new(alloc);
-    for name in names {
-        copies.push(String::from_str(alloc, name)?)?;
-    }
-    Ok(copies)
-}
-
-// The fault with texts of its own.
-fn told(alloc: Global, fault: ChainFault<'_>) -> ProfileFault
-    ensures { (profile_wrong result ≡ None) ⊎ (profile_wrong result ≡ chain_wrong fault.entry) }
-{
-    match owned(alloc, fault) {
-        Ok(fault) => fault,
-        Err(AllocError) => ProfileFault::Memory,
-    }
-}
-
-fn owned(alloc: Global, fault: ChainFault<'_>) -> Result<ProfileFault, AllocError>
-    ensures { IfOk result (λ owned. profile_wrong owned ≡ chain_wrong fault.entry) }
+    layers: &'a [Layer<'a>],
+    fault: OwnedFault,
+) -> Result<ProfileFault<'a>, AllocError>
+    ensures fault { IfOk result (λ placed. profile_wrong placed ≡ owned_wrong fault) }
+    ensures place { IfOk result (IsPlacedFault layers.now) }
 {
     Ok(match fault {
-        ChainFault::NoProfile => ProfileFault::NoProfile,
-        ChainFault::Ring { profile } => ProfileFault::Ring {
-            profile: String::from_str(alloc, profile)?,
+        OwnedFault::NoProfile => ProfileFault::NoProfile,
+        OwnedFault::Ring { profile } => ProfileFault::Ring {
+            place: inherits_place(alloc, layers, profile.as_str())?,
+            profile,
         },
-        ChainFault::NotDefined { profile, parent } => ProfileFault::NotDefined {
-            profile: String::from_str(alloc, profile)?,
-            parent: String::from_str(alloc, parent)?,
+        OwnedFault::NotDefined { profile, parent } => ProfileFault::NotDefined {
+            place: inherits_place(alloc, layers, profile.as_str())?,
+            profile,
+            parent,
         },
-        ChainFault::NotText { profile } => ProfileFault::NotText {
-            profile: String::from_str(alloc, profile)?,
+        OwnedFault::NotText { profile } => ProfileFault::NotText {
+            place: inherits_place(alloc, layers, profile.as_str())?,
+            profile,
         },
-        ChainFault::Memory => ProfileFault::Memory,
+        OwnedFault::Memory => ProfileFault::Memory,
     })
 }

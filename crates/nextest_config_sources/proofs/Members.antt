@@ -7,7 +7,7 @@ use Rattle.std.proofs.lemmas.List.Folds.{list_any_at}
 use Rattle.std.proofs.lemmas.Map.Views.{Contains-from_any}
 use Rattle.std.specs.List.Sorted.{IsStrictlySortedBy}
 use Rattle.std.specs.Set.{is_member}
-use Rattle.nextest_config_lists.proofs.Lists.{all_mapped}
+use Rattle.nextest_config_merge.proofs.Lists.{all_mapped}
 use Rattle.nextest_config_sources.specs.NextestVersion.{HasOneMore}
 use Rattle.nextest_config_sources.specs.NextestVersion.SetLaws.{contains_none}
 

@@ -3,7 +3,7 @@ use Rattle.std.specs.Prelude.{ℕ, Option, None, option_map}
 use Rattle.std.proofs.Common.{refl}
 use Rattle.semver.specs.Parse.{Parts}
 use Rattle.semver.specs.declared.Version.{Version}
-use Rattle.nextest_config_lists.specs.Merge.{IsMonoid}
+use Rattle.nextest_config_merge.specs.Merge.{IsMonoid}
 use Rattle.nextest_config_sources.specs.NextestVersion.VersionText.{plain}
 use Rattle.nextest_config.specs.NextestVersion.Later.{later_joins, later_of}
 use Rattle.nextest_config.specs.NextestVersion.Parts.{parts_join}

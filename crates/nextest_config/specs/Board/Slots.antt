@@ -1,6 +1,6 @@
 -- The slots of a board, and the list of sources that they hold.
 use Rattle.std.specs.Prelude.{◌≡◌, ℕ, suc, ◌<◌, false, List, [], ◌∷◌, length, get_or, set, Option, Some, None, option_map}
-use Rattle.nextest_config_lists.specs.Choice.Halvings.{halvings}
+use Rattle.nextest_config_merge.specs.Choice.Halvings.{halvings}
 use Rattle.nextest_config.specs.Board.RolePair.{no_pair, version_at}
 use Rattle.nextest_config_sources.specs.NextestVersion.ExperimentalDeserialize.{no_features}
 use Rattle.nextest_config_sources.specs.NextestVersion.NextestVersionDeserialize.{Versions, versions}

@@ -1,6 +1,6 @@
 -- The law of what is read of one borrowed source.
 use Rattle.std.proofs.Common.{◌≡◌, [], ◌∷◌, Option, Some, None, sym, ap, ap₂, subst, ◌∙◌}
-use Rattle.nextest_config_lists.specs.Merge.{IsReadingOne}
+use Rattle.nextest_config_merge.specs.Merge.{IsReadingOne}
 use Rattle.nextest_config_sources.specs.NextestVersion.ErrorKind.{Wrong}
 use Rattle.nextest_config_sources.specs.NextestVersion.Source.{SourcePlace, under}
 use Rattle.nextest_config_sources.specs.NextestVersion.VersionOnlyDeserialize.{Ask}

@@ -3,8 +3,8 @@ use Rattle.std.specs.Prelude.{◌≡◌, ℕ, List, [], ◌++◌, codes, Option,
 use Rattle.nextest_config_values.specs.Read.{FaultOrMemory}
 use Rattle.nextest_config_sources.specs.NextestVersion.ErrorKind.{Wrong, error_kind_text, wrong_of, wrong_text}
 use Rattle.nextest_config_sources.specs.NextestVersion.Source.{SourcePlace, place_of, place_text}
-use Rattle.nextest_config_lists.specs.declared.merge.PieceRefusal.{PieceRefusal}
-use Rattle.nextest_config_lists.specs.declared.merge.PieceRefusal.TheVariants as pieces
+use Rattle.nextest_config_merge.specs.declared.merge.PieceRefusal.{PieceRefusal}
+use Rattle.nextest_config_merge.specs.declared.merge.PieceRefusal.TheVariants as pieces
 use Rattle.nextest_config.specs.declared.nextest_version.error.ConfigParseError.{ConfigParseError}
 use Rattle.nextest_config_sources.specs.declared.nextest_version.error_kind.ConfigParseErrorKind.{ConfigParseErrorKind}
 use Rattle.nextest_config_sources.specs.declared.nextest_version.error_kind.ConfigParseErrorKind.TheVariants as kinds

@@ -3,7 +3,7 @@ use Rattle.std.specs.Prelude.{◌≡◌, Bool, true, false, Option, Some, None, 
 use Rattle.std.proofs.Common.{refl, sym, ◌∙◌}
 use Rattle.std.proofs.lemmas.Bool.{false_from_ne_true, false≢true}
 use Rattle.semver.specs.Parse.{Parts}
-use Rattle.nextest_config_lists.specs.Merge.{IsMonoid}
+use Rattle.nextest_config_merge.specs.Merge.{IsMonoid}
 use Rattle.nextest_config_sources.specs.NextestVersion.Precedence.{is_below, IsBelow}
 use Rattle.nextest_config_sources.specs.NextestVersion.PrecedenceLaws.{below_trans, not_below_trans}
 

@@ -1,7 +1,7 @@
 -- What is joined part by part.
 use Rattle.std.specs.Prelude.{◌≡◌}
 use Rattle.std.proofs.Common.{sym, ap, ap₂, ◌∙◌}
-use Rattle.nextest_config_lists.specs.Merge.{IsMonoid}
+use Rattle.nextest_config_merge.specs.Merge.{IsMonoid}
 
 -- two parts, each with its own join, are joined part by part
 side_by_side : {A B : Type 0} (j : A → A → A) (k : B → B → B) (a : A) (b : B) → IsMonoid j a

@@ -2,7 +2,7 @@
 use Rattle.std.specs.Prelude.{◌≡◌, ◌≢◌, ◌↔◌, ◌+◌, ℕ, List, [], ◌∷◌, ◌++◌, length, map, flat_map, Contains, Bool, Option, Some, None, IfSome, option_map}
 use Rattle.std.specs.List.{AllByRecursion, AllZip}
 use Rattle.semver.specs.Parse.{Parts}
-use Rattle.nextest_config_lists.specs.Merge.{in_a_row, IsFirstWrong, IsReordering, total}
+use Rattle.nextest_config_merge.specs.Merge.{in_a_row, IsFirstWrong, IsReordering, total}
 use Rattle.nextest_config.specs.NextestVersion.Error.{kind_of, Refusal, RefusesBy, refusal_of}
 use Rattle.nextest_config_sources.specs.NextestVersion.Experimental.{FeaturesInOrder}
 use Rattle.nextest_config.specs.NextestVersion.ExperimentalConfig.{AreSeenAs, Experimental, SeenFeatures, Unknown, array_at, entry_at, experimental_of, features_from, join_features, no_experimental, seen_features}
@@ -12,8 +12,8 @@ use Rattle.nextest_config_sources.specs.NextestVersion.Source.{SourcePlace, Sour
 use Rattle.nextest_config.specs.NextestVersion.Verdict.{Verdict, verdict, named_place, IsSelected, SaysTheSame}
 use Rattle.nextest_config_sources.specs.NextestVersion.VersionOnlyDeserialize.{Ask, ask_of, IsWrong, TextAsks}
 use Rattle.nextest_config.specs.declared.nextest_version.error.ConfigParseError.{ConfigParseError}
-use Rattle.nextest_config_lists.specs.declared.merge.PieceRefusal.{PieceRefusal}
-use Rattle.nextest_config_lists.specs.declared.merge.PieceRefusal.TheVariants as refusals
+use Rattle.nextest_config_merge.specs.declared.merge.PieceRefusal.{PieceRefusal}
+use Rattle.nextest_config_merge.specs.declared.merge.PieceRefusal.TheVariants as refusals
 use Rattle.nextest_config_sources.specs.declared.nextest_version.error_kind.ConfigParseErrorKind.TheVariants as kinds
 use Rattle.nextest_config_sources.specs.declared.nextest_version.experimental.ConfigExperimental.{ConfigExperimental}
 use Rattle.nextest_config_sources.specs.declared.nextest_version.source.ConfigSource.{ConfigSource}

@@ -2,7 +2,7 @@
 use Rattle.std.proofs.Common.{◌≡◌, refl, List, [], ◌∷◌, ◌++◌, Option, Some, None, sym, inl, inr, ap, ap₂, subst, ◌∙◌}
 use mathlib.Core.Logic.Iff as iff
 use Rattle.semver.specs.Parse.{Parts}
-use Rattle.nextest_config_lists.specs.Merge.{IsMonoid, IsReadingOne}
+use Rattle.nextest_config_merge.specs.Merge.{IsMonoid, IsReadingOne}
 use Rattle.nextest_config.specs.NextestVersion.Error.{Refusal}
 use Rattle.nextest_config_sources.specs.NextestVersion.ErrorKind.{Wrong}
 use Rattle.nextest_config.specs.NextestVersion.ExperimentalConfig.{Experimental, join_features, no_features_seen}

@@ -12,8 +12,8 @@ ghost use Rattle.nextest_config.specs.NextestVersion.{alone, IsSatisfied, IsSele
 use super::refusal::BoardRefusal;
 use super::role_pair::{RolePair, SlotVersion, Tally};
 use crate::nextest_version::{ConfigParseError, NextestVersionEval};
-use nextest_config_lists::choice::{ChoiceTree, Choose};
-use nextest_config_lists::merge::PieceRefusal;
+use nextest_config_merge::choice::{ChoiceTree, Choose};
+use nextest_config_merge::merge::PieceRefusal;
 use nextest_config_sources::nextest_version::{
     ConfigSource, Edition, NextestVersionDeserialize, SourceText, VersionOnlyDeserialize,
 };

@@ -10,7 +10,7 @@ use super::document::SourceDocument;
 use super::error::{ConfigParseError, ListRefusal};
 use super::file::File;
 use super::version_only::VersionOnlyConfig;
-use nextest_config_lists::merge::{Merge, PieceRefusal, ReadPiece, read_halves};
+use nextest_config_merge::merge::{Merge, PieceRefusal, ReadPiece, read_halves};
 use nextest_config_sources::nextest_version::{Edition, RepositoryText, ToolText};
 use std::alloc::{AllocError, Global};
 use std::marker::PhantomData;

@@ -4,7 +4,7 @@ ghost use Rattle.std.specs.Prelude.{◌≡◌, ◌↔◌, IsNone, Some, None, op
 ghost use Rattle.nextest_config_sources.specs.NextestVersion.ErrorKind.{is_memory, wrong_of};
 ghost use Rattle.nextest_config_sources.specs.declared.nextest_version.error_kind.ConfigParseErrorKind.TheVariants.{Memory};
 
-use nextest_config_lists::merge::PieceRefusal;
+use nextest_config_merge::merge::PieceRefusal;
 use nextest_config_sources::nextest_version::{ConfigParseErrorKind, ConfigSource};
 use std::alloc::{AllocError, Global};
 use std::error::Error;

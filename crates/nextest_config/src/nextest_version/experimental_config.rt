@@ -5,7 +5,7 @@ ghost use Rattle.std.proofs.Props.{props};
 ghost use Rattle.std.specs.Iterator.{YieldsFirstBy, item_count};
 ghost use Rattle.nextest_config_sources.specs.NextestVersion.Experimental.{FeaturesInOrder};
 
-use nextest_config_lists::merge::Merge;
+use nextest_config_merge::merge::Merge;
 use nextest_config_sources::nextest_version::{
     ConfigExperimental, ConfigSource, ExperimentalDeserialize,
 };
@@ -157,7 +157,7 @@ impl UnknownFeatures {
     ghost use Rattle.nextest_config_sources.specs.NextestVersion.Source.{place_of};
 
     // A copy of the names and of their source.
-    #[tactic(auto, using(nextest_config_lists::proofs::Lists::zip_same_images))]
+    #[tactic(auto, using(nextest_config_merge::proofs::Lists::zip_same_images))]
     fn clone(&self, alloc: Global) -> Result<Self, AllocError>
         ensures { IfOk result (λ entry. unknown_of entry ≡ unknown_of self.now) }
     {

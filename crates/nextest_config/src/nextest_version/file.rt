@@ -1,13 +1,13 @@
 //! The files of tools and of a repository.
 
 ghost use Rattle.std.specs.Prelude.{◌≡◌, IfErr, IfOk, option_map, string_bytes};
-ghost use Rattle.nextest_config_lists.specs.Merge.{IsRefusalOfOne};
+ghost use Rattle.nextest_config_merge.specs.Merge.{IsRefusalOfOne};
 ghost use Rattle.nextest_config_sources.specs.NextestVersion.{place_of, under};
 ghost use Rattle.nextest_config.specs.NextestVersion.{configuration_of, file_given, IsErrorOf, refusal_of, StandsForOne};
 
 use super::error::ConfigParseError;
 use super::version_only::{VersionOnlyConfig, asks_nothing};
-use nextest_config_lists::merge::PieceRefusal;
+use nextest_config_merge::merge::PieceRefusal;
 use nextest_config_sources::nextest_version::{ConfigSource, Edition, RepositoryText, ToolText};
 use std::alloc::{AllocError, Global};
 

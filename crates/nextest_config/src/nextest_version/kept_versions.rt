@@ -4,7 +4,7 @@ ghost use Rattle.std.specs.Prelude.{◌≡◌, if◌then◌else◌, IfOk, IsOk, 
 ghost use Rattle.semver.specs.Identifiers.{parts_of};
 
 use super::verdict::NextestVersionEval;
-use nextest_config_lists::merge::Merge;
+use nextest_config_merge::merge::Merge;
 use nextest_config_sources::nextest_version::{ConfigSource, NextestVersionDeserialize};
 use semver::Version;
 use std::alloc::{AllocError, Global};

@@ -1,7 +1,7 @@
 //! The configuration of a list of sources.
 
 ghost use Rattle.std.specs.Prelude.{◌≡◌, IfOk, IfErr, IsTrue, List, [], ◌∷◌, map, option_map, string_bytes};
-ghost use Rattle.nextest_config_lists.specs.Merge.{IsRefusalOfOne};
+ghost use Rattle.nextest_config_merge.specs.Merge.{IsRefusalOfOne};
 ghost use Rattle.nextest_config_sources.specs.NextestVersion.{given_at, nothing, source_of, source_under, TextAsks, under};
 ghost use Rattle.nextest_config_sources.specs.NextestVersion.Source.{Given};
 ghost use Rattle.nextest_config.specs.NextestVersion.{AreDocumentsOf, configuration_of, experimental_of, IsConfigurationOf, IsErrorOf, IsErrorOfDocument, IsErrorOfReading, IsRefusedReading, neutral, refusal_of, roles_of, source_ask, sources_of, sources_under, StandsForAsks, StandsForDocument, StandsForOne};
@@ -13,7 +13,7 @@ use super::document::SourceDocument;
 use super::error::{ConfigParseError, ListRefusal};
 use super::experimental_config::ExperimentalConfig;
 use super::kept_versions::NextestVersionConfig;
-use nextest_config_lists::merge::{Merge, PieceRefusal, ReadPiece, read_halves};
+use nextest_config_merge::merge::{Merge, PieceRefusal, ReadPiece, read_halves};
 use nextest_config_sources::nextest_version::{
     ConfigSource, Edition, RepositoryText, SourceText, ToolText, VersionOnlyDeserialize,
 };

@@ -9,12 +9,12 @@ use Rattle.nextest_config_positions.specs.Value.{parts_equals}
 use Rattle.toml_parser.specs.Strings.{simple_key}
 
 -- from this walk and this rest the end is reached in so many statements, with that walk
-abbrev Ends : ℕ → Walk → List ℕ → Walk → Type 0
+abbrev pub Ends : ℕ → Walk → List ℕ → Walk → Type 0
 Ends zero walk rest last = (walk ≡ last) × (skip_blank rest ≡ [])
 Ends (suc n) walk rest last = (s : Statement) × (after : List ℕ) × (next : Walk) × (statement_line (skip_blank rest) ≡ Some (s, after)) × (walk_on walk (skip_blank rest) s ≡ Some next) × Ends n next after last
 
 -- it is reached from the beginning
-from_start : (text : List ℕ) (walk last : Walk) (rest : List ℕ) (n : ℕ) → Walks text walk rest → Ends n walk rest last → (m : ℕ) × Ends m no_walk (skip_bom text) last
+pub from_start : (text : List ℕ) (walk last : Walk) (rest : List ℕ) (n : ℕ) → Walks text walk rest → Ends n walk rest last → (m : ℕ) × Ends m no_walk (skip_bom text) last
 from_start text walk last rest n begin ends = (n, ends)
 from_start text walk last rest n (go_on before next behind after s walks read on) ends = from_start text before last behind (suc n) walks (s, after, next, read, on, ends)
 
@@ -24,7 +24,7 @@ unfolding statement_line statement parts_equals parts_after simple_key
 end_none = refl
 
 -- nor does the walk go on there
-none_at_end : (rest after : List ℕ) (s : Statement) → skip_blank rest ≡ [] → statement_line (skip_blank rest) ≡ Some (s, after) → ⊥
+pub none_at_end : (rest after : List ℕ) (s : Statement) → skip_blank rest ≡ [] → statement_line (skip_blank rest) ≡ Some (s, after) → ⊥
 none_at_end rest after s over read = none-some (s, after) (sym end_none ∙ ap statement_line (sym over) ∙ read)
 
 -- there is one end

@@ -62,7 +62,7 @@ same_branch l k (branch m t bs) same =
     rw (alike, same_branch l k bs same) refl
 
 -- one of three, by how two keys compare
-by_order : {A : Type 0} (P : A → Type 0) (o : Ordering) (x y z : A) → (o ≡ Less → P x) → (o ≡ Equal → P y) → (o ≡ Greater → P z) → P (match_ordering o x y z)
+pub by_order : {A : Type 0} (P : A → Type 0) (o : Ordering) (x y z : A) → (o ≡ Less → P x) → (o ≡ Equal → P y) → (o ≡ Greater → P z) → P (match_ordering o x y z)
 by_order P Less x y z less tie more = less refl
 by_order P Equal x y z less tie more = tie refl
 by_order P Greater x y z less tie more = more refl

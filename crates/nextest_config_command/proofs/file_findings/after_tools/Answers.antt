@@ -1,7 +1,7 @@
 use Rattle.std.proofs.Common.{◌∷◌, [], ◌++◌, map}
 use Rattle.std.proofs.lemmas.List.{map_push}
 use Rattle.std.proofs.lemmas.Result.{IfOk-weaker}
-use Rattle.nextest_config_lists.proofs.Lists.{zip_push}
+use Rattle.nextest_config_merge.proofs.Lists.{zip_push}
 use Rattle.nextest_config_findings.specs.Defined as findings
 use Rattle.nextest_config_command.specs.FileFindings.{AreListed, IsListFile}
 use Rattle.nextest_config_command.proofs.file_findings.after_tools.Goals as goal

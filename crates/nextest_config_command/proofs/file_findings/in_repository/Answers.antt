@@ -1,5 +1,5 @@
 use Rattle.std.proofs.lemmas.List.{map_push, take_more}
-use Rattle.nextest_config_lists.proofs.Lists.{zip_push}
+use Rattle.nextest_config_merge.proofs.Lists.{zip_push}
 use Rattle.nextest_config_command.specs.FileFindings.{found_of, IsFoundAfter, judging_of}
 use Rattle.nextest_config_command.proofs.file_findings.in_repository.Goals as goal
 

@@ -1,6 +1,6 @@
 use Rattle.std.proofs.lemmas.List.{map_more, map_push}
 use Rattle.std.proofs.lemmas.Result.{err_from_is_err_and}
-use Rattle.nextest_config_lists.proofs.Lists.{map-around, zip_push}
+use Rattle.nextest_config_merge.proofs.Lists.{map-around, zip_push}
 use Rattle.nextest_config_command.specs.Found.{IsFound, IsUnread, outcome_of}
 use Rattle.nextest_config_command.specs.Request.{wanted_of}
 use Rattle.nextest_config_command.proofs.FirstFailures.{first_fails}

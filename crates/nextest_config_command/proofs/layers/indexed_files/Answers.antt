@@ -1,5 +1,5 @@
 use Rattle.std.specs.List.{AllZip}
-use Rattle.nextest_config_lists.proofs.Lists.{zip_joined}
+use Rattle.nextest_config_merge.proofs.Lists.{zip_joined}
 use Rattle.nextest_config_values.proofs.Elements.{all_left, all_right}
 use Rattle.nextest_config_command.specs.FileList.{IsDocumentFile}
 use Rattle.nextest_config_command.specs.Layers.{IsIndexed}

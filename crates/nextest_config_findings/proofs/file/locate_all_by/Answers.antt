@@ -1,5 +1,5 @@
 use Rattle.std.proofs.Common.{◌≡◌, [], ◌∷◌, ◌++◌, rules}
-use Rattle.nextest_config_lists.proofs.Lists.{zip_push}
+use Rattle.nextest_config_merge.proofs.Lists.{zip_push}
 use Rattle.nextest_config_findings.specs.File.{IsLocatedBy}
 use Rattle.nextest_config_findings.specs.declared.file.LocatedFinding.{LocatedFinding}
 use Rattle.nextest_config_findings.proofs.file.locate_all_by.Goals as goal

@@ -1,5 +1,5 @@
 use Rattle.std.proofs.lemmas.List.{map_push, take_more}
-use Rattle.nextest_config_lists.proofs.Lists.{zip_push}
+use Rattle.nextest_config_merge.proofs.Lists.{zip_push}
 use Rattle.nextest_config_profiles.specs.Reach.{words_of}
 use Rattle.nextest_config_profile_report.specs.Hidden.{IsHidden}
 use Rattle.nextest_config_profile_report.specs.Standing.{standing_of}

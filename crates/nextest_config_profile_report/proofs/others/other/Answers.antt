@@ -1,6 +1,6 @@
 use Rattle.std.proofs.Common.{◌+◌, ◌∷◌, [], drop, map, string_bytes, subst, take}
 use Rattle.std.proofs.lemmas.List.{map_push, take_more}
-use Rattle.nextest_config_lists.proofs.Lists.{map-around}
+use Rattle.nextest_config_merge.proofs.Lists.{map-around}
 use Rattle.nextest_config_values.proofs.Elements.{all_joined}
 use Rattle.nextest_config_profile_report.specs.Others.{IsOtherOf, PassesOther}
 use Rattle.nextest_config_profile_report.proofs.others.other.Goals as goal

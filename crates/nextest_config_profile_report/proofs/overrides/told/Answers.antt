@@ -1,5 +1,5 @@
 use Rattle.std.proofs.lemmas.List.{map_push, take_more}
-use Rattle.nextest_config_lists.proofs.Lists.{zip_push}
+use Rattle.nextest_config_merge.proofs.Lists.{zip_push}
 use Rattle.nextest_config_profile_report.specs.Elements.{element_of}
 use Rattle.nextest_config_profile_report.specs.Overrides.{IsOverride}
 use Rattle.nextest_config_profile_report.proofs.overrides.told.Goals as goal

@@ -9,4 +9,4 @@ use Rattle.nextest_config_positions.proofs.index.Index.value.Goals as goal
 pub returns-in-Some : goal.returns-in-Some
 returns-in-Some c text of_text =
     let found : option_map pieces_of (tree_at (branches_of c.args.self.now.root) (map step_of c.args.path.now)) ≡ Some (pieces_from c.in-Some.pieces) = sym (rw c.in-Some.is at c.pieces_at.ensures) in
-    rw (range_of_value _ _ c.args.self.now.places.length found, range_of_piece c.in-Some.pieces.value c.args.self.now.places.length, of_text.places.size_is) (c.span.ensures text of_text)
+    rw (range_of_value _ _ c.args.self.now.places.length found, range_of_piece c.in-Some.pieces.value c.args.self.now.places.length, of_text.places.size_is) (c.span.ensures text of_text.places)

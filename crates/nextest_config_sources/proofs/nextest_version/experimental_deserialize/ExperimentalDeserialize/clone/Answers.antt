@@ -1,6 +1,6 @@
 use Rattle.std.proofs.Common.{string_bytes, refl}
 use Rattle.std.specs.List.{each_same}
-use Rattle.nextest_config_lists.proofs.Lists.{zip_same_images}
+use Rattle.nextest_config_merge.proofs.Lists.{zip_same_images}
 use Rattle.nextest_config_sources.proofs.nextest_version.experimental_deserialize.ExperimentalDeserialize.clone.Goals as goal
 
 pub returns : goal.returns

@@ -1,0 +1,56 @@
+//! Streams in memory, which say whether a call of them has failed, and runs of the command over
+//! them, with what `serve` promises there as one contract.
+
+ghost use Rattle.std.specs.Prelude.{◌≡◌, false, IsTrue, Some};
+ghost use Rattle.nextest_config_test_command.specs.Kept.{SaysWhy};
+
+use crate::memory::MemoryFiles;
+use nextest_config_command::{Files, Request, serve};
+use nextest_config_report::streams::Stream;
+use std::alloc::Global;
+use std::io;
+
+/// A stream that keeps what it takes. A call of it fails where it is refused memory.
+#[derive(Debug, Drop)]
+pub struct KeptStream {
+    pub bytes: Vec<u8>,
+    pub has_failed: bool,
+}
+
+impl Stream for KeptStream {
+    ghost contents = { λ stream. Some stream.bytes.items };
+
+    ghost may_have_failed = { λ stream. IsTrue stream.has_failed };
+
+    fn write(&mut self, bytes: &[u8]) -> io::Result<usize> {
+        match self.bytes.extend_from_slice(bytes) {
+            Ok(()) => Ok(bytes.len()),
+            Err(error) => {
+                self.has_failed = true;
+                Err(io::Error::from(error))
+            }
+        }
+    }
+
+    fn flush(&mut self) -> io::Result<()> {
+        Ok(())
+    }
+}
+
+/// Does what is asked for over files and streams in memory. Where no call of these has failed, status 3
+/// comes with the whole line that says why, and nothing written.
+pub fn serve_kept(
+    alloc: Global,
+    request: &Request,
+    files: &MemoryFiles,
+    writer: &mut KeptStream,
+    faults: &mut KeptStream,
+) -> u8
+    ensures says_why { result ≡ 3 → writer.new.has_failed ≡ false → faults.new.has_failed ≡ false
+        → SaysWhy (⟦<MemoryFiles as Files>⟧.holds files.now) request.now faults.old.bytes.items
+        faults.new.bytes.items }
+    ensures unwritten { result ≡ 3 → writer.new.has_failed ≡ false
+        → writer.new.bytes.items ≡ writer.old.bytes.items }
+{
+    serve(alloc, request, files, writer, faults)
+}

@@ -1,0 +1,510 @@
+//! Runs of the command, with what they write and complain of.
+
+use crate::tests::blocks::check;
+use crate::tests::runner::Test;
+use nextest_config_test_rows::rows::copied;
+
+const RUNS: &str = r#"
+=== a tool's file, and the repository's above it
+@ /etc/t.toml
+nextest-version = "0.9.50"
+@ .config/nextest.toml
+nextest-version = { recommended = "0.9.60" }
+experimental = ["benchmarks", "future"]
+$ show --tool-config-file=my-tool:/etc/t.toml = 0
+> required: 0.9.50 by tool my-tool (/etc/t.toml)
+> recommended: 0.9.60 by repository .config/nextest.toml
+> known: benchmarks
+> unknown in repository .config/nextest.toml: "future"
+> deprecated array form in repository .config/nextest.toml
+> profiles: default, default-miri
+$ check --current=0.9.55 --tool-config-file=my-tool:/etc/t.toml = 0
+> warning: 0.9.60 recommended by repository .config/nextest.toml, current 0.9.55
+> known: benchmarks
+> unknown in repository .config/nextest.toml: "future"
+> deprecated array form in repository .config/nextest.toml
+> .config/nextest.toml:2:16: note: experimental: the array form is deprecated, use a table: { benchmarks = true } [deprecated-array]
+> .config/nextest.toml:2:31: warning: experimental[1]: unknown feature "future" [unknown-feature]
+$ check --current=0.9.49 --tool-config-file=my-tool:/etc/t.toml = 1
+> error: 0.9.50 required by tool my-tool (/etc/t.toml), current 0.9.49
+> known: benchmarks
+> unknown in repository .config/nextest.toml: "future"
+> deprecated array form in repository .config/nextest.toml
+$ check --current=0.9.49 --tool-config-file=my-tool:/etc/t.toml --override = 0
+> error (overridden): 0.9.50 required by tool my-tool (/etc/t.toml), current 0.9.49
+> known: benchmarks
+> unknown in repository .config/nextest.toml: "future"
+> deprecated array form in repository .config/nextest.toml
+> .config/nextest.toml:2:16: note: experimental: the array form is deprecated, use a table: { benchmarks = true } [deprecated-array]
+> .config/nextest.toml:2:31: warning: experimental[1]: unknown feature "future" [unknown-feature]
+$ check --current=0.9.49 --tool-config-file=my-tool:/etc/t.toml --table-only = 2
+> .config/nextest.toml:2:16: error: experimental: the array form of `experimental` isn't supported, use a table [array-form]
+$ lint --tool-config-file=my-tool:/etc/t.toml --table-only = 1
+> .config/nextest.toml:2:16: error: experimental: the array form of `experimental` isn't supported, use a table [array-form]
+
+=== versions, and no finding
+@ .config/nextest.toml
+nextest-version = { required = "0.9.50", recommended = "0.9.60" }
+$ lint --strict = 0
+$ lint --format=github = 0
+$ check --current=0.9.60 --strict = 0
+> satisfied: 0.9.60
+> known: none
+$ check --current=0.9.55 = 0
+> warning: 0.9.60 recommended by repository .config/nextest.toml, current 0.9.55
+> known: none
+$ check --current=0.9.55 --strict = 1
+> warning: 0.9.60 recommended by repository .config/nextest.toml, current 0.9.55
+> known: none
+$ check --current=0.9.55 --strict --override = 0
+> warning (overridden): 0.9.60 recommended by repository .config/nextest.toml, current 0.9.55
+> known: none
+$ check --current=0.9.50-b.1+c = 1
+> error: 0.9.50 required by repository .config/nextest.toml, current 0.9.50-b.1+c
+> known: none
+$ check --current=0.9.49 --strict --override = 0
+> error (overridden): 0.9.50 required by repository .config/nextest.toml, current 0.9.49
+> known: none
+
+=== tools, of which the first is read last, and the repository above them
+@ other | folder
+@ /a.toml
+nextest-version = "0.9.50"
+zone = 1
+@ /b.toml
+zone = 1
+nextest-version = { required = "0.9.50", recommended = "0.9.50" }
+@ .config/nextest.toml
+nextest-version = { recommended = "0.9.50" }
+[profile.ci]
+overrides = 1
+$ show --tool-config-file=a:/a.toml --tool-config-file=b:/b.toml = 0
+> required: 0.9.50 by tool a (/a.toml)
+> recommended: 0.9.50 by repository .config/nextest.toml
+> known: none
+> profiles: default, default-miri, ci
+$ show --tool-config-file=b:/b.toml --tool-config-file=a:/a.toml --config-file=/a.toml = 0
+> required: 0.9.50 by explicit /a.toml
+> recommended: 0.9.50 by tool b (/b.toml)
+> known: none
+> profiles: default, default-miri
+$ lint --tool-config-file=a:/a.toml --tool-config-file=b:/b.toml = 1
+> /b.toml:1:1: warning: unknown key "zone" [unknown-key]
+> /a.toml:2:1: warning: unknown key "zone" [unknown-key]
+> .config/nextest.toml:3:13: error: profile.ci.overrides: invalid type: integer `1`, expected an array [invalid-type]
+$ lint --tool-config-file=b:/b.toml --tool-config-file=a:/a.toml --tool-config-file=b:/a.toml other = 0
+> /a.toml:2:1: warning: unknown key "zone" [unknown-key]
+> /a.toml:2:1: warning: unknown key "zone" [unknown-key]
+> /b.toml:1:1: warning: unknown key "zone" [unknown-key]
+! no configuration file: other/.config/nextest.toml isn't there
+$ lint --config-file=/b.toml --strict = 1
+> /b.toml:1:1: warning: unknown key "zone" [unknown-key]
+$ check --current=0.9.50 --config-file=/b.toml --strict = 1
+> satisfied: 0.9.50
+> known: none
+> /b.toml:1:1: warning: unknown key "zone" [unknown-key]
+$ check --current=0.9.50 --tool-config-file=b:/b.toml = 1
+> satisfied: 0.9.50
+> known: none
+> /b.toml:1:1: warning: unknown key "zone" [unknown-key]
+> .config/nextest.toml:3:13: error: profile.ci.overrides: invalid type: integer `1`, expected an array [invalid-type]
+$ check --current=0.9.49 --tool-config-file=a:/a.toml --strict = 1
+> error: 0.9.50 required by tool a (/a.toml), current 0.9.49
+> known: none
+$ check --current=0.9.49 --override = 1
+> warning (overridden): 0.9.50 recommended by repository .config/nextest.toml, current 0.9.49
+> known: none
+> .config/nextest.toml:3:13: error: profile.ci.overrides: invalid type: integer `1`, expected an array [invalid-type]
+
+=== files that are refused beside one that isn't
+@ other | folder
+@ /t.toml
+experimental = ["benchmarks", "a"]
+@ /u.toml
+a = flase
+@ .config/nextest.toml
+zone = 1
+# é
+@ ci.toml
+[profile.ci]
+overrides = 1
+retrie = 1
+$ lint --tool-config-file=t:/t.toml --tool-config-file=u:/u.toml = 1
+> /u.toml:1:5: error: * [not-toml]
+> /t.toml:1:16: error: experimental: experimental features in a tool configuration: "a", "benchmarks" [tool-features]
+> .config/nextest.toml:2:3: error: not UTF-8 [not-utf8]
+$ check --current=1.0.0 = 2
+> .config/nextest.toml:2:3: error: not UTF-8 [not-utf8]
+$ check --current=1.0.0 --tool-config-file=u:/u.toml --config-file=ci.toml = 2
+> /u.toml:1:5: error: * [not-toml]
+> ci.toml:2:13: error: profile.ci.overrides: invalid type: integer `1`, expected an array [invalid-type]
+> ci.toml:3:1: warning: profile.ci: unknown key "retrie", did you mean "retries" [unknown-key]
+$ check --current=1.0.0 --tool-config-file=t:/t.toml --config-file=ci.toml --strict --override = 2
+> /t.toml:1:16: error: experimental: experimental features in a tool configuration: "a", "benchmarks" [tool-features]
+> ci.toml:2:13: error: profile.ci.overrides: invalid type: integer `1`, expected an array [invalid-type]
+> ci.toml:3:1: warning: profile.ci: unknown key "retrie", did you mean "retries" [unknown-key]
+$ show = 2
+> .config/nextest.toml:2:3: error: not UTF-8 [not-utf8]
+$ show --config-file=/u.toml = 2
+> /u.toml:1:5: error: * [not-toml]
+$ show --tool-config-file=t:/t.toml other = 2
+> /t.toml:1:16: error: experimental: experimental features in a tool configuration: "a", "benchmarks" [tool-features]
+! no configuration file: other/.config/nextest.toml isn't there
+$ lint --tool-config-file=u:/u.toml --config-file=ci.toml --format=github --strict = 1
+> ::error file=/u.toml,line=1,endLine=1,col=5,endColumn=10,title=not-toml::*
+> ::error file=ci.toml,line=2,endLine=2,col=13,endColumn=14,title=invalid-type::profile.ci.overrides: invalid type: integer `1`, expected an array
+> ::warning file=ci.toml,line=3,endLine=3,col=1,endColumn=7,title=unknown-key::profile.ci: unknown key "retrie", did you mean "retries"
+
+=== a version out of its grammar
+@ .config/nextest.toml
+zone = 1
+nextest-version = "0.9.60-rc.1"
+$ check --current=1.0.0 = 2
+> .config/nextest.toml:1:1: warning: unknown key "zone" [unknown-key]
+> .config/nextest.toml:2:19: error: nextest-version: pre-release identifiers are not supported in nextest-version [pre-release]
+$ show = 2
+> .config/nextest.toml:1:1: warning: unknown key "zone" [unknown-key]
+> .config/nextest.toml:2:19: error: nextest-version: pre-release identifiers are not supported in nextest-version [pre-release]
+
+=== experimental features
+@ /t.toml
+experimental = []
+@ .config/nextest.toml
+experimental = { z = 1, wrapper-scripts = true, setup-scripts = true, "x\n" = false }
+@ ci.toml
+experimental = ["y", "benchmarks", "x"]
+$ show --tool-config-file=t:/t.toml = 0
+> required: none
+> recommended: none
+> known: setup-scripts, wrapper-scripts
+> unknown in repository .config/nextest.toml: "x\n", "z"
+> deprecated array form in tool t (/t.toml)
+> profiles: default, default-miri
+$ show --tool-config-file=t:/t.toml --config-file=ci.toml = 0
+> required: none
+> recommended: none
+> known: benchmarks
+> unknown in explicit ci.toml: "x", "y"
+> deprecated array form in tool t (/t.toml)
+> deprecated array form in explicit ci.toml
+> profiles: default, default-miri
+$ show --table-only = 0
+> required: none
+> recommended: none
+> known: setup-scripts, wrapper-scripts
+> unknown in repository .config/nextest.toml: "x\n", "z"
+> profiles: default, default-miri
+$ show --tool-config-file=t:/t.toml --table-only = 2
+> /t.toml:1:16: error: experimental: the array form of `experimental` isn't supported, use a table [array-form]
+> .config/nextest.toml:1:18: warning: experimental.z: unknown feature "z" [unknown-feature]
+> .config/nextest.toml:1:71: warning: experimental."x\n": unknown feature "x\n" [unknown-feature]
+
+=== what another file of the list defines
+@ /t.toml
+[profile.base]
+retries = 1
+[test-groups]
+"@tool:t:g" = { max-threads = 1 }
+@ /u.toml
+a = flase
+@ .config/nextest.toml
+[profile.ci]
+inherits = "base"
+[[profile.ci.overrides]]
+filter = "all()"
+test-group = "@tool:t:h"
+$ lint --tool-config-file=t:/t.toml = 0
+> .config/nextest.toml:5:14: warning: profile.ci.overrides[0].test-group: no file defines the test group "@tool:t:h", did you mean "@tool:t:g" [undefined-group]
+$ lint --strict = 1
+> .config/nextest.toml:2:12: warning: profile.ci.inherits: no file defines the profile "base" [undefined-profile]
+$ lint --tool-config-file=u:/u.toml = 1
+> /u.toml:1:5: error: * [not-toml]
+$ check --current=1.0.0 --strict = 1
+> satisfied: 1.0.0
+> known: none
+> .config/nextest.toml:2:12: warning: profile.ci.inherits: no file defines the profile "base" [undefined-profile]
+$ check --current=1.0.0 --tool-config-file=t:/t.toml = 0
+> satisfied: 1.0.0
+> known: none
+> .config/nextest.toml:5:14: warning: profile.ci.overrides[0].test-group: no file defines the test group "@tool:t:h", did you mean "@tool:t:g" [undefined-group]
+
+=== profiles that come back to themselves over several files
+@ /a.toml
+[profile.x]
+inherits = "y"
+@ /b.toml
+[profile.x]
+inherits = "default"
+@ .config/nextest.toml
+[profile.y]
+inherits = "x"
+$ lint --tool-config-file=a:/a.toml --strict = 1
+> /a.toml:2:12: warning: profile.x.inherits: the profile "x" inherits from itself [inherits-itself]
+> .config/nextest.toml:2:12: warning: profile.y.inherits: the profile "y" inherits from itself [inherits-itself]
+$ lint --tool-config-file=a:/a.toml --tool-config-file=b:/b.toml = 0
+> /a.toml:2:12: warning: profile.x.inherits: the profile "x" inherits from itself [inherits-itself]
+> .config/nextest.toml:2:12: warning: profile.y.inherits: the profile "y" inherits from itself [inherits-itself]
+$ lint --tool-config-file=b:/b.toml --tool-config-file=a:/a.toml --strict = 0
+
+=== test groups that other files define
+@ /t.toml
+[test-groups]
+"@tool:t:one" = { max-threads = 1 }
+[[profile.default.overrides]]
+filter = "all()"
+test-group = "serial"
+@ /u.toml
+[test-groups]
+"@tool:u:two" = { max-threads = 1 }
+[[profile.default.overrides]]
+filter = "all()"
+test-group = "@tool:t:on"
+@ .config/nextest.toml
+[test-groups]
+serial = { max-threads = 1 }
+[[profile.default.overrides]]
+filter = "all()"
+test-group = "@tool:u:two"
+[[profile.default.overrides]]
+filter = "all()"
+test-group = "seriel"
+$ lint --tool-config-file=t:/t.toml --tool-config-file=u:/u.toml = 0
+> /u.toml:5:14: warning: profile.default.overrides[0].test-group: no file defines the test group "@tool:t:on", did you mean "@tool:t:one" [undefined-group]
+> .config/nextest.toml:8:14: warning: profile.default.overrides[1].test-group: no file defines the test group "seriel", did you mean "serial" [undefined-group]
+$ lint --tool-config-file=t:/t.toml = 0
+> .config/nextest.toml:8:14: warning: profile.default.overrides[1].test-group: no file defines the test group "seriel", did you mean "serial" [undefined-group]
+$ lint --tool-config-file=u:/u.toml = 0
+> .config/nextest.toml:8:14: warning: profile.default.overrides[1].test-group: no file defines the test group "seriel", did you mean "serial" [undefined-group]
+
+=== names that a file which isn't read may define
+@ /t.toml
+[profile.base]
+inherits = "basis"
+[[profile.base.overrides]]
+test-group = "slow"
+[profile.default-x]
+@ .config/nextest.toml
+[profile.ci]
+inherits = "bas"
+[profile.ci2]
+inherits = "ci3"
+[profile.ci3]
+inherits = "ci2"
+é
+@ ci.toml
+[profile.basis]
+$ lint --tool-config-file=t:/t.toml = 1
+> /t.toml:3:16: warning: profile.base.overrides[0]: an override needs a "filter" or a "platform" [override-of-all]
+> /t.toml:5:10: warning: profile.default-x: profile names that begin with "default-" are reserved [reserved-profile]
+> .config/nextest.toml:7:1: error: not UTF-8 [not-utf8]
+$ lint --tool-config-file=t:/t.toml --config-file=ci.toml = 0
+> /t.toml:3:16: warning: profile.base.overrides[0]: an override needs a "filter" or a "platform" [override-of-all]
+> /t.toml:4:14: warning: profile.base.overrides[0].test-group: no file defines the test group "slow" [undefined-group]
+> /t.toml:5:10: warning: profile.default-x: profile names that begin with "default-" are reserved [reserved-profile]
+
+=== a ring over three files
+@ /a.toml
+[profile.x]
+inherits = "y"
+[profile.z]
+inherits = "other"
+@ /b.toml
+[profile.y]
+inherits = "z"
+[profile.default]
+inherits = "x"
+@ .config/nextest.toml
+[profile.z]
+inherits = "x"
+@ ci.toml
+[profile.z]
+inherits = 1
+$ lint --tool-config-file=b:/b.toml --tool-config-file=a:/a.toml = 0
+> /a.toml:2:12: warning: profile.x.inherits: the profile "x" inherits from itself [inherits-itself]
+> /a.toml:4:12: warning: profile.z.inherits: no file defines the profile "other" [undefined-profile]
+> /b.toml:2:12: warning: profile.y.inherits: the profile "y" inherits from itself [inherits-itself]
+> /b.toml:4:12: warning: profile.default.inherits: the profile "default" can't inherit [default-inherits]
+> .config/nextest.toml:2:12: warning: profile.z.inherits: the profile "z" inherits from itself [inherits-itself]
+$ lint --tool-config-file=b:/b.toml --tool-config-file=a:/a.toml --config-file=ci.toml = 0
+> /a.toml:4:12: warning: profile.z.inherits: no file defines the profile "other" [undefined-profile]
+> /b.toml:4:12: warning: profile.default.inherits: the profile "default" can't inherit [default-inherits]
+> ci.toml:2:12: warning: profile.z.inherits: invalid type: integer `1`, expected a string [invalid-type]
+
+=== what a line can't have, in paths and in what is found
+@ a:b,c%d.toml
+[profile."x%y"]
+overrides = "50%: a,b"
+@ a←¶b.toml
+nextest-version = { required = "0.9.50", zone = 1 }
+[profile.ci]
+retries = { backoff = "fixed", count = 1, "a\r\nb%:," = 1 }
+$ lint --config-file=a:b,c%d.toml = 1
+> a:b,c%d.toml:2:13: error: profile."x%y".overrides: invalid type: string "50%: a,b", expected an array [invalid-type]
+$ lint --config-file=a:b,c%d.toml --format=github = 1
+> ::error file=a%3Ab%2Cc%25d.toml,line=2,endLine=2,col=13,endColumn=23,title=invalid-type::profile."x%25y".overrides: invalid type: string "50%25: a,b", expected an array
+$ lint --config-file=a←¶b.toml = 1
+> a\r\nb.toml:1:42: warning: nextest-version: unknown key "zone" [unknown-key]
+> a\r\nb.toml:3:11: error: profile.ci.retries: unknown field `a\r\nb%:,`, expected one of `count`, `delay`, `jitter` [unknown-field]
+$ lint --config-file=a←¶b.toml --format=github = 1
+> ::warning file=a%0D%0Ab.toml,line=1,endLine=1,col=42,endColumn=46,title=unknown-key::nextest-version: unknown key "zone"
+> ::error file=a%0D%0Ab.toml,line=3,endLine=3,col=11,endColumn=60,title=unknown-field::profile.ci.retries: unknown field `a%0D%0Ab%25:,`, expected one of `count`, `delay`, `jitter`
+$ show --config-file=a←¶b.toml = 0
+> required: 0.9.50 by explicit a←¶b.toml
+> recommended: none
+> known: none
+> profiles: default, default-miri, ci
+
+=== files that ask for nothing
+@ other | folder
+@ /t.toml
+@ .config/nextest.toml
+# nothing
+$ lint --strict = 0
+$ show --tool-config-file=t:/t.toml other = 0
+> required: none
+> recommended: none
+> known: none
+> profiles: default, default-miri
+! no configuration file: other/.config/nextest.toml isn't there
+$ check --current=0.0.0 = 0
+> satisfied: 0.0.0
+> known: none
+
+=== no file
+@ a/b | folder
+@ c.toml
+zone = 1
+$ check --current=1.0.0 = 0
+> satisfied: 1.0.0
+> known: none
+! no configuration file: .config/nextest.toml isn't there
+$ check --current=1.0.0 --strict = 1
+> satisfied: 1.0.0
+> known: none
+! no configuration file: .config/nextest.toml isn't there
+$ lint --format=github = 0
+! no configuration file: .config/nextest.toml isn't there
+$ lint --strict a/b = 1
+! no configuration file: a/b/.config/nextest.toml isn't there
+$ lint --strict --default-path=a/b = 1
+! no configuration file: a/b/.config/nextest.toml isn't there
+$ show a/b --table-only = 0
+> required: none
+> recommended: none
+> known: none
+> profiles: default, default-miri
+! no configuration file: a/b/.config/nextest.toml isn't there
+$ lint a/b c.toml a/b = 0
+> c.toml:1:1: warning: unknown key "zone" [unknown-key]
+! no configuration file: a/b/.config/nextest.toml isn't there
+! no configuration file: a/b/.config/nextest.toml isn't there
+
+=== the nearest file
+@ ../.config/nextest.toml
+zone = 1
+@ ../../.config/nextest.toml
+nextest-version = "0.9.50"
+$ lint = 0
+> ../.config/nextest.toml:1:1: warning: unknown key "zone" [unknown-key]
+$ lint ../../.config/nextest.toml = 0
+$ show ../../.config/nextest.toml = 0
+> required: 0.9.50 by repository ../../.config/nextest.toml
+> recommended: none
+> known: none
+> profiles: default, default-miri
+
+=== the nearest file, where folders stand in its place
+@ .config/nextest.toml | folder
+@ ../.config/nextest.toml | folder
+@ ../../.config/nextest.toml
+zone = 1
+@ ../../../.config/nextest.toml
+zone = 1
+@ x | folder
+@ x/.config/nextest.toml | folder
+$ lint = 0
+> ../../.config/nextest.toml:1:1: warning: unknown key "zone" [unknown-key]
+$ lint x = 3
+! x/.config/nextest.toml: it is a folder
+$ lint .config/nextest.toml = 0
+! no configuration file: .config/nextest.toml/.config/nextest.toml isn't there
+
+=== the walk ends at the root
+@ ../../../.config/nextest.toml
+zone = 1
+$ lint = 0
+! no configuration file: .config/nextest.toml isn't there
+
+=== files, folders and standard input
+@ -
+zone = 1
+@ a | folder
+@ a/.config/nextest.toml
+[profile.a]
+inherits = "b"
+@ b.toml
+[profile.b]
+zone = 1
+@ .config/nextest.toml
+other = 1
+@ /t.toml
+[profile.t]
+inherits = "b"
+$ lint - = 0
+> <stdin>:1:1: warning: unknown key "zone" [unknown-key]
+$ lint - --stdin-path=x/nextest.toml = 0
+> x/nextest.toml:1:1: warning: unknown key "zone" [unknown-key]
+$ lint --default-path=a = 0
+> a/.config/nextest.toml:2:12: warning: profile.a.inherits: no file defines the profile "b" [undefined-profile]
+$ lint a b.toml - = 0
+> a/.config/nextest.toml:2:12: warning: profile.a.inherits: no file defines the profile "b" [undefined-profile]
+> b.toml:2:1: warning: profile.b: unknown key "zone" [unknown-key]
+> <stdin>:1:1: warning: unknown key "zone" [unknown-key]
+$ lint b.toml a --tool-config-file=t:/t.toml = 0
+> b.toml:2:1: warning: profile.b: unknown key "zone" [unknown-key]
+> a/.config/nextest.toml:2:12: warning: profile.a.inherits: no file defines the profile "b" [undefined-profile]
+$ lint a --tool-config-file=t:/t.toml = 0
+> /t.toml:2:12: warning: profile.t.inherits: no file defines the profile "b" [undefined-profile]
+> a/.config/nextest.toml:2:12: warning: profile.a.inherits: no file defines the profile "b" [undefined-profile]
+
+=== files that can't be read
+@ /a.toml
+zone = 1
+@ /b.toml | Permission denied (os error 13)
+@ .config/nextest.toml | Permission denied (os error 13)
+@ d | folder
+@ - | Input/output error (os error 5)
+$ lint --tool-config-file=a:/a.toml = 3
+! .config/nextest.toml: Permission denied (os error 13)
+$ lint --config-file=/a.toml = 0
+> /a.toml:1:1: warning: unknown key "zone" [unknown-key]
+$ lint --tool-config-file=a:/a.toml --config-file=ci.toml = 3
+! ci.toml: nothing is there
+$ show --config-file=/b.toml = 3
+! /b.toml: Permission denied (os error 13)
+$ show --config-file=d = 3
+! d: it is a folder
+$ lint typo-folder = 3
+! typo-folder: nothing is there
+$ lint /a.toml /b.toml typo = 3
+! /b.toml: Permission denied (os error 13)
+$ lint - = 3
+! <stdin>: Input/output error (os error 5)
+$ lint --default-path=/a.toml = 3
+! /a.toml: not a folder
+$ lint --default-path=typo --strict = 3
+! typo: nothing is there
+$ lint --default-path=/b.toml = 3
+! /b.toml: Permission denied (os error 13)
+$ check --current=1.0.0 --tool-config-file=b:/b.toml --tool-config-file=c:/c.toml = 3
+! /c.toml: nothing is there
+$ check --current=1.0.0 --tool-config-file=c:/c.toml --tool-config-file=a:/a.toml --tool-config-file=b:/b.toml typo = 3
+! /b.toml: Permission denied (os error 13)
+"#;
+
+#[test]
+fn runs_as_they_end(rt: HostRuntime) {
+    let test = Test(&rt);
+    let blocks = copied(&test, RUNS);
+    check(&test, blocks.as_str());
+}
