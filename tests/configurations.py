@@ -5,102 +5,128 @@ Each function takes the source of randomness.
 
 import collections
 
-from inputs import array, chance, quoted, some_features, some_value, some_version, some_versions, table
+import documents
+import places
+from inputs import array, chance, some_features, some_value, some_version, some_versions, table
 
 # A list of files: those by their names, the tools as pairs of a name and a file, the repository's in turn, what
 # standard input holds, the folder that the command runs in, and whether tables only are taken.
 Case = collections.namedtuple("Case", "files tools repositories given folder flags")
-# What the command line calls one of the repository's files, its printed path, and what it holds; None where none is.
-Repository = collections.namedtuple("Repository", "words path contents")
+# What the command line calls one of the repository's files, its printed path, what it holds, and whether it is
+# explicit; it holds None where none is.
+Repository = collections.namedtuple("Repository", "words path contents kind", defaults=["repository"])
 
-# What is written for a key: right values first, then wrong ones.
-RETRIES = [
-    *["2", "0", '{ backoff = "fixed", count = 2, delay = "1s" }', '{ backoff = "fixed", count = 3, jitter = true }'],
-    *['{ backoff = "exponential", count = 3, delay = "1s", max-delay = "10s", jitter = true }', '"two"', '"2"'],
-    *['{ backoff = "exponential", count = 0, delay = "1s" }', '{ backoff = "fixd", count = 1 }', "-1", "4294967296"],
-    *['{ backoff = "fixed" }', '{ backoff = "fixed", count = 1, colour = 2 }', "[1]", "true", "1.5", "1979-05-27"],
-]
+# What is written for a key, right and wrong.
+COUNTS = ["2", "1", "0", "-1", '"2"', '"-0"', '"02"', "4294967296", "1.0", "true", "[ ]"]
 TIMEOUTS = [
-    *['"60s"', '"2m 30s"', '"5µs"', '"0"', '"1.5h"', '"1 000s"', '"5"', "60", '"60 sec."', '""', "true", '["1s"]'],
+    *['"60s"', '"2m 30s"', '"5µs"', '"1day"', '"40y"', '"0s"', '"0"', '"1.5h"', '"1 000s"', '"5"', "60"],
+    *['"60 sec."', '""', "true", '["1s"]', '"99999999999999999999s"', "-1"],
 ]
-SLOW_TIMEOUTS = [
-    *['{ period = "60s", terminate-after = 2 }', '{ period = "1m", grace-period = "5s", on-timeout = "pass" }'],
-    *["{ terminate-after = 2 }", '{ period = "60s", terminate-afer = 2 }', '{ period = "60s", terminate-after = "2" }'],
-    *["{ period = 60 }", '{ period = "60s", terminate-after = 0 }', '{ period = "60s", on-timeout = "Pass" }'],
-]
-LEAK_TIMEOUTS = ['{ period = "500ms", result = "fail" }', '{ period = "1s", result = "faill" }', '{ result = "pass" }']
-THREADS = ["4", '"num-cpus"', "-2", "0", '"4"', '"num_cpus"', '"num-test-threads"', "1.0", "[ ]"]
+SWITCHES = ["true", "false", '"true"', '"Yes"', '"x"', "1", "1.5", "[ ]"]
+RESULTS = ['"fail"', '"pass"', '"flaky"', '"Pass"', "true", '"f\\u001b[1m\\nl"']
+THREADS = ["4", "-2", '"num-cpus"', '"num-test-threads"', "0", '"4"', '"num_cpus"', '"num-test-treads"', "1.0", "[ ]"]
 OUTPUTS = ['"immediate"', '"final"', '"immediate-final"', '"never"', '"Final"', '"allways"', "true", "1"]
+LEVELS = [
+    *(f'"{word}"' for word in ["none", "fail", "retry", "flaky", "slow", "leak", "pass", "skip", "all"]),
+    *['"skips"', '"Skip"', '"flakey"', '["all"]', "1"],
+]
 TEXTS = [
-    *["'test(a)'", '"all()"', "'日本語'", "'''\ntest(a)\n  | test(b)'''", '"""\nnot \\\n  test(b)"""', "1", "['a']"],
+    *["'test(a)'", '"all()"', "'日本語'", "'''\ntest(a)\n  | test(b)'''", '"""\nnot \\\n  test(b)"""', "1", "['a']", "true"],
 ]
-NAMES = [
-    *['"ci"', '"default"', '"nightly"', '"cii"', '"default-miri"', '"x y"', '"é"', '"e\u0301"', "''", "1", "['ci']"],
-]
-GROUPS = [
-    *['"serial"', '"db"', '"@global"', '"@tool:my-tool:g"', '"serail"', '"@tool:x"', '"1 a"', '"日本"', "'e\u0301'"],
-    "2",
-]
-JUNITS = [
-    *['{ path = "junit.xml" }', '{ path = "a.xml", report-name = "n", store-success-output = false }', "{ path = 1 }"],
-    *['{ path = "a.xml", report-skipped = "some" }', '{ store-success-output = "yes", report-name = 2 }', '"a.xml"'],
-    *['{ flaky-fail-status = "sucess" }', '{ path = "a", "report name" = 1 }', "{ store-failure-output = 1 }"],
-]
-BOTH = {
-    "retries": RETRIES,
-    "flaky-result": ['"fail"', '"pass"', '"flaky"', '"Pass"', "true", '"f\\u001b[1m\\nl"'],
-    "threads-required": [*THREADS, '"num-test-threads"', '"num-test-treads"'],
-    "slow-timeout": [*TIMEOUTS, *SLOW_TIMEOUTS],
-    "leak-timeout": [*TIMEOUTS, *LEAK_TIMEOUTS],
-    "junit": JUNITS,
-    "default-filter": TEXTS,
-    "run-extra-args": ["['a', 'b']", "[\n  'a', # one\n  'b',\n]", '["a", 1]', '"a"', "[[ ]]"],
-    "success-output": OUTPUTS,
-    "failure-output": OUTPUTS,
+UNREAD = ["{ include = [] }", '[{ filter = "a", setup = "b" }]', "1.5", "1979-05-27", "true", "'x'", "[1e3, 07:32:00]"]
+VERSIONS = ['"0.9.50"', '"0.9"', '"0.9.50-rc.1"', '"0.9.50+b"', '"0.9.5O"', "1", "[ ]"]
+SAME = {
+    "delay max-delay period grace-period global-timeout": TIMEOUTS,
+    "count terminate-after": COUNTS,
+    "jitter store-success-output store-failure-output setup-scripts wrapper-scripts benchmarks": SWITCHES,
+    "flaky-result on-timeout result": RESULTS,
+    "threads-required test-threads max-threads": THREADS,
+    "status-level final-status-level": LEVELS,
+    "success-output failure-output": OUTPUTS,
+    "path report-name filter default-filter host target dir": TEXTS,
+    "archive scripts script": UNREAD,
+    "required recommended": VERSIONS,
 }
-PROFILE = {
-    **BOTH,
-    "fail-fast": [
-        *["true", "false", "{ max-fail = 2 }", '{ max-fail = "all", terminate = "wait" }', '{ max-fail = "2" }', "2"],
-        *['{ terminate = "wait" }', '{ max-fail = 1, terminate = "now" }', '"true"', "{ max-fail = 0 }", '"flase"'],
+VALUES = {
+    **{key: values for keys, values in SAME.items() for key in keys.split()},
+    "retries": [
+        *["2", "0", '"two"', '"2"', "-1", "4294967296", "[1]", "true", '{ backoff = "fixed", count = 1, colour = 2 }'],
+        *['{ backoff = "fixed", count = 3, jitter = true }', '{ backoff = "fixed", count = 1, max_delay = "1s" }'],
+        *['{ backoff = "exponential", count = 3, delay = "2s", max-delay = "1s" }', '{ backoff = "fixed" }'],
     ],
-    "global-timeout": TIMEOUTS,
-    "inherits": NAMES,
-    "test-threads": THREADS,
-    "status-level": ['"all"', '"pass"', '"retry"', '"skips"', '"Skip"', "1"],
-    "final-status-level": ['"flaky"', '"slow"', '"retry"', '"flakey"', '["all"]'],
+    "slow-timeout": [*TIMEOUTS, "{ terminate-after = 2 }", '{ period = "60s", terminate-afer = 2 }'],
+    "leak-timeout": [*TIMEOUTS, '{ result = "pass" }', '{ period = "1s", colour = 1 }'],
+    "backoff": ['"fixed"', '"exponential"', '"fixd"', "1"],
+    "fail-fast": ["true", "false", "2", '{ terminate = "wait" }', '"true"', '"flase"'],
+    "max-fail": ["1", '"all"', "0", '"1"', '"-1"', '"+2"', '"ALL"', "true"],
+    "terminate": ['"wait"', '"immediate"', '"now"', "1"],
+    "junit": ['{ path = "a.xml", report-name = "n" }', '"a.xml"', '{ path = "a", "report name" = 1 }', "1"],
+    "report-skipped": ['"none"', '"ignored"', '"all"', '"some"', "true"],
+    "flaky-fail-status": ['"failure"', '"success"', '"sucess"', "1"],
     "bench": ['{ slow-timeout = "5m" }', '{ global-timeout = "1h", colour = 1 }', '{ slow-timeout = "5" }', "1"],
-    "archive": ["{ include = [] }", "1"],
-    "scripts": ['[{ filter = "a", setup = "b" }]', "1"],
-}
-OVERRIDE = {
-    **BOTH,
-    "filter": TEXTS,
+    "overrides": ["[ ]", "{ filter = 'a' }", "1", "[1]"],
+    "inherits": [
+        *['"ci"', '"default"', '"nightly"', '"cii"', '"default-miri"', '"x y"', '"é"', '"e\u0301"', "''", "1", "['ci']"],
+    ],
+    "run-extra-args": ["['a', 'b']", "[\n  'a', # one\n  'b',\n]", '["a", 1]', '"a"', "[[ ]]", "[ ]", "{ }"],
+    "priority": ["100", "-100", "0", "101", "-1000", '"5"', '"500"', "1.5", "true", "[ ]"],
     "platform": [
         *["'cfg(unix)'", '"x86_64-unknown-linux-gnu"', "{ host = 'cfg(unix)', target = 1 }", "{ hots = '' }", "1"],
     ],
-    "priority": ["100", "-100", "0", "101", "-1000", '"5"', "1.5", "true"],
-    "test-group": GROUPS,
-    "bench": ["{ x = 1 }"],
+    "test-group": [
+        *['"serial"', '"db"', '"@global"', '"@tool:my-tool:g"', '"serail"', '"@tool:x"', '"1 a"', '"日本"'],
+        *["'e\u0301'", "2", '"@tool:gone:g"', '"@tool::g"', '"@tool:x:#"', '""', "true"],
+    ],
+    "store": ["{ dir = 'target/nextest' }", "{ dirs = 1 }", "{ dir = 1 }", "'a'"],
+    "test-groups": ["{ serial = { max-threads = 1 } }", "{ db = 2 }", "[ ]", "{ }"],
+    "nextest-version": [*VERSIONS, '{ required = "0.9.60", recommended = "0.9.50" }', "{ }"],
+    "experimental": ["[ ]", '["benchmarks", "x"]', '["setup-scripts", 1]', "{ }", "{ benchmark = true }", "1"],
+    # A name of a profile or of a test group, and an override.
+    "*": ["{ max-threads = 2 }", "{ retries = 2 }", "1", "[ ]"],
+    0: ["{ filter = 'a', retries = 2 }", "1", "'a'"],
 }
-# The same of keys with dots.
-DOTTED = {
-    "retries.backoff": ['"fixed"', '"exponential"', '"fixd"', "1"],
-    "retries.count": ["1", "0", "-1", '"1"'],
-    "slow-timeout.period": TIMEOUTS,
-    "slow-timeout.terminate-after": ["2", "0", '"2"', "1.0"],
-    "leak-timeout.result": ['"pass"', '"leak"'],
-    "fail-fast.max-fail": ["1", '"all"', "0", '"1"', "true"],
-    "junit.path": ["'junit.xml'", "1"],
-    "junit.'store-success-output'": ["true", '"true"', "1"],
-    "bench.slow-timeout.period": TIMEOUTS,
-    "bench.colour": ["1"],
+# What a key's table needs beside it.
+BESIDE = {
+    "retries": {"backoff": '"exponential"', "count": "3", "delay": '"1s"'},
+    "slow-timeout": {"period": '"60s"'},
+    "leak-timeout": {"period": '"60s"'},
+    "fail-fast": {"max-fail": "1"},
 }
+
+
+def values_of(path, place):
+    """What is written at a place: the values of its key, and tables with each value of one of their keys."""
+    yield from VALUES[path[-1]]
+    for field in place.reader.fields:
+        beside = {"count": "3"} if field == "backoff" else BESIDE.get(path[-1], {})
+        yield from (table({**beside, field: value}.items()) for value in VALUES[field])
+
+
+def is_right(place, text):
+    """Whether a value means something at a place, or may."""
+    _, fault = places.judged((), place, documents.read(f"x = {text}".encode()).value["x"])
+    return fault is None or fault.is_unjudged
+
+
+def by_key(turns):
+    """The values of the keys of each table, by its path."""
+    tables = collections.defaultdict(lambda: collections.defaultdict(list))
+    for path, value in turns:
+        tables[path[:-1]][path[-1]].append(value)
+    return tables
+
+
+ALL = [(*it, value) for it in places.places_in(places.TOP) if it[0] != ("profile",) for value in values_of(*it)]
+# Each place with each value that is written there, and with each that means something there.
+TURNS = [(path, value) for path, _, value in ALL]
+RIGHT_TURNS = [(path, value) for path, place, value in ALL if is_right(place, value)]
+KNOWN = [by_key(TURNS), by_key(RIGHT_TURNS)]
 # Tables and arrays in each other's place, and others beside them.
 SHAPES = [
     *["[profile.ci.overrides]\nfilter = 'a'\n", "[[profile.nightly]]\nretries = 1\n", "[[profile]]\n", "profile = 1\n"],
     *["[[test-groups.a]]\n", "[[test-groups]]\n", "[store]\ndir = 1\n", "[[store]]\n", "[[script]]\na = 1\n"],
     *["[profile.ci.slow-timeout]\nperiod = '5'\n", "[profile.ci.junit.path]\n", "[[profile.ci.retries]]\ncount = 1\n"],
+    *["[profile.default.leak-timeout]\nresult = 'pass'\n", "[profile.default.slow-timeout]\nterminate-after = 2\n"],
     *["[profile.default.fail-fast]\nterminate = 'wait'\n", "[experimental]\nbenchmarks = 1\nx = true\n"],
     *["[[experimental]]\n", "[nextest-version]\nrequired = 'a'\n", "[scripts.x]\n", "[profil.ci]\n[profil.x]\n"],
     *["[[profile.ci.overrides.platform]]\nhost = 1\n", "[profile.ci.overrides.junit]\n", "[[profile.ci.overrides]]\n"],
@@ -130,17 +156,25 @@ FILES = [
 USUAL = ".config/nextest.toml"
 
 
-# Settings.
+# Settings, of which the values are those of TURNS, or of RIGHT_TURNS alone.
+
+
+# Of two files they may be none together.
+APART = ['{ backoff = "fixed", count = 1 }', '{ backoff = "exponential", count = 2, delay = "2s", max-delay = "5s" }']
+PROFILE, OVERRIDE, GROUP = ("profile", "*"), ("profile", "*", "overrides", 0), ("test-groups", "*")
+# Keys of tables, with dots.
+DOTTED = [f"{key}.{field}" for key, place in places.PROFILE.items() for field in place.reader.fields]
+DOTTED += ["bench.slow-timeout.period", "bench.slow-timeout.on-timeout", "bench.global-timeout", "bench.colour"]
 
 
 def some_written(random, values):
     """A value for a key: one of those that are written for it, or any."""
-    return random.choice(values) if chance(random, 0.95) else some_value(random)
+    return random.choice(values) if chance(random, 0.98) else some_value(random)
 
 
 def pair(random, key, value):
     """A key and its value on a line, with blanks and a comment as they come."""
-    if chance(random, 0.05) and key.isascii() and "'" not in key and '"' not in key:
+    if chance(random, 0.05) and key.isascii() and not set(key) & set("'\"."):
         key = f'"{key}"'
     behind = f"{random.choice(BLANKS)}#{random.choice(COMMENTS)}" if chance(random, 0.1) else ""
     return f"{key}{random.choice(BLANKS)}={random.choice(BLANKS)}{value}{behind}\n"
@@ -148,11 +182,10 @@ def pair(random, key, value):
 
 def some_pairs(random, known, most):
     """Keys of those that are known, each once, and their values; now and then one that isn't known."""
-    keys = random.sample(sorted(known), random.randrange(most + 1))
-    pairs = [(key, some_written(random, known[key])) for key in keys]
-    if chance(random, 0.1):
-        key = random.choice(sorted(DOTTED))
-        pairs.append((key, random.choice(DOTTED[key])))
+    pairs = [(key, some_written(random, known[key])) for key in random.sample(sorted(known), random.randrange(most + 1))]
+    if chance(random, 0.1) and "inherits" in known:
+        key = random.choice(DOTTED)
+        pairs.append((key, random.choice(VALUES.get(key.split(".")[-1], ["1"]))))
     if chance(random, 0.2):
         pairs.append((random.choice(UNKNOWN), random.choice(["1", "{ a = 1 }", some_value(random)])))
     random.shuffle(pairs)
@@ -165,41 +198,38 @@ def lines_of_pairs(random, pairs):
 
 
 def inline(random, pairs):
-    """A table with pairs; now and then on several lines, which TOML takes since 1.1."""
+    """A table with pairs; now and then on several lines."""
     if not pairs:
         return "{ }"
-    return table(pairs).replace(", ", ",\n    ") if chance(random, 0.03) else table(pairs)
+    return table(pairs).replace(", ", ",\n    ") if chance(random, 0.1) else table(pairs)
 
 
-def some_overrides(random):
+def some_overrides(random, values):
     """The overrides of a profile as an array, on one line or on several."""
-    tables = [inline(random, some_pairs(random, OVERRIDE, 3)) for _ in range(random.randrange(4))]
+    tables = [inline(random, some_pairs(random, values[OVERRIDE], 3)) for _ in range(random.randrange(4))]
     if chance(random, 0.5):
         return array(tables)
     return "[\n" + "".join(f"  {one},\n" for one in tables) + "]"
 
 
-def some_profile(random, name):
-    pairs = some_pairs(random, PROFILE, 5)
+def some_profile(random, name, values):
+    pairs = some_pairs(random, values[PROFILE], 5)
     is_inline = chance(random, 0.2)
     if is_inline:
-        pairs.append(("overrides", some_overrides(random)))
+        pairs = [pair for pair in pairs if pair[0] != "overrides"]
+        pairs.append(("overrides", some_overrides(random, values)))
     if chance(random, 0.05):
         return pair(random, f"profile.{name}", inline(random, pairs))
     text = f"[profile.{name}]\n" + lines_of_pairs(random, pairs)
-    if chance(random, 0.15):
-        text += f"\n[profile.{name}.bench]\n" + pair(random, "slow-timeout", some_written(random, TIMEOUTS))
     while chance(random, 0.4):
         word = "overrides" if not is_inline else random.choice(["override", "scripts", "overrides"])
-        text += f"\n[[profile.{name}.{word}]]\n" + lines_of_pairs(random, some_pairs(random, OVERRIDE, 4))
-        if chance(random, 0.1):
-            value = random.choice(["true", "1"])
-            text += f"[profile.{name}.{word}.junit]\n" + pair(random, "store-success-output", value)
+        pairs = some_pairs(random, values[OVERRIDE], 4)
+        text += f"\n[[profile.{name}.{word}]]\n" + lines_of_pairs(random, pairs)
     return text
 
 
-def some_group(random, name):
-    pairs = [("max-threads", some_written(random, THREADS))] if chance(random, 0.9) else []
+def some_group(random, name, values):
+    pairs = [("max-threads", some_written(random, values[GROUP]["max-threads"]))] if chance(random, 0.9) else []
     if chance(random, 0.2):
         pairs.append((random.choice(["max_threads", "threads", "'é'"]), "1"))
     if chance(random, 0.5):
@@ -207,7 +237,7 @@ def some_group(random, name):
     return f"[test-groups]\n{pair(random, name, inline(random, pairs))}"
 
 
-def some_head(random):
+def some_head(random, values):
     """What stands at the top of a file."""
     pairs = []
     if chance(random, 0.4):
@@ -216,15 +246,9 @@ def some_head(random):
         pairs += [(f"nextest-version.{role}", some_version(random)) for role in ("required", "recommended")]
     if chance(random, 0.25):
         pairs.append(("experimental", some_features(random)))
-    elif chance(random, 0.1):
-        pairs.append(("experimental.'setup-script'", random.choice(["true", "1"])))
-    if chance(random, 0.1):
-        key = random.choice(sorted(DOTTED))
-        pairs.append((f"profile.'dotted'.{key}", random.choice(DOTTED[key])))
-    if chance(random, 0.2):
-        pairs.append(("store", random.choice(["{ dir = 'target/nextest' }", "{ dirs = 1 }", "{ dir = 1 }", "'a'"])))
-    if chance(random, 0.1):
-        pairs.append(("test-groups", random.choice(["{ serial = { max-threads = 1 } }", "{ db = 2 }", "[ ]", "{ }"])))
+    for key in ("store", "test-groups", "script"):
+        if chance(random, 0.1):
+            pairs.append((key, some_written(random, values[()][key])))
     if chance(random, 0.15):
         pairs.append((random.choice([*UNKNOWN, "profil", "test-group"]), some_value(random)))
     random.shuffle(pairs)
@@ -233,15 +257,74 @@ def some_head(random):
 
 def some_document(random):
     """Mostly a document of TOML, whose settings may be wrong."""
+    values = random.choice(KNOWN)
+    if chance(random, 0.1):
+        return some_head(random, values) + random.choice(SHAPES)
     names = dict.fromkeys(random.choice(PROFILES) for _ in range(random.randrange(4)))
-    parts = [some_profile(random, name) for name in names]
+    parts = [some_profile(random, name, values) for name in names]
     if chance(random, 0.3):
-        parts.append(some_group(random, random.choice(DEFINED)))
+        parts.append(some_group(random, random.choice(DEFINED), values))
     if chance(random, 0.15):
         parts.append(random.choice(SHAPES))
     random.shuffle(parts)
     comment = f"#{random.choice(COMMENTS)}\n" if chance(random, 0.3) else ""
-    return comment + "\n".join([some_head(random), *parts])
+    return comment + "\n".join([some_head(random, values), *parts])
+
+
+def setting(random, path, value):
+    """A setting at a path, with dotted keys and inline tables as they come."""
+    while 0 in path or len(path) > 2 and chance(random, 0.5):
+        *path, last = path
+        value = f"[{value}]" if last == 0 else f"{{ {last} = {value} }}"
+    return pair(random, ".".join(path), value)
+
+
+def statement(random, path, value):
+    """The same, with the headers of the tables above it, or without."""
+    ends = [at for at in range(1, len(path)) if path[at] != 0 and (at > 1 or path[0] not in ("profile", "test-groups"))]
+    at = random.choice([0, *ends])
+    headers = ""
+    for end in range(1, at + 1):
+        name = ".".join(step for step in path[:end] if step != 0)
+        if path[end - 1] == 0:
+            headers += f"[[{name}]]\n"
+        elif end == at:
+            headers += f"[{name}]\n"
+    return headers + setting(random, path[at:], value)
+
+
+def document_in_turn(random, number):
+    """A document of settings in the turn of all that are written, each in a profile or a group of its own."""
+    turns = TURNS[number % 80 :: 80]
+    names = random.sample(["default", *(f"t{at}" for at in range(len(turns)))], len(turns))
+    texts = []
+    for name, (path, value) in zip(names, turns):
+        texts.append(statement(random, [name if step == "*" else step for step in path], value))
+    return "\n".join(sorted(texts, key=lambda text: text.startswith("[")))
+
+
+def right_document_in_turn(random, number, is_tools):
+    """A document of right settings in the turn of all that are written, those of profiles in few; a tool's has no
+    others."""
+    heads, overrides = [], []
+    sections = {"t": {}, "u": {}, "default": {}}
+    for path, value in RIGHT_TURNS[number % 20 :: 20]:
+        name = random.choice(["t", "t", "u", "default"])
+        if path[:4] == OVERRIDE and path[4:]:
+            overrides.append(f"[[profile.{name}.overrides]]\n" + setting(random, path[4:], value))
+        elif path[:2] == PROFILE and path[2:] and path[2] not in ("overrides", "inherits"):
+            line = setting(random, path[2:], value)
+            sections[name][path[2]] = random.choice([line, sections[name].get(path[2], line)])
+        elif path[0] != "profile" and not is_tools:
+            heads.append(setting(random, ["t" if step == "*" else step for step in path], value))
+    if chance(random, 0.5):
+        sections["t"]["inherits"] = pair(random, "inherits", random.choice(['"u"', '"u"', '"default-miri"', '"x"', "1"]))
+    if chance(random, 0.6):
+        sections["u"]["retries"] = pair(random, "retries", random.choice(APART))
+    if chance(random, 0.1):
+        sections["u"]["inherits"] = 'inherits = "t"\n'
+    lines = [line for name, pairs in sections.items() for line in [f"[profile.{name}]\n", *pairs.values()]]
+    return "\n".join([*heads, *lines, *overrides])
 
 
 # Files.
@@ -310,27 +393,31 @@ def some_repositories(random, files, names):
     if kind < 2:
         words = ["--stdin-path", name, "-"] if kind else ["-"]
         return [Repository(words, name if kind else "<stdin>", contents)]
+    path = [name, f"{name}.d/{USUAL}", USUAL, USUAL][kind - 2]
+    files[path] = contents
     if kind == 2:
-        files[name] = contents
-        return [Repository(["--config-file", name], name, contents)]
-    if kind == 3:
-        folder = f"{name}.d"
-        files[f"{folder}/{USUAL}"] = contents
-        return [Repository(["--default-path", folder], f"{folder}/{USUAL}", contents)]
-    path = USUAL if kind == 4 else f"../{USUAL}"
-    files[USUAL] = contents
-    return [Repository([], path, contents)]
+        return [Repository(["--config-file", name], name, contents, "explicit")]
+    words = ["--default-path", f"{name}.d"] if kind == 3 else []
+    return [Repository(words, f"../{path}" if kind == 5 else path, contents)]
 
 
-def some_case(random):
-    files = {}
+def some_case(random, number):
+    """An input; every third one is a document of settings in turn."""
+    files, tools = {}, []
     names = iter(random.sample(FILES, len(FILES)))
-    tools = []
-    while chance(random, 0.2):
+    is_right = number % 6 == 3
+    while len(tools) < 4 and chance(random, 0.5 if is_right else 0.2):
         name = next(names)
         tools.append((random.choice(["my-tool", "x", "é"]), name))
-        files[name] = some_file(random)
-    repositories = some_repositories(random, files, names)
+        text = right_document_in_turn(random, random.randrange(20), True) if is_right else ""
+        files[name] = text.encode() or some_file(random)
+    if number % 3:
+        repositories = some_repositories(random, files, names)
+    else:
+        name, turn = next(names), number // 6
+        text = right_document_in_turn(random, turn, False) if is_right else document_in_turn(random, turn)
+        files[name] = text.encode()
+        repositories = [Repository([name], name, files[name])]
     given = next((it.contents for it in repositories if "-" in it.words), b"")
     is_below = any(it.path.startswith("../") for it in repositories)
     flags = ["--table-only"] if chance(random, 0.1) else []

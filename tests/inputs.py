@@ -1,14 +1,9 @@
 """What is put together at random, for tests/random. Each function takes the source of randomness."""
 
-import collections
-import pathlib
-import re
 import unicodedata
 
-from reports import FLAGS, GREATEST, WORDS, Ask, Current, dotted, source_of_line, word_of
-
-# An input, and whether its documents are made by the rules of TOML.
-Input = collections.namedtuple("Input", "text is_toml")
+from places import PROFILE
+from reports import FLAGS, GREATEST, WORDS, Current, dotted, word_of
 
 CHARACTERS = "abxyz09.-+_ \"'\\\n\r\t\0\x01\x7f\x85éΔａ٣µ\u0301\u2003\ufeff\U0001f600"
 TOKENS = [
@@ -21,10 +16,6 @@ TOKENS = [
     *[b"experimental = []\n", b"experimental = [1]\n"],
 ]
 KEYS = ["a", "b", "x", "required", "recommended", "period", "count", "backoff", *WORDS, '"é\\u0085"', "''"]
-# The keys that are read in a profile or in an override, by the table of places.
-TABLE = pathlib.Path(__file__).resolve().parent.parent / "crates/nextest_config_findings/src/schema.rt"
-PROFILES = TABLE.read_text().split("const PROFILE: ")[1].split("const OVERRIDE_JUNIT: ")[0]
-SETTINGS = sorted(set(re.findall(r'"([\w-]+)",\s+Reader::(?!Unread|Table|Array)', PROFILES)))
 VERSIONS = [
     *["1.0", "0.9", "1", "01.2", ".", "", "1.2.3.4", "0.9.50-rc.1", "0.9.50+b", " 0.9.50"],
     *[f"{GREATEST}.0", f"{GREATEST + 1}.0"],
@@ -108,7 +99,7 @@ def some_features(random):
 
 def some_profile(random):
     """A profile, of whose settings the program wants to know nothing."""
-    settings = random.sample(SETTINGS, random.randrange(len(SETTINGS)))
+    settings = random.sample(sorted(PROFILE), random.randrange(len(PROFILE)))
     return "[profile.default]\n" + "".join(f"{key} = {some_value(random)}\n" for key in settings)
 
 
@@ -143,35 +134,30 @@ def source_of_nothing(random):
 
 
 def source_that_reads(random):
-    """A source that reads, with what it asks."""
+    """A source that reads."""
     low, high = sorted([some_numbers(random), some_numbers(random)])
     both = [("required", quoted(dotted(low))), ("recommended", quoted(dotted(high)))]
-    alone = [(low, None, quoted(dotted(low))), (None, high, table(both[1:])), (None, None, "{}")]
-    required, recommended, value = random.choice([*alone, (low, high, table(both))])
-    pairs = [("nextest-version", value)]
+    pairs = [("nextest-version", random.choice([quoted(dotted(low)), table(both[1:]), "{}", table(both)]))]
     line = some_source_line(random)
     names = [] if line.startswith("=== tool ") else some_names(random)
-    is_array = chance(random, 0.3)
-    if is_array:
+    if chance(random, 0.3):
         pairs.append(("experimental", array(map(quoted, names))))
     elif names:
         pairs.append(("experimental", table((quoted(name), "true") for name in dict.fromkeys(names))))
     random.shuffle(pairs)
-    text = line + "".join(f"{key} = {value}\n" for key, value in pairs)
-    return Ask(text.encode(), source_of_line(line[:-1]), required, recommended, set(names), is_array)
+    return (line + "".join(f"{key} = {value}\n" for key, value in pairs)).encode()
 
 
 def source_of_array(random):
     """A source whose features stand in an array, which may be refused for its elements or as a tool's."""
     line = some_source_line(random)
     elements = [*map(quoted, some_names(random)), *(some_value(random) for _ in range(random.randrange(2)))]
-    text = f"{line}experimental = {array(elements)}\n"
-    return Ask(text.encode(), source_of_line(line[:-1]), None, None, set(), True)
+    return f"{line}experimental = {array(elements)}\n".encode()
 
 
 def some_source(random):
     if chance(random, 0.7):
-        return source_that_reads(random).text
+        return source_that_reads(random)
     return (some_source_line(random) + some_document(random)).encode()
 
 
@@ -208,8 +194,8 @@ def mutated(random, examples):
 def some_input(random, examples):
     kind = random.randrange(4)
     if kind > 1:
-        return Input(some_sources(random), True)
-    return Input(mutated(random, examples) if kind else some_bytes(random), False)
+        return some_sources(random)
+    return mutated(random, examples) if kind else some_bytes(random)
 
 
 def some_current(random):

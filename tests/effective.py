@@ -1,0 +1,339 @@
+"""What a profile gets of its settings, by docs/DEFINITIONS.md, for the random runs. No answer of a program is used."""
+
+import collections
+import functools
+import pathlib
+import re
+
+import documents
+import rules
+from findings import columns_of, one_line
+from places import OVERRIDE, PROFILE, by_bytes
+from reports import Answer, json_text
+from rules import Fault
+
+DEFAULTS = pathlib.Path(__file__).resolve().parent.parent / "crates/nextest_config_profiles/src/defaults.rt"
+# What layers have at a path together: the last that has it, what that has there, and what is below a table.
+Laid = collections.namedtuple("Laid", "layer node below")
+# A line: the object that says it, its first column, and where it comes from.
+Line = collections.namedtuple("Line", "object first source")
+REQUIRED, UNSET = object(), object()
+SLOW = {"period": REQUIRED, "terminate-after": UNSET, "grace-period": "10s", "on-timeout": "fail"}
+# The settings: what reads them, and what their readers take where a key of their table is absent.
+SETTINGS = {
+    ("retries",): (
+        rules.RETRIES,
+        {"backoff": "fixed", "count": REQUIRED, "delay": "0s", "jitter": False, "max-delay": UNSET},
+    ),
+    ("flaky-result",): (rules.FLAKY_RESULT, {}),
+    ("threads-required",): (rules.THREADS_REQUIRED, {}),
+    ("fail-fast",): (rules.FAIL_FAST, {"max-fail": REQUIRED, "terminate": "wait"}),
+    ("slow-timeout",): (rules.SLOW_TIMEOUT, SLOW),
+    ("leak-timeout",): (rules.LEAK_TIMEOUT, {"period": REQUIRED, "result": "pass"}),
+    ("global-timeout",): (rules.DURATION, {}),
+    **{("junit", key): (reader, {}) for key, reader in rules.REPORT.items()},
+    ("bench", "slow-timeout"): (rules.SLOW_TIMEOUT, SLOW),
+    ("bench", "global-timeout"): (rules.DURATION, {}),
+}
+TIMES = [rules.SLOW_TIMEOUT, rules.LEAK_TIMEOUT, rules.DURATION]
+TAKEN_AWAY = "no value: the empty text takes the default away"
+VERY_LONG = 946080000 * 10**9
+
+
+# What layers come to.
+
+
+def layer_of(node, layer):
+    """What one layer has at a path."""
+    below = {key: layer_of(one, layer) for key, one in node.below.items()} if node.is_table() else None
+    return Laid(layer, node, below)
+
+
+def laid_over(earlier, later):
+    """What comes of two layers at one path: a table lies over another key by key, and else the later one counts."""
+    if earlier is None or earlier.below is None or later.below is None:
+        return later
+    laid = {key: laid_over(earlier.below.get(key), one) for key, one in later.below.items()}
+    return later._replace(below={**earlier.below, **laid})
+
+
+def value_of(laid):
+    return laid.node.value if laid.below is None else {key: value_of(one) for key, one in laid.below.items()}
+
+
+@functools.cache
+def defaults():
+    """What nextest sets itself, as a document."""
+    text = re.search(r'const DEFAULTS: &str = r#"(.*?)"#;', DEFAULTS.read_text(encoding="utf-8"), re.DOTALL)
+    return documents.read(text[1].encode())
+
+
+# Texts.
+
+
+def basic_text(text):
+    """A text as TOML writes it."""
+    marks = {"\n": r"\n", "\r": r"\r", "\t": r"\t", '"': r"\"", "\\": r"\\"}
+    controls = {chr(code): f"\\u{code:04X}" for code in [*range(32), *range(127, 160)]}
+    return f'"{"".join({**controls, **marks}.get(c, c) for c in text)}"'
+
+
+def key_text(key):
+    return key if re.fullmatch("[A-Za-z0-9_-]+", key) else basic_text(key)
+
+
+def keys_text(names, between=", "):
+    return between.join(map(key_text, names))
+
+
+def literal(value):
+    """A value as TOML writes it on one line."""
+    if isinstance(value, dict):
+        pairs = ", ".join(f"{key_text(key)} = {literal(value[key])}" for key in by_bytes(value))
+        return f"{{ {pairs} }}" if pairs else "{}"
+    if isinstance(value, list):
+        return f"[{', '.join(map(literal, value))}]"
+    if isinstance(value, str):
+        return basic_text(value)
+    if isinstance(value, documents.DateTime):
+        return value.text
+    return str(value).lower() if isinstance(value, bool) else str(value)
+
+
+def data(value):
+    """What stands for a value in JSON."""
+    if isinstance(value, dict):
+        return {key: data(one) for key, one in value.items()}
+    if isinstance(value, list):
+        return list(map(data, value))
+    if isinstance(value, documents.DateTime):
+        return value.text
+    is_number = not isinstance(value, float) or abs(value) < float("inf")
+    return value if is_number else str(value)
+
+
+# What is told.
+
+
+class Wrong(Exception):
+    """A profile has no chain; any of these lines says why."""
+
+
+class Profile:
+    """What a profile gets by the files of a list, in which there is no error."""
+
+    def __init__(self, listed, name, hides):
+        self.files = listed.files
+        self.name = name
+        self.hides = hides
+        roots = [defaults(), *listed.roots]
+        self.layers = [root.at(["profile"]) for root in roots]
+        laid = [layer_of(node, at) for at, node in enumerate(self.layers) if node]
+        self.laid = functools.reduce(laid_over, laid)
+        self.names = listed.names()
+        self.chain = self.chain_of(name)
+        self.giver = None
+
+    def at(self, *keys):
+        """What the layers have at a path together, None where they have nothing."""
+        laid = self.laid
+        for key in keys:
+            laid = laid and laid.below and laid.below.get(key)
+        return laid
+
+    def chain_of(self, name):
+        """The profile and those that it falls back on."""
+        chain = [name]
+        if name not in self.names:
+            raise Wrong([f"no profile {rules.printed(name)}, there are {keys_text(self.names)}"])
+        while chain[-1] != "default":
+            inherits = self.at(chain[-1], "inherits")
+            parent = inherits.node.value if inherits else "default"
+            if not isinstance(parent, str):
+                raise Wrong([self.wrong(chain[-1], str(rules.wrong_type(parent, "a string").text))])
+            if parent not in self.names:
+                raise Wrong([self.wrong(chain[-1], f"no file defines the profile {rules.printed(parent)}")])
+            if parent in chain:
+                ring = chain[chain.index(parent) :]
+                raise Wrong([self.wrong(it, f"the profile {rules.printed(it)} inherits from itself") for it in ring])
+            chain.append(parent)
+        return chain
+
+    def wrong(self, name, said):
+        laid = self.at(name, "inherits")
+        return f"{self.place_text(self.spot(name, laid.layer, laid.node))}: {one_line(said)}"
+
+    # Places.
+
+    def spot(self, profile, layer, node):
+        """Where something stands: None where nextest sets it itself."""
+        if layer == 0:
+            return None
+        line, column = node.place()[0]
+        return {"profile": profile, "path": self.files[layer - 1].path, "line": line, "column": column}
+
+    def place_text(self, spot):
+        return f"{one_line(spot['path'])}:{spot['line']}" if spot else "nextest's default"
+
+    def source(self, spot):
+        of = f" [profile.{key_text(spot['profile'])}]" if spot and spot["profile"] != self.name else ""
+        return self.place_text(spot) + of
+
+    # Lines.
+
+    def line(self, keys, value, spot, state, message=None, first=None, source=None):
+        nowhere = dict.fromkeys(["profile", "path", "line", "column"])
+        key = keys_text(keys, ".")
+        told = {"key": key, "value": data(value), "state": state, "message": message, **(spot or nowhere)}
+        return Line(told, first or f"{key} = {literal(value)}", source)
+
+    def given(self, reader, profile, keys, laid, member, is_judged):
+        """A value that stands in a layer, and what it hides."""
+        value, spot = laid.node.value, self.spot(profile, laid.layer, laid.node)
+        is_time = reader in TIMES and member in (None, "period") and isinstance(value, str)
+        mark = " (no limit)" if is_time and (rules.nanoseconds(value) or 0) >= VERY_LONG else ""
+        state, message = ("value", None) if spot else ("default", "nextest's default")
+        if not is_judged:
+            state, message, mark = "not-judged", None, " (not judged)"
+        yield self.line(keys, value, spot, state, message, source=self.source(spot) + mark)
+        yield from self.hidden(profile, keys, laid.layer)
+
+    def absent(self, keys, value, front=""):
+        """A key that no layer has."""
+        if value in (UNSET, REQUIRED):
+            return self.line(keys, None, None, "unset", first=f"# {keys_text(keys, '.')} isn't set")
+        first = f"{front}{keys_text(keys, '.')} = {literal(value)}"
+        return self.line(keys, value, None, "default", "default of the table", first, "default of the table")
+
+    def hidden(self, profile, keys, layer):
+        """What lies below a layer at keys of a profile, and what later profiles of the chain have there."""
+        later = self.chain[self.chain.index(profile) + 1 :] if self.hides else []
+        layers = [(profile, at) for at in reversed(range(layer))] if self.hides else []
+        for name, at in [*layers, *((name, at) for name in later for at in reversed(range(len(self.layers))))]:
+            node, depth = self.layers[at] and self.layers[at].at([name]), 0
+            while node and node.is_table() and depth < len(keys):
+                node, depth = node.at([keys[depth]]), depth + 1
+            if node:
+                spot = self.spot(name, at, node)
+                first = f"# hidden: {keys_text(keys[:depth], '.')} = {literal(node.value)}"
+                yield self.line(keys[:depth], node.value, spot, "hidden", first=first, source=self.source(spot))
+
+    def setting(self, keys, reader, members):
+        """The lines of a setting."""
+        for profile in self.chain:
+            laid = self.at(profile, *keys)
+            if laid and not (reader is rules.SLOW_TIMEOUT and value_of(laid) == ""):
+                self.giver = self.giver or profile
+                yield from self.lines_of(keys, reader, members, profile, laid)
+                return
+        laid = self.at("default", *keys)
+        if laid is None:
+            yield self.absent(keys, UNSET)
+            return
+        spot = self.spot("default", laid.layer, laid.node)
+        first = f"# {keys_text(keys, '.')} = {TAKEN_AWAY}"
+        yield self.line(keys, None, spot, "fault", TAKEN_AWAY, first, self.source(spot))
+
+    def fault_of(self, reader, laid):
+        try:
+            reader.read(value_of(laid))
+            return None
+        except Fault as fault:
+            return fault
+
+    def parts(self, profile, keys, members):
+        """Where the parts of a value stand."""
+        laid = self.at(profile, *keys)
+        found = [laid.below.get(key) for key in members] if laid.below is not None else [laid]
+        return [self.spot(profile, it.layer, it.node) for it in found if it]
+
+    def lines_of(self, keys, reader, members, profile, laid):
+        fault = self.fault_of(reader, laid)
+        if fault and not fault.is_unjudged:
+            spots = self.parts(profile, keys, members)
+            message = f"{rules.path_text(fault.steps)}: {fault.said()}" if fault.steps else fault.said()
+            first = f"# {keys_text(keys, '.')} = {one_line(message)}"
+            yield self.line(keys, None, spots[0], "fault", message, first, ", ".join(map(self.source, spots)))
+        elif laid.below is None:
+            yield from self.given(reader, profile, keys, laid, None, not fault)
+            stands_for_table = type(laid.node.value) in (str, int)
+            for key, value in members.items() if stands_for_table else []:
+                if value is not REQUIRED:
+                    yield self.absent((*keys, key), value, "# ")
+        else:
+            for key, value in members.items():
+                yield from self.member(reader, profile, (*keys, key), laid.below.get(key), value, not fault)
+
+    def member(self, reader, profile, keys, laid, value, is_judged):
+        if laid:
+            yield from self.given(reader, profile, keys, laid, keys[-1], is_judged)
+        else:
+            yield self.absent(keys, value)
+            yield from self.hidden(profile, keys, len(self.layers))
+
+    # The whole.
+
+    def others(self):
+        """The other keys that are known in a profile."""
+        told = {keys[0] for keys in SETTINGS} | {"overrides", "inherits"}
+        for key in PROFILE:
+            found = [(name, self.at(name, key)) for name in self.chain if key not in told and self.at(name, key)]
+            for profile, laid in found[:1]:
+                spot, value = self.spot(profile, laid.layer, laid.node), value_of(laid)
+                object_ = {"key": key_text(key), "value": data(value), **spot}
+                yield Line(object_, f"{key_text(key)} = {literal(value)}", self.source(spot))
+
+    def overrides(self):
+        for profile in self.chain:
+            for at in reversed(range(len(self.layers))):
+                array = self.layers[at] and self.layers[at].at([profile, "overrides"])
+                for element in array.below.values() if array else []:
+                    yield self.override(self.spot(profile, at, element), element.value)
+
+    def override(self, spot, value):
+        conditions = {key: value[key] for key in ("filter", "platform") if key in value}
+        settings = {key: value[key] for key in OVERRIDE if key in value and key not in conditions}
+        told = {"filter": None, "platform": None, **data(conditions), "settings": data(settings), **spot}
+        texts = [", ".join(f"{key} = {literal(one)}" for key, one in it.items()) for it in (conditions, settings)]
+        of = f" [profile.{key_text(spot['profile'])}]" if spot["profile"] != self.name else ""
+        return Line(told, f"{self.place_text(spot)}:{of} {'; '.join(filter(None, texts))}", None)
+
+    def outside(self):
+        """What is wrong with `retries` of other profiles."""
+        for name in self.names:
+            laid = self.at(name, "retries")
+            fault = laid and name != self.giver and self.fault_of(rules.RETRIES, laid)
+            if fault and not fault.is_unjudged:
+                spots = self.parts(name, ("retries",), SETTINGS[("retries",)][1])
+                places = ", ".join(map(self.place_text, spots))
+                yield f"{places}: profile.{key_text(name)}.retries: {one_line(fault.said())}\n"
+
+
+def profile_answers(listed, name, hides):
+    """The answers for people, and those for programs, of which any may be given."""
+    try:
+        told = Profile(listed, name, hides)
+    except Wrong as wrong:
+        return [[Answer(2, "", f"{line}\n") for line in wrong.args[0]]] * 2
+    settings = [line for keys, how in SETTINGS.items() for line in told.setting(keys, *how)]
+    others, overrides, outside = list(told.others()), list(told.overrides()), "".join(told.outside())
+    status = int(bool(outside) or any(line.object["state"] == "fault" for line in settings))
+    lists = {"settings": settings, "others": others, "overrides": overrides}
+    objects = {key: [line.object for line in lines] for key, lines in lists.items()}
+    answer = {"profile": name, "chain": told.chain, **objects}
+    lines = [f"profile {key_text(name)}: {keys_text(told.chain)}", *in_columns(settings, others)]
+    if overrides:
+        lines += ["", "overrides, the first that applies and sets a key wins:", *(line.first for line in overrides)]
+    texts = ["".join(f"{line}\n" for line in lines), json_text(answer)]
+    return [[Answer(status, text, outside)] for text in texts]
+
+
+def in_columns(settings, others):
+    """Lines whose sources begin two blanks behind the widest first column of at most 60."""
+    widths = [columns_of(line.first) or 0 for line in [*settings, *others] if line.source]
+    column = max((width for width in widths if width <= 60), default=0) + 2
+    for line in [*settings, *([None] if others else []), *others]:
+        if line is None or line.source is None:
+            yield line.first if line else ""
+        else:
+            yield line.first + " " * max(column - (columns_of(line.first) or 0), 2) + line.source

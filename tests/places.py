@@ -1,0 +1,438 @@
+"""What is found in the configuration files of a list, by docs/DEFINITIONS.md, for the random runs.
+
+No answer of a program is used here.
+"""
+
+import collections
+import functools
+import pathlib
+import re
+import unicodedata
+
+import documents
+import rules
+from reports import Ask
+from rules import Fault, meant, nearest, path_text, printed
+
+# The code's table of places, by which it is known that none is left out here.
+SCHEMA = pathlib.Path(__file__).resolve().parent.parent / "crates/nextest_config_findings/src/schema.rt"
+# A finding as `json` tells it: its members, in their order.
+MEMBERS = "path line column end_line end_column severity code key message".split()
+Finding = collections.namedtuple("Finding", MEMBERS)
+# What has a place: its reader, how grave a fault is, and what is below it: the keys that a table knows, or the places
+# of its keys; and what each name of a table, or each element of an array, has for a place.
+Place = collections.namedtuple("Place", "reader severity keys rows each", defaults=[None, None, None])
+
+
+class File(collections.namedtuple("File", "path tool contents kind", defaults=["repository"])):
+    """A file of a list: its printed path, the name of its tool, None where it is none's, and what it holds."""
+
+    @property
+    def source(self):
+        """What reports call it."""
+        return f"tool {self.tool} ({self.path})" if self.tool is not None else f"{self.kind} {self.path}"
+
+
+# The table of places.
+
+
+def error(reader, **below):
+    return Place(reader, "error", **below)
+
+
+def warning(reader, **below):
+    return Place(reader, "warning", **below)
+
+
+def known(reader):
+    """A value with keys that its own reader reads."""
+    return error(reader, keys=list(reader.fields))
+
+
+TEXT, UNREAD = warning(rules.TEXT), warning(rules.UNREAD)
+SWITCH = error(rules.MADE_BOOLEAN)
+BENCH = {"slow-timeout": known(rules.SLOW_TIMEOUT), "global-timeout": error(rules.DURATION)}
+OUTPUTS = {"success-output": warning(rules.OUTPUT), "failure-output": warning(rules.OUTPUT)}
+OVERRIDE_JUNIT = {
+    **{"store-success-output": SWITCH, "store-failure-output": SWITCH, "flaky-fail-status": error(rules.FLAKY_STATUS)},
+    **dict.fromkeys(["path", "report-name", "report-skipped"], UNREAD),
+}
+OVERRIDE = {
+    "priority": error(rules.PRIORITY),
+    "threads-required": error(rules.THREADS_REQUIRED),
+    "retries": error(rules.RETRIES),
+    "flaky-result": error(rules.FLAKY_RESULT),
+    "slow-timeout": known(rules.SLOW_TIMEOUT),
+    "leak-timeout": known(rules.LEAK_TIMEOUT),
+    "junit": error(rules.TABLE, rows=OVERRIDE_JUNIT),
+    "filter": TEXT,
+    "platform": warning(rules.PLATFORM, rows={"host": TEXT, "target": TEXT}),
+    "default-filter": TEXT,
+    "test-group": TEXT,
+    "run-extra-args": warning(rules.TEXTS),
+    **OUTPUTS,
+    "bench": UNREAD,
+}
+PROFILE = {
+    "retries": error(rules.RETRIES),
+    "flaky-result": error(rules.FLAKY_RESULT),
+    "threads-required": error(rules.THREADS_REQUIRED),
+    "fail-fast": known(rules.FAIL_FAST),
+    "slow-timeout": known(rules.SLOW_TIMEOUT),
+    "leak-timeout": known(rules.LEAK_TIMEOUT),
+    "global-timeout": error(rules.DURATION),
+    "junit": known(rules.JUNIT),
+    "bench": error(rules.TABLE, rows=BENCH),
+    "overrides": error(rules.ARRAY, each=error(rules.TABLE, rows=OVERRIDE)),
+    "inherits": TEXT,
+    "default-filter": TEXT,
+    "test-threads": warning(rules.THREADS),
+    "run-extra-args": warning(rules.TEXTS),
+    "status-level": warning(rules.STATUS_LEVEL),
+    "final-status-level": warning(rules.FINAL_LEVEL),
+    **OUTPUTS,
+    "archive": UNREAD,
+    "scripts": UNREAD,
+}
+TOP = {
+    "nextest-version": known(rules.NEXTEST_VERSION),
+    "experimental": error(rules.FEATURES),
+    "profile": error(rules.TABLE, each=error(rules.TABLE, rows=PROFILE)),
+    "store": warning(rules.TABLE, rows={"dir": TEXT}),
+    "test-groups": warning(rules.TABLE, each=warning(rules.GROUP, rows={"max-threads": warning(rules.THREADS)})),
+    "scripts": UNREAD,
+    "script": UNREAD,
+}
+HOMES = {
+    "at the top of the file": TOP,
+    "in a profile": PROFILE,
+    "in an override": OVERRIDE,
+    "in junit": OVERRIDE_JUNIT,
+}
+
+
+def places_in(rows, front=()):
+    """All places, with their paths: `*` stands for a name, and 0 for an index."""
+    for key, place in rows.items():
+        yield (*front, key), place
+        yield from places_in(place.rows or {}, (*front, key))
+        if place.each:
+            path = (*front, key, 0 if place.reader is rules.ARRAY else "*")
+            yield path, place.each
+            yield from places_in(place.each.rows, path)
+
+
+def met_at(reader, path, value, fault, steps=()):
+    """Which forms of a value, and of the keys of its table, are met, each right or wrong."""
+    form = rules.KINDS[type(value)]
+    if fault is None:
+        form = value if isinstance(value, str) and value in reader.takes else form
+        yield path, "any value" if reader is rules.UNREAD else form, "right"
+        keys = [key for key in reader.fields if isinstance(value, dict) and key in value]
+    elif not fault.is_unjudged:
+        yield path, form if form in reader.refuses else "another kind", "wrong"
+        keys = [key for key in steps[:1] if key in reader.fields]
+    for key in keys if not (fault and fault.is_unjudged) else []:
+        yield from met_at(reader.fields[key], (*path, key), value[key], fault, steps[1:])
+
+
+def met_in(settings, tables_only):
+    """The same of the settings of a file, with `*` for each name, and 0 for each index."""
+    for path, place, value in settings:
+        _, fault = judged(path, place, value, tables_only)
+        names = [at == 1 and path[0] in ("profile", "test-groups") for at in range(len(path))]
+        steps = ["*" if is_name else 0 if isinstance(step, int) else step for step, is_name in zip(path, names)]
+        yield from met_at(place.reader, tuple(steps), value, fault, fault.steps if fault else ())
+
+
+def all_forms(reader, path):
+    """All that may be met of what reads at a path."""
+    yield from ((path, form, "right") for form in reader.takes)
+    yield from ((path, form, "wrong") for form in reader.refuses)
+    if reader is not rules.UNREAD:
+        yield path, "another kind", "wrong"
+    for key, field in reader.fields.items():
+        yield from all_forms(field, (*path, key))
+
+
+def lacking(met, keys=None):
+    """What isn't met of the settings below these keys of a file, or below all."""
+    rows = {key: place for key, place in TOP.items() if keys is None or key in keys}
+    wanted = {form for path, place in places_in(rows) for form in all_forms(place.reader, path)}
+    said = collections.Counter(re.findall(r'"([\w-]+)",\s+Reader::', SCHEMA.read_text()))
+    here = collections.Counter(path[-1] for path, _ in places_in(TOP) if path[-1] not in (0, "*"))
+    others = [f"the key {key}, as {SCHEMA.name} has it" for key in said.keys() | here.keys() if said[key] != here[key]]
+    return others + sorted(f"{path_text(path)}, {form}, {how}" for path, form, how in wanted - met)
+
+
+def by_bytes(names):
+    return sorted(names, key=str.encode)
+
+
+def settings_in(rows, value, path=()):
+    """The values of a document that have a place, depth first: of each its path, its place and the value."""
+    for key in rows:
+        if key in value:
+            yield from settings_at(rows[key], value[key], (*path, key))
+
+
+def settings_at(place, value, path):
+    yield path, place, value
+    if place.rows and isinstance(value, dict):
+        yield from settings_in(place.rows, value, path)
+    if place.each and isinstance(value, (dict, list)):
+        is_array = place.reader is rules.ARRAY
+        if is_array == isinstance(value, list):
+            for step in range(len(value)) if is_array else by_bytes(value):
+                yield from settings_at(place.each, value[step], (*path, step))
+
+
+# What nextest may make of values.
+
+
+def may_become(made, value):
+    text = value if isinstance(value, str) else ""
+    if made == "boolean":
+        return type(value) is int or text.isascii() and text.lower() in ("true", "false", "yes", "no", "on", "off", "1", "0")
+    return type(value) in (bool, float) or (type(value) is int if made == "text" else rules.is_integer(text))
+
+
+def is_supplied(path, fault):
+    """Whether nextest's own default profile may have the missing key."""
+    timeouts = [("slow-timeout",), ("leak-timeout",), ("bench", "slow-timeout")]
+    return fault.missing == "period" and fault.steps == () and path in [("profile", "default", *it) for it in timeouts]
+
+
+# Findings.
+
+
+class Listed:
+    """The files of a list with their documents, and what they define together."""
+
+    def __init__(self, files, tables_only=False):
+        self.files = files
+        self.tables_only = tables_only
+        self.roots = [documents.read(file.contents) for file in files]
+        self.values = [root and root.value for root in self.roots]
+        self.all_read = None not in self.roots
+        self.tools = {file.tool for file in files}
+        tables = [value.get("test-groups") for value in self.values if value is not None]
+        names = [name for it in tables if isinstance(it, dict) for name in it if not rules.name_fault(name)]
+        self.groups = by_bytes({unicodedata.normalize("NFC", name) for name in names})
+        # Of each profile the last file that says what it inherits from, and what.
+        self.parents = {}
+        self.profiles = {"default", "default-miri"}
+        for position, value in enumerate(self.values):
+            table = (value or {}).get("profile")
+            self.add_profiles(position, table if isinstance(table, dict) else {})
+        self.profiles = by_bytes(self.profiles)
+
+    def add_profiles(self, position, table):
+        self.profiles.update(table)
+        for name, profile in table.items():
+            if isinstance(profile, dict) and "inherits" in profile:
+                self.parents[name] = position, profile["inherits"]
+
+    def names(self):
+        """The names of all profiles, nextest's own ones first."""
+        return ["default", "default-miri", *(it for it in self.profiles if it not in ("default", "default-miri"))]
+
+    def comes_back(self, name):
+        """Whether a profile comes back to itself."""
+        seen, at = set(), name
+        while at != "default" and at in self.parents and at not in seen:
+            seen.add(at)
+            at = self.parents[at][1]
+            if at == name or not isinstance(at, str):
+                return at == name
+        return False
+
+    def ask(self, position):
+        """What a file asks, or a text that says why it is refused as a source."""
+        value, file, asked = self.values[position], self.files[position], {}
+        if value is None:
+            return "not a TOML document"
+        for key in ("nextest-version", "experimental"):
+            asked[key], fault = judged((key,), TOP[key], value[key], self.tables_only) if key in value else (None, None)
+            if fault:
+                return f"{path_text((key, *fault.steps))}: {fault.said((key,))}"
+        versions, names = asked["nextest-version"] or {}, sum(asked["experimental"] or ([], []), [])
+        if file.tool is not None and names:
+            return tool_features(names)
+        is_array = isinstance(value.get("experimental"), list)
+        return Ask(file.source, versions.get("required"), versions.get("recommended"), set(names), is_array)
+
+    @functools.cached_property
+    def findings(self):
+        """What is found in each file."""
+        return [self.found_in(position) for position in range(len(self.files))]
+
+    def found_in(self, position):
+        """What is found in a file, in the order of places."""
+        path, contents = self.files[position].path, self.files[position].contents
+        if self.roots[position] is None:
+            return [unread(path, contents)]
+        judged = [one for kind in Judge(self, position).kinds() for one in kind]
+        return sorted(judged, key=lambda it: (it.line, it.column))
+
+
+def finding_at(path, span, *said):
+    (line, column), end = span
+    return Finding(path, line, column, *end, *said)
+
+
+def unread(path, contents):
+    """What is found of a file that is no document. What `toml` says of one, and where, isn't known."""
+    try:
+        contents.decode()
+        return finding_at(path, ((None, None), (None, None)), "error", "not-toml", "", None)
+    except UnicodeDecodeError as error:
+        *before, last = contents[: error.start].decode().split("\n")
+        place = len(before) + 1, len(last) + 1
+        return finding_at(path, (place, place), "error", "not-utf8", "", "not UTF-8")
+
+
+def judged(path, place, value, tables_only=False):
+    """What a value means, and the fault of one that means nothing."""
+    try:
+        if path == ("experimental",) and tables_only and isinstance(value, list):
+            raise Fault("array-form", "the array form of `experimental` isn't supported, use a table")
+        return place.reader.read(value), None
+    except Fault as fault:
+        return None, fault
+
+
+def tool_features(names):
+    return f"experimental features in a tool configuration: {', '.join(map(printed, by_bytes(names)))}"
+
+
+class Judge:
+    """Judges a file at a position of a list."""
+
+    def __init__(self, listed, position):
+        self.listed = listed
+        self.position = position
+        self.path, self.tool = listed.files[position][:2]
+        self.root = listed.roots[position]
+        self.settings = list(settings_in(TOP, listed.values[position]))
+        self.features = None
+
+    def found(self, steps, severity, code, message, of_key=False, key=None):
+        """A finding at a path, or at a key of the table there."""
+        node = self.root.at(steps if key is None else (*steps, key))
+        span = (node.key() if of_key or key is not None else None) or node.place()
+        return finding_at(self.path, span, severity, code, path_text(steps), message)
+
+    def kinds(self):
+        """The findings by their kinds, in the order in which those of one place are told."""
+        faults, notes = [], []
+        for path, place, value in self.settings:
+            means, fault = judged(path, place, value, self.listed.tables_only)
+            self.features = means if path == ("experimental",) else self.features
+            if fault:
+                (notes if fault.is_unjudged else faults).append(self.told(path, place, value, fault))
+        kinds = [self.of_features(), self.unknown_keys(), self.references()]
+        return [faults, *map(list, kinds), notes + self.of_array()]
+
+    def told(self, path, place, value, fault):
+        steps = (*path, *fault.steps)
+        if fault.is_unjudged:
+            said = "not judged here: a duration other than whole numbers, each with a unit"
+            return self.found(steps, "note", "unjudged-duration", said)
+        reader, inner = place.reader, value
+        for step in fault.steps:
+            reader, inner = reader.fields.get(step, rules.UNREAD), inner[step]
+        is_made = fault.code == "invalid-type" and reader.made and may_become(reader.made, inner)
+        severity = "warning" if is_made or is_supplied(path, fault) else place.severity
+        is_whole = fault.missing or fault.code == "unknown-field"
+        hint = fault.hint if is_whole else reader.hint(inner, path)
+        return self.found(steps, severity, fault.code, fault.said(path) + (hint or ""))
+
+    # Features.
+
+    def of_features(self):
+        known, unknown = self.features or ([], [])
+        if self.tool is not None and known + unknown:
+            yield self.found(("experimental",), "error", "tool-features", tool_features(known + unknown))
+        for name in [] if self.tool is not None else by_bytes(unknown):
+            value = self.listed.values[self.position]["experimental"]
+            step = value.index(name) if isinstance(value, list) else name
+            said = f"unknown feature {printed(name)}{meant(nearest(name, rules.WORDS)) or ''}"
+            yield self.found(("experimental", step), "warning", "unknown-feature", said, of_key=True)
+
+    def of_array(self):
+        is_array = isinstance(self.listed.values[self.position].get("experimental"), list)
+        if self.tool is not None or not is_array or self.features is None:
+            return []
+        features = ", ".join(f"{word} = true" for word in self.features[0])
+        said = f"the array form is deprecated, use a table: {f'{{ {features} }}' if features else '{ }'}"
+        return [self.found(("experimental",), "note", "deprecated-array", said)]
+
+    # Keys.
+
+    def unknown_keys(self):
+        tables = [((), TOP, self.listed.values[self.position])]
+        tables += [(path, place.keys or place.rows, value) for path, place, value in self.settings]
+        for path, words, value in tables:
+            names = [name for name in value if name not in words] if words and isinstance(value, dict) else []
+            for name in by_bytes(names):
+                said = f"unknown key {printed(name)}{key_hint(name, list(words)) or ''}"
+                yield self.found(path, "warning", "unknown-key", said, key=name)
+
+    # References.
+
+    def references(self):
+        for path, _, value in self.settings:
+            match path:
+                case ("profile", name) if name.startswith("default-") and name != "default-miri":
+                    said = 'profile names that begin with "default-" are reserved'
+                    yield self.found(path, "warning", "reserved-profile", said, of_key=True)
+                case ("profile", name, "inherits") if isinstance(value, str):
+                    yield from self.parent(path, name, value)
+                case ("profile", _, "overrides", _) if isinstance(value, dict) and not {"filter", "platform"} & set(value):
+                    yield self.found(path, "warning", "override-of-all", 'an override needs a "filter" or a "platform"')
+                case ("profile", _, "overrides", _, "test-group") if isinstance(value, str) and value != "@global":
+                    yield from self.group_of(path, value)
+                case ("test-groups", name):
+                    yield from self.group(path, name)
+
+    def parent(self, path, name, parent):
+        if name == "default":
+            yield self.found(path, "warning", "default-inherits", 'the profile "default" can\'t inherit')
+        elif self.listed.comes_back(name) and self.listed.parents[name][0] == self.position:
+            said = f"the profile {printed(name)} inherits from itself"
+            yield self.found(path, "warning", "inherits-itself", said)
+        elif self.listed.all_read and parent not in self.listed.profiles:
+            others = [it for it in self.listed.profiles if it != name]
+            said = f"no file defines the profile {printed(parent)}{meant(nearest(parent, others)) or ''}"
+            yield self.found(path, "warning", "undefined-profile", said)
+
+    def group_of(self, path, text):
+        fault = rules.name_fault(text)
+        name = unicodedata.normalize("NFC", text)
+        tool = name.split(":")[1] if name.startswith("@tool:") and not fault else None
+        if fault:
+            yield self.found(path, "warning", "group-name", fault)
+        elif self.listed.all_read and name not in self.listed.groups and (tool is None or tool in self.listed.tools):
+            said = f"no file defines the test group {printed(name)}{meant(nearest(name, self.listed.groups)) or ''}"
+            yield self.found(path, "warning", "undefined-group", said)
+
+    def group(self, path, text):
+        fault = rules.name_fault(text)
+        name = unicodedata.normalize("NFC", text)
+        if self.tool is None and name.startswith("@"):
+            fault = fault or 'only a tool\'s test groups begin with "@"'
+        elif self.tool is not None and not name.startswith(f"@tool:{self.tool}:"):
+            fault = fault or f"a tool's test groups begin with {printed(f'@tool:{self.tool}:')}"
+        if fault:
+            yield self.found(path, "warning", "group-name", fault, of_key=True)
+
+
+def key_hint(name, words):
+    """What an unknown key may be meant for."""
+    near = nearest(name, words)
+    if near and (rules.plain(name) == rules.plain(near) or rules.distance(name, near) == 1):
+        return meant(near)
+    home = next((home for home, rows in HOMES.items() if name in rows), None)
+    part = next((word for word in words if name in word.split("-")), None)
+    return f", which belongs {home}" if home else meant(near or part)
