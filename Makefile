@@ -4,6 +4,7 @@
 # make build    leaves the proved programs at bin/nextest-config and bin/nextest_config_check
 # make install  copies them and scripts/check-nextest-config to PREFIX/bin (PREFIX=/usr/local)
 # make dist     makes an archive of the three with its checksum, in dist/
+# make calls    fills docs/LIBRARY.md with the signatures of the libraries, as they stand in src
 
 SHELL := bash
 .SHELLFLAGS := -o pipefail -c
@@ -11,21 +12,21 @@ PREFIX ?= /usr/local
 CHECK := crates/nextest_config_check
 COMMAND := crates/nextest_config_cli
 PROGRAM := $(CHECK)/out/nextest_config_check
-REFUSALS := $(foreach name,nextest_config_settings_refusals nextest_config_findings_refusals nextest_config_refusals,crates/$(name)/out/$(name))
+ROWS := crates/nextest_config_test_memory/out/nextest_config_test_memory_tests
 BENCH := crates/nextest_config_bench/out/nextest_config_bench
 BUILT := bin/nextest-config bin/nextest_config_check
 SCRIPT := scripts/check-nextest-config
 # Where rt isn't there, what was built before counts.
 SOURCES := $(if $(shell command -v rt 2> /dev/null),crates.txt $(shell find crates -name out -prune -o \( -name '*.rt' -o -name '*.antt' \) -print))
 
-.PHONY: help test run run-list run-lint build install dist toolchain
+.PHONY: help test run run-list run-lint build install dist calls toolchain
 
 help:
 	@sed -n 's/^# //p; /^$$/q' Makefile
 
 test: toolchain
 	! command -v shellcheck > /dev/null || shellcheck $(SCRIPT)
-	tests/calling
+	scripts/library --check
 	tests/wrong-itself
 	rt ci | tests/wrong --behind
 	tests/run $(PROGRAM) $(COMMAND)/out/nextest_config_cli
@@ -33,7 +34,7 @@ test: toolchain
 	tests/random-files $(COMMAND)/out/nextest_config_cli
 	tests/positions $(BENCH)
 	tests/random-profiles $(BENCH)
-	tests/refusals $(REFUSALS) $(PROGRAM) $(COMMAND)/out/nextest_config_cli
+	tests/refusals $(ROWS) $(PROGRAM) $(COMMAND)/out/nextest_config_cli
 	bench/measure --small --program $(PROGRAM) --alone $(BENCH)
 	bench/measure-durations --small --alone $(BENCH)
 	bench/measure-hostile --small --program $(PROGRAM) --alone $(BENCH)
@@ -80,6 +81,9 @@ dist: $(BUILT)
 	tar --create --file=dist/$$archive --use-compress-program='gzip -n' --transform='s,.*/,bin/,' --mode=755 \
 		--owner=0 --group=0 --numeric-owner --mtime=@0 $(BUILT) $(SCRIPT) && \
 	cd dist && sha256sum $$archive > $$archive.sha256 && cat $$archive.sha256
+
+calls:
+	scripts/library
 
 toolchain:
 	@command -v rt > /dev/null || { echo "rt, the command of the Rattle toolchain, isn't on the PATH: put the folder that holds it there" >&2; exit 1; }
