@@ -7,6 +7,7 @@ import collections
 
 import documents
 import places
+import settings
 from inputs import array, chance, some_features, some_value, some_version, some_versions, table
 
 # A list of files: those by their names, the tools as pairs of a name and a file, the repository's in turn, what
@@ -16,90 +17,13 @@ Case = collections.namedtuple("Case", "files tools repositories given folder fla
 # explicit; it holds None where none is.
 Repository = collections.namedtuple("Repository", "words path contents kind", defaults=["repository"])
 
-# What is written for a key, right and wrong.
-COUNTS = ["2", "1", "0", "-1", '"2"', '"-0"', '"02"', "4294967296", "1.0", "true", "[ ]"]
-TIMEOUTS = [
-    *['"60s"', '"2m 30s"', '"5µs"', '"1day"', '"40y"', '"0s"', '"0"', '"1.5h"', '"1 000s"', '"5"', "60"],
-    *['"60 sec."', '""', "true", '["1s"]', '"99999999999999999999s"', "-1"],
-]
-SWITCHES = ["true", "false", '"true"', '"Yes"', '"x"', "1", "1.5", "[ ]"]
-RESULTS = ['"fail"', '"pass"', '"flaky"', '"Pass"', "true", '"f\\u001b[1m\\nl"']
-THREADS = ["4", "-2", '"num-cpus"', '"num-test-threads"', "0", '"4"', '"num_cpus"', '"num-test-treads"', "1.0", "[ ]"]
-OUTPUTS = ['"immediate"', '"final"', '"immediate-final"', '"never"', '"Final"', '"allways"', "true", "1"]
-LEVELS = [
-    *(f'"{word}"' for word in ["none", "fail", "retry", "flaky", "slow", "leak", "pass", "skip", "all"]),
-    *['"skips"', '"Skip"', '"flakey"', '["all"]', "1"],
-]
-TEXTS = [
-    *["'test(a)'", '"all()"', "'日本語'", "'''\ntest(a)\n  | test(b)'''", '"""\nnot \\\n  test(b)"""', "1", "['a']", "true"],
-]
-UNREAD = ["{ include = [] }", '[{ filter = "a", setup = "b" }]', "1.5", "1979-05-27", "true", "'x'", "[1e3, 07:32:00]"]
-VERSIONS = ['"0.9.50"', '"0.9"', '"0.9.50-rc.1"', '"0.9.50+b"', '"0.9.5O"', "1", "[ ]"]
-SAME = {
-    "delay max-delay period grace-period global-timeout": TIMEOUTS,
-    "count terminate-after": COUNTS,
-    "jitter store-success-output store-failure-output setup-scripts wrapper-scripts benchmarks": SWITCHES,
-    "flaky-result on-timeout result": RESULTS,
-    "threads-required test-threads max-threads": THREADS,
-    "status-level final-status-level": LEVELS,
-    "success-output failure-output": OUTPUTS,
-    "path report-name filter default-filter host target dir": TEXTS,
-    "archive scripts script": UNREAD,
-    "required recommended": VERSIONS,
-}
-VALUES = {
-    **{key: values for keys, values in SAME.items() for key in keys.split()},
-    "retries": [
-        *["2", "0", '"two"', '"2"', "-1", "4294967296", "[1]", "true", '{ backoff = "fixed", count = 1, colour = 2 }'],
-        *['{ backoff = "fixed", count = 3, jitter = true }', '{ backoff = "fixed", count = 1, max_delay = "1s" }'],
-        *['{ backoff = "exponential", count = 3, delay = "2s", max-delay = "1s" }', '{ backoff = "fixed" }'],
-    ],
-    "slow-timeout": [*TIMEOUTS, "{ terminate-after = 2 }", '{ period = "60s", terminate-afer = 2 }'],
-    "leak-timeout": [*TIMEOUTS, '{ result = "pass" }', '{ period = "1s", colour = 1 }'],
-    "backoff": ['"fixed"', '"exponential"', '"fixd"', "1"],
-    "fail-fast": ["true", "false", "2", '{ terminate = "wait" }', '"true"', '"flase"'],
-    "max-fail": ["1", '"all"', "0", '"1"', '"-1"', '"+2"', '"ALL"', "true"],
-    "terminate": ['"wait"', '"immediate"', '"now"', "1"],
-    "junit": ['{ path = "a.xml", report-name = "n" }', '"a.xml"', '{ path = "a", "report name" = 1 }', "1"],
-    "report-skipped": ['"none"', '"ignored"', '"all"', '"some"', "true"],
-    "flaky-fail-status": ['"failure"', '"success"', '"sucess"', "1"],
-    "bench": ['{ slow-timeout = "5m" }', '{ global-timeout = "1h", colour = 1 }', '{ slow-timeout = "5" }', "1"],
-    "overrides": ["[ ]", "{ filter = 'a' }", "1", "[1]"],
-    "inherits": [
-        *['"ci"', '"default"', '"nightly"', '"cii"', '"default-miri"', '"x y"', '"é"', '"e\u0301"', "''", "1", "['ci']"],
-    ],
-    "run-extra-args": ["['a', 'b']", "[\n  'a', # one\n  'b',\n]", '["a", 1]', '"a"', "[[ ]]", "[ ]", "{ }"],
-    "priority": ["100", "-100", "0", "101", "-1000", '"5"', '"500"', "1.5", "true", "[ ]"],
-    "platform": [
-        *["'cfg(unix)'", '"x86_64-unknown-linux-gnu"', "{ host = 'cfg(unix)', target = 1 }", "{ hots = '' }", "1"],
-    ],
-    "test-group": [
-        *['"serial"', '"db"', '"@global"', '"@tool:my-tool:g"', '"serail"', '"@tool:x"', '"1 a"', '"日本"'],
-        *["'e\u0301'", "2", '"@tool:gone:g"', '"@tool::g"', '"@tool:x:#"', '""', "true"],
-    ],
-    "store": ["{ dir = 'target/nextest' }", "{ dirs = 1 }", "{ dir = 1 }", "'a'"],
-    "test-groups": ["{ serial = { max-threads = 1 } }", "{ db = 2 }", "[ ]", "{ }"],
-    "nextest-version": [*VERSIONS, '{ required = "0.9.60", recommended = "0.9.50" }', "{ }"],
-    "experimental": ["[ ]", '["benchmarks", "x"]', '["setup-scripts", 1]', "{ }", "{ benchmark = true }", "1"],
-    # A name of a profile or of a test group, and an override.
-    "*": ["{ max-threads = 2 }", "{ retries = 2 }", "1", "[ ]"],
-    0: ["{ filter = 'a', retries = 2 }", "1", "'a'"],
-}
-# What a key's table needs beside it.
-BESIDE = {
-    "retries": {"backoff": '"exponential"', "count": "3", "delay": '"1s"'},
-    "slow-timeout": {"period": '"60s"'},
-    "leak-timeout": {"period": '"60s"'},
-    "fail-fast": {"max-fail": "1"},
-}
-
 
 def values_of(path, place):
     """What is written at a place: the values of its key, and tables with each value of one of their keys."""
-    yield from VALUES[path[-1]]
+    yield from settings.VALUES[path[-1]]
     for field in place.reader.fields:
-        beside = {"count": "3"} if field == "backoff" else BESIDE.get(path[-1], {})
-        yield from (table({**beside, field: value}.items()) for value in VALUES[field])
+        beside = {"count": "3"} if field == "backoff" else settings.BESIDE.get(path[-1], {})
+        yield from (table({**beside, field: value}.items()) for value in settings.VALUES[field])
 
 
 def is_right(place, text):
@@ -116,7 +40,7 @@ def by_key(turns):
     return tables
 
 
-ALL = [(*it, value) for it in places.places_in(places.TOP) if it[0] != ("profile",) for value in values_of(*it)]
+ALL = [(*it, value) for it in places.places_in(settings.TOP) if it[0] != ("profile",) for value in values_of(*it)]
 # Each place with each value that is written there, and with each that means something there.
 TURNS = [(path, value) for path, _, value in ALL]
 RIGHT_TURNS = [(path, value) for path, place, value in ALL if is_right(place, value)]
@@ -163,7 +87,7 @@ USUAL = ".config/nextest.toml"
 APART = ['{ backoff = "fixed", count = 1 }', '{ backoff = "exponential", count = 2, delay = "2s", max-delay = "5s" }']
 PROFILE, OVERRIDE, GROUP = ("profile", "*"), ("profile", "*", "overrides", 0), ("test-groups", "*")
 # Keys of tables, with dots.
-DOTTED = [f"{key}.{field}" for key, place in places.PROFILE.items() for field in place.reader.fields]
+DOTTED = [f"{key}.{field}" for key, place in settings.PROFILE.items() for field in place.reader.fields]
 DOTTED += ["bench.slow-timeout.period", "bench.slow-timeout.on-timeout", "bench.global-timeout", "bench.colour"]
 
 
@@ -185,7 +109,7 @@ def some_pairs(random, known, most):
     pairs = [(key, some_written(random, known[key])) for key in random.sample(sorted(known), random.randrange(most + 1))]
     if chance(random, 0.1) and "inherits" in known:
         key = random.choice(DOTTED)
-        pairs.append((key, random.choice(VALUES.get(key.split(".")[-1], ["1"]))))
+        pairs.append((key, random.choice(settings.VALUES.get(key.split(".")[-1], ["1"]))))
     if chance(random, 0.2):
         pairs.append((random.choice(UNKNOWN), random.choice(["1", "{ a = 1 }", some_value(random)])))
     random.shuffle(pairs)

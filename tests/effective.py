@@ -8,34 +8,16 @@ import re
 import documents
 import rules
 from findings import columns_of, one_line
-from places import OVERRIDE, PROFILE, by_bytes
+from places import by_bytes
 from reports import Answer, json_text
 from rules import Fault
+from settings import OVERRIDE, PROFILE, REQUIRED, RETRIES, SETTINGS, SLOW_TIMEOUT, TIMES, UNSET
 
 DEFAULTS = pathlib.Path(__file__).resolve().parent.parent / "crates/nextest_config_profiles/src/defaults.rt"
 # What layers have at a path together: the last that has it, what that has there, and what is below a table.
 Laid = collections.namedtuple("Laid", "layer node below")
 # A line: the object that says it, its first column, and where it comes from.
 Line = collections.namedtuple("Line", "object first source")
-REQUIRED, UNSET = object(), object()
-SLOW = {"period": REQUIRED, "terminate-after": UNSET, "grace-period": "10s", "on-timeout": "fail"}
-# The settings: what reads them, and what their readers take where a key of their table is absent.
-SETTINGS = {
-    ("retries",): (
-        rules.RETRIES,
-        {"backoff": "fixed", "count": REQUIRED, "delay": "0s", "jitter": False, "max-delay": UNSET},
-    ),
-    ("flaky-result",): (rules.FLAKY_RESULT, {}),
-    ("threads-required",): (rules.THREADS_REQUIRED, {}),
-    ("fail-fast",): (rules.FAIL_FAST, {"max-fail": REQUIRED, "terminate": "wait"}),
-    ("slow-timeout",): (rules.SLOW_TIMEOUT, SLOW),
-    ("leak-timeout",): (rules.LEAK_TIMEOUT, {"period": REQUIRED, "result": "pass"}),
-    ("global-timeout",): (rules.DURATION, {}),
-    **{("junit", key): (reader, {}) for key, reader in rules.REPORT.items()},
-    ("bench", "slow-timeout"): (rules.SLOW_TIMEOUT, SLOW),
-    ("bench", "global-timeout"): (rules.DURATION, {}),
-}
-TIMES = [rules.SLOW_TIMEOUT, rules.LEAK_TIMEOUT, rules.DURATION]
 TAKEN_AWAY = "no value: the empty text takes the default away"
 VERY_LONG = 946080000 * 10**9
 
@@ -222,7 +204,7 @@ class Profile:
         """The lines of a setting."""
         for profile in self.chain:
             laid = self.at(profile, *keys)
-            if laid and not (reader is rules.SLOW_TIMEOUT and value_of(laid) == ""):
+            if laid and not (reader is SLOW_TIMEOUT and value_of(laid) == ""):
                 self.giver = self.giver or profile
                 yield from self.lines_of(keys, reader, members, profile, laid)
                 return
@@ -302,7 +284,7 @@ class Profile:
         """What is wrong with `retries` of other profiles."""
         for name in self.names:
             laid = self.at(name, "retries")
-            fault = laid and name != self.giver and self.fault_of(rules.RETRIES, laid)
+            fault = laid and name != self.giver and self.fault_of(RETRIES, laid)
             if fault and not fault.is_unjudged:
                 spots = self.parts(name, ("retries",), SETTINGS[("retries",)][1])
                 places = ", ".join(map(self.place_text, spots))

@@ -2,8 +2,8 @@
 
 import unicodedata
 
-from places import PROFILE
 from reports import FLAGS, GREATEST, WORDS, Current, dotted, word_of
+from settings import PROFILE
 
 CHARACTERS = "abxyz09.-+_ \"'\\\n\r\t\0\x01\x7f\x85éΔａ٣µ\u0301\u2003\ufeff\U0001f600"
 TOKENS = [

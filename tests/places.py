@@ -11,17 +11,15 @@ import unicodedata
 
 import documents
 import rules
-from reports import Ask
+from reports import WORDS, Ask
 from rules import Fault, meant, nearest, path_text, printed
+from settings import HOMES, TOP
 
 # The code's table of places, by which it is known that none is left out here.
 SCHEMA = pathlib.Path(__file__).resolve().parent.parent / "crates/nextest_config_findings/src/schema.rt"
 # A finding as `json` tells it: its members, in their order.
 MEMBERS = "path line column end_line end_column severity code key message".split()
 Finding = collections.namedtuple("Finding", MEMBERS)
-# What has a place: its reader, how grave a fault is, and what is below it: the keys that a table knows, or the places
-# of its keys; and what each name of a table, or each element of an array, has for a place.
-Place = collections.namedtuple("Place", "reader severity keys rows each", defaults=[None, None, None])
 
 
 class File(collections.namedtuple("File", "path tool contents kind", defaults=["repository"])):
@@ -31,84 +29,6 @@ class File(collections.namedtuple("File", "path tool contents kind", defaults=["
     def source(self):
         """What reports call it."""
         return f"tool {self.tool} ({self.path})" if self.tool is not None else f"{self.kind} {self.path}"
-
-
-# The table of places.
-
-
-def error(reader, **below):
-    return Place(reader, "error", **below)
-
-
-def warning(reader, **below):
-    return Place(reader, "warning", **below)
-
-
-def known(reader):
-    """A value with keys that its own reader reads."""
-    return error(reader, keys=list(reader.fields))
-
-
-TEXT, UNREAD = warning(rules.TEXT), warning(rules.UNREAD)
-SWITCH = error(rules.MADE_BOOLEAN)
-BENCH = {"slow-timeout": known(rules.SLOW_TIMEOUT), "global-timeout": error(rules.DURATION)}
-OUTPUTS = {"success-output": warning(rules.OUTPUT), "failure-output": warning(rules.OUTPUT)}
-OVERRIDE_JUNIT = {
-    **{"store-success-output": SWITCH, "store-failure-output": SWITCH, "flaky-fail-status": error(rules.FLAKY_STATUS)},
-    **dict.fromkeys(["path", "report-name", "report-skipped"], UNREAD),
-}
-OVERRIDE = {
-    "priority": error(rules.PRIORITY),
-    "threads-required": error(rules.THREADS_REQUIRED),
-    "retries": error(rules.RETRIES),
-    "flaky-result": error(rules.FLAKY_RESULT),
-    "slow-timeout": known(rules.SLOW_TIMEOUT),
-    "leak-timeout": known(rules.LEAK_TIMEOUT),
-    "junit": error(rules.TABLE, rows=OVERRIDE_JUNIT),
-    "filter": TEXT,
-    "platform": warning(rules.PLATFORM, rows={"host": TEXT, "target": TEXT}),
-    "default-filter": TEXT,
-    "test-group": TEXT,
-    "run-extra-args": warning(rules.TEXTS),
-    **OUTPUTS,
-    "bench": UNREAD,
-}
-PROFILE = {
-    "retries": error(rules.RETRIES),
-    "flaky-result": error(rules.FLAKY_RESULT),
-    "threads-required": error(rules.THREADS_REQUIRED),
-    "fail-fast": known(rules.FAIL_FAST),
-    "slow-timeout": known(rules.SLOW_TIMEOUT),
-    "leak-timeout": known(rules.LEAK_TIMEOUT),
-    "global-timeout": error(rules.DURATION),
-    "junit": known(rules.JUNIT),
-    "bench": error(rules.TABLE, rows=BENCH),
-    "overrides": error(rules.ARRAY, each=error(rules.TABLE, rows=OVERRIDE)),
-    "inherits": TEXT,
-    "default-filter": TEXT,
-    "test-threads": warning(rules.THREADS),
-    "run-extra-args": warning(rules.TEXTS),
-    "status-level": warning(rules.STATUS_LEVEL),
-    "final-status-level": warning(rules.FINAL_LEVEL),
-    **OUTPUTS,
-    "archive": UNREAD,
-    "scripts": UNREAD,
-}
-TOP = {
-    "nextest-version": known(rules.NEXTEST_VERSION),
-    "experimental": error(rules.FEATURES),
-    "profile": error(rules.TABLE, each=error(rules.TABLE, rows=PROFILE)),
-    "store": warning(rules.TABLE, rows={"dir": TEXT}),
-    "test-groups": warning(rules.TABLE, each=warning(rules.GROUP, rows={"max-threads": warning(rules.THREADS)})),
-    "scripts": UNREAD,
-    "script": UNREAD,
-}
-HOMES = {
-    "at the top of the file": TOP,
-    "in a profile": PROFILE,
-    "in an override": OVERRIDE,
-    "in junit": OVERRIDE_JUNIT,
-}
 
 
 def places_in(rows, front=()):
@@ -357,7 +277,7 @@ class Judge:
         for name in [] if self.tool is not None else by_bytes(unknown):
             value = self.listed.values[self.position]["experimental"]
             step = value.index(name) if isinstance(value, list) else name
-            said = f"unknown feature {printed(name)}{meant(nearest(name, rules.WORDS)) or ''}"
+            said = f"unknown feature {printed(name)}{meant(nearest(name, WORDS)) or ''}"
             yield self.found(("experimental", step), "warning", "unknown-feature", said, of_key=True)
 
     def of_array(self):

@@ -1,4 +1,4 @@
-"""What values of settings mean, and what is wrong with them, by docs/DEFINITIONS.md, for the random runs.
+"""How values are read, and what is said of those that are refused, by docs/DEFINITIONS.md, for the random runs.
 
 No answer of a program is used here. A reader of values says which forms it takes: kinds of TOML, and words.
 """
@@ -8,7 +8,7 @@ import re
 import unicodedata
 
 from documents import DateTime
-from reports import GREATEST, NUMBER, WORDS, dotted, is_tool_name, printed
+from reports import GREATEST, is_tool_name, printed
 
 KINDS = {bool: "boolean", int: "number", str: "text", list: "array", dict: "table", float: "float", DateTime: "date-time"}
 # What reads values: how, which forms it takes, which of them it may refuse, what is meant by a value that it refuses,
@@ -175,22 +175,6 @@ BOOLEAN = of_kind(bool, "a boolean", truth_hint)
 MADE_TEXT = TEXT._replace(made="text")
 MADE_BOOLEAN = BOOLEAN._replace(made="boolean")
 TABLE = of_kind(dict, "a table")
-U32 = integer(lambda it: 0 <= it < 1 << 32, "u32")
-COUNT = integer(lambda it: it > 0, "a nonzero usize", made="number")
-FLAKY_RESULT = words("fail", "pass")
-FLAKY_STATUS = words("failure", "success")
-STATUS_LEVEL = words("none", "fail", "retry", "slow", "leak", "pass", "skip", "all")
-FINAL_LEVEL = words("none", "fail", "flaky", "slow", "skip", "leak", "pass", "all", also=["retry"])
-OUTPUT = words("immediate", "immediate-final", "final", "never")
-
-
-def read_priority(value):
-    integer(lambda it: -128 <= it < 128, "i8").read(value)
-    if not -100 <= value <= 100:
-        raise Fault("priority", f"priority {value} must be between -100 and 100")
-
-
-PRIORITY = Reader(read_priority, ("number",), ("number",), integer_hint(lambda it: -100 <= it <= 100), made="number")
 UNREAD = Reader(lambda value: value, ("any value",))
 
 
@@ -210,9 +194,9 @@ def read_texts(value):
 TEXTS = Reader(read_texts, ("array",), ("array",))
 
 
-THREADS = integer(lambda it: it != 0, 'an integer other than 0 or the string "num-cpus"', "num-cpus")
-ALL_THREADS = 'an integer, the string "num-cpus" or the string "num-test-threads"'
-THREADS_REQUIRED = integer(lambda it: it > 0, ALL_THREADS, "num-cpus", "num-test-threads")
+def table_of(fields, required=(), hint=TABLE.hint):
+    return Reader(lambda value: fields_of(TABLE.read(value), fields, required), ("table",), ("table",), hint, fields)
+
 
 # Durations.
 
@@ -269,164 +253,6 @@ def timeout(expected, fields, may_be_empty):
         return fields_of(value, fields, ["period"])
 
     return Reader(read, ("text", "table"), ("text", "table"), seconds_hint, fields)
-
-
-SLOW = {"period": DURATION, "terminate-after": COUNT, "grace-period": DURATION, "on-timeout": FLAKY_RESULT}
-SLOW_TIMEOUT = timeout('a table ({ period = "60s", terminate-after = 2 }) or a string ("60s")', SLOW, True)
-LEAK = {"period": DURATION, "result": FLAKY_RESULT}
-LEAK_TIMEOUT = timeout('a table ({ period = "500ms", result = "fail" }) or a string ("100ms")', LEAK, False)
-
-# Retries.
-
-RETRIES_EXPECTED = 'a table ({ backoff = "fixed", count = 5 }) or a number (5)'
-BESIDE_FIXED = {"count": U32, "delay": DURATION, "jitter": BOOLEAN}
-BACKOFFS = {"fixed": BESIDE_FIXED, "exponential": {**BESIDE_FIXED, "max-delay": DURATION}}
-BACKOFF = words(*BACKOFFS)
-
-
-def read_retries(value):
-    if type(value) is int:
-        if not 0 <= value < 1 << 32:
-            raise wrong_value(value, RETRIES_EXPECTED if value < 0 else "a u32")
-        return
-    of_kind(dict, RETRIES_EXPECTED).read(value)
-    fields_of(value, {"backoff": BACKOFF}, ["backoff"])
-    grows, fields = value["backoff"] == "exponential", BACKOFFS[value["backoff"]]
-    means = fields_of(value, fields, ["count", "delay"] if grows else ["count"])
-    unknown = sorted((key for key in value if key not in fields and key != "backoff"), key=str.encode)
-    if unknown:
-        hint = meant(nearest(unknown[0], list(fields)))
-        raise Fault("unknown-field", f"unknown field `{unknown[0]}`, expected {listed(fields)}", hint=hint)
-    for is_broken, code, said in retries_rules(means, grows):
-        if is_broken:
-            raise Fault(code, said)
-
-
-def retries_rules(means, grows):
-    delay, most, backoff = means.get("delay"), means.get("max-delay"), "with exponential backoff"
-    if not grows:
-        alone = "`jitter` cannot be true if `delay` isn't specified or is zero"
-        yield means.get("jitter") and not delay, "jitter-without-delay", alone
-        return
-    yield means["count"] == 0, "count-zero", f"`count` cannot be zero {backoff}"
-    yield delay == 0, "delay-zero", f"`delay` cannot be zero {backoff}"
-    yield most == 0, "max-delay-zero", f"`max-delay` cannot be zero {backoff}"
-    is_below = most is not None and most < delay
-    yield is_below, "max-delay-below-delay", f"`max-delay` cannot be less than delay {backoff}"
-
-
-BOTH = ("number", "table")
-RETRIES = Reader(read_retries, BOTH, BOTH, U32.hint, {"backoff": BACKOFF, **BACKOFFS["exponential"]})
-
-# Fail limits.
-
-LIMIT_EXPECTED = 'a positive integer or the string "all"'
-
-
-def read_limit(value):
-    if type(value) not in (int, str):
-        raise wrong_type(value, LIMIT_EXPECTED)
-    if type(value) is int and value < 1:
-        raise wrong_value(value, LIMIT_EXPECTED)
-    if isinstance(value, str) and value != "all":
-        how = "or a positive integer"
-        if is_integer(value):
-            how = f"(numbers must be {'specified without' if int(value) > 0 else 'positive and without'} quotes)"
-        raise wrong_value(value, f'the string "all" {how}')
-
-
-def limit_hint(value, path):
-    if type(value) is int and value > 0:
-        return f", did you mean {{ max-fail = {value} }}"
-    return truth_hint(value, path)
-
-
-LIMIT = {
-    "max-fail": Reader(read_limit, ("number", "all"), ("number", "text"), integer_hint(lambda it: it > 0)),
-    "terminate": words("wait", "immediate"),
-}
-
-
-def read_fail_fast(value):
-    if not isinstance(value, bool):
-        of_kind(dict, "a boolean or { max-fail = ... }").read(value)
-        fields_of(value, LIMIT, ["max-fail"])
-
-
-FAIL_FAST = Reader(read_fail_fast, ("boolean", "table"), ("table",), limit_hint, LIMIT)
-
-# Reports, platforms and groups.
-
-REPORT = {
-    "path": MADE_TEXT,
-    "report-name": MADE_TEXT,
-    "store-success-output": MADE_BOOLEAN,
-    "store-failure-output": MADE_BOOLEAN,
-    "report-skipped": words("none", "ignored", "all"),
-    "flaky-fail-status": FLAKY_STATUS,
-}
-
-
-def table_of(fields, required=(), hint=TABLE.hint):
-    return Reader(lambda value: fields_of(TABLE.read(value), fields, required), ("table",), ("table",), hint, fields)
-
-
-JUNIT = table_of(REPORT)
-GROUP = table_of({"max-threads": UNREAD}, ["max-threads"])._replace(fields={})
-
-
-def read_platform(value):
-    if type(value) not in (str, dict):
-        raise wrong_type(value, 'a string or a table ({ host = "..", target = ".." })')
-
-
-PLATFORM = Reader(read_platform, ("text", "table"))
-
-# Versions and features.
-
-
-def read_version(value):
-    """The three numbers of a version."""
-    TEXT.read(value)
-    mark = re.search("[-+]", value)
-    if mark:
-        code, what = {"-": ("pre-release", "pre-release identifiers are"), "+": ("build-metadata", "build metadata is")}[mark[0]]
-        raise Fault(code, f"{what} not supported in nextest-version")
-    if not re.fullmatch(rf"{NUMBER}\.{NUMBER}(?:\.{NUMBER})?", value) or max(map(int, value.split("."))) > GREATEST:
-        raise Fault("not-version", f"invalid version {printed(value)}")
-    return (*map(int, value.split(".")), 0)[:3]
-
-
-VERSION = Reader(read_version, ("text",), ("text",))
-VERSIONS = {"required": VERSION, "recommended": VERSION}
-
-
-def read_versions(value):
-    """The versions that are asked for, by their roles."""
-    if isinstance(value, str):
-        return {"required": read_version(value)}
-    of_kind(dict, 'a table ({ required = "0.9.20", recommended = "0.9.30" }) or a string ("0.9.50")').read(value)
-    asked = fields_of(value, VERSIONS)
-    if len(asked) == 2 and asked["required"] > asked["recommended"]:
-        required, recommended = map(dotted, asked.values())
-        said = f"required version ({required}) must not be greater than recommended version ({recommended})"
-        raise Fault("required-above-recommended", said)
-    return asked
-
-
-def read_features(value):
-    """The names of the known features, and of the others, each in order."""
-    if isinstance(value, list):
-        read_texts(value)
-        return [word for word in WORDS if word in value], sorted(set(value) - set(WORDS))
-    example = 'a table ({ setup-scripts = true, benchmarks = true }) or an array (["setup-scripts", "benchmarks"])'
-    of_kind(dict, example).read(value)
-    switched = fields_of(value, dict.fromkeys(WORDS, BOOLEAN))
-    return [word for word in WORDS if switched.get(word)], sorted(set(value) - set(WORDS))
-
-
-NEXTEST_VERSION = Reader(read_versions, ("text", "table"), ("text", "table"), fields=VERSIONS)
-FEATURES = Reader(read_features, ("array", "table"), ("array", "table"), fields=dict.fromkeys(WORDS, BOOLEAN))
 
 
 # Identifiers.

@@ -29,14 +29,6 @@ duration read | @ | string | p | a duration
 duration tracked | @ | string | p | a duration
 path at p | @ | string | p | a string
 
-# words
-reader TerminateMode | @ | string | p | a string
-reader FlakyResult | @ | string | p | a string
-reader SlowTimeoutResult | @ | string | p | a string
-reader LeakTimeoutResult | @ | string | p | a string
-reader ReportSkipPolicy | @ | string | p | a string
-reader JunitFlakyFailStatus | @ | string | p | a string
-
 # fields
 field u32 k at p | { k = @ } | integer | p.k | u32
 field u32 k at  | { k = @ } | integer | k | u32

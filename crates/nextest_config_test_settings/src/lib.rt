@@ -18,6 +18,7 @@ pub mod printed;
 pub mod readers;
 pub mod settings;
 pub mod texts;
+pub mod words;
 
 use nextest_config_test_rows::tables::Tables;
 
@@ -42,4 +43,5 @@ pub fn tables(tables: &mut impl Tables) {
     readers::tables(tables);
     settings::tables(tables);
     texts::tables(tables);
+    words::tables(tables);
 }

@@ -1,12 +1,7 @@
 //! Orders, hashes and defaults.
 
-use nextest_config_elements::junit::{JunitFlakyFailStatus, JunitImpl};
-use nextest_config_elements::leak_timeout::LeakTimeoutResult;
-use nextest_config_elements::max_fail::TerminateMode;
+use nextest_config_elements::junit::JunitImpl;
 use nextest_config_elements::priority::TestPriority;
-use nextest_config_elements::report_skip_policy::ReportSkipPolicy;
-use nextest_config_elements::retry_policy::FlakyResult;
-use nextest_config_elements::slow_timeout::SlowTimeoutResult;
 use nextest_config_test_rows::compared::{distinct, hashed, ordered};
 use nextest_config_test_rows::printed::default;
 use nextest_config_test_rows::rows::{Escaped, Subject, done, unknown, written};
@@ -84,13 +79,7 @@ sorted TestPriority | 0 100 -100 | [TestPriority(100), TestPriority(0), TestPrio
 "#;
 
 pub const DEFAULTS: &str = r#"
-# defaults of words
-- TerminateMode |  | Wait
-- FlakyResult |  | Pass
-- LeakTimeoutResult |  | Pass
-- SlowTimeoutResult |  | Fail
-- ReportSkipPolicy |  | None
-- JunitFlakyFailStatus |  | Failure
+# nothing is set at first
 - JunitImpl |  | JunitImpl { path: None, report_name: None, store_success_output: None, store_failure_output: None, report_skipped: None, flaky_fail_status: None }
 
 # a default isn't read
@@ -145,12 +134,6 @@ pub struct Defaults;
 impl Subject for Defaults {
     fn answer(rt: &impl Runner, call: &str, _input: &str) -> String {
         match call {
-            "TerminateMode" => default::<TerminateMode>(rt),
-            "FlakyResult" => default::<FlakyResult>(rt),
-            "LeakTimeoutResult" => default::<LeakTimeoutResult>(rt),
-            "SlowTimeoutResult" => default::<SlowTimeoutResult>(rt),
-            "ReportSkipPolicy" => default::<ReportSkipPolicy>(rt),
-            "JunitFlakyFailStatus" => default::<JunitFlakyFailStatus>(rt),
             "JunitImpl" => default::<JunitImpl>(rt),
             "TrackDefault u32" => default::<TrackDefault<u32>>(rt),
             "TrackDefault bool" => default::<TrackDefault<bool>>(rt),

@@ -1,19 +1,10 @@
-//! Values that hold no text: their copies, and values that differ in one part alone.
+//! Values that hold no text and aren't settings: their copies, and values that differ in one part alone.
 
 use crate::ThisCrate;
-use nextest_config_elements::global_timeout::GlobalTimeout;
-use nextest_config_elements::junit::{JunitFlakyFailStatus, MissingSetting};
-use nextest_config_elements::leak_timeout::{
-    LeakTimeout, LeakTimeoutResult, deserialize_leak_timeout,
-};
-use nextest_config_elements::max_fail::{CountFault, MaxFail, TerminateMode};
-use nextest_config_elements::priority::{TestPriority, TestPriorityOutOfRange};
-use nextest_config_elements::report_skip_policy::{MismatchReason, ReportSkipPolicy};
-use nextest_config_elements::retry_policy::{FlakyResult, RetryPolicy, deserialize_retry_policy};
-use nextest_config_elements::slow_timeout::{
-    SlowTimeout, SlowTimeoutResult, deserialize_slow_timeout,
-};
-use nextest_config_elements::threads_required::ThreadsRequired;
+use nextest_config_elements::junit::MissingSetting;
+use nextest_config_elements::max_fail::CountFault;
+use nextest_config_elements::priority::TestPriorityOutOfRange;
+use nextest_config_elements::report_skip_policy::MismatchReason;
 use nextest_config_test_rows::compared::plain;
 use nextest_config_test_rows::rows::{Subject, copied, cut, done, unknown};
 use nextest_config_test_rows::runner::Runner;
@@ -31,32 +22,13 @@ pub fn tables(tables: &mut impl Tables) {
 }
 
 pub const ROWS: &str = r#"
-# words
-FlakyResult | 'fail' ~ 'pass' | hold
-JunitFlakyFailStatus | 'failure' ~ 'success' | hold
-LeakTimeoutResult | 'fail' ~ 'pass' | hold
-MismatchReason | Ignored ~ DefaultFilter ~ NotBenchmark | hold
-ReportSkipPolicy | 'none' ~ 'ignored' ~ 'all' | hold
-SlowTimeoutResult | 'fail' ~ 'pass' | hold
-TerminateMode | 'wait' ~ 'immediate' | hold
-
-# limits
-MaxFail | 1 ~ 2 ~ 1:immediate ~ all | hold
+# counts
 NonZeroCount | 1 ~ 2 | hold
-TestPriority | 1 ~ 0 | hold
-ThreadsRequired | 1 ~ 2 ~ 'num-cpus' ~ 'num-test-threads' | hold
-
-# timeouts
-GlobalTimeout | '1s' ~ '2s' | hold
-LeakTimeout | { period = '1s', result = 'fail' } ~ { period = '2s', result = 'fail' } ~ { period = '1s', result = 'pass' } | hold
-SlowTimeout | { period = '1s', terminate-after = 1, grace-period = '1s', on-timeout = 'fail' } ~ { period = '2s', terminate-after = 1, grace-period = '1s', on-timeout = 'fail' } ~ { period = '1s', terminate-after = 2, grace-period = '1s', on-timeout = 'fail' } ~ { period = '1s', grace-period = '1s', on-timeout = 'fail' } ~ { period = '1s', terminate-after = 1, grace-period = '2s', on-timeout = 'fail' } ~ { period = '1s', terminate-after = 1, grace-period = '1s', on-timeout = 'pass' } | hold
-
-# retries
-RetryPolicy | { backoff = 'fixed', count = 1, delay = '1s', jitter = true } ~ { backoff = 'fixed', count = 2, delay = '1s', jitter = true } ~ { backoff = 'fixed', count = 1, delay = '2s', jitter = true } ~ { backoff = 'fixed', count = 1, delay = '1s', jitter = false } ~ { backoff = 'exponential', count = 1, delay = '1s', jitter = true } ~ { backoff = 'exponential', count = 1, delay = '1s', jitter = true, max-delay = '2s' } ~ { backoff = 'exponential', count = 2, delay = '1s', jitter = true, max-delay = '2s' } ~ { backoff = 'exponential', count = 1, delay = '2s', jitter = true, max-delay = '2s' } ~ { backoff = 'exponential', count = 1, delay = '1s', jitter = false, max-delay = '2s' } ~ { backoff = 'exponential', count = 1, delay = '1s', jitter = true, max-delay = '3s' } | hold
 
 # refusals
 CountFault | Empty ~ InvalidDigit ~ TooLarge ~ TooSmall | hold
 InvalidIdentifierKind | Empty ~ InvalidXid | hold
+MismatchReason | Ignored ~ DefaultFilter ~ NotBenchmark | hold
 MissingSetting | ReportName ~ ReportSkipped ~ StoreSuccessOutput ~ StoreFailureOutput ~ FlakyFailStatus | hold
 TestPriorityOutOfRange | 101 ~ 102 | hold
 
@@ -71,35 +43,16 @@ pub struct PlainValues;
 impl Subject for PlainValues {
     fn answer(rt: &impl Runner, call: &str, input: &str) -> String {
         match call {
-            "FlakyResult" => of_toml::<FlakyResult>(rt, input),
-            "GlobalTimeout" => of_toml::<GlobalTimeout>(rt, input),
-            "JunitFlakyFailStatus" => of_toml::<JunitFlakyFailStatus>(rt, input),
-            "LeakTimeoutResult" => of_toml::<LeakTimeoutResult>(rt, input),
+            "CountFault" => of_rows::<CountFault, _>(rt, input),
+            "DurationFault" => of_rows::<DurationFault, _>(rt, input),
+            "InvalidIdentifierKind" => of_rows::<InvalidIdentifierKind, _>(rt, input),
+            "MismatchReason" => of_rows::<MismatchReason, _>(rt, input),
+            "MissingSetting" => of_rows::<MissingSetting, _>(rt, input),
             "NonZeroCount" => of_toml::<NonZeroCount>(rt, input),
             "QuotedText" => texts(rt, input),
-            "ReportSkipPolicy" => of_toml::<ReportSkipPolicy>(rt, input),
-            "SlowTimeoutResult" => of_toml::<SlowTimeoutResult>(rt, input),
-            "TerminateMode" => of_toml::<TerminateMode>(rt, input),
-            "TestPriority" => of_toml::<TestPriority>(rt, input),
-            "ThreadsRequired" => of_toml::<ThreadsRequired>(rt, input),
-            _ => by_row(rt, call, input),
+            "TestPriorityOutOfRange" => of_rows::<TestPriorityOutOfRange, _>(rt, input),
+            _ => unknown(rt, call),
         }
-    }
-}
-
-fn by_row(rt: &impl Runner, call: &str, input: &str) -> String {
-    match call {
-        "CountFault" => of_rows::<CountFault, _>(rt, input),
-        "DurationFault" => of_rows::<DurationFault, _>(rt, input),
-        "InvalidIdentifierKind" => of_rows::<InvalidIdentifierKind, _>(rt, input),
-        "LeakTimeout" => of_rows::<Option<LeakTimeout>, _>(rt, input),
-        "MaxFail" => of_rows::<MaxFail, _>(rt, input),
-        "MismatchReason" => of_rows::<MismatchReason, _>(rt, input),
-        "MissingSetting" => of_rows::<MissingSetting, _>(rt, input),
-        "RetryPolicy" => of_rows::<Option<RetryPolicy>, _>(rt, input),
-        "SlowTimeout" => of_rows::<Option<SlowTimeout>, _>(rt, input),
-        "TestPriorityOutOfRange" => of_rows::<TestPriorityOutOfRange, _>(rt, input),
-        _ => unknown(rt, call),
     }
 }
 
@@ -108,8 +61,8 @@ fn texts(rt: &impl Runner, input: &str) -> String {
     hold(rt, &[QuotedText(left), QuotedText(right)])
 }
 
-// Values that are read from TOML values.
-fn of_toml<T: FromToml + Copy + Eq + Debug>(rt: &impl Runner, input: &str) -> String {
+/// Whether values that are read from TOML values are told apart, and copied.
+pub fn of_toml<T: FromToml + Copy + Eq + Debug>(rt: &impl Runner, input: &str) -> String {
     let mut values = Vec::new(rt.alloc());
     for text in input.split(" ~ ") {
         let value = Value::from_row(rt, text);
@@ -119,8 +72,8 @@ fn of_toml<T: FromToml + Copy + Eq + Debug>(rt: &impl Runner, input: &str) -> St
     hold(rt, &values)
 }
 
-// Values that a row writes.
-fn of_rows<T: FromRow<By> + Copy + Eq + Debug, By>(rt: &impl Runner, input: &str) -> String {
+/// The same of values that a row writes.
+pub fn of_rows<T: FromRow<By> + Copy + Eq + Debug, By>(rt: &impl Runner, input: &str) -> String {
     let mut values = Vec::new(rt.alloc());
     for text in input.split(" ~ ") {
         done(rt, values.push(T::from_row(rt, text)));
@@ -131,27 +84,6 @@ fn of_rows<T: FromRow<By> + Copy + Eq + Debug, By>(rt: &impl Runner, input: &str
 fn hold<T: Copy + Eq + Debug>(rt: &impl Runner, values: &[T]) -> String {
     plain(rt, values);
     copied(rt, "hold")
-}
-
-impl FromRow<ThisCrate> for Option<LeakTimeout> {
-    fn from_row(rt: &impl Runner, text: &str) -> Self {
-        let value = Value::from_row(rt, text);
-        done(rt, deserialize_leak_timeout(rt.alloc(), &value, "p"))
-    }
-}
-
-impl FromRow<ThisCrate> for Option<RetryPolicy> {
-    fn from_row(rt: &impl Runner, text: &str) -> Self {
-        let value = Value::from_row(rt, text);
-        done(rt, deserialize_retry_policy(rt.alloc(), &value, "p"))
-    }
-}
-
-impl FromRow<ThisCrate> for Option<SlowTimeout> {
-    fn from_row(rt: &impl Runner, text: &str) -> Self {
-        let value = Value::from_row(rt, text);
-        done(rt, deserialize_slow_timeout(rt.alloc(), &value, "p"))
-    }
 }
 
 impl FromRow<ThisCrate> for DurationFault {

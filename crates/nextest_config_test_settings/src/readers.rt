@@ -1,19 +1,11 @@
-//! The plain readers, words and marks.
+//! The plain readers and marks.
 
-use crate::ThisCrate;
-use nextest_config_elements::junit::JunitFlakyFailStatus;
-use nextest_config_elements::leak_timeout::LeakTimeoutResult;
-use nextest_config_elements::max_fail::TerminateMode;
-use nextest_config_elements::report_skip_policy::ReportSkipPolicy;
-use nextest_config_elements::retry_policy::FlakyResult;
-use nextest_config_elements::slow_timeout::SlowTimeoutResult;
 use nextest_config_test_rows::rows::{Subject, done, made, unknown, written};
 use nextest_config_test_rows::runner::Runner;
 use nextest_config_test_rows::tables::Tables;
-use nextest_config_test_rows::told::{Told, answered};
 use nextest_config_test_rows::values::FromRow;
 use nextest_config_values::identifier::{ConfigIdentifier, ToolName};
-use nextest_config_values::read::{FromToml, NonZeroCount, Word};
+use nextest_config_values::read::{FromToml, NonZeroCount};
 use nextest_config_values::track_default::TrackDefault;
 use std::fmt::Debug;
 use toml::Value;
@@ -43,29 +35,6 @@ String | "ab" | "ab"
 - NonZeroCount::new | 1 | Some(1)
 - NonZeroCount::new | 9223372036854775807 | Some(9223372036854775807)
 
-# unknown words are refused with the known ones
-FlakyResult | 'Fail' | p: unknown variant `Fail`, expected `fail` or `pass`
-ReportSkipPolicy | 'x' | p: unknown variant `x`, expected one of `none`, `ignored`, `all`
-TerminateMode | '' | p: unknown variant ``, expected `wait` or `immediate`
-SlowTimeoutResult | 1 | p: invalid type: integer `1`, expected a string
-LeakTimeoutResult | 'x' | p: unknown variant `x`, expected `fail` or `pass`
-JunitFlakyFailStatus | 'x' | p: unknown variant `x`, expected `failure` or `success`
-
-# words are read and told
-- TerminateMode | 'wait' | Wait wait
-- TerminateMode | 'immediate' | Immediate immediate
-- FlakyResult | 'fail' | Fail fail
-- FlakyResult | 'pass' | Pass pass
-- LeakTimeoutResult | 'fail' | Fail fail
-- LeakTimeoutResult | 'pass' | Pass pass
-- SlowTimeoutResult | 'fail' | Fail fail
-- SlowTimeoutResult | 'pass' | Pass pass
-- ReportSkipPolicy | 'none' | None none
-- ReportSkipPolicy | 'ignored' | Ignored ignored
-- ReportSkipPolicy | 'all' | All all
-- JunitFlakyFailStatus | 'failure' | Failure failure
-- JunitFlakyFailStatus | 'success' | Success success
-
 # what was read is marked
 - TrackDefault u32 | 5 | TrackDefault { value: 5, is_deserialized: true }
 TrackDefault String | 'a' | TrackDefault { value: "a", is_deserialized: true }
@@ -94,7 +63,6 @@ String | '«x»' | "«x»"
 bool | '«x»' | p: invalid type: string "«x»", expected a boolean
 bool | [«1,»] | p: invalid type: sequence, expected a boolean
 bool | {«k@ = 1,»} | p: invalid type: map, expected a boolean
-FlakyResult | 'x«x»' | p: unknown variant `x«x»`, expected `fail` or `pass`
 ConfigIdentifier | 'a«é»' | ConfigIdentifier { text: "a«é»" }
 ConfigIdentifier | '@tool:a«a»' | p: tool identifier isn't @tool:name:identifier: "@tool:a«a»"
 ToolName | 'a«é»' | ToolName { text: "a«é»" }
@@ -106,12 +74,6 @@ String | 1«#» | p: invalid type: integer `1«#»`, expected a string
 NonZeroCount | -1«#» | p: invalid value: integer `-1«#»`, expected a nonzero usize
 NonZeroCount | '«x»' | p: invalid type: string "«x»", expected a nonzero usize
 TrackDefault u32 | '«x»' | p: invalid type: string "«x»", expected u32
-FlakyResult | 1«#» | p: invalid type: integer `1«#»`, expected a string
-JunitFlakyFailStatus | 'x«x»' | p: unknown variant `x«x»`, expected `failure` or `success`
-LeakTimeoutResult | 'x«x»' | p: unknown variant `x«x»`, expected `fail` or `pass`
-ReportSkipPolicy | 'x«x»' | p: unknown variant `x«x»`, expected one of `none`, `ignored`, `all`
-SlowTimeoutResult | 'x«x»' | p: unknown variant `x«x»`, expected `fail` or `pass`
-TerminateMode | 'x«x»' | p: unknown variant `x«x»`, expected `wait` or `immediate`
 ConfigIdentifier | 1«#» | p: invalid type: integer `1«#»`, expected a string
 ConfigIdentifier | 'a«é»!' | p: invalid identifier "a«é»!"
 ConfigIdentifier | '@tool::«x»' | p: tool identifier has an empty component: "@tool::«x»"
@@ -138,7 +100,7 @@ impl Subject for Readers {
             "TrackDefault String" => read::<TrackDefault<String>>(rt, input, "p"),
             "ConfigIdentifier" => read::<ConfigIdentifier>(rt, input, "p"),
             "ToolName" => read::<ToolName>(rt, input, "p"),
-            _ => word(rt, call, input),
+            _ => unknown(rt, call),
         }
     }
 }
@@ -155,37 +117,8 @@ fn tracked(rt: &impl Runner, value: u32) -> String {
     written(rt, [default, read])
 }
 
-fn word(rt: &impl Runner, call: &str, input: &str) -> String {
-    match call {
-        "FlakyResult" => read_word::<FlakyResult>(rt, input),
-        "JunitFlakyFailStatus" => read_word::<JunitFlakyFailStatus>(rt, input),
-        "LeakTimeoutResult" => read_word::<LeakTimeoutResult>(rt, input),
-        "ReportSkipPolicy" => read_word::<ReportSkipPolicy>(rt, input),
-        "SlowTimeoutResult" => read_word::<SlowTimeoutResult>(rt, input),
-        "TerminateMode" => read_word::<TerminateMode>(rt, input),
-        _ => unknown(rt, call),
-    }
-}
-
 /// What a type reads from the value that a row writes, at a path.
 pub fn read<T: FromToml + Debug + Drop>(rt: &impl Runner, input: &str, at: &str) -> String {
     let value = Value::from_row(rt, input);
     made(rt, T::read(rt.call(), &value, at))
-}
-
-// A word, which is told beside its value.
-#[derive(Drop)]
-struct Named<T>(T);
-
-impl<T: Word + Debug> Told<ThisCrate> for Named<T> {
-    fn told(&self, rt: &impl Runner, _call: &str) -> String {
-        let word = self.0.as_word();
-        rt.end();
-        done(rt, format!(in rt.alloc(); "{:?} {word}", self.0))
-    }
-}
-
-fn read_word<T: Word + Debug>(rt: &impl Runner, input: &str) -> String {
-    let value = Value::from_row(rt, input);
-    answered(rt, "", T::read(rt.call(), &value, "p").map(Named))
 }

@@ -1,16 +1,18 @@
-//! The settings of profiles, read at the path that a call names.
+//! The settings of profiles: read at the path that a call names, and told apart.
 
+use crate::ThisCrate;
+use crate::plain::{of_rows, of_toml};
 use crate::readers::read;
 use nextest_config_elements::global_timeout::GlobalTimeout;
-use nextest_config_elements::leak_timeout::deserialize_leak_timeout;
-use nextest_config_elements::max_fail::deserialize_fail_fast;
+use nextest_config_elements::leak_timeout::{LeakTimeout, deserialize_leak_timeout};
+use nextest_config_elements::max_fail::{MaxFail, deserialize_fail_fast};
 use nextest_config_elements::priority::TestPriority;
-use nextest_config_elements::retry_policy::deserialize_retry_policy;
-use nextest_config_elements::slow_timeout::deserialize_slow_timeout;
+use nextest_config_elements::retry_policy::{RetryPolicy, deserialize_retry_policy};
+use nextest_config_elements::slow_timeout::{SlowTimeout, deserialize_slow_timeout};
 use nextest_config_elements::threads_required::ThreadsRequired;
 use nextest_config_test_rows::rows::{Subject, done, made, unknown, written};
 use nextest_config_test_rows::runner::Runner;
-use nextest_config_test_rows::tables::Tables;
+use nextest_config_test_rows::tables::{Rows, Tables};
 use nextest_config_test_rows::values::{FromRow, word};
 use nextest_config_values::read::FromToml;
 use toml::Value;
@@ -21,6 +23,7 @@ pub fn tables(tables: &mut impl Tables) {
     tables.rows::<Settings>(RETRIES);
     tables.rows::<Settings>(LIMITS);
     tables.kinds::<Settings>(KINDS);
+    tables.held::<Rows<Settings>>(VALUES);
 }
 
 pub const TIMEOUTS: &str = r#"
@@ -286,6 +289,17 @@ threads-required p | @ | integer, string | p | an integer, the string "num-cpus"
 priority p | @ | integer | p | i8
 "#;
 
+// Copies are the same, and these all differ.
+pub const VALUES: &str = r#"
+values MaxFail | 1 ~ 2 ~ 1:immediate ~ all | hold
+values TestPriority | 1 ~ 0 | hold
+values ThreadsRequired | 1 ~ 2 ~ 'num-cpus' ~ 'num-test-threads' | hold
+values GlobalTimeout | '1s' ~ '2s' | hold
+values LeakTimeout | { period = '1s', result = 'fail' } ~ { period = '2s', result = 'fail' } ~ { period = '1s', result = 'pass' } | hold
+values SlowTimeout | { period = '1s', terminate-after = 1, grace-period = '1s', on-timeout = 'fail' } ~ { period = '2s', terminate-after = 1, grace-period = '1s', on-timeout = 'fail' } ~ { period = '1s', terminate-after = 2, grace-period = '1s', on-timeout = 'fail' } ~ { period = '1s', grace-period = '1s', on-timeout = 'fail' } ~ { period = '1s', terminate-after = 1, grace-period = '2s', on-timeout = 'fail' } ~ { period = '1s', terminate-after = 1, grace-period = '1s', on-timeout = 'pass' } | hold
+values RetryPolicy | { backoff = 'fixed', count = 1, delay = '1s', jitter = true } ~ { backoff = 'fixed', count = 2, delay = '1s', jitter = true } ~ { backoff = 'fixed', count = 1, delay = '2s', jitter = true } ~ { backoff = 'fixed', count = 1, delay = '1s', jitter = false } ~ { backoff = 'exponential', count = 1, delay = '1s', jitter = true } ~ { backoff = 'exponential', count = 1, delay = '1s', jitter = true, max-delay = '2s' } ~ { backoff = 'exponential', count = 2, delay = '1s', jitter = true, max-delay = '2s' } ~ { backoff = 'exponential', count = 1, delay = '2s', jitter = true, max-delay = '2s' } ~ { backoff = 'exponential', count = 1, delay = '1s', jitter = false, max-delay = '2s' } ~ { backoff = 'exponential', count = 1, delay = '1s', jitter = true, max-delay = '3s' } | hold
+"#;
+
 /// What the reader of a setting reads.
 pub struct Settings;
 
@@ -296,6 +310,7 @@ impl Subject for Settings {
             "global-timeout" => read::<GlobalTimeout>(rt, input, at),
             "priority" => read::<TestPriority>(rt, input, at),
             "threads-required" => read::<ThreadsRequired>(rt, input, at),
+            "values" => values(rt, at, input),
             "ThreadsRequired::compute" => computed(rt, input),
             _ => deserialized(rt, setting, &Value::from_row(rt, input), at),
         }
@@ -317,5 +332,39 @@ fn deserialized(rt: &impl Runner, setting: &str, value: &Value, at: &str) -> Str
         "retries" => made(rt, deserialize_retry_policy(rt.call(), value, at)),
         "slow-timeout" => made(rt, deserialize_slow_timeout(rt.call(), value, at)),
         _ => unknown(rt, setting),
+    }
+}
+
+fn values(rt: &impl Runner, setting: &str, input: &str) -> String {
+    match setting {
+        "GlobalTimeout" => of_toml::<GlobalTimeout>(rt, input),
+        "LeakTimeout" => of_rows::<Option<LeakTimeout>, _>(rt, input),
+        "MaxFail" => of_rows::<MaxFail, _>(rt, input),
+        "RetryPolicy" => of_rows::<Option<RetryPolicy>, _>(rt, input),
+        "SlowTimeout" => of_rows::<Option<SlowTimeout>, _>(rt, input),
+        "TestPriority" => of_toml::<TestPriority>(rt, input),
+        "ThreadsRequired" => of_toml::<ThreadsRequired>(rt, input),
+        _ => unknown(rt, setting),
+    }
+}
+
+impl FromRow<ThisCrate> for Option<LeakTimeout> {
+    fn from_row(rt: &impl Runner, text: &str) -> Self {
+        let value = Value::from_row(rt, text);
+        done(rt, deserialize_leak_timeout(rt.alloc(), &value, "p"))
+    }
+}
+
+impl FromRow<ThisCrate> for Option<RetryPolicy> {
+    fn from_row(rt: &impl Runner, text: &str) -> Self {
+        let value = Value::from_row(rt, text);
+        done(rt, deserialize_retry_policy(rt.alloc(), &value, "p"))
+    }
+}
+
+impl FromRow<ThisCrate> for Option<SlowTimeout> {
+    fn from_row(rt: &impl Runner, text: &str) -> Self {
+        let value = Value::from_row(rt, text);
+        done(rt, deserialize_slow_timeout(rt.alloc(), &value, "p"))
     }
 }

@@ -1,0 +1,363 @@
+"""The settings, each once, for the random runs, by docs/DEFINITIONS.md: what reads its values, where it may stand, what
+a profile takes where it is absent, and what is written for it, right and wrong.
+
+No answer of a program is used here.
+"""
+
+import collections
+import re
+
+from reports import GREATEST, NUMBER, WORDS, dotted, printed
+from rules import (
+    ARRAY, BOOLEAN, DURATION, MADE_BOOLEAN, MADE_TEXT, TABLE, TEXT, TEXTS, UNREAD, Fault, Reader, fields_of, integer,
+    integer_hint, is_integer, listed, meant, nearest, of_kind, read_texts, table_of, timeout, truth_hint, words,
+    wrong_type, wrong_value,
+)
+
+# What reads them.
+
+U32 = integer(lambda it: 0 <= it < 1 << 32, "u32")
+COUNT = integer(lambda it: it > 0, "a nonzero usize", made="number")
+FLAKY_RESULT = words("fail", "pass")
+FLAKY_STATUS = words("failure", "success")
+STATUS_LEVEL = words("none", "fail", "retry", "slow", "leak", "pass", "skip", "all")
+FINAL_LEVEL = words("none", "fail", "flaky", "slow", "skip", "leak", "pass", "all", also=["retry"])
+OUTPUT = words("immediate", "immediate-final", "final", "never")
+
+
+def read_priority(value):
+    integer(lambda it: -128 <= it < 128, "i8").read(value)
+    if not -100 <= value <= 100:
+        raise Fault("priority", f"priority {value} must be between -100 and 100")
+
+
+PRIORITY = Reader(read_priority, ("number",), ("number",), integer_hint(lambda it: -100 <= it <= 100), made="number")
+THREADS = integer(lambda it: it != 0, 'an integer other than 0 or the string "num-cpus"', "num-cpus")
+ALL_THREADS = 'an integer, the string "num-cpus" or the string "num-test-threads"'
+THREADS_REQUIRED = integer(lambda it: it > 0, ALL_THREADS, "num-cpus", "num-test-threads")
+SLOW = {"period": DURATION, "terminate-after": COUNT, "grace-period": DURATION, "on-timeout": FLAKY_RESULT}
+SLOW_TIMEOUT = timeout('a table ({ period = "60s", terminate-after = 2 }) or a string ("60s")', SLOW, True)
+LEAK = {"period": DURATION, "result": FLAKY_RESULT}
+LEAK_TIMEOUT = timeout('a table ({ period = "500ms", result = "fail" }) or a string ("100ms")', LEAK, False)
+
+RETRIES_EXPECTED = 'a table ({ backoff = "fixed", count = 5 }) or a number (5)'
+BESIDE_FIXED = {"count": U32, "delay": DURATION, "jitter": BOOLEAN}
+BACKOFFS = {"fixed": BESIDE_FIXED, "exponential": {**BESIDE_FIXED, "max-delay": DURATION}}
+BACKOFF = words(*BACKOFFS)
+
+
+def read_retries(value):
+    if type(value) is int:
+        if not 0 <= value < 1 << 32:
+            raise wrong_value(value, RETRIES_EXPECTED if value < 0 else "a u32")
+        return
+    of_kind(dict, RETRIES_EXPECTED).read(value)
+    fields_of(value, {"backoff": BACKOFF}, ["backoff"])
+    grows, fields = value["backoff"] == "exponential", BACKOFFS[value["backoff"]]
+    means = fields_of(value, fields, ["count", "delay"] if grows else ["count"])
+    unknown = sorted((key for key in value if key not in fields and key != "backoff"), key=str.encode)
+    if unknown:
+        hint = meant(nearest(unknown[0], list(fields)))
+        raise Fault("unknown-field", f"unknown field `{unknown[0]}`, expected {listed(fields)}", hint=hint)
+    for is_broken, code, said in retries_rules(means, grows):
+        if is_broken:
+            raise Fault(code, said)
+
+
+def retries_rules(means, grows):
+    delay, most, backoff = means.get("delay"), means.get("max-delay"), "with exponential backoff"
+    if not grows:
+        alone = "`jitter` cannot be true if `delay` isn't specified or is zero"
+        yield means.get("jitter") and not delay, "jitter-without-delay", alone
+        return
+    yield means["count"] == 0, "count-zero", f"`count` cannot be zero {backoff}"
+    yield delay == 0, "delay-zero", f"`delay` cannot be zero {backoff}"
+    yield most == 0, "max-delay-zero", f"`max-delay` cannot be zero {backoff}"
+    is_below = most is not None and most < delay
+    yield is_below, "max-delay-below-delay", f"`max-delay` cannot be less than delay {backoff}"
+
+
+BOTH = ("number", "table")
+RETRIES = Reader(read_retries, BOTH, BOTH, U32.hint, {"backoff": BACKOFF, **BACKOFFS["exponential"]})
+
+LIMIT_EXPECTED = 'a positive integer or the string "all"'
+
+
+def read_limit(value):
+    if type(value) not in (int, str):
+        raise wrong_type(value, LIMIT_EXPECTED)
+    if type(value) is int and value < 1:
+        raise wrong_value(value, LIMIT_EXPECTED)
+    if isinstance(value, str) and value != "all":
+        how = "or a positive integer"
+        if is_integer(value):
+            how = f"(numbers must be {'specified without' if int(value) > 0 else 'positive and without'} quotes)"
+        raise wrong_value(value, f'the string "all" {how}')
+
+
+def limit_hint(value, path):
+    if type(value) is int and value > 0:
+        return f", did you mean {{ max-fail = {value} }}"
+    return truth_hint(value, path)
+
+
+LIMIT = {
+    "max-fail": Reader(read_limit, ("number", "all"), ("number", "text"), integer_hint(lambda it: it > 0)),
+    "terminate": words("wait", "immediate"),
+}
+
+
+def read_fail_fast(value):
+    if not isinstance(value, bool):
+        of_kind(dict, "a boolean or { max-fail = ... }").read(value)
+        fields_of(value, LIMIT, ["max-fail"])
+
+
+FAIL_FAST = Reader(read_fail_fast, ("boolean", "table"), ("table",), limit_hint, LIMIT)
+
+REPORT = {
+    "path": MADE_TEXT,
+    "report-name": MADE_TEXT,
+    "store-success-output": MADE_BOOLEAN,
+    "store-failure-output": MADE_BOOLEAN,
+    "report-skipped": words("none", "ignored", "all"),
+    "flaky-fail-status": FLAKY_STATUS,
+}
+JUNIT = table_of(REPORT)
+GROUP = table_of({"max-threads": UNREAD}, ["max-threads"])._replace(fields={})
+
+
+def read_platform(value):
+    if type(value) not in (str, dict):
+        raise wrong_type(value, 'a string or a table ({ host = "..", target = ".." })')
+
+
+PLATFORM = Reader(read_platform, ("text", "table"))
+
+
+def read_version(value):
+    """The three numbers of a version."""
+    TEXT.read(value)
+    mark = re.search("[-+]", value)
+    if mark:
+        code, what = {"-": ("pre-release", "pre-release identifiers are"), "+": ("build-metadata", "build metadata is")}[mark[0]]
+        raise Fault(code, f"{what} not supported in nextest-version")
+    if not re.fullmatch(rf"{NUMBER}\.{NUMBER}(?:\.{NUMBER})?", value) or max(map(int, value.split("."))) > GREATEST:
+        raise Fault("not-version", f"invalid version {printed(value)}")
+    return (*map(int, value.split(".")), 0)[:3]
+
+
+VERSION = Reader(read_version, ("text",), ("text",))
+VERSIONS = {"required": VERSION, "recommended": VERSION}
+
+
+def read_versions(value):
+    """The versions that are asked for, by their roles."""
+    if isinstance(value, str):
+        return {"required": read_version(value)}
+    of_kind(dict, 'a table ({ required = "0.9.20", recommended = "0.9.30" }) or a string ("0.9.50")').read(value)
+    asked = fields_of(value, VERSIONS)
+    if len(asked) == 2 and asked["required"] > asked["recommended"]:
+        required, recommended = map(dotted, asked.values())
+        said = f"required version ({required}) must not be greater than recommended version ({recommended})"
+        raise Fault("required-above-recommended", said)
+    return asked
+
+
+def read_features(value):
+    """The names of the known features, and of the others, each in order."""
+    if isinstance(value, list):
+        read_texts(value)
+        return [word for word in WORDS if word in value], sorted(set(value) - set(WORDS))
+    example = 'a table ({ setup-scripts = true, benchmarks = true }) or an array (["setup-scripts", "benchmarks"])'
+    of_kind(dict, example).read(value)
+    switched = fields_of(value, dict.fromkeys(WORDS, BOOLEAN))
+    return [word for word in WORDS if switched.get(word)], sorted(set(value) - set(WORDS))
+
+
+NEXTEST_VERSION = Reader(read_versions, ("text", "table"), ("text", "table"), fields=VERSIONS)
+FEATURES = Reader(read_features, ("array", "table"), ("array", "table"), fields=dict.fromkeys(WORDS, BOOLEAN))
+
+
+# Where they may stand.
+
+# What has a place: its reader, how grave a fault is, and what is below it: the keys that a table knows, or the places
+# of its keys; and what each name of a table, or each element of an array, has for a place.
+Place = collections.namedtuple("Place", "reader severity keys rows each", defaults=[None, None, None])
+
+
+def error(reader, **below):
+    return Place(reader, "error", **below)
+
+
+def warning(reader, **below):
+    return Place(reader, "warning", **below)
+
+
+def known(reader):
+    """A value with keys that its own reader reads."""
+    return error(reader, keys=list(reader.fields))
+
+
+A_TEXT, NOT_READ = warning(TEXT), warning(UNREAD)
+SWITCH = error(MADE_BOOLEAN)
+BENCH = {"slow-timeout": known(SLOW_TIMEOUT), "global-timeout": error(DURATION)}
+OUTPUTS = {"success-output": warning(OUTPUT), "failure-output": warning(OUTPUT)}
+OVERRIDE_JUNIT = {
+    **{"store-success-output": SWITCH, "store-failure-output": SWITCH, "flaky-fail-status": error(FLAKY_STATUS)},
+    **dict.fromkeys(["path", "report-name", "report-skipped"], NOT_READ),
+}
+OVERRIDE = {
+    "priority": error(PRIORITY),
+    "threads-required": error(THREADS_REQUIRED),
+    "retries": error(RETRIES),
+    "flaky-result": error(FLAKY_RESULT),
+    "slow-timeout": known(SLOW_TIMEOUT),
+    "leak-timeout": known(LEAK_TIMEOUT),
+    "junit": error(TABLE, rows=OVERRIDE_JUNIT),
+    "filter": A_TEXT,
+    "platform": warning(PLATFORM, rows={"host": A_TEXT, "target": A_TEXT}),
+    "default-filter": A_TEXT,
+    "test-group": A_TEXT,
+    "run-extra-args": warning(TEXTS),
+    **OUTPUTS,
+    "bench": NOT_READ,
+}
+PROFILE = {
+    "retries": error(RETRIES),
+    "flaky-result": error(FLAKY_RESULT),
+    "threads-required": error(THREADS_REQUIRED),
+    "fail-fast": known(FAIL_FAST),
+    "slow-timeout": known(SLOW_TIMEOUT),
+    "leak-timeout": known(LEAK_TIMEOUT),
+    "global-timeout": error(DURATION),
+    "junit": known(JUNIT),
+    "bench": error(TABLE, rows=BENCH),
+    "overrides": error(ARRAY, each=error(TABLE, rows=OVERRIDE)),
+    "inherits": A_TEXT,
+    "default-filter": A_TEXT,
+    "test-threads": warning(THREADS),
+    "run-extra-args": warning(TEXTS),
+    "status-level": warning(STATUS_LEVEL),
+    "final-status-level": warning(FINAL_LEVEL),
+    **OUTPUTS,
+    "archive": NOT_READ,
+    "scripts": NOT_READ,
+}
+TOP = {
+    "nextest-version": known(NEXTEST_VERSION),
+    "experimental": error(FEATURES),
+    "profile": error(TABLE, each=error(TABLE, rows=PROFILE)),
+    "store": warning(TABLE, rows={"dir": A_TEXT}),
+    "test-groups": warning(TABLE, each=warning(GROUP, rows={"max-threads": warning(THREADS)})),
+    "scripts": NOT_READ,
+    "script": NOT_READ,
+}
+HOMES = {
+    "at the top of the file": TOP,
+    "in a profile": PROFILE,
+    "in an override": OVERRIDE,
+    "in junit": OVERRIDE_JUNIT,
+}
+
+
+# What a profile takes.
+
+REQUIRED, UNSET = object(), object()
+SLOW_ABSENT = {"period": REQUIRED, "terminate-after": UNSET, "grace-period": "10s", "on-timeout": "fail"}
+# Those that a profile gets: what reads them, and what that takes where a key of their table is absent.
+SETTINGS = {
+    ("retries",): (
+        RETRIES,
+        {"backoff": "fixed", "count": REQUIRED, "delay": "0s", "jitter": False, "max-delay": UNSET},
+    ),
+    ("flaky-result",): (FLAKY_RESULT, {}),
+    ("threads-required",): (THREADS_REQUIRED, {}),
+    ("fail-fast",): (FAIL_FAST, {"max-fail": REQUIRED, "terminate": "wait"}),
+    ("slow-timeout",): (SLOW_TIMEOUT, SLOW_ABSENT),
+    ("leak-timeout",): (LEAK_TIMEOUT, {"period": REQUIRED, "result": "pass"}),
+    ("global-timeout",): (DURATION, {}),
+    **{("junit", key): (reader, {}) for key, reader in REPORT.items()},
+    ("bench", "slow-timeout"): (SLOW_TIMEOUT, SLOW_ABSENT),
+    ("bench", "global-timeout"): (DURATION, {}),
+}
+TIMES = [SLOW_TIMEOUT, LEAK_TIMEOUT, DURATION]
+
+
+# What is written for a key, right and wrong.
+
+SOME_COUNTS = ["2", "1", "0", "-1", '"2"', '"-0"', '"02"', "4294967296", "1.0", "true", "[ ]"]
+SOME_TIMEOUTS = [
+    *['"60s"', '"2m 30s"', '"5µs"', '"1day"', '"40y"', '"0s"', '"0"', '"1.5h"', '"1 000s"', '"5"', "60"],
+    *['"60 sec."', '""', "true", '["1s"]', '"99999999999999999999s"', "-1"],
+]
+SOME_SWITCHES = ["true", "false", '"true"', '"Yes"', '"x"', "1", "1.5", "[ ]"]
+SOME_RESULTS = ['"fail"', '"pass"', '"flaky"', '"Pass"', "true", '"f\\u001b[1m\\nl"']
+SOME_THREADS = ["4", "-2", '"num-cpus"', '"num-test-threads"', "0", '"4"', '"num_cpus"', '"num-test-treads"', "1.0", "[ ]"]
+SOME_OUTPUTS = ['"immediate"', '"final"', '"immediate-final"', '"never"', '"Final"', '"allways"', "true", "1"]
+SOME_LEVELS = [
+    *(f'"{word}"' for word in ["none", "fail", "retry", "flaky", "slow", "leak", "pass", "skip", "all"]),
+    *['"skips"', '"Skip"', '"flakey"', '["all"]', "1"],
+]
+SOME_TEXTS = [
+    *["'test(a)'", '"all()"', "'日本語'", "'''\ntest(a)\n  | test(b)'''", '"""\nnot \\\n  test(b)"""', "1", "['a']", "true"],
+]
+SOME_UNREAD = ["{ include = [] }", '[{ filter = "a", setup = "b" }]', "1.5", "1979-05-27", "true", "'x'", "[1e3, 07:32:00]"]
+SOME_VERSIONS = ['"0.9.50"', '"0.9"', '"0.9.50-rc.1"', '"0.9.50+b"', '"0.9.5O"', "1", "[ ]"]
+SAME = {
+    "delay max-delay period grace-period global-timeout": SOME_TIMEOUTS,
+    "count terminate-after": SOME_COUNTS,
+    "jitter store-success-output store-failure-output setup-scripts wrapper-scripts benchmarks": SOME_SWITCHES,
+    "flaky-result on-timeout result": SOME_RESULTS,
+    "threads-required test-threads max-threads": SOME_THREADS,
+    "status-level final-status-level": SOME_LEVELS,
+    "success-output failure-output": SOME_OUTPUTS,
+    "path report-name filter default-filter host target dir": SOME_TEXTS,
+    "archive scripts script": SOME_UNREAD,
+    "required recommended": SOME_VERSIONS,
+}
+VALUES = {
+    **{key: values for keys, values in SAME.items() for key in keys.split()},
+    "retries": [
+        *["2", "0", '"two"', '"2"', "-1", "4294967296", "[1]", "true", '{ backoff = "fixed", count = 1, colour = 2 }'],
+        *['{ backoff = "fixed", count = 3, jitter = true }', '{ backoff = "fixed", count = 1, max_delay = "1s" }'],
+        *['{ backoff = "exponential", count = 3, delay = "2s", max-delay = "1s" }', '{ backoff = "fixed" }'],
+    ],
+    "slow-timeout": [*SOME_TIMEOUTS, "{ terminate-after = 2 }", '{ period = "60s", terminate-afer = 2 }'],
+    "leak-timeout": [*SOME_TIMEOUTS, '{ result = "pass" }', '{ period = "1s", colour = 1 }'],
+    "backoff": ['"fixed"', '"exponential"', '"fixd"', "1"],
+    "fail-fast": ["true", "false", "2", '{ terminate = "wait" }', '"true"', '"flase"'],
+    "max-fail": ["1", '"all"', "0", '"1"', '"-1"', '"+2"', '"ALL"', "true"],
+    "terminate": ['"wait"', '"immediate"', '"now"', "1"],
+    "junit": ['{ path = "a.xml", report-name = "n" }', '"a.xml"', '{ path = "a", "report name" = 1 }', "1"],
+    "report-skipped": ['"none"', '"ignored"', '"all"', '"some"', "true"],
+    "flaky-fail-status": ['"failure"', '"success"', '"sucess"', "1"],
+    "bench": ['{ slow-timeout = "5m" }', '{ global-timeout = "1h", colour = 1 }', '{ slow-timeout = "5" }', "1"],
+    "overrides": ["[ ]", "{ filter = 'a' }", "1", "[1]"],
+    "inherits": [
+        *['"ci"', '"default"', '"nightly"', '"cii"', '"default-miri"', '"x y"', '"é"', '"e\u0301"', "''", "1", "['ci']"],
+    ],
+    "run-extra-args": ["['a', 'b']", "[\n  'a', # one\n  'b',\n]", '["a", 1]', '"a"', "[[ ]]", "[ ]", "{ }"],
+    "priority": ["100", "-100", "0", "101", "-1000", '"5"', '"500"', "1.5", "true", "[ ]"],
+    "platform": [
+        *["'cfg(unix)'", '"x86_64-unknown-linux-gnu"', "{ host = 'cfg(unix)', target = 1 }", "{ hots = '' }", "1"],
+    ],
+    "test-group": [
+        *['"serial"', '"db"', '"@global"', '"@tool:my-tool:g"', '"serail"', '"@tool:x"', '"1 a"', '"日本"'],
+        *["'e\u0301'", "2", '"@tool:gone:g"', '"@tool::g"', '"@tool:x:#"', '""', "true"],
+    ],
+    "store": ["{ dir = 'target/nextest' }", "{ dirs = 1 }", "{ dir = 1 }", "'a'"],
+    "test-groups": ["{ serial = { max-threads = 1 } }", "{ db = 2 }", "[ ]", "{ }"],
+    "nextest-version": [*SOME_VERSIONS, '{ required = "0.9.60", recommended = "0.9.50" }', "{ }"],
+    "experimental": ["[ ]", '["benchmarks", "x"]', '["setup-scripts", 1]', "{ }", "{ benchmark = true }", "1"],
+    # A name of a profile or of a test group, and an override.
+    "*": ["{ max-threads = 2 }", "{ retries = 2 }", "1", "[ ]"],
+    0: ["{ filter = 'a', retries = 2 }", "1", "'a'"],
+}
+# What a key's table needs beside it.
+BESIDE = {
+    "retries": {"backoff": '"exponential"', "count": "3", "delay": '"1s"'},
+    "slow-timeout": {"period": '"60s"'},
+    "leak-timeout": {"period": '"60s"'},
+    "fail-fast": {"max-fail": "1"},
+}
