@@ -1,5 +1,6 @@
-# make test     the whole gate: every proof from nothing, the edits that must fail, the tests, the runs and the rounds of tests/,
-#               and the programs of bench/ on small inputs
+# make test     the whole gate: every proof, the edits that must fail, the tests, the runs of tests/, the programs of bench/ on small
+#               inputs, and of the wrong bodies those of which nothing is kept and some that are drawn
+# make wrong    all wrong bodies anew, and keeps in tests/wrong.kept what refuses them
 # make run      runs both programs on the examples, before their proof
 # make build    leaves the proved programs at bin/nextest-config and bin/nextest_config_check
 # make install  copies them and scripts/check-nextest-config to PREFIX/bin (PREFIX=/usr/local)
@@ -19,7 +20,7 @@ SCRIPT := scripts/check-nextest-config
 # Where rt isn't there, what was built before counts.
 SOURCES := $(if $(shell command -v rt 2> /dev/null),crates.txt $(shell find crates -name out -prune -o \( -name '*.rt' -o -name '*.antt' \) -print))
 
-.PHONY: help test run run-list run-lint build install dist calls toolchain
+.PHONY: help test wrong run run-list run-lint build install dist calls toolchain
 
 help:
 	@sed -n 's/^# //p; /^$$/q' Makefile
@@ -28,7 +29,7 @@ test: toolchain
 	! command -v shellcheck > /dev/null || shellcheck $(SCRIPT)
 	scripts/library --check
 	tests/wrong-itself
-	rt ci | tests/wrong --behind
+	rt ci | tests/wrong --behind --unkept
 	tests/run $(PROGRAM) $(COMMAND)/out/nextest_config_cli
 	tests/random $(PROGRAM)
 	tests/random-files $(COMMAND)/out/nextest_config_cli
@@ -44,6 +45,9 @@ test: toolchain
 	bench/measure-positions --small --alone $(BENCH)
 	bench/measure-check --small $(COMMAND)/out/nextest_config_cli $(BENCH)
 	bench/measure-profile --small $(COMMAND)/out/nextest_config_cli $(BENCH)
+
+wrong: toolchain
+	rt ci | tests/wrong --behind --keep
 
 run: toolchain
 	@$(MAKE) --no-print-directory --jobs=2 --output-sync run-list run-lint
