@@ -24,7 +24,7 @@ class Edit:
     def __init__(self, path, crate):
         self.name, self.crate, self.text = path.stem, crate, path.read_text()
         self.label = f"{crate}/{self.name}"
-        self.pairs, self.told, self.lines = [], None, []
+        self.pairs, self.told, self.names_allowed, self.lines = [], None, False, []
         # Of its function the name that a check gives it, the place, and what is proved as one with it: its cycle of calls, or itself.
         self.symbol = self.place = self.unit = None
         # Whether it waited for a round of its own, and the goal that refused it.
@@ -36,6 +36,8 @@ class Edit:
                 file = text.strip()
             elif word == "fn":
                 self.told = text.strip()
+            elif line.strip() == "names: allowed":
+                self.names_allowed = True
             elif word == "old":
                 old = text
             elif line.startswith("new:") and file and old:

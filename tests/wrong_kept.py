@@ -54,14 +54,14 @@ class KeptFile:
 
     def has(self, edit):
         """Whether it is kept that this edit was refused, as all stands."""
-        return edit.label in self.lines and self.lines[edit.label][0] == self.checksum(edit)
+        return not edit.names_allowed and edit.label in self.lines and self.lines[edit.label][0] == self.checksum(edit)
 
     def take(self, tried):
         """Writes the file anew, with a line for each of these edits that is to be kept, and none for another of them."""
         with self.writing:
             for edit in tried:
                 self.lines.pop(edit.label, None)
-                if edit.goal and not edit.has_waited:
+                if edit.goal and not edit.names_allowed and not edit.has_waited:
                     self.lines[edit.label] = self.checksum(edit), edit.goal
             there = {name: line for name, line in sorted(self.lines.items()) if edit_of(name).is_file()}
             PATH.write_text("".join(f"{name} {' '.join(line)}\n" for name, line in there.items()))

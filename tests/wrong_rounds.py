@@ -14,8 +14,8 @@ import traceback
 from wrong_edits import Failed
 from wrong_machine import linked
 
-# The most edits of a round; of few edits there are about four rounds, side by side, of these many at least.
-AT_MOST, AT_LEAST = 40, 8
+# The most edits of a round.
+AT_MOST = 40
 
 # What a check says.
 TOLD = re.compile(r"^fn (\S+): (.*)$", re.MULTILINE)
@@ -150,9 +150,11 @@ class Rounds:
             if verdict in ("names", "unclear") and len(chosen) > 1:
                 edit.has_waited = True
                 lanes.add(len(self.edits), lambda edit=edit: self.round([edit], lanes))
-            elif verdict == "names":
+            elif verdict == "names" and not edit.names_allowed:
                 self.fail(edit, f"only names in a proof file refuse it: {why[:200]}")
-            elif verdict == "refused":
+            elif verdict == "refused" and edit.names_allowed:
+                self.fail(edit, f"it says that names alone refuse it, and a goal does: {why[:200]}")
+            elif verdict in ("refused", "names"):
                 edit.goal = " ".join(why.split())[:160]
                 self.refused.append(edit)
                 if self.given.show:
@@ -182,11 +184,10 @@ class Rounds:
 def put_together(edits):
     """The edits in rounds, each of as many as have functions of their own. Those of functions with most edits come first, since these decide how many rounds there are; an edit of no function comes alone."""
     within, rounds = [edit for edit in edits if edit.place], []
-    most = min(AT_MOST, max(AT_LEAST, len(within) // 4))
     while within:
         left, chosen = collections.Counter(edit.unit for edit in within), {}
         for edit in sorted(within, key=lambda it: -left[it.unit]):
-            if len(chosen) < most:
+            if len(chosen) < AT_MOST:
                 chosen.setdefault(edit.unit, edit)
         rounds.append([*chosen.values()])
         within = [edit for edit in within if edit not in rounds[-1]]
