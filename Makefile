@@ -5,7 +5,6 @@
 # make build    leaves the proved programs at bin/nextest-config and bin/nextest_config_check
 # make install  copies them and scripts/check-nextest-config to PREFIX/bin (PREFIX=/usr/local)
 # make dist     makes an archive of the three with its checksum, in dist/
-# make calls    fills docs/LIBRARY.md with the signatures of the libraries, as they stand in src
 
 SHELL := bash
 .SHELLFLAGS := -o pipefail -c
@@ -20,14 +19,13 @@ SCRIPT := scripts/check-nextest-config
 # Where rt isn't there, what was built before counts.
 SOURCES := $(if $(shell command -v rt 2> /dev/null),crates.txt $(shell find crates -name out -prune -o \( -name '*.rt' -o -name '*.antt' \) -print))
 
-.PHONY: help test wrong run run-list run-lint build install dist calls toolchain
+.PHONY: help test wrong run run-list run-lint build install dist toolchain
 
 help:
 	@sed -n 's/^# //p; /^$$/q' Makefile
 
 test: toolchain
 	! command -v shellcheck > /dev/null || shellcheck $(SCRIPT)
-	scripts/library --check
 	tests/wrong-itself
 	rt ci | tests/wrong --behind --unkept
 	tests/run $(PROGRAM) $(COMMAND)/out/nextest_config_cli
@@ -85,9 +83,6 @@ dist: $(BUILT)
 	tar --create --file=dist/$$archive --use-compress-program='gzip -n' --transform='s,.*/,bin/,' --mode=755 \
 		--owner=0 --group=0 --numeric-owner --mtime=@0 $(BUILT) $(SCRIPT) && \
 	cd dist && sha256sum $$archive > $$archive.sha256 && cat $$archive.sha256
-
-calls:
-	scripts/library
 
 toolchain:
 	@command -v rt > /dev/null || { echo "rt, the command of the Rattle toolchain, isn't on the PATH: put the folder that holds it there" >&2; exit 1; }

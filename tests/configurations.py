@@ -54,6 +54,7 @@ SHAPES = [
     *["[profile.default.fail-fast]\nterminate = 'wait'\n", "[experimental]\nbenchmarks = 1\nx = true\n"],
     *["[[experimental]]\n", "[nextest-version]\nrequired = 'a'\n", "[scripts.x]\n", "[profil.ci]\n[profil.x]\n"],
     *["[[profile.ci.overrides.platform]]\nhost = 1\n", "[profile.ci.overrides.junit]\n", "[[profile.ci.overrides]]\n"],
+    *["[profile.ci]\nfail-fast = True\n", "[store]\ndir = target\n", "[profile.x]\nretries = 1\nretries = 2\n"],
 ]
 UNKNOWN = [
     *["retry", "RETRIES", "max_threads", "timeout", "filters", "slow_timeout", "nextest-version", "priorty", "colour"],
@@ -61,7 +62,7 @@ UNKNOWN = [
 ]
 PROFILES = [
     *["default", "default", "ci", "ci", "nightly", "default-miri", "default-ci", '"x y"', "'é'", '"a.b"', '"日本"'],
-    *["''", "'tab\there'", '"\\u001b"', "10", '"😀\u0301"'],
+    *["''", "'tab\there'", '"\\u001b"', "'\u202ea'", "10", '"😀\u0301"'],
 ]
 DEFINED = ["serial", "db", '"1 a"', "'@tool:my-tool:g'", '"@tool:x"', "'é'", '"日本"', '"e\u0301"', "''"]
 COMMENTS = [
@@ -75,7 +76,7 @@ TOKENS = [
 ]
 FILES = [
     *["a.toml", "b.toml", "nextest.toml", "ci/a.toml", "a b.toml", "x,y.toml", "1:2.toml", "50%.toml", "%0A.toml"],
-    *["日本.toml", "a\nb.toml", "a\rb.toml", "tab\t.toml", "e\u0301.toml", "=.toml"],
+    *["日本.toml", "a\nb.toml", "a\rb.toml", "tab\t.toml", "e\u0301.toml", "=.toml", "\x1b[1m\u200b.toml"],
 ]
 USUAL = ".config/nextest.toml"
 

@@ -22,6 +22,8 @@ ESCAPE = re.compile(
     r"|(?P<mark>[\s\S]))"
 )
 MARKS = {"b": "\b", "t": "\t", "n": "\n", "f": "\f", "r": "\r", "e": "\x1b", '"': '"', "\\": "\\"}
+# The most parts of a key.
+MOST_PARTS = 80
 # A time of day without its seconds.
 SHORT_TIME = re.compile(r"((?:^|[Tt ])[0-9]{2}:[0-9]{2})(?![0-9:.])")
 DATE_TIME = re.compile(r"[0-9]{4}-[0-9]{2}-[0-9]{2}|[0-9]{2}:[0-9]{2}")
@@ -267,6 +269,19 @@ class Reader(Lines):
             if not self.mark(",") and not self.next(end):
                 raise NoDocument(f"at {self.at}: no {end}")
             self.take(SPACE)
+
+
+def key_of(statement):
+    """The names of the key that a statement has, a header or a pair, None where it has none."""
+    reader = Reader("")
+    reader.text = statement
+    reader.at = 2 if statement.startswith("[[") else int(statement.startswith("["))
+    reader.take(BLANK)
+    try:
+        names = [name for name, _ in reader.keys()]
+    except ValueError:
+        return None
+    return names if len(names) <= MOST_PARTS else None
 
 
 @functools.lru_cache(64)

@@ -1,4 +1,7 @@
-"""What a profile gets of its settings, by docs/DEFINITIONS.md, for the random runs. No answer of a program is used."""
+"""What a profile gets of its settings, by the definitions of crates/*/specs, for the random runs.
+
+No answer of a program is used here.
+"""
 
 import collections
 import functools
@@ -7,11 +10,11 @@ import re
 
 import documents
 import rules
-from findings import columns_of, one_line
-from places import by_bytes
-from reports import Answer, json_text
+from findings import columns_of
+from places import by_bytes, may_become
+from reports import UNPRINTABLE, Answer, json_text, shown, shown_lines
 from rules import Fault
-from settings import OVERRIDE, PROFILE, REQUIRED, RETRIES, SETTINGS, SLOW_TIMEOUT, TIMES, UNSET
+from settings import OVERRIDE, PROFILE, REQUIRED, SETTINGS, SLOW_TIMEOUT, TIMES, UNSET
 
 DEFAULTS = pathlib.Path(__file__).resolve().parent.parent / "crates/nextest_config_profiles/src/defaults.rt"
 # What layers have at a path together: the last that has it, what that has there, and what is below a table.
@@ -56,8 +59,8 @@ def defaults():
 def basic_text(text):
     """A text as TOML writes it."""
     marks = {"\n": r"\n", "\r": r"\r", "\t": r"\t", '"': r"\"", "\\": r"\\"}
-    controls = {chr(code): f"\\u{code:04X}" for code in [*range(32), *range(127, 160)]}
-    return f'"{"".join({**controls, **marks}.get(c, c) for c in text)}"'
+    text = "".join(marks.get(c, c) for c in text)
+    return '"' + UNPRINTABLE.sub(lambda found: f"\\u{ord(found[0]):04X}", text) + '"'
 
 
 def key_text(key):
@@ -66,6 +69,11 @@ def key_text(key):
 
 def keys_text(names, between=", "):
     return between.join(map(key_text, names))
+
+
+def name_text(name):
+    """The name of a profile, as findings print it."""
+    return rules.path_text((name,))
 
 
 def literal(value):
@@ -94,6 +102,24 @@ def data(value):
     return value if is_number else str(value)
 
 
+# What nextest may make another value of.
+
+
+def is_made(reader, value):
+    return bool(reader.made) and may_become(reader.made, value)
+
+
+def field_of(reader, key):
+    return reader if key is None else (reader.fields or {}).get(key, rules.UNREAD)
+
+
+def unmade(reader, value):
+    """A value without the keys whose values nextest may convert."""
+    if not isinstance(value, dict):
+        return value
+    return {key: one for key, one in value.items() if not is_made(field_of(reader, key), one)}
+
+
 # What is told.
 
 
@@ -114,7 +140,8 @@ class Profile:
         self.laid = functools.reduce(laid_over, laid)
         self.names = listed.names()
         self.chain = self.chain_of(name)
-        self.giver = None
+        # The profile that gives a setting, by the setting's keys.
+        self.givers = {}
 
     def at(self, *keys):
         """What the layers have at a path together, None where they have nothing."""
@@ -127,7 +154,7 @@ class Profile:
         """The profile and those that it falls back on."""
         chain = [name]
         if name not in self.names:
-            raise Wrong([f"no profile {rules.printed(name)}, there are {keys_text(self.names)}"])
+            raise Wrong([f"no profile {rules.printed(name)}, there are {', '.join(map(name_text, self.names))}"])
         while chain[-1] != "default":
             inherits = self.at(chain[-1], "inherits")
             parent = inherits.node.value if inherits else "default"
@@ -143,7 +170,7 @@ class Profile:
 
     def wrong(self, name, said):
         laid = self.at(name, "inherits")
-        return f"{self.place_text(self.spot(name, laid.layer, laid.node))}: {one_line(said)}"
+        return f"{self.place_text(self.spot(name, laid.layer, laid.node))}: {shown(said)}"
 
     # Places.
 
@@ -154,11 +181,24 @@ class Profile:
         line, column = node.place()[0]
         return {"profile": profile, "path": self.files[layer - 1].path, "line": line, "column": column}
 
+    def inherits_spot(self, name):
+        """Where it stands what a profile inherits from."""
+        laid = self.at(name, "inherits") if name != "default" else None
+        return self.spot(name, laid.layer, laid.node) if laid else None
+
+    def chain_text(self):
+        marks = {name: f" ({self.place_text(spot)})" for name in self.chain if (spot := self.inherits_spot(name))}
+        return ", ".join(name_text(name) + marks.get(name, "") for name in self.chain)
+
+    def chain_objects(self):
+        nowhere = dict.fromkeys(["path", "line", "column"])
+        return [{**nowhere, **(self.inherits_spot(name) or {}), "profile": name} for name in self.chain]
+
     def place_text(self, spot):
-        return f"{one_line(spot['path'])}:{spot['line']}" if spot else "nextest's default"
+        return f"{shown(spot['path'])}:{spot['line']}" if spot else "nextest's default"
 
     def source(self, spot):
-        of = f" [profile.{key_text(spot['profile'])}]" if spot and spot["profile"] != self.name else ""
+        of = f" [profile.{name_text(spot['profile'])}]" if spot and spot["profile"] != self.name else ""
         return self.place_text(spot) + of
 
     # Lines.
@@ -175,7 +215,7 @@ class Profile:
         is_time = reader in TIMES and member in (None, "period") and isinstance(value, str)
         mark = " (no limit)" if is_time and (rules.nanoseconds(value) or 0) >= VERY_LONG else ""
         state, message = ("value", None) if spot else ("default", "nextest's default")
-        if not is_judged:
+        if not is_judged or is_made(field_of(reader, member), value):
             state, message, mark = "not-judged", None, " (not judged)"
         yield self.line(keys, value, spot, state, message, source=self.source(spot) + mark)
         yield from self.hidden(profile, keys, laid.layer)
@@ -205,7 +245,7 @@ class Profile:
         for profile in self.chain:
             laid = self.at(profile, *keys)
             if laid and not (reader is SLOW_TIMEOUT and value_of(laid) == ""):
-                self.giver = self.giver or profile
+                self.givers[keys] = profile
                 yield from self.lines_of(keys, reader, members, profile, laid)
                 return
         laid = self.at("default", *keys)
@@ -217,25 +257,35 @@ class Profile:
         yield self.line(keys, None, spot, "fault", TAKEN_AWAY, first, self.source(spot))
 
     def fault_of(self, reader, laid):
+        """What is wrong with a value, but for what nextest may convert in it."""
+        value = value_of(laid)
         try:
-            reader.read(value_of(laid))
+            if not is_made(reader, value):
+                reader.read(unmade(reader, value))
             return None
         except Fault as fault:
             return fault
 
     def parts(self, profile, keys, members):
-        """Where the parts of a value stand."""
+        """Where the parts of a value stand, by their keys: of a table those that it has, or else the whole."""
         laid = self.at(profile, *keys)
-        found = [laid.below.get(key) for key in members] if laid.below is not None else [laid]
-        return [self.spot(profile, it.layer, it.node) for it in found if it]
+        found = [((*keys, key), laid.below[key]) for key in members if key in (laid.below or {})]
+        return [(part, self.spot(profile, it.layer, it.node)) for part, it in found or [(keys, laid)]]
+
+    def fault_line(self, keys, members, profile, message):
+        parts = self.parts(profile, keys, members)
+        spots = [spot for _, spot in parts]
+        first = f"# {keys_text(keys, '.')} = {shown(message)}"
+        line = self.line(keys, None, spots[0], "fault", message, first, ", ".join(map(self.source, spots)))
+        nowhere = dict.fromkeys(["path", "line", "column"])
+        sources = [{**nowhere, **(spot or {}), "key": keys_text(part, ".")} for part, spot in parts]
+        line.object["sources"] = [{key: one for key, one in it.items() if key != "profile"} for it in sources]
+        return line
 
     def lines_of(self, keys, reader, members, profile, laid):
         fault = self.fault_of(reader, laid)
         if fault and not fault.is_unjudged:
-            spots = self.parts(profile, keys, members)
-            message = f"{rules.path_text(fault.steps)}: {fault.said()}" if fault.steps else fault.said()
-            first = f"# {keys_text(keys, '.')} = {one_line(message)}"
-            yield self.line(keys, None, spots[0], "fault", message, first, ", ".join(map(self.source, spots)))
+            yield self.fault_line(keys, members, profile, message_of(fault))
         elif laid.below is None:
             yield from self.given(reader, profile, keys, laid, None, not fault)
             stands_for_table = type(laid.node.value) in (str, int)
@@ -277,18 +327,24 @@ class Profile:
         settings = {key: value[key] for key in OVERRIDE if key in value and key not in conditions}
         told = {"filter": None, "platform": None, **data(conditions), "settings": data(settings), **spot}
         texts = [", ".join(f"{key} = {literal(one)}" for key, one in it.items()) for it in (conditions, settings)]
-        of = f" [profile.{key_text(spot['profile'])}]" if spot["profile"] != self.name else ""
-        return Line(told, f"{self.place_text(spot)}:{of} {'; '.join(filter(None, texts))}", None)
+        of = f" [profile.{name_text(spot['profile'])}]" if spot["profile"] != self.name else ""
+        texts = [texts[0] or "every test", *filter(None, texts[1:])]
+        return Line(told, f"{self.place_text(spot)}:{of} {'; '.join(texts)}", None)
 
     def outside(self):
-        """What is wrong with `retries` of other profiles."""
-        for name in self.names:
-            laid = self.at(name, "retries")
-            fault = laid and name != self.giver and self.fault_of(RETRIES, laid)
-            if fault and not fault.is_unjudged:
-                spots = self.parts(name, ("retries",), SETTINGS[("retries",)][1])
-                places = ", ".join(map(self.place_text, spots))
-                yield f"{places}: profile.{key_text(name)}.retries: {one_line(fault.said())}\n"
+        """What is wrong with settings of other profiles than those that give them."""
+        for keys, (reader, members) in SETTINGS.items():
+            for name in self.names:
+                laid = self.at(name, *keys)
+                fault = laid and name != self.givers.get(keys) and self.fault_of(reader, laid)
+                if fault and not fault.is_unjudged:
+                    places = ", ".join(self.place_text(spot) for _, spot in self.parts(name, keys, members))
+                    path = f"profile.{name_text(name)}.{keys_text(keys, '.')}"
+                    yield f"{places}: {path}: {shown(message_of(fault))}\n"
+
+
+def message_of(fault):
+    return f"{rules.path_text(fault.steps)}: {fault.said()}" if fault.steps else fault.said()
 
 
 def profile_answers(listed, name, hides):
@@ -296,18 +352,19 @@ def profile_answers(listed, name, hides):
     try:
         told = Profile(listed, name, hides)
     except Wrong as wrong:
-        return [[Answer(2, "", f"{line}\n") for line in wrong.args[0]]] * 2
+        return [[Answer(2, "", f"{shown(line)}\n") for line in wrong.args[0]]] * 2
     settings = [line for keys, how in SETTINGS.items() for line in told.setting(keys, *how)]
     others, overrides, outside = list(told.others()), list(told.overrides()), "".join(told.outside())
     status = int(bool(outside) or any(line.object["state"] == "fault" for line in settings))
     lists = {"settings": settings, "others": others, "overrides": overrides}
     objects = {key: [line.object for line in lines] for key, lines in lists.items()}
-    answer = {"profile": name, "chain": told.chain, **objects}
-    lines = [f"profile {key_text(name)}: {keys_text(told.chain)}", *in_columns(settings, others)]
+    answer = {"profile": name, "chain": told.chain_objects(), **objects}
+    lines = [f"profile {name_text(name)}: {told.chain_text()}", *in_columns(settings, others)]
     if overrides:
         lines += ["", "overrides, the first that applies and sets a key wins:", *(line.first for line in overrides)]
     texts = ["".join(f"{line}\n" for line in lines), json_text(answer)]
-    return [[Answer(status, text, outside)] for text in texts]
+    texts[0] = shown_lines(texts[0])
+    return [[Answer(status, text, shown_lines(outside))] for text in texts]
 
 
 def in_columns(settings, others):

@@ -2,16 +2,11 @@
 
 import functools
 import re
-import unicodedata
 
-from reports import json_text
+from reports import json_text, shown
 
 SEVERITIES = ["error", "warning", "note"]
 MOST_SHOWN = 200
-
-
-def one_line(text):
-    return text.replace("\r", "\\r").replace("\n", "\\n")
 
 
 def text_of(finding):
@@ -20,7 +15,7 @@ def text_of(finding):
 
 def human_line(finding):
     place = f"{finding.path}:{finding.line}:{finding.column}"
-    return one_line(f"{place}: {finding.severity}: {text_of(finding)} [{finding.code}]")
+    return shown(f"{place}: {finding.severity}: {text_of(finding)} [{finding.code}]")
 
 
 def json_line(finding):
@@ -31,43 +26,37 @@ def github_line(finding):
     """The command of a workflow, without columns where the range has several lines."""
 
     def escaped(text, more=""):
-        return re.sub(f"[%\r\n{more}]", lambda mark: f"%{ord(mark[0]):02X}", text)
+        return re.sub(f"[%{more}]", lambda mark: f"%{ord(mark[0]):02X}", shown(text))
 
     places = {"file": escaped(finding.path, ":,"), "line": finding.line, "endLine": finding.end_line}
     if finding.line == finding.end_line:
         places |= {"col": finding.column, "endColumn": finding.end_column}
     told = ",".join(f"{name}={place}" for name, place in {**places, "title": finding.code}.items())
     command = "notice" if finding.severity == "note" else finding.severity
-    return f"::{command} {told}::{escaped(text_of(finding))}"
+    place = f"{finding.path}:{finding.line}:{finding.column}"
+    return f"::{command} {told}::{escaped(f'{place}: {text_of(finding)}')}"
 
 
 # Excerpts.
 
-CONTROLS = {"\t": "    ", "\n": "\\n", "\r": "\\r", "\0": "\\0"}
 # The columns of characters that aren't ASCII. Of others only that there is a mark is known.
 WIDTHS = {
     **dict.fromkeys("éèüßµΔаﬁ¡ÿ\ufffd", 1),
     **dict.fromkeys("日本語ａ😀", 2),
-    **dict.fromkeys("\u0301\u200b\u200d\ufeff", 0),
+    **dict.fromkeys("\u0301\u200d\ufeff", 0),
 }
 
 
-def shown_character(character):
-    """What is shown of a character."""
-    if unicodedata.category(character) != "Cc":
-        return character
-    return CONTROLS.get(character) or f"\\u{{{ord(character):x}}}"
-
-
 @functools.lru_cache(64)
-def shown(text):
-    return text if text.isascii() and text.isprintable() else "".join(map(shown_character, text))
+def shown_source(text):
+    """A part of a line of a file, as people see it."""
+    return shown(text.replace("\t", "    "))
 
 
 @functools.lru_cache(64)
 def columns_of(text):
     """How many columns a text takes as it is shown, None where that isn't known."""
-    text = shown(text)
+    text = shown_source(text)
     if text.isascii():
         return len(text)
     widths = [1 if character.isascii() else WIDTHS.get(character) for character in text]
@@ -89,7 +78,7 @@ def is_excerpt(finding, lines, told):
     line = lines[finding.line - 1]
     line = line[:-1] if finding.line < len(lines) and line.endswith("\r") else line
     gutter, cut = " " * len(str(finding.line)), " .." if len(line) > MOST_SHOWN else ""
-    front = [human_line(finding), f"{gutter} |", f"{finding.line} | {shown(line[:MOST_SHOWN])}{cut}"]
+    front = [human_line(finding), f"{gutter} |", f"{finding.line} | {shown_source(line[:MOST_SHOWN])}{cut}"]
     marks = re.fullmatch(rf"{gutter} \| ( *)(\^+)", told[3]) if told[:3] == front else None
     pairs = zip(map(len, marks.groups()), marks_under(finding, line)) if marks else []
     return marks is not None and all(wanted in (None, count) for count, wanted in pairs)

@@ -1,4 +1,4 @@
-"""What is found in the configuration files of a list, by docs/DEFINITIONS.md, for the random runs.
+"""What is found in the configuration files of a list, by the definitions of crates/*/specs, for the random runs.
 
 No answer of a program is used here.
 """
@@ -16,7 +16,13 @@ from rules import Fault, meant, nearest, path_text, printed
 from settings import HOMES, TOP
 
 # The code's table of places, by which it is known that none is left out here.
-SCHEMA = pathlib.Path(__file__).resolve().parent.parent / "crates/nextest_config_findings/src/schema.rt"
+SCHEMA = pathlib.Path(__file__).resolve().parent.parent / "crates/nextest_config_lint/src/schema.rt"
+# The most names of a list among which the nearest is sought.
+MOST_NAMES = 100
+# Booleans of which two letters have changed places.
+SWAPPED = {
+    word[:at] + word[at + 1] + word[at] + word[at + 2 :]: word for word in ("false", "true") for at in range(len(word) - 1)
+}
 # A finding as `json` tells it: its members, in their order.
 MEMBERS = "path line column end_line end_column severity code key message".split()
 Finding = collections.namedtuple("Finding", MEMBERS)
@@ -212,6 +218,36 @@ def unread(path, contents):
         return finding_at(path, (place, place), "error", "not-utf8", "", "not UTF-8")
 
 
+def mistake(contents, begin, end):
+    """What is said behind the message of `toml`, which refuses a text from one place to another."""
+    text = contents.decode()
+    starts = documents.Lines(text).starts
+    first, last = (starts[line - 1] + column - 1 for line, column in (begin, end))
+    front, refused = text[:first], text[first:last]
+    if re.match("[A-Za-z]", refused) and "=" not in refused:
+        near = nearest(refused, ["false", "true"]) or SWAPPED.get(refused)
+        return f", did you mean {near}" if near else ", quotes missing?"
+    return repeated(front, refused)
+
+
+def repeated(front, statement):
+    """What is said of a statement whose key stands in the text before it."""
+    names, part = documents.key_of(statement), front
+    headers = [match.start() for match in re.finditer("^[ \t]*\\[", front, re.M)]
+    if names and headers and not statement.startswith("["):
+        part = front[headers[-1] :]
+        header = part.lstrip(" \t")
+        table = documents.key_of(header)
+        names = table and [*table, *([0] if header.startswith("[[") else []), *names]
+    root = names and documents.read(part.encode())
+    node = root and root.at(names)
+    if not node or not node.key():
+        return ""
+    (line, _), _ = node.key()
+    line += front[: len(front) - len(part)].count("\n")
+    return f", {printed(names[-1])} stands on line {line} already"
+
+
 def judged(path, place, value, tables_only=False):
     """What a value means, and the fault of one that means nothing."""
     try:
@@ -324,7 +360,7 @@ class Judge:
             yield self.found(path, "warning", "inherits-itself", said)
         elif self.listed.all_read and parent not in self.listed.profiles:
             others = [it for it in self.listed.profiles if it != name]
-            said = f"no file defines the profile {printed(parent)}{meant(nearest(parent, others)) or ''}"
+            said = f"no file defines the profile {printed(parent)}{name_hint(parent, others, self.listed.profiles)}"
             yield self.found(path, "warning", "undefined-profile", said)
 
     def group_of(self, path, text):
@@ -334,7 +370,8 @@ class Judge:
         if fault:
             yield self.found(path, "warning", "group-name", fault)
         elif self.listed.all_read and name not in self.listed.groups and (tool is None or tool in self.listed.tools):
-            said = f"no file defines the test group {printed(name)}{meant(nearest(name, self.listed.groups)) or ''}"
+            hint = name_hint(name, self.listed.groups, self.listed.groups)
+            said = f"no file defines the test group {printed(name)}{hint}"
             yield self.found(path, "warning", "undefined-group", said)
 
     def group(self, path, text):
@@ -346,6 +383,11 @@ class Judge:
             fault = fault or f"a tool's test groups begin with {printed(f'@tool:{self.tool}:')}"
         if fault:
             yield self.found(path, "warning", "group-name", fault, of_key=True)
+
+
+def name_hint(name, words, names):
+    """What an undefined name may be meant for, where the list defines few names."""
+    return meant(nearest(name, words)) or "" if len(names) <= MOST_NAMES else ""
 
 
 def key_hint(name, words):

@@ -1,4 +1,4 @@
-"""What nextest_config_check has to answer, by docs/DEFINITIONS.md. No answer of it is used here."""
+"""What nextest_config_check has to answer, by the definitions of crates/*/specs. No answer of it is used here."""
 
 import collections
 import json
@@ -24,11 +24,29 @@ def word_of(current):
     return dotted(current.numbers) + current.release + current.build
 
 
+# What people never see as it is: control characters, the blank without width, what ends a line or a paragraph, and what
+# changes the direction of texts.
+UNPRINTABLE = re.compile("[\x00-\x1f\x7f-\x9f\u200b\u200e\u200f\u2028-\u202e\u2066-\u2069]")
+MARKS = {"\n": r"\n", "\r": r"\r", "\t": r"\t", "\0": r"\0"}
+
+
+def escaped(character):
+    return MARKS.get(character) or f"\\u{{{ord(character):x}}}"
+
+
+def shown(text):
+    """A text in a line, as people see it."""
+    return UNPRINTABLE.sub(lambda found: escaped(found[0]), text)
+
+
+def shown_lines(text):
+    return "\n".join(map(shown, text.split("\n")))
+
+
 def printed(name):
     """A name as a report prints it."""
-    marks = {"\n": r"\n", "\r": r"\r", "\t": r"\t", "\0": r"\0", '"': r"\"", "\\": r"\\"}
-    controls = {c: f"\\u{{{ord(c):x}}}" for c in name if unicodedata.category(c) == "Cc"}
-    return f'"{"".join({**controls, **marks}.get(c, c) for c in name)}"'
+    name = name.replace("\\", r"\\").replace('"', r"\"")
+    return f'"{"".join(escaped(c) if unicodedata.category(c) == "Cc" else c for c in name)}"'
 
 
 def json_text(value, sort_keys=True):

@@ -1,6 +1,7 @@
-"""How values are read, and what is said of those that are refused, by docs/DEFINITIONS.md, for the random runs.
+"""How values are read, and what is said of those that are refused, for the random runs.
 
-No answer of a program is used here. A reader of values says which forms it takes: kinds of TOML, and words.
+It is by the definitions of crates/*/specs, and no answer of a program is used. A reader of values says which forms it
+takes: kinds of TOML, and words.
 """
 
 import collections
@@ -243,16 +244,23 @@ def seconds_hint(value, _):
     return meant(f"{value}s") if is_whole and nanoseconds(f"{value}s") is not None else None
 
 
+def short_hint(value, path):
+    """The same where durations are short: from 100 on in milliseconds, too."""
+    hint = seconds_hint(value, path)
+    return f', did you mean "{value}ms" or "{value}s"' if hint and int(value) >= 100 else hint
+
+
 DURATION = Reader(read_duration, ("text",), ("text",), seconds_hint)
+SHORT_DURATION = DURATION._replace(hint=short_hint)
 
 
-def timeout(expected, fields, may_be_empty):
+def timeout(expected, fields, may_be_empty, hint=seconds_hint):
     def read(value):
         if not isinstance(value, dict):
             return None if may_be_empty and value == "" else read_duration(value, expected)
         return fields_of(value, fields, ["period"])
 
-    return Reader(read, ("text", "table"), ("text", "table"), seconds_hint, fields)
+    return Reader(read, ("text", "table"), ("text", "table"), hint, fields)
 
 
 # Identifiers.

@@ -1,5 +1,5 @@
-"""The settings, each once, for the random runs, by docs/DEFINITIONS.md: what reads its values, where it may stand, what
-a profile takes where it is absent, and what is written for it, right and wrong.
+"""The settings, each once, for the random runs, by the definitions of crates/*/specs: what reads its values, where it
+may stand, what a profile takes where it is absent, and what is written for it, right and wrong.
 
 No answer of a program is used here.
 """
@@ -9,9 +9,9 @@ import re
 
 from reports import GREATEST, NUMBER, WORDS, dotted, printed
 from rules import (
-    ARRAY, BOOLEAN, DURATION, MADE_BOOLEAN, MADE_TEXT, TABLE, TEXT, TEXTS, UNREAD, Fault, Reader, fields_of, integer,
-    integer_hint, is_integer, listed, meant, nearest, of_kind, read_texts, table_of, timeout, truth_hint, words,
-    wrong_type, wrong_value,
+    ARRAY, BOOLEAN, DURATION, MADE_BOOLEAN, MADE_TEXT, SHORT_DURATION, TABLE, TEXT, TEXTS, UNREAD, Fault, Reader,
+    fields_of, integer, integer_hint, is_integer, listed, meant, nearest, of_kind, read_texts, short_hint, table_of,
+    timeout, truth_hint, words, wrong_type, wrong_value,
 )
 
 # What reads them.
@@ -37,8 +37,8 @@ ALL_THREADS = 'an integer, the string "num-cpus" or the string "num-test-threads
 THREADS_REQUIRED = integer(lambda it: it > 0, ALL_THREADS, "num-cpus", "num-test-threads")
 SLOW = {"period": DURATION, "terminate-after": COUNT, "grace-period": DURATION, "on-timeout": FLAKY_RESULT}
 SLOW_TIMEOUT = timeout('a table ({ period = "60s", terminate-after = 2 }) or a string ("60s")', SLOW, True)
-LEAK = {"period": DURATION, "result": FLAKY_RESULT}
-LEAK_TIMEOUT = timeout('a table ({ period = "500ms", result = "fail" }) or a string ("100ms")', LEAK, False)
+LEAK = {"period": SHORT_DURATION, "result": FLAKY_RESULT}
+LEAK_TIMEOUT = timeout('a table ({ period = "500ms", result = "fail" }) or a string ("100ms")', LEAK, False, short_hint)
 
 RETRIES_EXPECTED = 'a table ({ backoff = "fixed", count = 5 }) or a number (5)'
 BESIDE_FIXED = {"count": U32, "delay": DURATION, "jitter": BOOLEAN}
@@ -288,7 +288,7 @@ TIMES = [SLOW_TIMEOUT, LEAK_TIMEOUT, DURATION]
 
 SOME_COUNTS = ["2", "1", "0", "-1", '"2"', '"-0"', '"02"', "4294967296", "1.0", "true", "[ ]"]
 SOME_TIMEOUTS = [
-    *['"60s"', '"2m 30s"', '"5µs"', '"1day"', '"40y"', '"0s"', '"0"', '"1.5h"', '"1 000s"', '"5"', "60"],
+    *['"60s"', '"2m 30s"', '"5µs"', '"1day"', '"40y"', '"0s"', '"0"', '"1.5h"', '"1 000s"', '"5"', "60", "500", '"100"'],
     *['"60 sec."', '""', "true", '["1s"]', '"99999999999999999999s"', "-1"],
 ]
 SOME_SWITCHES = ["true", "false", '"true"', '"Yes"', '"x"', "1", "1.5", "[ ]"]

@@ -1,17 +1,15 @@
 -- What is read of borrowed sources, as what is read of what is given.
-use Rattle.std.proofs.Common.{◌≡◌, List, [], ◌∷◌, map, Option, Some, None, refl, sym, subst, ◌∙◌}
-use Rattle.std.specs.List.{AllZip}
-use Rattle.nextest_config_merge.specs.Merge.{IsJoinOfPieces, IsRefusalOfPieces}
-use Rattle.nextest_config_sources.specs.NextestVersion.{Ask, under}
-use Rattle.nextest_config_sources.specs.NextestVersion.Source.{Given}
-use Rattle.nextest_config_sources.specs.NextestVersion.VersionOnlyDeserialize.{IsWrong, IsWrongTable, TableAsks, TextAsks}
-use Rattle.nextest_config.specs.NextestVersion.{AreDocumentsOf, AreGivenAs, Configuration, configuration_of, document_members, document_place, IsConfigurationOf, IsDocumentOf, IsErrorOf, IsErrorOfBorrowed, IsErrorOfDocument, IsGivenAs, IsRefusedReading, join_configurations, neutral_seen, Refusal, refusal_of, seen_configuration, SourceAsk, StandsForAsks, StandsForBorrowed, StandsForDocument, StandsForOne}
-use Rattle.nextest_config_merge.proofs.Halves.{same_join, same_refusal}
+use Rattle.std.proofs.Common.{List, [], ◌∷◌, map, Option, Some, None, sym, ◌∙◌}
+use Rattle.nextest_config.specs.Merge.{IsJoinOfPieces, IsRefusalOfPieces}
+use Rattle.nextest_config.specs.NextestVersion.{Ask, under, AreDocumentsOf, AreGivenAs, Configuration, configuration_of, document_members, document_place, IsConfigurationOf, IsDocumentOf, IsErrorOf, IsErrorOfBorrowed, IsErrorOfDocument, IsGivenAs, IsRefusedReading, join_configurations, neutral_seen, Refusal, refusal_of, seen_configuration, StandsForBorrowed, StandsForDocument, StandsForOne}
+use Rattle.nextest_config.specs.NextestVersion.Source.{Given}
+use Rattle.nextest_config.specs.NextestVersion.VersionOnlyDeserialize.{TableAsks, TextAsks}
+use Rattle.nextest_config.proofs.Halves.{same_join, same_refusal}
 use Rattle.nextest_config.proofs.Readings.{refusal_of_list, refused_reading}
 use Rattle.nextest_config.proofs.Selection.{configured}
 use Rattle.nextest_config.proofs.Standing.{stands_for_all}
-use Rattle.nextest_config_merge.specs.declared.merge.PieceRefusal.{PieceRefusal}
-use Rattle.nextest_config_sources.specs.declared.nextest_version.edition.Edition.{Edition}
+use Rattle.nextest_config.specs.declared.merge.PieceRefusal.{PieceRefusal}
+use Rattle.nextest_config.specs.declared.nextest_version.edition.Edition.{Edition}
 use Rattle.nextest_config.specs.declared.nextest_version.borrowed_source.BorrowedSource.{BorrowedSource}
 use Rattle.nextest_config.specs.declared.nextest_version.borrowed_source.BorrowedSource.TheVariants as sources
 use Rattle.nextest_config.specs.declared.nextest_version.borrowed_source.SourcesConfig.{SourcesConfig}

@@ -5,11 +5,11 @@ use Rattle.std.proofs.lemmas.List.{get_or-set_other, get_or-set_same, length-rep
 use Rattle.std.specs.List.{AllByRecursion, AllZip}
 use Rattle.semver.specs.Parse.{Parts}
 use Rattle.nextest_config.specs.Board.Commands.{BoardCommand, Changes, ChangesInTurn, empty_board, HoldsLast, HoldsSource, IsLeft, IsOfOther, LeavesInSlot, present, put, slot_in, source_left, sources_after, withdraw}
-use Rattle.nextest_config_merge.specs.Choice.Halvings.{halvings}
+use Rattle.nextest_config.specs.Choice.Halvings.{halvings}
 use Rattle.nextest_config.specs.Board.Slots.{ask_of_versions, board_list, BoardState, IsChanged}
 use Rattle.nextest_config.specs.NextestVersion.Verdict.{Verdict}
 use Rattle.nextest_config.specs.NextestVersion.{alone, AreRead, IsSelected, IsSelectedFor, SourceAsk}
-use Rattle.nextest_config_sources.specs.NextestVersion.Source.{Source}
+use Rattle.nextest_config.specs.NextestVersion.Source.{Source}
 use Rattle.nextest_config.proofs.OneVerdict.{all_read_once}
 use Rattle.nextest_config.proofs.Reorderings.{zip_set}
 

@@ -2,11 +2,11 @@
 use Rattle.std.proofs.Common.{◌≡◌, ◌↔◌, ◌⊎◌, ◌+◌, ℕ, List, [], ◌∷◌, ◌++◌, length, length-append, map, refl, sym, ap, ◌∙◌, inl, inr, ⊎_elim, subst, arith}
 use Rattle.std.proofs.lemmas.List.Concat.{flat_map-append}
 use Rattle.std.specs.List.{AllByRecursion, AllZip}
-use Rattle.nextest_config_merge.specs.Merge.{in_a_row, IsCut, total}
+use Rattle.nextest_config.specs.Merge.{in_a_row, IsCut, total}
 use Rattle.nextest_config.specs.NextestVersion.{AreRead, Configuration, IsFirstRefused, IsFirstRefusedAmong, IsJoinOf, IsReadAs, IsRefused, join_configurations, neutral_seen, Reads, Refusal, seen_configuration, SeenConfiguration, SourceAsk, StandsFor}
-use Rattle.nextest_config_sources.specs.NextestVersion.Source.{Source}
-use Rattle.nextest_config_merge.proofs.Halves.{wrong_in_first, wrong_in_second}
-use Rattle.nextest_config_merge.proofs.Lists.{zip_joined}
+use Rattle.nextest_config.specs.NextestVersion.Source.{Source}
+use Rattle.nextest_config.proofs.Halves.{wrong_in_first, wrong_in_second}
+use Rattle.nextest_config.proofs.Lists.{zip_joined}
 use Rattle.nextest_config.proofs.OneConfiguration.{seen_once}
 use Rattle.nextest_config.proofs.OneVerdict.{all_read_once}
 use Rattle.nextest_config.proofs.Standing.{all_seen, seen_of, stands_in_a_row, StandsSeen}

@@ -3,12 +3,11 @@ use Rattle.std.proofs.Common.{rules, ◌≡◌, List, Option, Some, IfSome, sym,
 use mathlib.Core.Logic.Iff as iff
 use Rattle.std.specs.List.{AllByRecursion}
 use Rattle.semver.specs.Parse.{Parts}
-use Rattle.nextest_config_sources.specs.NextestVersion.Source.{Source}
-use Rattle.nextest_config_sources.specs.NextestVersion.{Ask, features_in_one_order, IsBelow, SourcePlace}
-use Rattle.nextest_config_sources.specs.NextestVersion.ExperimentalLaws.{same_truth}
-use Rattle.nextest_config_sources.specs.declared.nextest_version.experimental.ConfigExperimental.{ConfigExperimental}
-use Rattle.nextest_config.specs.NextestVersion.{AreRead, AsksNoGreater, AsksNone, AsksOther, Configuration, IsGreatest, Kept, seen_configuration, SeenConfiguration, SourceAsk, StandsFor, StandsForAsks, StandsIn}
-use Rattle.nextest_config_values.proofs.Elements.{all_middle, all_weaker, one_last}
+use Rattle.nextest_config.specs.NextestVersion.Source.{Source}
+use Rattle.nextest_config.specs.NextestVersion.{Ask, features_in_one_order, IsBelow, SourcePlace, AreRead, AsksNoGreater, AsksNone, AsksOther, Configuration, IsGreatest, Kept, seen_configuration, SeenConfiguration, SourceAsk, StandsFor, StandsForAsks, StandsIn}
+use Rattle.nextest_config.specs.NextestVersion.ExperimentalLaws.{same_truth}
+use Rattle.nextest_config.specs.declared.nextest_version.experimental.ConfigExperimental.{ConfigExperimental}
+use Rattle.toml_spans.proofs.Elements.{all_middle, all_weaker, one_last}
 use Rattle.nextest_config.proofs.OneVerdict.{IsPlainAsked, IsPlainVersion, all_plain, all_read_once, same_version}
 use Rattle.nextest_config.proofs.Standing.{seen_of, StandsSeen}
 

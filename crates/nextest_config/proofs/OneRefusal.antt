@@ -1,9 +1,9 @@
 -- A list of sources reads, or has one first refused position, with one error.
 use Rattle.std.proofs.Common.{◌≡◌, ◌⊎◌, ℕ, suc, List, [], ◌∷◌, ◌++◌, length, refl, sym, ap, ◌∙◌, subst, inl, inr}
-use Rattle.nextest_config_sources.specs.NextestVersion.Source.{Source}
+use Rattle.nextest_config.specs.NextestVersion.Source.{Source}
 use Rattle.nextest_config.specs.NextestVersion.{AreRead, IsFirstRefused, IsReadAs, IsRefused, Reads, Refusal, SourceAsk}
 use Rattle.nextest_config.specs.NextestVersion.VersionOnlyLaws.{one_error, read_not_refused, read_or_refused}
-use Rattle.nextest_config_merge.proofs.Lists.{zip_middle}
+use Rattle.nextest_config.proofs.Lists.{zip_middle}
 
 pub none_refused : (before : List Source) (source : Source) (after : List Source) (asked : List SourceAsk) (refusal : Refusal) → AreRead (before ++ (source ∷ after)) asked → IsRefused source refusal → ⊥
 none_refused before source after asked refusal read refused =

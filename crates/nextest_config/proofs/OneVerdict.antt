@@ -4,16 +4,15 @@ use Rattle.std.specs.List.{AllByRecursion}
 use Rattle.semver.specs.Parse.{Parts}
 use Rattle.toml.specs.Data.{Data, Members, as_str, as_table, get_member}
 use Rattle.nextest_config_values.specs.Read.{either, optional}
-use Rattle.nextest_config_sources.specs.NextestVersion.Source.{Source}
+use Rattle.nextest_config.specs.NextestVersion.Source.{Source}
 use Rattle.nextest_config.specs.NextestVersion.Verdict.{Verdict}
-use Rattle.nextest_config_sources.specs.NextestVersion.{Ask, AsksVersions, IsBelow, in_order, IsEnoughByNumbers, Numbers, plain, recommended_key, required_key, TextAsks, version_key, version_reading, version_table, Versions, versions, versions_reading}
-use Rattle.nextest_config.specs.NextestVersion.{alone, AreRead, gravity, IsGravest, IsNoGraver, IsNoGreaterOfItsKind, IsOtherOfItsKind, IsSatisfied, IsSelected, IsSelectedFor, Kept, named_version, NamesNoGreater, not_met, role_from, SourceAsk, verdict_by}
+use Rattle.nextest_config.specs.NextestVersion.{Ask, AsksVersions, IsBelow, in_order, IsEnoughByNumbers, Numbers, plain, recommended_key, required_key, TextAsks, version_key, version_reading, version_table, Versions, versions, versions_reading, alone, AreRead, gravity, IsGravest, IsNoGraver, IsNoGreaterOfItsKind, IsOtherOfItsKind, IsSatisfied, IsSelected, IsSelectedFor, Kept, named_version, NamesNoGreater, not_met, role_from, SourceAsk, verdict_by}
 use Rattle.nextest_config.specs.NextestVersion.VersionOnlyLaws.{read_once}
-use Rattle.nextest_config_values.proofs.Elements.{one_last}
-use Rattle.nextest_config_merge.proofs.Lists.{all_mapped}
-use Rattle.nextest_config_sources.specs.declared.nextest_version.edition.Edition.{Edition}
-use Rattle.nextest_config_sources.specs.declared.nextest_version.source.ConfigSourceKind.{ConfigSourceKind}
-use Rattle.nextest_config_sources.proofs.Enough.{not_below_by_numbers}
+use Rattle.toml_spans.proofs.Elements.{one_last}
+use Rattle.nextest_config.proofs.Lists.{all_mapped}
+use Rattle.nextest_config.specs.declared.nextest_version.edition.Edition.{Edition}
+use Rattle.nextest_config.specs.declared.nextest_version.source.ConfigSourceKind.{ConfigSourceKind}
+use Rattle.nextest_config.proofs.Enough.{not_below_by_numbers}
 use Rattle.nextest_config.proofs.Verdicts.{all_unmapped, no_graver_than_all, none_graver, stands_in, unmet_alone}
 
 -- ---- sources ask one thing

@@ -3,14 +3,13 @@ use Rattle.std.proofs.Common.{rules, ◌≡◌, ◌↔◌, ◌++◌, true, Conta
 use Rattle.std.proofs.lemmas.Map.Views.{tells_apart}
 use Rattle.std.specs.Ordering.{eq_by_cmp}
 use Rattle.std.specs.Set.{IsUnion}
-use Rattle.nextest_config_sources.specs.NextestVersion.{feature_cmp, one_at_a_place}
+use Rattle.nextest_config.specs.NextestVersion.{feature_cmp, one_at_a_place, has_feature, join_features, rank, seen_features}
 use Rattle.nextest_config.specs.NextestVersion.ExperimentalConfig.{Experimental}
-use Rattle.nextest_config.specs.NextestVersion.{has_feature, join_features, rank, seen_features}
 use Rattle.nextest_config.specs.contracts.nextest_version.verdict.SeverityOrd.TheImpl as severity_ord
 use Rattle.nextest_config.specs.declared.nextest_version.verdict.Severity.{Severity}
-use Rattle.nextest_config_sources.specs.declared.nextest_version.experimental.ConfigExperimental.{ConfigExperimental}
-use Rattle.nextest_config_sources.proofs.Members.{member_iff}
-use Rattle.nextest_config_sources.proofs.Orders.{by_place, derived_cmp}
+use Rattle.nextest_config.specs.declared.nextest_version.experimental.ConfigExperimental.{ConfigExperimental}
+use Rattle.nextest_config.proofs.Members.{member_iff}
+use Rattle.nextest_config.proofs.SourceOrders.{by_place, derived_cmp}
 
 -- where the known features are those of either side, and the rest stands in a row, the features are joined
 pub seen_joined : (x y z : Experimental) → IsUnion (eq_by_cmp derived_cmp) x.known y.known z.known → z.unknown ≡ x.unknown ++ y.unknown → z.arrays ≡ x.arrays ++ y.arrays

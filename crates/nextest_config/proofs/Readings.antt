@@ -1,18 +1,16 @@
 -- A list reads or is refused, and not both; and the refusal of a list, from those of its sources.
-use Rattle.std.proofs.Common.{rules, ◌≡◌, ℕ, List, ◌∷◌, map, Option, Some, None, Result, Ok, Err, IfErr, refl, ap, subst, ◌∙◌}
+use Rattle.std.proofs.Common.{rules, ◌≡◌, ℕ, List, ◌∷◌, map, Option, Some, None, refl, ap, subst, ◌∙◌}
 use Rattle.std.proofs.lemmas.List.{length-map, map-append}
-use Rattle.nextest_config_sources.specs.NextestVersion.Source.{Source}
-use Rattle.nextest_config_merge.specs.Merge.{IsFirstWrong, IsRefusalOfOne, IsRefusalOfPieces}
-use Rattle.nextest_config_sources.specs.NextestVersion.{IsWrong, IsWrongTable, RefusesSource, Wrong, wrong_of}
-use Rattle.nextest_config.specs.NextestVersion.{AreRead, Configuration, document_members, document_place, IsErrorOf, IsErrorOfDocument, IsErrorOfList, IsErrorOfReading, IsFirstRefused, IsKindOf, IsRefusalOf, IsRefusedReading, IsRefusedSo, kind_of, Reads, Refusal, refusal_at, refusal_of, StandsForOne}
-use Rattle.nextest_config_merge.specs.declared.merge.PieceRefusal.{PieceRefusal}
-use Rattle.nextest_config_merge.specs.declared.merge.PieceRefusal.TheVariants as pieces
+use Rattle.nextest_config.specs.NextestVersion.Source.{Source}
+use Rattle.nextest_config.specs.Merge.{IsFirstWrong, IsRefusalOfOne, IsRefusalOfPieces}
+use Rattle.nextest_config.specs.NextestVersion.{IsWrong, IsWrongTable, RefusesSource, Wrong, wrong_of, AreRead, Configuration, document_members, document_place, IsErrorOf, IsErrorOfDocument, IsErrorOfReading, IsFirstRefused, IsKindOf, IsRefusalOf, IsRefusedReading, IsRefusedSo, Reads, Refusal, refusal_at, refusal_of, StandsForOne}
+use Rattle.nextest_config.specs.declared.merge.PieceRefusal.{PieceRefusal}
+use Rattle.nextest_config.specs.declared.merge.PieceRefusal.TheVariants as pieces
 use Rattle.nextest_config.specs.declared.nextest_version.document.SourceDocument.{SourceDocument}
 use Rattle.nextest_config.specs.declared.nextest_version.error.ConfigParseError.{ConfigParseError}
-use Rattle.nextest_config_sources.specs.declared.nextest_version.edition.Edition.{Edition}
-use Rattle.nextest_config_sources.specs.declared.nextest_version.error_kind.ConfigParseErrorKind.{ConfigParseErrorKind}
-use Rattle.nextest_config_sources.specs.declared.nextest_version.error_kind.ConfigParseErrorKind.TheVariants as kinds
-use Rattle.nextest_config_sources.proofs.Refusals.{told_twice}
+use Rattle.nextest_config.specs.declared.nextest_version.edition.Edition.{Edition}
+use Rattle.nextest_config.specs.declared.nextest_version.error_kind.ConfigParseErrorKind.{ConfigParseErrorKind}
+use Rattle.nextest_config.proofs.SourceRefusals.{told_twice}
 use Rattle.nextest_config.proofs.Standing.{reads_all}
 use Rattle.nextest_config.proofs.OneRefusal.{none_refused}
 

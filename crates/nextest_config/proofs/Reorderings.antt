@@ -5,12 +5,11 @@ use Rattle.std.proofs.lemmas.List.Elements.{All-from_recursion, recursion_from_A
 use Rattle.std.proofs.lemmas.Slice.Zip.{AllZip-long}
 use Rattle.std.specs.List.{AllByRecursion, AllZip, swap}
 use Rattle.semver.specs.Parse.{Parts}
-use Rattle.nextest_config_merge.specs.Merge.{IsReordering}
-use Rattle.nextest_config_sources.specs.NextestVersion.{Ask, features_in_one_order, SourcePlace}
-use Rattle.nextest_config.specs.NextestVersion.{Agree, array_of, AsksNoGreater, AsksNone, Configuration, entry_of, IsEnabledBySome, IsReadAs, Kept, kept_version, not_met, Reads, SaysTheSame, SourceAsk, StandsFor, StandsForAsks, StandsIn, Unknown, verdict_by}
-use Rattle.nextest_config_sources.specs.NextestVersion.Source.{Source}
-use Rattle.nextest_config_sources.specs.declared.nextest_version.experimental.ConfigExperimental.{ConfigExperimental}
-use Rattle.nextest_config_values.proofs.Elements.{all_weaker}
+use Rattle.nextest_config.specs.Merge.{IsReordering}
+use Rattle.nextest_config.specs.NextestVersion.{Ask, features_in_one_order, SourcePlace, Agree, array_of, AsksNoGreater, AsksNone, Configuration, entry_of, IsEnabledBySome, IsReadAs, Kept, kept_version, not_met, Reads, SaysTheSame, SourceAsk, StandsFor, StandsForAsks, StandsIn, Unknown, verdict_by}
+use Rattle.nextest_config.specs.NextestVersion.Source.{Source}
+use Rattle.nextest_config.specs.declared.nextest_version.experimental.ConfigExperimental.{ConfigExperimental}
+use Rattle.toml_spans.proofs.Elements.{all_weaker}
 use Rattle.nextest_config.proofs.OneConfiguration.{none_kept, one_greatest_version}
 use Rattle.nextest_config.proofs.OneVerdict.{all_plain, all_read_once, IsPlainAsked, IsPlainVersion}
 

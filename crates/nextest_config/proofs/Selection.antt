@@ -5,12 +5,11 @@ use Rattle.std.proofs.lemmas.List.{map-append}
 use Rattle.std.specs.List.{AllByRecursion}
 use Rattle.semver.specs.Parse.{Parts}
 use Rattle.nextest_config.specs.NextestVersion.Verdict.{Verdict}
-use Rattle.nextest_config_sources.specs.NextestVersion.{Ask, is_below, IsBelow, SourcePlace}
-use Rattle.nextest_config.specs.NextestVersion.{alone, AsksNoGreater, AsksNone, AsksOther, Configuration, error, gravity, IsConfigurationOf, IsGravest, IsGreatest, IsNoGraver, IsNoGreaterOfItsKind, IsOtherOfItsKind, IsSatisfied, IsSelected, Kept, named_version, not_met, role_from, Roles, satisfied, SelectsFor, short_of, Shortfall, SourceAsk, StandsFor, StandsIn, verdict_by, warn}
-use Rattle.nextest_config_sources.specs.NextestVersion.Source.{Source}
-use Rattle.nextest_config_merge.proofs.Lists.{all_mapped, map_agrees}
-use Rattle.nextest_config_values.proofs.Elements.{all_always, all_both, all_weaker}
-use Rattle.nextest_config_sources.specs.NextestVersion.PrecedenceLaws.{not_below_trans}
+use Rattle.nextest_config.specs.NextestVersion.{Ask, is_below, IsBelow, SourcePlace, alone, AsksNoGreater, AsksNone, AsksOther, Configuration, error, gravity, IsConfigurationOf, IsGravest, IsGreatest, IsNoGraver, IsNoGreaterOfItsKind, IsOtherOfItsKind, IsSatisfied, IsSelected, Kept, named_version, not_met, role_from, Roles, satisfied, SelectsFor, short_of, Shortfall, SourceAsk, StandsFor, StandsIn, verdict_by, warn}
+use Rattle.nextest_config.specs.NextestVersion.Source.{Source}
+use Rattle.nextest_config.proofs.Lists.{all_mapped, map_agrees}
+use Rattle.toml_spans.proofs.Elements.{all_always, all_both, all_weaker}
+use Rattle.nextest_config.specs.NextestVersion.PrecedenceLaws.{not_below_trans}
 
 -- ---- a tier of verdicts: what it tells where a role is unmet, and what stands below it
 

@@ -7,14 +7,13 @@ use Rattle.semver.specs.Parse.{Parts}
 use Rattle.semver.specs.declared.Version.{Version}
 use Rattle.nextest_config.specs.Board.RolePair.{later_asked, later_pair, no_pair, pair_in, slot_version, version_at}
 use Rattle.nextest_config.specs.Board.Slots.{AreHeld, ask_of_versions, board_list, BoardState, IsFrom, IsHeld, kept_in, roles_in, slot_of, slots_of}
-use Rattle.nextest_config_merge.specs.Merge.{total}
+use Rattle.nextest_config.specs.Merge.{total}
 use Rattle.nextest_config.specs.NextestVersion.Verdict.{Verdict}
-use Rattle.nextest_config_sources.specs.NextestVersion.{place_of, plain, Versions, versions, versions_of}
-use Rattle.nextest_config.specs.NextestVersion.{alone, IsSelected, join_kept, join_roles, Kept, no_roles, not_met, role_from, Roles, roles_from, SourceAsk, StandsIn, verdict}
+use Rattle.nextest_config.specs.NextestVersion.{place_of, plain, Versions, versions, versions_of, alone, IsSelected, join_kept, join_roles, Kept, no_roles, not_met, role_from, Roles, roles_from, SourceAsk, StandsIn, verdict}
 use Rattle.nextest_config.specs.declared.board.role_pair.SlotVersion.{SlotVersion}
 use Rattle.nextest_config.specs.declared.board.role_pair.RolePair.{RolePair}
-use Rattle.nextest_config_sources.specs.declared.nextest_version.nextest_version_deserialize.NextestVersionDeserialize.{NextestVersionDeserialize}
-use Rattle.nextest_config_sources.specs.declared.nextest_version.source.ConfigSource.{ConfigSource}
+use Rattle.nextest_config.specs.declared.nextest_version.nextest_version_deserialize.NextestVersionDeserialize.{NextestVersionDeserialize}
+use Rattle.nextest_config.specs.declared.nextest_version.source.ConfigSource.{ConfigSource}
 use Rattle.nextest_config.proofs.OneVerdict.{AsksPlain, IsPlainVersion}
 use Rattle.nextest_config.proofs.Selection.{selects_by}
 use Rattle.nextest_config.proofs.Standing.{stands_alone, stands_in_both}

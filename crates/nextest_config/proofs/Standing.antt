@@ -9,15 +9,14 @@ use Rattle.std.proofs.lemmas.Option.{IfSome_then}
 use Rattle.std.specs.List.{AllByRecursion, AllZip}
 use Rattle.std.specs.List.Sorted.{IsStrictlySortedBy}
 use Rattle.semver.specs.Parse.{Parts}
-use Rattle.nextest_config_merge.specs.Merge.{HavePieces, IsJoinOfPieces, total}
-use Rattle.nextest_config_sources.specs.NextestVersion.{Ask, FeaturesInOrder, is_below, nothing, IsBelow, SourcePlace}
-use Rattle.nextest_config.specs.NextestVersion.{AreRead, array_of, AsksNoGreater, AsksNone, AsksOther, Configuration, configuration_from, entry_of, IsEnabledBySome, IsGreatest, IsRead, IsReadAs, IsSeenAs, join_configurations, join_kept, Kept, neutral, neutral_seen, Reads, role_from, seen_configuration, SeenConfiguration, SourceAsk, StandsFor, StandsForAsks, StandsForOne, StandsIn, Unknown}
-use Rattle.nextest_config_sources.specs.NextestVersion.PrecedenceLaws.{below_trans, not_below_itself, not_below_trans}
-use Rattle.nextest_config_sources.specs.NextestVersion.Source.{Source}
-use Rattle.nextest_config_merge.proofs.Lists.{zip_joined}
-use Rattle.nextest_config_values.proofs.Elements.{all_joined, all_weaker}
-use Rattle.nextest_config_sources.specs.declared.nextest_version.experimental.ConfigExperimental.{ConfigExperimental}
-use Rattle.nextest_config_sources.specs.NextestVersion.SetLaws.{contains_cases, contains_first, contains_none}
+use Rattle.nextest_config.specs.Merge.{HavePieces, IsJoinOfPieces, total}
+use Rattle.nextest_config.specs.NextestVersion.{Ask, FeaturesInOrder, is_below, nothing, IsBelow, SourcePlace, AreRead, array_of, AsksNoGreater, AsksNone, AsksOther, Configuration, configuration_from, entry_of, IsEnabledBySome, IsGreatest, IsRead, IsReadAs, IsSeenAs, join_configurations, join_kept, Kept, neutral, neutral_seen, Reads, role_from, seen_configuration, SeenConfiguration, SourceAsk, StandsFor, StandsForAsks, StandsForOne, StandsIn, Unknown}
+use Rattle.nextest_config.specs.NextestVersion.PrecedenceLaws.{below_trans, not_below_itself, not_below_trans}
+use Rattle.nextest_config.specs.NextestVersion.Source.{Source}
+use Rattle.nextest_config.proofs.Lists.{zip_joined}
+use Rattle.toml_spans.proofs.Elements.{all_joined, all_weaker}
+use Rattle.nextest_config.specs.declared.nextest_version.experimental.ConfigExperimental.{ConfigExperimental}
+use Rattle.nextest_config.specs.NextestVersion.SetLaws.{contains_cases, contains_first, contains_none}
 use Rattle.nextest_config.proofs.Orders.{has_feature_iff}
 
 -- ---- one role

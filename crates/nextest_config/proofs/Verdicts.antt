@@ -4,11 +4,10 @@ use Rattle.std.proofs.lemmas.Bool.{false≢true}
 use Rattle.std.specs.List.{AllByRecursion}
 use Rattle.semver.specs.Parse.{Parts}
 use Rattle.nextest_config.specs.NextestVersion.Verdict.{Verdict}
-use Rattle.nextest_config_sources.specs.NextestVersion.{IsBelow, SourcePlace}
-use Rattle.nextest_config.specs.NextestVersion.{alone, gravity, IsFromSource, IsGravest, IsNoGraver, IsSatisfied, IsSelected, Kept, named_place, not_met, role_from, Roles, roles_from, satisfied, Shortfall, SourceAsk, verdict, verdict_by, warn}
-use Rattle.nextest_config_merge.proofs.Lists.{all_mapped}
-use Rattle.nextest_config_values.proofs.Elements.{all_middle, all_weaker}
-use Rattle.nextest_config_sources.specs.NextestVersion.PrecedenceLaws.{not_below_trans}
+use Rattle.nextest_config.specs.NextestVersion.{IsBelow, SourcePlace, alone, gravity, IsFromSource, IsGravest, IsNoGraver, IsSatisfied, IsSelected, Kept, named_place, not_met, role_from, Roles, roles_from, satisfied, Shortfall, SourceAsk, verdict, verdict_by, warn}
+use Rattle.nextest_config.proofs.Lists.{all_mapped}
+use Rattle.toml_spans.proofs.Elements.{all_middle, all_weaker}
+use Rattle.nextest_config.specs.NextestVersion.PrecedenceLaws.{not_below_trans}
 use Rattle.nextest_config.proofs.Selection.{enough_met, not_short, unmet_is}
 
 -- ---- whence a verdict comes

@@ -1,2 +1,4 @@
 pub mod Board
+pub mod Choice
+pub mod Merge
 pub mod NextestVersion

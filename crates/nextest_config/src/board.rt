@@ -4,6 +4,6 @@ mod config_board;
 mod refusal;
 mod role_pair;
 
+pub use crate::choice::{ChoiceTree, Choose};
 pub use config_board::ConfigBoard;
-pub use nextest_config_merge::choice::{ChoiceTree, Choose};
 pub use refusal::BoardRefusal;

@@ -1,24 +1,91 @@
 //! Laws of the definitions, for every value. They call nothing.
 
-ghost use Rattle.std.specs.Prelude.{◌≡◌, ◌≢◌, ◌↔◌, ◌⊎◌, ◌+◌, ◌<◌, ◌++◌, [], ◌∷◌, ℕ, List, Bool, true, false, get_or, length, map, None, replicate, Some};
+ghost use Rattle.std.specs.Prelude.{◌≡◌, ◌≢◌, ◌↔◌, ◌⊎◌, ◌+◌, ◌<◌, ◌++◌, [], ◌∷◌, ℕ, List, Bool, true, false, get_or, length, map, None, replicate, Some, ◌-◌, ◌/◌, ◌^◌, ◌≤◌};
 ghost use Rattle.std.specs.List.{AllByRecursion, AllZip};
 ghost use Rattle.std.specs.Ordering.{nat_cmp};
 ghost use Rattle.semver.specs.Parse.{Parts};
-ghost use Rattle.nextest_config_merge.specs.Choice.{halvings};
+ghost use Rattle.nextest_config.specs.Choice.{halvings};
 ghost use Rattle.nextest_config.specs.Board.Commands.{BoardCommand, ChangesInTurn, empty_board, HoldsLast, present, slot_in, sources_after};
 ghost use Rattle.nextest_config.specs.Board.Slots.{board_list, BoardState};
-ghost use Rattle.nextest_config_merge.specs.Merge.{IsCut, IsMonoid, IsReordering};
+ghost use Rattle.nextest_config.specs.Merge.{IsCut, IsMonoid, IsReordering};
 ghost use Rattle.nextest_config.specs.NextestVersion.Verdict.{Verdict};
-ghost use Rattle.nextest_config_values.specs.Equality.{IsCopy, IsEquality};
-ghost use Rattle.nextest_config_sources.specs.NextestVersion.{FeaturesInOrder, IsBelow};
-ghost use Rattle.nextest_config.specs.NextestVersion.{Agree, alone, Configuration, configuration_of, IsFirstRefused, IsFirstRefusedAmong, IsFromSource, IsJoinOf, IsNoGraver, IsOverriding, IsSatisfied, IsSelected, IsSelectedFor, join_configurations, join_features, join_kept, join_roles, Kept, neutral_seen, no_features_seen, no_roles, rank, Reads, Refusal, Roles, satisfied, SelectsFor, Shortfall, SourceAsk, StandsFor, verdict, warn};
-ghost use Rattle.nextest_config_sources.specs.NextestVersion.Source.{Source};
+ghost use Rattle.nextest_config_values.specs.Equality.{IsCopy, IsEquality, IsEqualityBy};
+ghost use Rattle.nextest_config.specs.NextestVersion.{FeaturesInOrder, IsBelow, Agree, alone, Configuration, configuration_of, IsFirstRefused, IsFirstRefusedAmong, IsFromSource, IsJoinOf, IsNoGraver, IsOverriding, IsSatisfied, IsSelected, IsSelectedFor, join_configurations, join_features, join_kept, join_roles, Kept, neutral_seen, no_features_seen, no_roles, rank, Reads, Refusal, Roles, satisfied, SelectsFor, Shortfall, SourceAsk, StandsFor, verdict, warn, given_of, IsEnough, IsEnoughByNumbers, features_reading, features_under, HasVersion, IsVersionFault, IsWrong, Numbers, place_of, plain, TextAsks, version_table_keys, versions_reading};
+ghost use Rattle.nextest_config.specs.NextestVersion.Source.{Source, repository_given, tool_given};
 ghost use Rattle.nextest_config.specs.declared.nextest_version.verdict.Severity.{Severity};
 ghost use Rattle.nextest_config.specs.declared.nextest_version.version_only.VersionOnlyConfig.{VersionOnlyConfig};
+ghost use Rattle.nextest_config.specs.declared.nextest_version.edition.Edition.{Edition};
+ghost use Rattle.nextest_config.specs.declared.nextest_version.source.ConfigSourceKind.{ConfigSourceKind};
+ghost use Rattle.nextest_config_values.specs.Once.{HasOneMeaningOrFault};
+ghost use Rattle.nextest_config_values.specs.Read.{IsReading};
 
-use crate::nextest_version::Severity;
-pub use nextest_config_merge::laws::law_halvings;
-pub use nextest_config_sources::laws::{law_enough, law_source_once, law_version_once};
+use crate::nextest_version::{
+    ConfigExperimental, ConfigSource, ConfigSourceKind, Edition, NextestVersionDeserialize,
+    RepositoryText, Severity, SourceText, ToolText,
+};
+
+/// A place among up to one isn't halved away. Of more places the first half has half of them,
+/// rounded down, and the place is halved once, and then within the half that holds it. So it is
+/// halved at most as often as their number has binary digits.
+pub fn law_halvings()
+    ensures alone { (n i : ℕ) → n ≤ 1 → halvings n i ≡ 0 }
+    ensures first { (n i : ℕ) → 2 ≤ n → i < n / 2 → halvings n i ≡ 1 + halvings (n / 2) i }
+    ensures second { (n i : ℕ) → 2 ≤ n → n / 2 ≤ i
+        → halvings n i ≡ 1 + halvings (n - n / 2) (i - n / 2) }
+    ensures digits { (n i digits : ℕ) → n < 2 ^ digits → halvings n i ≤ digits }
+{}
+
+/// Each text has one version and breaks no rule, or has none and breaks one.
+#[tactic(auto, using(crate::specs::NextestVersion::VersionTextLaws::one_version_or_fault))]
+pub fn law_version_once()
+    ensures { HasOneMeaningOrFault HasVersion IsVersionFault }
+{}
+
+/// Each value of `nextest-version` and of `experimental` means one thing and has no fault, or means
+/// nothing and has one fault; that of `experimental` under either edition, too.
+pub fn law_setting_once()
+    ensures versions { IsReading versions_reading.means versions_reading.faults }
+    ensures features { IsReading features_reading.means features_reading.faults }
+    ensures of_edition { (edition : Edition)
+        → IsReading (features_under edition).means (features_under edition).faults }
+{}
+
+/// The keys that a type tells are those of the table that it is read from, in their order.
+pub fn law_keys()
+    ensures { map (λ key. key.now) NextestVersionDeserialize.KEYS.now ≡ version_table_keys }
+{}
+
+/// Under either edition each source asks one thing and nothing is wrong with it, or asks nothing
+/// and one thing is wrong with it.
+pub fn law_source_once()
+    ensures { (edition : Edition) (kind : ConfigSourceKind)
+        → HasOneMeaningOrFault (TextAsks edition kind) (IsWrong edition kind) }
+{}
+
+/// A current version is enough for the version of a text where its numbers are greater in order, or
+/// are the same and it has no pre-release.
+#[tactic(auto, using(crate::proofs::Enough::enough_by_numbers))]
+pub fn law_enough()
+    ensures { (current : Parts) (asked : Numbers)
+        → IsEnough current (plain asked) ↔ IsEnoughByNumbers current asked }
+{}
+
+/// Features, editions and sources are equal exactly where they say the same.
+pub fn law_equality()
+    ensures feature { IsEquality ⟦<ConfigExperimental as PartialEq>⟧.eq }
+    ensures edition { IsEquality ⟦<Edition as PartialEq>⟧.eq }
+    ensures source_kind { IsEquality ⟦<ConfigSourceKind as PartialEq>⟧.eq }
+    ensures source { IsEqualityBy place_of ⟦<ConfigSource as PartialEq>⟧.eq }
+    ensures text { IsEqualityBy given_of ⟦<SourceText as PartialEq>⟧.eq }
+    ensures tool { IsEqualityBy tool_given ⟦<ToolText as PartialEq>⟧.eq }
+    ensures repository { IsEqualityBy repository_given ⟦<RepositoryText as PartialEq>⟧.eq }
+{}
+
+/// A copy is the value that it is made of.
+pub fn law_copies()
+    ensures feature { IsCopy ⟦<ConfigExperimental as Clone>⟧.is_clone }
+    ensures edition { IsCopy ⟦<Edition as Clone>⟧.is_clone }
+{}
 
 /// The rank of severities that the laws of verdicts speak of is the order of `Severity`.
 #[tactic(auto, using(crate::proofs::Orders::by_rank))]

@@ -4,6 +4,7 @@
 #![tactic(auto)]
 
 pub mod board;
+pub mod choice;
 pub mod laws;
 pub mod merge;
 pub mod nextest_version;

@@ -1,7 +1,7 @@
 //! Standard input, judged as the configuration file of a repository.
 
-use nextest_config_findings::{Defined, FileContents, findings};
-use nextest_config_sources::nextest_version::{ConfigSourceKind, Edition};
+use nextest_config::nextest_version::{ConfigSourceKind, Edition};
+use nextest_config_lint::{Defined, FileContents, findings};
 use std::alloc::{AllocError, Global};
 use std::io::{Input, Read};
 use std::str;

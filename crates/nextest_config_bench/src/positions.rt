@@ -1,11 +1,11 @@
 //! Where the keys and the values of documents stand.
 
-use nextest_config_positions::{Index, PartialIndex, Place, Span, Step, line_of};
 use std::alloc::{AllocError, Global};
 use std::collections::BTreeSet;
 use std::io::{Input, Read};
 use std::str;
 use toml::{Table, Value};
+use toml_spans::{Index, PartialIndex, Place, Span, Step, line_of};
 
 // The document that is asked, what is known of it, and the runtime.
 #[derive(Drop)]

@@ -1,13 +1,13 @@
 //! What profiles get of lists of files.
 
-use nextest_config_positions::{PartialIndex, Span};
-use nextest_config_profiles::{EffectiveProfile, Layer, LayerValue, profiles_at_hand};
-use nextest_config_sources::nextest_version::{ConfigSource, ConfigSourceKind};
+use nextest_config::nextest_version::{ConfigSource, ConfigSourceKind};
+use nextest_config_profiles::{EffectiveProfile, Layer, LayerValue, profiles_to_locate};
 use std::alloc::{AllocError, Global};
 use std::collections::BTreeSet;
 use std::io::{Input, Read};
 use std::str;
 use toml::{Table, Value};
+use toml_spans::{PartialIndex, Span};
 
 const SETTINGS: [&str; 15] = [
     "retries",
@@ -65,18 +65,18 @@ fn documents(alloc: Global, list: &str) -> Option<Vec<Table>> {
 
 fn place(alloc: Global, list: &str) -> Option<()> {
     let documents = documents(alloc, list)?;
-    let profiles = at_hand(alloc, &documents)?;
+    let profiles = locate(alloc, &documents)?;
     files(alloc, list, documents, &profiles)?;
     Some(())
 }
 
 // The profiles whose places are asked for, where the profile `ci` is told.
-fn at_hand(alloc: Global, documents: &Vec<Table>) -> Option<BTreeSet<String>> {
+fn locate(alloc: Global, documents: &Vec<Table>) -> Option<BTreeSet<String>> {
     let mut lent = Vec::new(alloc);
     for document in documents {
         lent.push(document).ok()?;
     }
-    profiles_at_hand(alloc, lent.as_slice(), "ci").ok()
+    profiles_to_locate(alloc, lent.as_slice(), "ci").ok()
 }
 
 // The documents with their indexes, which have these profiles at hand.
@@ -132,7 +132,7 @@ fn layers<'a>(alloc: Global, files: &'a [File<'a>]) -> Result<Vec<Layer<'a>>, Al
 // Asks what the profile `ci` gets of a list.
 fn ask(alloc: Global, list: &str) -> Option<()> {
     let documents = documents(alloc, list)?;
-    let profiles = at_hand(alloc, &documents)?;
+    let profiles = locate(alloc, &documents)?;
     let files = files(alloc, list, documents, &profiles)?;
     let layers = layers(alloc, files.as_slice()).ok()?;
     let profile = EffectiveProfile::of(alloc, layers.as_slice(), "ci").ok()?;
@@ -193,7 +193,7 @@ fn print_lists(rt: &HostRuntime, text: &str) -> Option<()> {
 fn print_list(rt: &HostRuntime, list: &str) -> Option<()> {
     let alloc = rt.alloc();
     let documents = documents(alloc, list)?;
-    let profiles = at_hand(alloc, &documents)?;
+    let profiles = locate(alloc, &documents)?;
     let files = files(alloc, list, documents, &profiles)?;
     let layers = layers(alloc, files.as_slice()).ok()?;
     let profile = EffectiveProfile::of(alloc, layers.as_slice(), "default").ok()?;

@@ -1,8 +1,8 @@
 -- Blocks of a text, each with its source.
 use Rattle.std.proofs.Common.{◌≡◌, ℕ, ◌-◌, ◌<◌, List, [], ◌∷◌, ◌++◌, length, take, refl, sym, ap, ◌∙◌, subst, inl, inr, ◌⊎◌, append_assoc, append-nil, length-append, take_at, arith}
 use Rattle.std.proofs.Math.Logic.{⊎_elim, ⊎_map, ⊎_swap}
-use Rattle.nextest_config_positions.specs.Line.{line_after}
-use Rattle.nextest_config_sources.specs.NextestVersion.Source.{Given}
+use Rattle.toml_spans.specs.Line.{line_after}
+use Rattle.nextest_config.specs.NextestVersion.Source.{Given}
 use Rattle.nextest_config_check.specs.Layout.{line_feed, AreBlocks, AreSourcesBefore, IsEmptyOrEndsLine, IsBlock, IsBlockCut, IsFaultyBlock, IsFaultyLine}
 use Rattle.nextest_config_check.proofs.Lines.{first_line_of_cut}
 

@@ -4,9 +4,9 @@ use Rattle.std.specs.List.{AllByRecursion}
 use Rattle.std.proofs.Math.Logic.{⊎_elim, ⊎_map}
 use Rattle.std.proofs.lemmas.Bool.{cond_both}
 use Rattle.std.proofs.lemmas.List.{append_cancel_right}
-use Rattle.nextest_config_sources.specs.NextestVersion.Source.{Given}
-use Rattle.nextest_config_sources.specs.NextestVersion.{SourcePlace}
-use Rattle.nextest_config_positions.specs.Line.{line_after}
+use Rattle.nextest_config.specs.NextestVersion.Source.{Given}
+use Rattle.nextest_config.specs.NextestVersion.{SourcePlace}
+use Rattle.toml_spans.specs.Line.{line_after}
 use Rattle.nextest_config_check.specs.Layout.{line_feed, carriage_return, mark, trimmed, AreBlocks, AreSourcesBefore, IsEmptyOrEndsLine, IsBlock, IsBlockCut, IsFaultyBlock, IsFaultyLine, IsFirstLine, IsInLine, HasNoMarkedLine, HasNoMarkedLineBelow}
 use Rattle.nextest_config_check.proofs.Lines.{first_line_of_cut, not_in_line}
 use Rattle.nextest_config_check.proofs.Blocks.{ends_line_rest}

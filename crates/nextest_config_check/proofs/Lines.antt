@@ -8,7 +8,7 @@ use Rattle.std.proofs.lemmas.Grind.{get_or_default_zero}
 use Rattle.std.proofs.lemmas.List.{take_more, length-take, length-drop, drop-drop, get_or-drop}
 use Rattle.std.proofs.lemmas.List.Elements.{recursion_from_All}
 use Rattle.std.proofs.lemmas.List.Prefix.{front_fits, front_rest}
-use Rattle.nextest_config_values.proofs.Elements.{all_right}
+use Rattle.toml_spans.proofs.Elements.{all_right}
 use Rattle.nextest_config_check.specs.Layout.{line_feed, carriage_return, mark, trimmed, IsEmptyOrEndsLine, IsInLine, IsFirstLine, IsLastLine, HasNoMarkedLine, HasNoMarkedLineBelow, IsBlockCut}
 
 pub in_line_from_reads : (text : List ℕ) → ((i : ℕ) → i < length text → get_or text i 0 ≢ line_feed) → AllByRecursion IsInLine text

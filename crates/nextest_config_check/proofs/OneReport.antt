@@ -2,12 +2,12 @@
 use Rattle.std.proofs.Common.{◌≡◌, ℕ, Bool, List, map, refl, ap}
 use Rattle.semver.specs.Parse.{Parts}
 use Rattle.nextest_config.specs.NextestVersion.{Configuration, IsFirstRefused, Refusal, StandsFor}
-use Rattle.nextest_config_sources.specs.NextestVersion.Source.{Given, under}
+use Rattle.nextest_config.specs.NextestVersion.Source.{Given, under}
 use Rattle.nextest_config.proofs.OneConfiguration.{configuration_once}
 use Rattle.nextest_config.proofs.OneRefusal.{refusal_once}
 use Rattle.nextest_config.proofs.OneVerdict.{verdict_once}
 use Rattle.nextest_config.proofs.Readings.{reads_not_refused}
-use Rattle.nextest_config_sources.specs.declared.nextest_version.edition.Edition.{Edition}
+use Rattle.nextest_config.specs.declared.nextest_version.edition.Edition.{Edition}
 use Rattle.nextest_config_check.specs.Layout.{AreBlocks}
 use Rattle.nextest_config_check.specs.Report.{IsReport, faulty_line, not_text, outcome_of, read_list, refused_list}
 use Rattle.nextest_config_check.specs.declared.report.Outcome.{Outcome}

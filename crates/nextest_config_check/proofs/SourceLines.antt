@@ -6,9 +6,9 @@ use Rattle.nextest_config_values.specs.Read.{FaultOrMemory}
 use Rattle.nextest_config_values.specs.declared.tool_config.ToolConfigFileParseError.{ToolConfigFileParseError}
 use Rattle.nextest_config_values.specs.declared.tool_config.ToolConfigFileParseError.TheVariants as errors
 use Rattle.nextest_config_values.proofs.Arguments.{argument_not_refused, one_argument}
-use Rattle.nextest_config_sources.specs.NextestVersion.{SourcePlace}
-use Rattle.nextest_config_sources.specs.declared.nextest_version.source.ConfigSourceKind.{ConfigSourceKind}
-use Rattle.nextest_config_sources.specs.declared.nextest_version.source.ConfigSourceKind.TheVariants.{Tool, ExplicitRepository, DiscoveredRepository}
+use Rattle.nextest_config.specs.NextestVersion.{SourcePlace}
+use Rattle.nextest_config.specs.declared.nextest_version.source.ConfigSourceKind.{ConfigSourceKind}
+use Rattle.nextest_config.specs.declared.nextest_version.source.ConfigSourceKind.TheVariants.{Tool, ExplicitRepository, DiscoveredRepository}
 use Rattle.nextest_config_check.specs.Layout.{mark, IsSourceLine, NamesPlace, NamesKindAndPath}
 
 abbrev first_byte : List ℕ → ℕ

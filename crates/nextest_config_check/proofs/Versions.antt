@@ -4,7 +4,7 @@ use Rattle.semver.specs.Parse.{◌>>=◌, Parts, digits_from, dot_of, is_memory,
 use Rattle.semver.specs.declared.error.Error.{Error}
 use Rattle.semver.specs.declared.error.Position.{Position}
 use Rattle.semver.specs.declared.error.Position.TheVariants as place
-use Rattle.nextest_config_sources.specs.declared.nextest_version.edition.Edition.{Edition}
+use Rattle.nextest_config.specs.declared.nextest_version.edition.Edition.{Edition}
 use Rattle.nextest_config_check.specs.CommandLine.{check_of, IfComplaint}
 
 -- an error, if any, is none of memory

@@ -1,4 +1,4 @@
--- The words of the line line.
+-- The words of the command line.
 use Rattle.std.specs.Prelude.{◌≡◌, ℕ, Bool, true, false, ◌&&◌, List, [], ◌∷◌, ◌++◌, codes, map, string_bytes, Option, Some, None, Result, Ok, Err, String, nat_eq, if◌then◌else◌}
 use Rattle.std.specs.Cmp.Lexicographic.{pointwise}
 use Rattle.std.specs.declared.alloc.Global.{Global}
@@ -7,8 +7,8 @@ use Rattle.semver.specs.Parse.{Parts, version_parts}
 use Rattle.semver.specs.declared.error.Error.{Error}
 use Rattle.nextest_config_report.specs.declared.exit_status.ExitStatus.{ExitStatus}
 use Rattle.nextest_config_report.specs.declared.exit_status.ExitStatus.TheVariants.{NoOutcome, Refused}
-use Rattle.nextest_config_sources.specs.declared.nextest_version.edition.Edition.{Edition}
-use Rattle.nextest_config_sources.specs.declared.nextest_version.edition.Edition.TheVariants.{ArrayAllowed, TableOnly}
+use Rattle.nextest_config.specs.declared.nextest_version.edition.Edition.{Edition}
+use Rattle.nextest_config.specs.declared.nextest_version.edition.Edition.TheVariants.{ArrayAllowed, TableOnly}
 use Rattle.nextest_config_check.specs.declared.command_line.Check.{Check}
 use Rattle.nextest_config_check.specs.declared.command_line.WordsFault.{WordsFault}
 use Rattle.nextest_config_check.specs.declared.command_line.WordsFault.TheVariants as words
@@ -23,15 +23,15 @@ pub data CommandLine : Type 0 where
 abbrev pub usage_text : List ℕ
 usage_text = codes "usage: nextest_config_check CURRENT [--override] [--table-only]"
 
--- words that are no call of it
+-- the refusal of words that are no call of the program: how it is called
 abbrev pub usage : CommandLine
 usage = complain (usage_text ++ codes "\n")
 
--- a word that is no version
+-- how the refusal of a word that is no version prints
 abbrev pub not_version_text : List ℕ → List ℕ
 not_version_text word = codes "not a version: " ++ word
 
--- what a word asks for, by the version that it spells, if it spells one
+-- what a word asks for, by the version (SemVer 2.0.0) that it spells, if it spells one
 abbrev pub check_of : List ℕ → Bool → Edition → Result Parts Error → CommandLine
 check_of word overridden edition (Ok current) = check current overridden edition
 check_of word overridden edition (Err e) = complain (not_version_text word ++ codes "\n")
@@ -49,13 +49,13 @@ flags_of (first ∷ second ∷ []) = if is_word first (codes "--override")
     && is_word second (codes "--table-only") then Some (true, TableOnly) else None
 flags_of arguments = None
 
--- what a word and what its flags ask for is
+-- what a word asks for under its flags, where they are the program's; else `usage`
 abbrev pub check_with : List ℕ → Option (Bool × Edition) → CommandLine
 check_with current None = usage
 check_with current (Some (overridden, edition)) =
     check_of current overridden edition (version_parts current)
 
--- the words of the line line, without the program's name
+-- what the words of the command line ask for, without the program's name
 abbrev pub command_line_from : List (List ℕ) → CommandLine
 command_line_from [] = usage
 command_line_from (current ∷ flags) = check_with current (flags_of flags)
@@ -64,12 +64,12 @@ command_line_from (current ∷ flags) = check_with current (flags_of flags)
 abbrev pub command_line_of : List (String Global) → CommandLine
 command_line_of words = command_line_from (map string_bytes words)
 
--- for words that are refused with a text
+-- where the words are refused with a text, the fact holds of it
 abbrev pub IfComplaint : CommandLine → (List ℕ → Type 0) → Type 0
 IfComplaint (check current overridden edition) fact = Unit {0}
 IfComplaint (complain text) fact = fact text
 
--- for words that ask for a check
+-- where the words ask for a check, the fact holds of it
 abbrev pub IfCheck : CommandLine → (Parts → Bool → Edition → Type 0) → Type 0
 IfCheck (check current overridden edition) fact = fact current overridden edition
 IfCheck (complain text) fact = Unit {0}

@@ -2,14 +2,14 @@
 -- that source.
 use Rattle.std.specs.Prelude.{◌≡◌, ◌≢◌, ℕ, ◌<◌, ◌==◌, List, [], ◌∷◌, ◌++◌, length, codes, Option, Some, MatchOption, ◌⊎◌, if◌then◌else◌}
 use Rattle.std.specs.List.{AllByRecursion}
-pub use Rattle.nextest_config_values.specs.Characters.{carriage_return, line_feed}
+pub use Rattle.toml_spans.specs.Characters.{carriage_return, line_feed}
 use Rattle.nextest_config_values.specs.ToolConfig.{IsToolArgument}
-use Rattle.nextest_config_positions.specs.Line.{EndsLine, line_after}
-use Rattle.nextest_config_sources.specs.NextestVersion.Source.{Given}
-use Rattle.nextest_config_sources.specs.NextestVersion.{SourcePlace, place_of}
-use Rattle.nextest_config_sources.specs.declared.nextest_version.source.ConfigSource.{ConfigSource}
-use Rattle.nextest_config_sources.specs.declared.nextest_version.source.ConfigSourceKind.{ConfigSourceKind}
-use Rattle.nextest_config_sources.specs.declared.nextest_version.source.ConfigSourceKind.TheVariants.{Tool, ExplicitRepository, DiscoveredRepository}
+use Rattle.toml_spans.specs.Line.{EndsLine, line_after}
+use Rattle.nextest_config.specs.NextestVersion.Source.{Given}
+use Rattle.nextest_config.specs.NextestVersion.{SourcePlace, place_of}
+use Rattle.nextest_config.specs.declared.nextest_version.source.ConfigSource.{ConfigSource}
+use Rattle.nextest_config.specs.declared.nextest_version.source.ConfigSourceKind.{ConfigSourceKind}
+use Rattle.nextest_config.specs.declared.nextest_version.source.ConfigSourceKind.TheVariants.{Tool, ExplicitRepository, DiscoveredRepository}
 use Rattle.nextest_config_check.specs.declared.layout.LayoutFault.{LayoutFault}
 use Rattle.nextest_config_check.specs.declared.layout.LayoutFault.TheVariants as faults
 
@@ -31,7 +31,8 @@ HasNoMarkedLineBelow text = (front rest : List ℕ) → text ≢ front ++ (line_
 
 -- no line of the text begins with the mark
 abbrev pub HasNoMarkedLine : List ℕ → Type 0
-HasNoMarkedLine text = (front rest : List ℕ) → text ≡ front ++ (mark ++ rest) → ¬ IsEmptyOrEndsLine front
+HasNoMarkedLine text = (front rest : List ℕ) → text ≡ front ++ (mark ++ rest)
+    → ¬ IsEmptyOrEndsLine front
 
 -- the text without one carriage return at its end
 abbrev pub trimmed : List ℕ → List ℕ
@@ -104,7 +105,7 @@ AreBlocks (source ∷ sources) text =
     (block : List ℕ) × (rest : List ℕ) × (text ≡ block ++ rest) × IsBlock block source
     × ((rest ≡ []) ⊎ IsEmptyOrEndsLine block) × AreBlocks sources rest
 
--- the text's first line is marked, or it is the first line of the input
+-- a source line is owed where the rest begins: it begins with the mark, or is the whole input
 abbrev pub OwesSourceLine : List ℕ → List ℕ → Type 0
 OwesSourceLine front rest = (front ≡ []) ⊎ ((more : List ℕ) × (rest ≡ mark ++ more))
 

@@ -6,10 +6,11 @@ use Rattle.semver.specs.Parse.{Parts}
 use Rattle.nextest_config.specs.NextestVersion.Verdict.{Verdict}
 use Rattle.nextest_config.specs.NextestVersion.{Configuration, error, IsFirstRefused, IsSelectedFor, Refusal, refusal_text, satisfied, StandsFor, warn}
 use Rattle.nextest_config.specs.NextestVersion.ExperimentalConfig.{Experimental}
-use Rattle.nextest_config_sources.specs.NextestVersion.Source.{Given, under}
-use Rattle.nextest_config_sources.specs.declared.nextest_version.edition.Edition.{Edition}
+use Rattle.nextest_config.specs.NextestVersion.Source.{Given, under}
+use Rattle.nextest_config.specs.declared.nextest_version.edition.Edition.{Edition}
 use Rattle.nextest_config_report.specs.ExitStatus.{exit_code}
 use Rattle.nextest_config_report.specs.Lines.{read_text}
+use Rattle.nextest_config_report.specs.declared.source.SourceStyle.TheVariants.{AsWritten}
 use Rattle.nextest_config_report.specs.declared.exit_status.ExitStatus.{ExitStatus}
 use Rattle.nextest_config_report.specs.declared.exit_status.ExitStatus.TheVariants as exits
 use Rattle.nextest_config_check.specs.Layout.{AreBlocks, IsFaultyLine}
@@ -17,7 +18,7 @@ use Rattle.nextest_config_check.specs.declared.report.Outcome.{Outcome}
 use Rattle.nextest_config_check.specs.declared.report.Report.{Report}
 use Rattle.nextest_config_check.specs.declared.report.Outcome.TheVariants.{Passed, Failed, Refused}
 
--- an error that isn't overridden fails
+-- the outcome of a verdict: an error that isn't overridden fails, and any other one passes
 abbrev pub outcome_of : Verdict → Outcome
 outcome_of satisfied = Passed
 outcome_of (warn shortfall) = Passed
@@ -43,13 +44,14 @@ pub data IsReport (input : List ℕ) (current : Parts) (overridden : Bool) (edit
   read_list : (sources : List Given) (v : Verdict) (configuration : Configuration) → IsUtf8 input
       → AreBlocks sources input → IsSelectedFor (map (under edition) sources) current overridden v
       → StandsFor (map (under edition) sources) configuration
-      → IsReport input current overridden edition (read_text current v configuration.experimental)
+      → IsReport input current overridden edition
+      (read_text AsWritten current v configuration.experimental)
       (outcome_of v)
 
 -- the report is that of a list that reads, with this verdict and these features
 pub record IsReportOf (current : Parts) (v : Verdict) (experimental : Experimental)
     (report : Report) : Type 0 where
-  pub text : string_bytes report.text ≡ read_text current v experimental
+  pub text : string_bytes report.text ≡ read_text AsWritten current v experimental
   pub outcome : report.outcome ≡ outcome_of v
 
 -- the report on each input that holds these sources, and its outcome
@@ -57,13 +59,13 @@ abbrev pub IsReportOn : List Given → Parts → Bool → Edition → List ℕ �
 IsReportOn sources current overridden edition text outcome = (input : List ℕ) → IsUtf8 input
     → AreBlocks sources input → IsReport input current overridden edition text outcome
 
--- how the program ends
+-- how the program ends with an outcome
 abbrev pub exit_status_of : Outcome → ExitStatus
 exit_status_of Passed = exits.Success
 exit_status_of Failed = exits.Failure
 exit_status_of Refused = exits.Refused
 
--- the number that it ends with
+-- the number of the status that an outcome ends in
 abbrev pub status_of : Outcome → ℕ
 status_of outcome = exit_code (exit_status_of outcome)
 

@@ -2,7 +2,7 @@
 use Rattle.std.specs.Prelude.{◌≡◌, ℕ, Bool, List, ◌++◌, codes, Option, IfSome}
 use Rattle.std.specs.Io.KnownBytes.{Appends, IsAtEnd, Keeps}
 use Rattle.semver.specs.Parse.{Parts}
-use Rattle.nextest_config_sources.specs.declared.nextest_version.edition.Edition.{Edition}
+use Rattle.nextest_config.specs.declared.nextest_version.edition.Edition.{Edition}
 use Rattle.nextest_config_report.specs.Streams.{AddsOrFails}
 use Rattle.nextest_config_check.specs.Report.{IsReport, status_of}
 use Rattle.nextest_config_check.specs.declared.streams.RunFault.{RunFault}
@@ -32,7 +32,8 @@ WritesReport known current overridden edition status old new =
 
 -- what a fault leaves of the input and the output: nothing was written; or all was read, and a
 -- write failed
-abbrev pub StreamsAfter : RunFault → Option (List ℕ) → Type 0 → Option (List ℕ) → Option (List ℕ) → Type 0
+abbrev pub StreamsAfter : RunFault → Option (List ℕ) → Type 0 → Option (List ℕ)
+    → Option (List ℕ) → Type 0
 StreamsAfter faults.Read left unwritten old new = Keeps old new
 StreamsAfter faults.Write left unwritten old new = IsAtEnd left × unwritten
 StreamsAfter faults.Memory left unwritten old new = Keeps old new

@@ -39,7 +39,7 @@ pub(crate) enum WordsFault<'a> {
 }
 
 impl<'a> WordsFault<'a> {
-    /// Why there are no words.
+    /// Why the words can't be read.
     pub fn of_read(error: &io::Error) -> Self
         ensures memory { (result ≡ Memory) ↔ (error_kind error.now ≡ ErrorKind.OutOfMemory) }
         ensures usage { result ≢ Memory → result ≡ Usage }
@@ -61,7 +61,7 @@ impl<'a> WordsFault<'a> {
         }
     }
 
-    /// How the program ends.
+    /// How the program ends after such a fault.
     pub fn status(self) -> ExitStatus
         ensures { result ≡ words_status self.entry }
     {

@@ -3,8 +3,8 @@
 ghost use Rattle.std.specs.Prelude.{◌≡◌, ℕ, Bool, List};
 ghost use Rattle.semver.specs.Parse.{Parts};
 ghost use Rattle.nextest_config_values.specs.Equality.{IsCopy, IsEquality};
-ghost use Rattle.nextest_config_sources.specs.NextestVersion.Source.{Given};
-ghost use Rattle.nextest_config_sources.specs.declared.nextest_version.edition.Edition.{Edition};
+ghost use Rattle.nextest_config.specs.NextestVersion.Source.{Given};
+ghost use Rattle.nextest_config.specs.declared.nextest_version.edition.Edition.{Edition};
 ghost use Rattle.nextest_config_check.specs.Layout.{AreBlocks, IsFaultyLine};
 ghost use Rattle.nextest_config_check.specs.Report.{IsReport};
 

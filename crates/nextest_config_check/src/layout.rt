@@ -2,14 +2,14 @@
 //! line is `=== tool NAME:PATH`, `=== explicit PATH` or `=== repository PATH`.
 
 ghost use Rattle.std.specs.Prelude.{◌≡◌, ◌+◌, ◌-◌, ◌<◌, ◌≤◌, ◌++◌, ℕ, List, codes, length, map, take, IfOk, IfErr, MatchOption};
-ghost use Rattle.nextest_config_positions.specs.Line.{line_after};
-ghost use Rattle.nextest_config_sources.specs.NextestVersion.{given_of};
+ghost use Rattle.toml_spans.specs.Line.{line_after};
+ghost use Rattle.nextest_config.specs.NextestVersion.{given_of};
 ghost use Rattle.nextest_config_check.specs.Layout.{AreBlocks, IsBlock, IsBlockCut, IsFaultyBlock, IsFaultyInput, IsFirstLine, IsSourceIfAny, IsSourceLine, HasNoMarkedLineBelow, IsWordAndPath, NamesPlace, trimmed};
 
 use nextest_config::nextest_version::{ConfigSource, ConfigSourceKind, SourceText};
-use nextest_config_positions::line_after;
 use nextest_config_values::tool_config::{ToolConfigFile, ToolConfigFileParseError};
 use std::alloc::{AllocError, Global};
+use toml_spans::line_after;
 
 // What a source line begins with.
 const MARK: &str = "=== ";

@@ -2,8 +2,7 @@
 
 ghost use Rattle.std.specs.Prelude.{◌≡◌, IfOk, map};
 ghost use Rattle.semver.specs.Identifiers.{parts_of};
-ghost use Rattle.nextest_config_sources.specs.NextestVersion.{given_of};
-ghost use Rattle.nextest_config.specs.NextestVersion.{configuration_of, experimental_of, verdict, verdict_of};
+ghost use Rattle.nextest_config.specs.NextestVersion.{given_of, configuration_of, experimental_of, verdict, verdict_of};
 ghost use Rattle.nextest_config_check.specs.Report.{IsReportFor, IsReportForSources, IsReportOf, exit_status_of, outcome_of, status_of};
 
 use crate::layout::{self, LayoutFault};
@@ -13,6 +12,7 @@ use nextest_config::nextest_version::{
 };
 use nextest_config_report::exit_status::ExitStatus;
 use nextest_config_report::lines::report_text;
+use nextest_config_report::source::SourceStyle;
 use semver::Version;
 use std::alloc::{AllocError, Global};
 use std::str;
@@ -29,14 +29,14 @@ pub enum Outcome {
 }
 
 impl Outcome {
-    /// The number that the program ends with.
+    /// The number that the program ends with, where a check came out so.
     pub fn status(self) -> u8
         ensures { result ≡ status_of self }
     {
         self.exit_status().code()
     }
 
-    // How the program ends.
+    // How the program ends, where a check came out so.
     fn exit_status(self) -> ExitStatus
         ensures { result ≡ exit_status_of self }
     {
@@ -137,7 +137,7 @@ fn report_on_eval(
     ensures { IfOk result (IsReportOf (parts_of current.now) (verdict_of eval.now)
         (experimental_of experimental.now)) }
 {
-    let text = report_text(alloc, eval, current, experimental)?;
+    let text = report_text(alloc, SourceStyle::AsWritten, eval, current, experimental)?;
     let outcome = verdict_outcome(eval);
     Ok(Report { text, outcome })
 }

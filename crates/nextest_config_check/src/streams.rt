@@ -48,7 +48,7 @@ impl RunFault {
         }
     }
 
-    // What the program says of it.
+    // What the program says of the fault.
     fn as_str(self) -> &'static str
         ensures { result.now ≡ run_fault_text self }
     {
@@ -100,7 +100,8 @@ pub fn serve<R: Read, W: Stream, E: Stream>(
         Keeps (W.contents writer.old) (W.contents writer.new)) }
 
     // Words that ask for a check.
-    ensures checked { IfCheck (command_line_of words.now) (λ current overridden edition. (result ≡ 3)
+    ensures checked { IfCheck (command_line_of words.now) (λ current overridden edition.
+        (result ≡ 3)
         ⊎ WritesReport (R.remaining reader.old) current overridden edition result
         (W.contents writer.old) (W.contents writer.new)) }
     ensures drained { result ≢ 3 → IfCheck (command_line_of words.now)

@@ -1,0 +1,4 @@
+pub mod Matches
+pub mod Refusal
+pub mod Said
+pub mod Taken

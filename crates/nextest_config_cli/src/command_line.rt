@@ -143,8 +143,9 @@ fn profile_command<'a>(alloc: Global, choices: Choices<'a>) -> Result<Command<'a
 }
 
 fn explain_command<'a>(alloc: Global) -> Result<Command<'a>, AllocError> {
-    let code = Arg::new(alloc, CODE).required(true).help(
-        "The code of a finding, as it stands at the end of its line, or nextest-version",
+    let code = Arg::new(alloc, CODE).help(
+        "The code of a finding, as it stands at the end of its line, or nextest-version; \
+         else all codes are listed",
     );
     Command::new(alloc, EXPLAIN)
         .about("Says what a code means, with an example and the same mended")

@@ -1,18 +1,20 @@
-//! `nextest-config` checks, lints and shows what configuration files of nextest ask, what is wrong in
-//! them, and what profiles get for their settings, and explains the codes of what it finds.
+//! `nextest-config` checks, lints and shows what configuration files of nextest ask, what is wrong
+//! in them, and what profiles get for their settings, and explains the codes of what it finds.
 #![tactic(auto)]
 
 mod command_line;
 mod file_system;
 mod refusal;
 mod request;
+mod said;
+mod taken;
 
 use command_line::Vocabulary;
 use file_system::FileSystem;
 use nextest_config_command::serve;
-use nextest_config_explain::Explanation;
-use refusal::{Refusal, refuse, show};
+use refusal::Refusal;
 use request::{Asked, parse};
+use said::{explained, refuse, show};
 use std::process::ExitCode;
 use std::{env, io};
 
@@ -44,8 +46,8 @@ fn run(rt: &HostRuntime, words: &[String]) -> u8 {
             &mut rt.stderr(),
         ),
         Ok(Asked::Explanation(topic)) => {
-            let text = Explanation::of(topic).to_string(rt.alloc());
-            show(text, &mut rt.stdout(), &mut rt.stderr()).code()
+            let lines = explained(rt.alloc(), topic);
+            show(lines, &mut rt.stdout(), &mut rt.stderr()).code()
         }
         Err(refusal) => refuse_words(rt, &refusal),
     }

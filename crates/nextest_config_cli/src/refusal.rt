@@ -1,13 +1,9 @@
-//! Why the words of the command line ask for nothing, and what is said of it.
+//! Why the words of the command line ask for nothing.
 
 use clap::error::ErrorKind as ClapKind;
-use nextest_config_report::exit_status::ExitStatus;
-use nextest_config_report::streams::{
-    CANNOT_WRITE, NOT_VERSION, OUT_OF_MEMORY, complain, write_report,
-};
 use nextest_config_values::tool_config::ToolConfigFileParseError;
-use std::alloc::{AllocError, Global};
-use std::io::{self, ErrorKind, Write};
+use std::alloc::AllocError;
+use std::io::{self, ErrorKind};
 
 /// Why the words ask for nothing.
 #[derive(Debug, Drop)]
@@ -20,6 +16,8 @@ pub(crate) enum Refusal<'a> {
     NotVersion(&'a str),
     /// This word is no code.
     NotCode(&'a str),
+    /// This word is no topic of an explanation. The word of one that it comes nearest to.
+    NotTopic(&'a str, Option<&'static str>),
     /// A word names no tool's file.
     Tool(ToolConfigFileParseError),
     /// The system doesn't name the current folder, from which files are looked for.
@@ -47,6 +45,11 @@ impl Refusal<'_> {
 }
 
 impl From<AllocError> for Refusal<'_> {
+    ghost use Rattle.std.specs.Prelude.{◌≡◌};
+    ghost use Rattle.nextest_config_cli.specs.declared.refusal.Refusal.TheVariants.{Memory};
+
+    ghost from_gives = { λ _ refusal. refusal ≡ Memory };
+
     fn from(_error: AllocError) -> Self {
         Refusal::Memory
     }
@@ -62,68 +65,14 @@ impl From<clap::Error> for Refusal<'_> {
 }
 
 impl From<ToolConfigFileParseError> for Refusal<'_> {
+    ghost use Rattle.nextest_config_cli.specs.Refusal.{IsOfTool};
+
+    ghost from_gives = { IsOfTool };
+
     fn from(error: ToolConfigFileParseError) -> Self {
         match error {
             ToolConfigFileParseError::Memory => Refusal::Memory,
             error => Refusal::Tool(error),
         }
     }
-}
-
-/// Says why the words ask for nothing, or what they ask `clap` for, and tells how the program ends.
-pub(crate) fn refuse<W: Write, E: Write>(
-    alloc: Global,
-    refusal: &Refusal<'_>,
-    writer: &mut W,
-    faults: &mut E,
-) -> ExitStatus {
-    match refusal {
-        Refusal::Clap(error) if !error.use_stderr() => {
-            show(error.to_string(alloc), writer, faults)
-        }
-        Refusal::Clap(error) => match error.to_string(alloc) {
-            Ok(said) => {
-                let _ = write_report(faults, said.as_bytes());
-                ExitStatus::Refused
-            }
-            Err(AllocError) => give_up(faults, OUT_OF_MEMORY, ""),
-        },
-        Refusal::Words(said) => misused(faults, said, ""),
-        Refusal::NotVersion(word) => misused(faults, NOT_VERSION, word),
-        Refusal::NotCode(word) => misused(faults, "not a code: ", word),
-        Refusal::Tool(error) => match error.to_string(alloc) {
-            Ok(said) => misused(faults, said.as_str(), ""),
-            Err(AllocError) => give_up(faults, OUT_OF_MEMORY, ""),
-        },
-        Refusal::CurrentFolder(error) => match error.to_string(alloc) {
-            Ok(reason) => give_up(faults, "current folder: ", reason.as_str()),
-            Err(AllocError) => give_up(faults, OUT_OF_MEMORY, ""),
-        },
-        Refusal::Memory => give_up(faults, OUT_OF_MEMORY, ""),
-    }
-}
-
-/// Shows a text, if there was memory for it, and tells how the program ends.
-pub(crate) fn show<W: Write, E: Write>(
-    text: Result<String, AllocError>,
-    writer: &mut W,
-    faults: &mut E,
-) -> ExitStatus {
-    match text {
-        Ok(text) => match write_report(writer, text.as_bytes()) {
-            Ok(()) => ExitStatus::Success,
-            Err(_) => give_up(faults, CANNOT_WRITE, ""),
-        },
-        Err(AllocError) => give_up(faults, OUT_OF_MEMORY, ""),
-    }
-}
-
-fn misused<E: Write>(faults: &mut E, complaint: &str, word: &str) -> ExitStatus {
-    let _ = complain(faults, complaint, word);
-    ExitStatus::Refused
-}
-
-fn give_up<E: Write>(faults: &mut E, complaint: &str, word: &str) -> ExitStatus {
-    let _ = complain(faults, complaint, word);
-    ExitStatus::NoOutcome
 }

@@ -7,16 +7,15 @@ use Rattle.semver.specs.Parse.{Parts}
 use Rattle.toml.specs.Data.{Data, get_member, Members, table}
 use Rattle.toml.specs.Parse.{parse_document}
 use Rattle.nextest_config_values.specs.Read.{either, no_data}
-use Rattle.nextest_config_values.proofs.Elements.{all_joined}
-use Rattle.nextest_config_sources.specs.NextestVersion.{in_order, no_versions, SourcePlace, under, version_key, version_reading, version_table, Versions, versions, versions_reading}
-use Rattle.nextest_config_sources.specs.declared.nextest_version.edition.Edition.{Edition}
-use Rattle.nextest_config_positions.specs.Index.{IsIndexOf, IsSpanOf, ranges_in}
-use Rattle.nextest_config_positions.specs.Line.{found_below, found_in}
-use Rattle.nextest_config_positions.specs.Step.{PathStep}
-use Rattle.nextest_config_positions.specs.declared.index.Index.{Index}
-use Rattle.nextest_config_positions.specs.declared.place.Span.{Span}
-use Rattle.nextest_config_findings.specs.File.{IsTextOf, range_at}
-use Rattle.nextest_config.specs.NextestVersion.{AreRead, error, IsReadAs, IsSelectedFor, Kept, named_place, not_met, role_from, satisfied, Shortfall, SourceAsk, verdict_by, verdict_in, warn}
+use Rattle.toml_spans.proofs.Elements.{all_joined}
+use Rattle.nextest_config.specs.NextestVersion.{in_order, no_versions, SourcePlace, under, version_key, version_reading, version_table, Versions, versions, versions_reading, AreRead, error, IsReadAs, IsSelectedFor, Kept, named_place, not_met, role_from, satisfied, Shortfall, SourceAsk, verdict_by, verdict_in, warn}
+use Rattle.nextest_config.specs.declared.nextest_version.edition.Edition.{Edition}
+use Rattle.toml_spans.specs.Index.{IsIndexOf, IsSpanOf, ranges_in}
+use Rattle.toml_spans.specs.Line.{found_below, found_in}
+use Rattle.toml_spans.specs.Step.{PathStep}
+use Rattle.toml_spans.specs.declared.index.Index.{Index}
+use Rattle.toml_spans.specs.declared.place.Span.{Span}
+use Rattle.nextest_config_lint.specs.File.{IsTextOf, range_at}
 use Rattle.nextest_config.specs.NextestVersion.Verdict.{Verdict}
 use Rattle.nextest_config.specs.declared.nextest_version.verdict.VersionRole.{VersionRole}
 use Rattle.nextest_config.specs.declared.nextest_version.verdict.VersionRole.TheVariants.{Recommended, Required}

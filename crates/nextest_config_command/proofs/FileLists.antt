@@ -3,8 +3,8 @@ use Rattle.std.proofs.Common.{◌≡◌, ◌⊎◌, Bool, true, false, List, [],
 use Rattle.std.specs.Prelude.{ℕ, IsSome, IsUtf8}
 use Rattle.std.specs.Str.{is_utf8}
 use Rattle.std.proofs.lemmas.Str.{is_utf8-from_IsUtf8, IsUtf8-from_is_utf8}
-use Rattle.nextest_config_values.proofs.Elements.{all_weaker}
-use Rattle.nextest_config_sources.specs.declared.nextest_version.edition.Edition.{Edition}
+use Rattle.toml_spans.proofs.Elements.{all_weaker}
+use Rattle.nextest_config.specs.declared.nextest_version.edition.Edition.{Edition}
 use Rattle.nextest_config.proofs.OneRefusal.{reads_or_refused}
 use Rattle.nextest_config.specs.NextestVersion.{Reads}
 use Rattle.nextest_config_command.specs.FileList.{AreDocuments, AreTexts, IsDocumentFile, IsRefusedList, IsText, sources_of_files}

@@ -1,10 +1,10 @@
 -- Files as layers.
 use Rattle.std.proofs.Common.{◌<◌, ◌∙◌, ap, arith, get_or, length, List, [], ◌∷◌, ℕ, zero, suc, Some, sym, subst}
 use Rattle.std.specs.List.{AllByRecursion, AllZip}
-use Rattle.nextest_config_values.proofs.Elements.{all_weaker}
-use Rattle.nextest_config_sources.specs.NextestVersion.{place_of}
-use Rattle.nextest_config_sources.specs.declared.nextest_version.edition.Edition.{Edition}
-use Rattle.nextest_config_positions.specs.Partial.{IsPartialIndexOf}
+use Rattle.toml_spans.proofs.Elements.{all_weaker}
+use Rattle.nextest_config.specs.NextestVersion.{place_of}
+use Rattle.nextest_config.specs.declared.nextest_version.edition.Edition.{Edition}
+use Rattle.toml_spans.specs.Partial.{IsPartialIndexOf}
 use Rattle.nextest_config_profiles.specs.declared.layer.Layer.{Layer}
 use Rattle.toml.specs.View.{table_view}
 use Rattle.nextest_config_command.specs.FileFindings.{HasNoError}

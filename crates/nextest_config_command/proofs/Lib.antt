@@ -7,6 +7,7 @@ pub mod FirstFailures
 pub mod LayersOfFiles
 pub mod LintStatus
 pub mod ProfilesTold
+pub mod ShownToPeople
 pub mod VerdictsTold
 pub mod Walks
 pub mod WantedPaths

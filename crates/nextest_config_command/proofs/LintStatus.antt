@@ -1,23 +1,25 @@
 -- The status of a lint, by what is found in its files.
 use mathlib.Core.Logic.Iff as iff
-use Rattle.std.specs.Prelude.{◌≡◌, ◌≢◌, ◌↔◌, ◌+◌, ◌||◌, ℕ, suc, Bool, false, true, List, [], ◌∷◌, ◌++◌, cond, count_by, filter, length, map, nat_lt}
+use Rattle.std.specs.Prelude.{◌≡◌, ◌≢◌, ◌↔◌, ◌+◌, ◌||◌, ℕ, suc, Bool, false, true, List, [], ◌∷◌, ◌++◌, cond, count_by, filter, length, map, nat_lt, if◌then◌else◌}
 use Rattle.std.proofs.Common.{ap, arith, refl}
 use Rattle.std.proofs.lemmas.Bool.Decides.{nat_tests}
 use Rattle.std.proofs.lemmas.Grind.{flat_map-append}
 use Rattle.std.proofs.lemmas.List.Concat.{flat_map-cons}
 use Rattle.std.proofs.lemmas.List.Sums.{sum_by-append, sum_by-cons}
 use Rattle.std.specs.List.{AllByRecursion, AllZip}
-use Rattle.nextest_config_values.proofs.Elements.{all_joined, all_left, all_right}
+use Rattle.toml_spans.proofs.Elements.{all_joined, all_left, all_right}
 use Rattle.nextest_config_report.specs.ExitStatus.{exit_code}
-use Rattle.nextest_config_sources.specs.declared.nextest_version.edition.Edition.{Edition}
-use Rattle.nextest_config_findings.proofs.NoErrorFiles.{no_error_in_file}
-use Rattle.nextest_config_findings.specs.Defined.{ListFile}
-use Rattle.nextest_config_findings.specs.FindingsLaws.{IsNoLocatedError}
-use Rattle.nextest_config_findings.specs.declared.file.LocatedFinding.{LocatedFinding}
-use Rattle.nextest_config_findings.specs.declared.finding.FindingSeverity.{FindingSeverity}
-use Rattle.nextest_config_findings.specs.declared.finding.FindingSeverity.TheVariants.{Error, Note, Warning}
+use Rattle.nextest_config_report.specs.declared.exit_status.ExitStatus.{ExitStatus}
+use Rattle.nextest_config_report.specs.declared.exit_status.ExitStatus.TheVariants.{NoOutcome}
+use Rattle.nextest_config.specs.declared.nextest_version.edition.Edition.{Edition}
+use Rattle.nextest_config_lint.proofs.NoErrorFiles.{no_error_in_file}
+use Rattle.nextest_config_lint.specs.Defined.{ListFile}
+use Rattle.nextest_config_lint.specs.FindingsLaws.{IsNoLocatedError}
+use Rattle.nextest_config_lint.specs.declared.file.LocatedFinding.{LocatedFinding}
+use Rattle.nextest_config_lint.specs.declared.finding.FindingSeverity.{FindingSeverity}
+use Rattle.nextest_config_lint.specs.declared.finding.FindingSeverity.TheVariants.{Error, Note, Warning}
 use Rattle.nextest_config_command.specs.Answer.{AnswerView, IsLinted, judging}
-use Rattle.nextest_config_command.specs.FileFindings.{AreFound, FileFound, HasNoError, is_error, IsFoundAfter, IsFoundIn, tells}
+use Rattle.nextest_config_command.specs.FileFindings.{AreFound, as_list, FileFound, HasNoError, is_error, IsFoundAfter, IsFoundIn, tells}
 use Rattle.nextest_config_command.specs.Files.{File}
 use Rattle.nextest_config_command.specs.Found.{all_files, FilesRead}
 use Rattle.nextest_config_command.specs.Lint.{failure_if, severities_in, severities_of, severity_of}
@@ -75,15 +77,15 @@ files_pass edition list position (file ∷ files) (one ∷ found) (here, rest) =
     (iff.and (file_passes edition list position file one here) (files_pass edition list (suc position) files found rest)))
 
 -- and so do files after those of tools
-after_pass : (edition : Edition) (tools files : List File) (found : List FileFound) → AllZip (IsFoundAfter (judging edition [] false) tools) files found
+after_pass : (edition : Edition) (read : FilesRead) (files : List File) (found : List FileFound) → AllZip (IsFoundAfter (judging edition [] false) read) files found
     → HasNone (severities_of found) ↔ AllByRecursion (HasNoError edition) files
-after_pass edition tools [] [] none = (λ h. tt, λ h. refl)
-after_pass edition tools [] (one ∷ found) none = absurd none
-after_pass edition tools (file ∷ files) [] none = absurd none
-after_pass edition tools (file ∷ files) (one ∷ found) ((list, listed, is), rest) =
+after_pass edition read [] [] none = (λ h. tt, λ h. refl)
+after_pass edition read [] (one ∷ found) none = absurd none
+after_pass edition read (file ∷ files) [] none = absurd none
+after_pass edition read (file ∷ files) (one ∷ found) ((list, listed, is), rest) =
     rw (flat_map-cons severities_in one found)
     (iff.trans (both_none (severities_in one) (severities_of found))
-    (iff.and (file_passes edition list (length tools) file one is) (after_pass edition tools files found rest)))
+    (iff.and (file_passes edition (as_list read list) (length read.tools) file one is) (after_pass edition read files found rest)))
 
 -- both lists are so exactly where all of it is
 all_of_both : {A : Type 0} (P : A → Type 0) (xs ys : List A) → (AllByRecursion P xs × AllByRecursion P ys) ↔ AllByRecursion P (xs ++ ys)
@@ -99,15 +101,21 @@ passes_by false n some = (λ h. grind (arith, nat_tests, some), λ h. refl)
 pub counts_none : (edition : Edition) (files : FilesRead) (found : List FileFound) → AreFound (judging edition [] false) files found
     → HasNone (severities_of found) ↔ AllByRecursion (HasNoError edition) (all_files files)
 counts_none edition files found are =
-    let of_tools = files_pass edition are.in_tools.0 0 files.tools are.of_tools are.in_tools.2 in
-    let of_repository = after_pass edition files.tools files.repository are.of_repository are.in_repository in
+    let of_tools = files_pass edition (as_list files are.in_tools.0) 0 files.tools are.of_tools are.in_tools.2 in
+    let of_repository = after_pass edition files files.repository are.of_repository are.in_repository in
     rw (are.whole, flat_map-append severities_in are.of_tools are.of_repository)
     (iff.trans (both_none (severities_of are.of_tools) (severities_of are.of_repository))
     (iff.trans (iff.and of_tools of_repository) (all_of_both (HasNoError edition) files.tools files.repository)))
 
+whole_passes : (is_partial : Bool) (status : ExitStatus) {P : Type 0} → (exit_code status ≡ 0) ↔ P
+    → (exit_code (if is_partial then NoOutcome else status) ≡ 0) ↔ ((is_partial ≡ false) × P)
+whole_passes false status is = (λ h. (refl, is.0 h), λ h. is.1 h.1)
+whole_passes true status is = (λ h. cc h, λ h. cc h.0)
+
 pub lint_passes : (edition : Edition) (options : LintOptions) (files : FilesRead) (answer : AnswerView) → options.strict ≡ false → options.allowed.items ≡ []
-    → IsLinted edition options files answer → (exit_code answer.status ≡ 0) ↔ AllByRecursion (HasNoError edition) (all_files files)
+    → IsLinted edition options files answer → (exit_code answer.status ≡ 0) ↔ ((files.is_partial ≡ false) × AllByRecursion (HasNoError edition) (all_files files))
 lint_passes edition options files answer lax none linted =
     let found = rw none at linted.are_found in
     rw (linted.is, lax)
-    (iff.trans (passes_by _ (counted (severities_of linted.found)) refl) (counts_none edition files linted.found found))
+    (whole_passes files.is_partial _
+    (iff.trans (passes_by _ (counted (severities_of linted.found)) refl) (counts_none edition files linted.found found)))

@@ -1,16 +1,17 @@
 -- What is told of profiles, and of files for which nothing is.
 use Rattle.std.proofs.Common.{◌≡◌, ◌++◌, ◌∙◌, ℕ, List, [], codes, MatchOption, Option, Some, None, string_bytes, sym, ap, arith}
 use Rattle.std.specs.Prelude.{◌<◌, ◌≤◌, false}
-use Rattle.nextest_config_sources.specs.declared.nextest_version.edition.Edition.{Edition}
+use Rattle.nextest_config.specs.declared.nextest_version.edition.Edition.{Edition}
 use Rattle.nextest_config_profiles.specs.Chain.{IsWrong, Wrong}
 use Rattle.nextest_config_profiles.specs.Layer.{all_layers}
 use Rattle.nextest_config_profiles.specs.declared.layer.Layer.{Layer}
-use Rattle.nextest_config_formats.specs.declared.summary.Summary.{Summary}
+use Rattle.nextest_config_output.specs.declared.findings.summary.Summary.{Summary}
 use Rattle.nextest_config_report.specs.declared.exit_status.ExitStatus.TheVariants.{Refused}
 use Rattle.nextest_config_command.specs.Answer.{AnswerView, judging, says}
 use Rattle.nextest_config_command.specs.FileFindings.{AreFound, FileFound}
 use Rattle.nextest_config_command.specs.Found.{FilesRead}
 use Rattle.nextest_config_command.specs.Lint.{summary_of}
+use Rattle.nextest_config_command.specs.Printed.{for_people}
 use Rattle.nextest_config_command.specs.Profile.{AreSound, IsAnsweredBy, IsRefusedFor, IsWrongTold, without}
 use Rattle.nextest_config_command.specs.declared.request.ProfileTask.{ProfileTask}
 use Rattle.nextest_config_command.proofs.LintStatus.{counts_none}
@@ -33,7 +34,7 @@ no_error_passes edition files found summary are is none =
 -- ---- a profile without settings
 
 module _ (layers : List Layer) (name : List ℕ) (answer : AnswerView) where
-  pub refused_for : (found : Option Wrong) (said : List ℕ) → MatchOption found ⊥ (λ wrong. IsWrongTold layers name wrong said) → answer ≡ says (said ++ codes "\n") Refused
+  pub refused_for : (found : Option Wrong) (said : List ℕ) → MatchOption found ⊥ (λ wrong. IsWrongTold layers name wrong said) → answer ≡ says (for_people (said ++ codes "\n")) Refused
       → MatchOption found ⊥ (λ wrong. IsRefusedFor layers name wrong answer)
   refused_for (Some wrong) said told is = (said, told, is)
   refused_for None said told is = told

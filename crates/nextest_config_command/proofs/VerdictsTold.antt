@@ -3,7 +3,7 @@ use Rattle.std.proofs.Common.{ℕ, List}
 use Rattle.nextest_config.specs.NextestVersion.{Shortfall, verdict_in}
 use Rattle.nextest_config.specs.declared.nextest_version.verdict.VersionRole.{VersionRole}
 use Rattle.nextest_config.specs.declared.nextest_version.verdict.VersionRole.TheVariants.{Recommended, Required}
-use Rattle.nextest_config_formats.specs.declared.format.Format.{Format}
+use Rattle.nextest_config_output.specs.declared.findings.format.Format.{Format}
 use Rattle.nextest_config_command.specs.Files.{File}
 use Rattle.nextest_config_command.specs.Verdict.{IsShortfallTold, IsVerdictFinding}
 

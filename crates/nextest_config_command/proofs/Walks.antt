@@ -1,8 +1,9 @@
--- The walk upwards, one folder more.
-use Rattle.std.proofs.Common.{◌+◌, ◌<◌, ℕ, arith, inl, inr, subst, sym}
+-- What can't be read, and the walk upwards, one folder more.
+use Rattle.std.proofs.Common.{◌≡◌, ◌+◌, ◌<◌, ℕ, List, Some, arith, codes, inl, inr, string_bytes, subst, sym}
 use Rattle.std.proofs.lemmas.Bool.{cases_order}
-use Rattle.nextest_config_command.specs.Files.{PathStates, UnlessMemory}
-use Rattle.nextest_config_command.specs.Found.{ArePassed, IsPassedAt, IsUnreadAbove, IsUnreadOnWalk, path_above}
+use Rattle.nextest_config_command.specs.Files.{bytes, PathStates, unread_text, UnlessMemory}
+use Rattle.nextest_config_command.specs.Found.{ArePassed, IsPassedAt, IsUnread, IsUnreadAbove, IsUnreadOnWalk, path_above}
+use Rattle.nextest_config_command.specs.Request.{in_folder}
 use Rattle.nextest_config_command.specs.declared.files.Unanswered.{Unanswered}
 use Rattle.nextest_config_command.specs.declared.files.Unanswered.TheVariants as fails
 
@@ -17,3 +18,9 @@ pub unread_above : (holds : PathStates) (many level : ℕ) (unanswered : Unanswe
     → UnlessMemory (IsUnreadOnWalk holds (path_above level)) unanswered → UnlessMemory (IsUnreadAbove holds many) unanswered
 unread_above holds many level (fails.Unread said) below passed unread = (level, below, passed, unread)
 unread_above holds many level fails.Memory below passed unread = tt
+
+-- a file stands in the place of a folder
+pub unread_folder : (holds : PathStates) (path contents : List ℕ) (unanswered : Unanswered) → holds (Some path) (bytes contents)
+    → UnlessMemory (λ said. said ≡ unread_text path (codes "not a folder")) unanswered → UnlessMemory (IsUnread holds (in_folder path)) unanswered
+unread_folder holds path contents (fails.Unread said) held is = (bytes contents, held, is)
+unread_folder holds path contents fails.Memory held is = tt

@@ -3,13 +3,13 @@ use Rattle.std.specs.Prelude.{◌≡◌, ℕ, Bool, false, List, [], ◌∷◌, 
 use Rattle.std.specs.List.{AllByRecursion}
 use Rattle.toml.specs.Data.{as_table, get_member, Members}
 use Rattle.toml.specs.Parse.{parse_document}
-use Rattle.nextest_config_sources.specs.NextestVersion.{recommended_key, required_key, SourcePlace, version_key}
-use Rattle.nextest_config_positions.specs.Index.{IsIndexOf, IsSpanOf, ranges_in}
-use Rattle.nextest_config_positions.specs.Line.{found_in}
-use Rattle.nextest_config_positions.specs.Step.{key, PathStep, step_of}
-use Rattle.nextest_config_positions.specs.declared.index.Index.{Index}
-use Rattle.nextest_config_positions.specs.declared.place.Span.{Span}
-use Rattle.nextest_config_findings.specs.File.{range_at}
+use Rattle.nextest_config.specs.NextestVersion.{recommended_key, required_key, SourcePlace, version_key}
+use Rattle.toml_spans.specs.Index.{IsIndexOf, IsSpanOf, ranges_in}
+use Rattle.toml_spans.specs.Line.{found_in}
+use Rattle.toml_spans.specs.Step.{key, PathStep, step_of}
+use Rattle.toml_spans.specs.declared.index.Index.{Index}
+use Rattle.toml_spans.specs.declared.place.Span.{Span}
+use Rattle.nextest_config_lint.specs.File.{range_at}
 use Rattle.nextest_config.specs.declared.nextest_version.verdict.VersionRole.{VersionRole}
 use Rattle.nextest_config.specs.declared.nextest_version.verdict.VersionRole.TheVariants.{Recommended, Required}
 use Rattle.nextest_config_command.specs.Files.{File}
@@ -39,6 +39,7 @@ pub record AskedView : Type 0 where
   pub path : List PathStep
   pub span : Span
 
+-- where a version is asked, without where that lies in memory
 abbrev pub asked_of : Asked → AskedView
 asked_of asked = record { path = map step_of asked.path.items; span = asked.span }
 
@@ -57,7 +58,7 @@ pub record AsksAt (role : VersionRole) (place : SourcePlace) (file : File) : Typ
   pub reads : parse_document file.contents ≡ Some members
   pub leads : IsSome (found_in members (version_path role members))
 
--- the file asks the version there
+-- the file is at this place and asks the version of this role at this path and range
 pub record IsAskedBy (role : VersionRole) (place : SourcePlace) (asked : AskedView) (file : File)
     : Type 0 where
   pub asks : AsksAt role place file

@@ -1,22 +1,23 @@
 -- What is found in files that were read.
-use Rattle.std.specs.Prelude.{◌≡◌, ℕ, Bool, true, false, not, ◌&&◌, ◌||◌, List, [], ◌∷◌, ◌++◌, codes, filter, length, map, nat_eq}
+use Rattle.std.specs.Prelude.{◌≡◌, ℕ, Bool, true, false, not, ◌&&◌, ◌||◌, List, [], ◌∷◌, ◌++◌, codes, filter, length, map, nat_eq, None}
 use Rattle.std.specs.Cmp.Lexicographic.{pointwise}
 use Rattle.std.specs.List.{AllZip, list_any}
-use Rattle.nextest_config_sources.specs.declared.nextest_version.edition.Edition.{Edition}
-use Rattle.nextest_config_positions.specs.Step.{index, key, PathStep, step_of}
-use Rattle.nextest_config_findings.specs.Code.{code_word, told_code}
-use Rattle.nextest_config_findings.specs.Defined.{file_of, ListFile}
-use Rattle.nextest_config_findings.specs.File.{AreLocated, IsDocument}
-use Rattle.nextest_config_findings.specs.Finding.{finding_severity}
-use Rattle.nextest_config_findings.specs.FindingsLaws.{IsFileWithoutError}
-use Rattle.nextest_config_findings.specs.Found.{kind_told}
-use Rattle.nextest_config_findings.specs.declared.code.FindingCode.{FindingCode}
-use Rattle.nextest_config_findings.specs.declared.defined.ListedFile.{ListedFile}
-use Rattle.nextest_config_findings.specs.declared.file.LocatedFinding.{LocatedFinding}
-use Rattle.nextest_config_findings.specs.declared.finding.Finding.{Finding}
-use Rattle.nextest_config_findings.specs.declared.finding.FindingKind.{FindingKind}
-use Rattle.nextest_config_findings.specs.declared.finding.FindingSeverity.{FindingSeverity}
-use Rattle.nextest_config_findings.specs.declared.finding.FindingSeverity.TheVariants.{Error, Note, Warning}
+use Rattle.nextest_config.specs.declared.nextest_version.edition.Edition.{Edition}
+use Rattle.nextest_config.specs.declared.nextest_version.source.ConfigSourceKind.TheVariants.{DiscoveredRepository}
+use Rattle.toml_spans.specs.Step.{index, key, PathStep, step_of}
+use Rattle.nextest_config_lint.specs.Code.{code_word, told_code}
+use Rattle.nextest_config_lint.specs.Defined.{file_of, file_with, ListFile}
+use Rattle.nextest_config_lint.specs.File.{AreLocated, IsDocument}
+use Rattle.nextest_config_lint.specs.Finding.{finding_severity}
+use Rattle.nextest_config_lint.specs.FindingsLaws.{IsFileWithoutError}
+use Rattle.nextest_config_lint.specs.Found.{kind_told}
+use Rattle.nextest_config_lint.specs.declared.code.FindingCode.{FindingCode}
+use Rattle.nextest_config_lint.specs.declared.defined.ListedFile.{ListedFile}
+use Rattle.nextest_config_lint.specs.declared.file.LocatedFinding.{LocatedFinding}
+use Rattle.nextest_config_lint.specs.declared.finding.Finding.{Finding}
+use Rattle.nextest_config_lint.specs.declared.finding.FindingKind.{FindingKind}
+use Rattle.nextest_config_lint.specs.declared.finding.FindingSeverity.{FindingSeverity}
+use Rattle.nextest_config_lint.specs.declared.finding.FindingSeverity.TheVariants.{Error, Note, Warning}
 use Rattle.nextest_config_command.specs.Files.{File}
 use Rattle.nextest_config_command.specs.Found.{all_files, FilesRead}
 use Rattle.nextest_config_command.specs.Positions.{AllZipFrom}
@@ -25,27 +26,31 @@ use Rattle.nextest_config_command.specs.declared.file_findings.Rules.{Rules}
 
 -- ---- the files as a list
 
--- the same file in a list: whose it is, and its document, if it is one
+-- a file as one of a list: whose it is, and its document, if it is one
 pub record IsListFile (file : File) (listed : ListFile) : Type 0 where
   pub kind : listed.kind ≡ file.place.kind
   pub document : IsDocument file.contents listed.document
 
+-- the listed file is this file as one of a list
 abbrev pub IsListed : File → ListedFile → Type 0
 IsListed file listed = IsListFile file (file_of listed)
 
+-- the listed files are these files as a list, in their order
 abbrev pub AreListed : List File → List ListedFile → Type 0
 AreListed files listed = AllZip IsListFile files (map file_of listed)
 
 -- ---- which findings are told
 
--- the word of what kind of finding it is
+-- the word of the code of a kind of finding
 abbrev pub code_text : FindingKind → List ℕ
 code_text kind = code_word (told_code (kind_told kind))
 
 -- findings of this kind are left out, by their code
 abbrev pub is_allowed : List FindingCode → FindingKind → Bool
-is_allowed allowed kind = list_any (λ code. pointwise nat_eq (code_word code) (code_text kind)) allowed
+is_allowed allowed kind =
+    list_any (λ code. pointwise nat_eq (code_word code) (code_text kind)) allowed
 
+-- the severity is that of an error
 abbrev pub is_error : FindingSeverity → Bool
 is_error Error = true
 is_error Warning = false
@@ -56,13 +61,14 @@ abbrev pub is_source_key : List ℕ → Bool
 is_source_key name = pointwise nat_eq name (codes "nextest-version")
     || pointwise nat_eq name (codes "experimental")
 
--- the path is that of the whole file, or it begins with such a key
+-- the path is that of the whole file, or it begins with a key by which a file asks for something
 abbrev pub is_of_source : List PathStep → Bool
 is_of_source [] = true
 is_of_source (key name ∷ rest) = is_source_key name
 is_of_source (index position ∷ rest) = false
 
--- for such a finding a list is refused
+-- a list is refused for the finding: an error of the whole file, or within `nextest-version` or
+-- `experimental`
 abbrev pub refuses : Finding → Bool
 refuses finding = is_error (finding_severity finding.kind)
     && is_of_source (map step_of finding.path.items)
@@ -79,6 +85,7 @@ pub record Judging : Type 0 where
   pub allowed : List FindingCode
   pub tells_refusals : Bool
 
+-- how rules say that files are judged, without where they lie in memory
 abbrev pub judging_of : Rules → Judging
 judging_of rules = record {
   edition = rules.edition;
@@ -86,6 +93,7 @@ judging_of rules = record {
   tells_refusals = rules.tells_refusals;
 }
 
+-- a finding with its range is told, as files are judged
 abbrev pub tells : Judging → LocatedFinding → Bool
 tells judging located = is_told judging.allowed judging.tells_refusals located.finding
 
@@ -97,6 +105,7 @@ pub record FileFound : Type 0 where
   pub contents : List ℕ
   pub located : List LocatedFinding
 
+-- what is found in a file, without where it lies in memory
 abbrev pub found_of : FileFindings → FileFound
 found_of findings = record {
   path = findings.path.now;
@@ -113,24 +122,33 @@ pub record IsFoundIn (judging : Judging) (list : List ListFile) (position : ℕ)
   pub contents : found.contents ≡ file.contents
   pub located : found.located ≡ filter (tells judging) all
 
+-- a file that couldn't be read, which may define any name, if there is one
+abbrev pub unread_files : Bool → List ListFile
+unread_files false = []
+unread_files true = file_with DiscoveredRepository None ∷ []
+
+-- the files of a list, and behind them one that couldn't be read, if there is one
+abbrev pub as_list : FilesRead → List ListFile → List ListFile
+as_list files list = list ++ unread_files files.is_partial
+
 -- what is found in the files of tools, each as one of the list that all files are
 abbrev pub AreFoundInTools : Judging → FilesRead → List FileFound → Type 0
 AreFoundInTools judging files found = (list : List ListFile)
     × AllZip IsListFile (all_files files) list
-    × AllZipFrom (IsFoundIn judging list) 0 files.tools found
+    × AllZipFrom (IsFoundIn judging (as_list files list)) 0 files.tools found
 
 -- what is found in a file after those of tools, which are a list with it
-abbrev pub IsFoundAfter : Judging → List File → File → FileFound → Type 0
-IsFoundAfter judging tools file found = (list : List ListFile)
-    × AllZip IsListFile (tools ++ (file ∷ [])) list
-    × IsFoundIn judging list (length tools) file found
+abbrev pub IsFoundAfter : Judging → FilesRead → File → FileFound → Type 0
+IsFoundAfter judging files file found = (list : List ListFile)
+    × AllZip IsListFile (files.tools ++ (file ∷ [])) list
+    × IsFoundIn judging (as_list files list) (length files.tools) file found
 
 -- what is found in the files: those of tools, once, and then each of the repository's
 pub record AreFound (judging : Judging) (files : FilesRead) (found : List FileFound) : Type 0 where
   pub of_tools : List FileFound
   pub of_repository : List FileFound
   pub in_tools : AreFoundInTools judging files of_tools
-  pub in_repository : AllZip (IsFoundAfter judging files.tools) files.repository of_repository
+  pub in_repository : AllZip (IsFoundAfter judging files) files.repository of_repository
   pub whole : found ≡ of_tools ++ of_repository
 
 -- the file is UTF-8, and a document without an error

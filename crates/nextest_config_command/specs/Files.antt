@@ -1,7 +1,8 @@
 -- What paths hold, and files that are read of them.
 use Rattle.std.specs.Prelude.{◌≡◌, ℕ, List, ◌∷◌, ◌++◌, codes, Option, Some, None, string_bytes}
 use Rattle.std.specs.List.{AllZip}
-use Rattle.nextest_config_sources.specs.NextestVersion.{SourcePlace, place_of}
+use Rattle.nextest_config_values.specs.Literal.Shown.{shown_text}
+use Rattle.nextest_config.specs.NextestVersion.{SourcePlace, place_of}
 use Rattle.nextest_config_command.specs.declared.files.FileRead.{FileRead}
 use Rattle.nextest_config_command.specs.declared.files.FileRead.TheVariants as reads
 use Rattle.nextest_config_command.specs.declared.files.SourceFile.{SourceFile}
@@ -16,14 +17,14 @@ pub data PathState : Type 0 where
   absent : List ℕ → PathState
   unreadable : List ℕ → PathState
 
--- what a read tells
+-- what a read tells of a path
 abbrev pub path_state_of : FileRead → PathState
 path_state_of (reads.Contents contents) = bytes contents.items
 path_state_of (reads.Folder reason) = folder (string_bytes reason)
 path_state_of (reads.Absent reason) = absent (string_bytes reason)
 path_state_of (reads.Unreadable reason) = unreadable (string_bytes reason)
 
--- why there are no bytes
+-- why there are no bytes in this state; nothing where there are some
 abbrev pub reason_of : PathState → Option (List ℕ)
 reason_of (bytes contents) = None
 reason_of (folder reason) = Some reason
@@ -42,9 +43,11 @@ pub record File : Type 0 where
   pub place : SourcePlace
   pub contents : List ℕ
 
+-- the file at a place, with these contents
 abbrev pub file_at : SourcePlace → List ℕ → File
 file_at place contents = record { place = place; contents = contents }
 
+-- a file that was read, without where it lies in memory
 abbrev pub file_of : SourceFile → File
 file_of file = file_at (place_of file.source) file.contents.items
 
@@ -55,9 +58,9 @@ IsThere holds place file = (contents : List ℕ) × holds (Some place.path) (byt
 
 -- ---- what can't be read
 
--- how it prints that a file can't be read
+-- PATH: REASON, how it prints in a line that a file can't be read
 abbrev pub unread_text : List ℕ → List ℕ → List ℕ
-unread_text path reason = path ++ (codes ": " ++ reason)
+unread_text path reason = shown_text path ++ (codes ": " ++ shown_text reason)
 
 -- there are no bytes in this state, which prints so
 abbrev pub SaysUnread : List ℕ → PathState → List ℕ → Type 0
@@ -69,7 +72,7 @@ abbrev pub IsUnreadAt : PathStates → List ℕ → List ℕ → Type 0
 IsUnreadAt holds path said = (state : PathState) × holds (Some path) state
     × SaysUnread path state said
 
--- the first that fails, after those that don't
+-- the first element that fails, and what it says, after those that give something
 pub record IsFirstFailure {A B : Type 0} (Gives : A → B → Type 0) (Fails : A → List ℕ → Type 0)
     (xs : List A) (said : List ℕ) : Type 0 where
   pub before : List A

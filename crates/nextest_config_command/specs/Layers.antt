@@ -3,8 +3,8 @@ use Rattle.std.specs.Prelude.{◌≡◌, ℕ, List, IsUtf8, Some}
 use Rattle.std.specs.List.{AllZip}
 use Rattle.toml.specs.Parse.{parse_document}
 use Rattle.toml.specs.View.{table_view}
-use Rattle.nextest_config_sources.specs.NextestVersion.{place_of}
-use Rattle.nextest_config_positions.specs.Partial.{IsPartialIndexOf}
+use Rattle.nextest_config.specs.NextestVersion.{place_of}
+use Rattle.toml_spans.specs.Partial.{IsPartialIndexOf}
 use Rattle.nextest_config_profiles.specs.Layer.{profiles_in}
 use Rattle.nextest_config_profiles.specs.NameList.{AreInOrder, AreNamesOf}
 use Rattle.nextest_config_profiles.specs.declared.layer.Layer.{Layer}
@@ -22,14 +22,14 @@ pub record IsLayer (file : File) (layer : Layer) : Type 0 where
 abbrev pub AreLayers : List File → List Layer → Type 0
 AreLayers files layers = AllZip IsLayer files layers
 
--- the names of the profiles that they have, and of nextest's own, in order
+-- the names of the profiles that layers have, and of nextest's own, in order
 pub record AreProfileNames (layers : List Layer) (names : List (List ℕ)) : Type 0 where
   pub are_names : AreNamesOf (profiles_in layers) names
   pub in_order : AreInOrder names
 
 -- ---- on the way
 
--- the same of a file with its index
+-- a file with its index: where it comes from, the document that its text is, and its index
 pub record IsIndexed (file : File) (indexed : IndexedFile) : Type 0 where
   pub place_is : place_of indexed.source.now ≡ file.place
   pub is_text : IsUtf8 file.contents

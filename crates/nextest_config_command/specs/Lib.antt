@@ -9,6 +9,7 @@ pub mod Found
 pub mod Layers
 pub mod Lint
 pub mod Positions
+pub mod Printed
 pub mod Profile
 pub mod Request
 pub mod Streams

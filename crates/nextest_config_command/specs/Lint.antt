@@ -2,17 +2,17 @@
 use Rattle.std.specs.Prelude.{◌≡◌, ℕ, Bool, true, false, ◌&&◌, ◌||◌, List, [], ◌∷◌, ◌++◌, codes, count_by, flat_map, map, nat_lt, string_bytes, if◌then◌else◌}
 use Rattle.std.specs.Str.Lines.{lines}
 use Rattle.std.specs.Str.Lossy.{utf8_lossy}
-use Rattle.nextest_config_positions.specs.Step.{printed_path, step_of}
-use Rattle.nextest_config_findings.specs.Finding.{finding_kind_text, finding_severity}
-use Rattle.nextest_config_findings.specs.declared.file.LocatedFinding.{LocatedFinding}
-use Rattle.nextest_config_findings.specs.declared.finding.Finding.{Finding}
-use Rattle.nextest_config_findings.specs.declared.finding.FindingSeverity.{FindingSeverity}
-use Rattle.nextest_config_findings.specs.declared.finding.FindingSeverity.TheVariants.{Error, Note, Warning}
-use Rattle.nextest_config_formats.specs.Summary.{summary_text}
-use Rattle.nextest_config_formats.specs.Told.{Told, told_text}
-use Rattle.nextest_config_formats.specs.declared.format.Format.{Format}
-use Rattle.nextest_config_formats.specs.declared.format.Format.TheVariants.{Full, Github, Human, Json}
-use Rattle.nextest_config_formats.specs.declared.summary.Summary.{Summary}
+use Rattle.toml_spans.specs.Step.{printed_path, step_of}
+use Rattle.nextest_config_lint.specs.Finding.{finding_kind_text, finding_severity}
+use Rattle.nextest_config_lint.specs.declared.file.LocatedFinding.{LocatedFinding}
+use Rattle.nextest_config_lint.specs.declared.finding.Finding.{Finding}
+use Rattle.nextest_config_lint.specs.declared.finding.FindingSeverity.{FindingSeverity}
+use Rattle.nextest_config_lint.specs.declared.finding.FindingSeverity.TheVariants.{Error, Note, Warning}
+use Rattle.nextest_config_output.specs.Findings.Summary.{summary_text}
+use Rattle.nextest_config_output.specs.Findings.Told.{Told, told_text}
+use Rattle.nextest_config_output.specs.declared.findings.format.Format.{Format}
+use Rattle.nextest_config_output.specs.declared.findings.format.Format.TheVariants.{Full, Github, Human, Json}
+use Rattle.nextest_config_output.specs.declared.findings.summary.Summary.{Summary}
 use Rattle.nextest_config_report.specs.declared.exit_status.ExitStatus.{ExitStatus}
 use Rattle.nextest_config_report.specs.declared.exit_status.ExitStatus.TheVariants.{Failure, Success}
 use Rattle.nextest_config_command.specs.Distinct.{distinct}
@@ -23,35 +23,40 @@ use Rattle.nextest_config_command.specs.declared.lint.Lint.{Lint}
 
 -- ---- how many findings there are
 
+-- the severity is that of a warning
 abbrev pub is_warning : FindingSeverity → Bool
 is_warning Error = false
 is_warning Warning = true
 is_warning Note = false
 
+-- the severity is that of a note
 abbrev pub is_note : FindingSeverity → Bool
 is_note Error = false
 is_note Warning = false
 is_note Note = true
 
--- how grave the findings of a file are, and those of all files
+-- how grave a finding is
 abbrev pub severity_of : LocatedFinding → FindingSeverity
 severity_of located = finding_severity located.finding.kind
 
+-- how grave each finding of a file is
 abbrev pub severities_in : FileFound → List FindingSeverity
 severities_in found = map severity_of found.located
 
+-- how grave each finding of all files is
 abbrev pub severities_of : List FileFound → List FindingSeverity
 severities_of found = flat_map severities_in found
 
--- the path of a file in which something is found
+-- the path of a file, if something is found in it
 abbrev pub path_if : List ℕ → List LocatedFinding → List (List ℕ)
 path_if path [] = []
 path_if path (located ∷ rest) = path ∷ []
 
+-- the paths of the files in which something is found
 abbrev pub paths_in : List FileFound → List (List ℕ)
 paths_in found = flat_map (λ file. path_if file.path file.located) found
 
--- how many there are of each severity, and in how many files
+-- how many findings there are of each severity, and in how many files
 abbrev pub summary_of : List FileFound → Summary
 summary_of found = record {
   errors = count_by is_error (severities_of found);
@@ -64,15 +69,17 @@ summary_of found = record {
 abbrev pub fails_by : Bool → Summary → Bool
 fails_by strict summary = nat_lt 0 summary.errors || (strict && nat_lt 0 summary.warnings)
 
+-- the status of a check that fails, or else passes
 abbrev pub failure_if : Bool → ExitStatus
 failure_if is_failing = if is_failing then Failure else Success
 
+-- the status of what is found, in a check that is strict or not
 abbrev pub lint_status : Bool → Summary → ExitStatus
 lint_status strict summary = failure_if (fails_by strict summary)
 
 -- ---- how they are told
 
--- a finding of the file at a path
+-- a finding of the file at a path, as it is told
 abbrev pub told_at : List ℕ → LocatedFinding → Told
 told_at path located = record {
   file = path;
@@ -95,15 +102,17 @@ shown_text Full contents = utf8_lossy contents
 shown_text Github contents = []
 shown_text Json contents = []
 
--- the findings of a file, with its lines
+-- what is told of findings of the file at a path, which has these lines
 abbrev pub located_text : Format → List ℕ → List (List ℕ) → List LocatedFinding → List ℕ
-located_text format path shown located = flat_map (λ one. told_text format (told_at path one) shown) located
+located_text format path shown located =
+    flat_map (λ one. told_text format (told_at path one) shown) located
 
+-- what is told of the findings of a file, with its lines where the format shows them
 abbrev pub file_text : Format → FileFound → List ℕ
 file_text format found =
     located_text format found.path (lines (shown_text format found.contents)) found.located
 
--- how many there are, where there are any
+-- the line of how many findings there are, where there are any and the format has one
 abbrev pub summary_line : Format → Summary → List ℕ
 summary_line Human summary = []
 summary_line Full summary =
@@ -111,7 +120,7 @@ summary_line Full summary =
 summary_line Github summary = []
 summary_line Json summary = []
 
--- the findings of files
+-- what is told of the findings of files, and then how many there are
 abbrev pub lint_text : Format → List FileFound → List ℕ
 lint_text format found = flat_map (file_text format) found ++ summary_line format (summary_of found)
 

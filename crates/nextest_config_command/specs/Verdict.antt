@@ -3,20 +3,19 @@ use Rattle.std.specs.Prelude.{◌≡◌, ℕ, Bool, true, false, List, [], ◌++
 use Rattle.semver.specs.Identifiers.{parts_text}
 use Rattle.semver.specs.Parse.{Parts}
 use Rattle.nextest_config.specs.NextestVersion.ExperimentalConfig.{Experimental}
-use Rattle.nextest_config.specs.NextestVersion.{error, satisfied, Shortfall, warn}
-use Rattle.nextest_config.specs.NextestVersion.Verdict.{shortfall}
+use Rattle.nextest_config.specs.NextestVersion.{error, satisfied, Shortfall, warn, place_text}
+use Rattle.nextest_config.specs.NextestVersion.Verdict.{shortfall, Verdict}
 use Rattle.nextest_config.specs.declared.nextest_version.verdict.UnmetVersion.{UnmetVersion}
-use Rattle.nextest_config.specs.NextestVersion.Verdict.{Verdict}
 use Rattle.nextest_config.specs.declared.nextest_version.verdict.VersionRole.{VersionRole}
 use Rattle.nextest_config.specs.declared.nextest_version.verdict.VersionRole.TheVariants.{Recommended, Required}
-use Rattle.nextest_config_positions.specs.Step.{printed_path}
-use Rattle.nextest_config_findings.specs.declared.finding.FindingSeverity.{FindingSeverity}
-use Rattle.nextest_config_findings.specs.declared.finding.FindingSeverity.TheVariants.{Error, Warning}
-use Rattle.nextest_config_formats.specs.Told.{Told, told_text}
-use Rattle.nextest_config_formats.specs.declared.format.Format.{Format}
-use Rattle.nextest_config_formats.specs.declared.format.Format.TheVariants.{Full, Github, Human, Json}
+use Rattle.toml_spans.specs.Step.{printed_path}
+use Rattle.nextest_config_lint.specs.declared.finding.FindingSeverity.{FindingSeverity}
+use Rattle.nextest_config_lint.specs.declared.finding.FindingSeverity.TheVariants.{Error, Warning}
+use Rattle.nextest_config_output.specs.Findings.Told.{Told, told_text}
+use Rattle.nextest_config_output.specs.declared.findings.format.Format.{Format}
+use Rattle.nextest_config_output.specs.declared.findings.format.Format.TheVariants.{Full, Github, Human, Json}
 use Rattle.nextest_config_report.specs.Lines.{read_text}
-use Rattle.nextest_config_sources.specs.NextestVersion.{place_text}
+use Rattle.nextest_config_report.specs.declared.source.SourceStyle.TheVariants.{InLine}
 use Rattle.nextest_config_command.specs.Asked.{AskedView, SomeAsks, IsAskedIn}
 use Rattle.nextest_config_command.specs.Files.{File}
 
@@ -30,16 +29,18 @@ IsAskedFor files satisfied = Unit {0}
 IsAskedFor files (warn s) = SomeAsks files Recommended s.place
 IsAskedFor files (error s) = SomeAsks files Required s.place
 
--- what is overridden counts as a warning
+-- how grave it is that a version isn't reached; what is overridden counts as a warning
 abbrev pub shortfall_severity : VersionRole → Bool → FindingSeverity
 shortfall_severity Required false = Error
 shortfall_severity Required true = Warning
 shortfall_severity Recommended overridden = Warning
 
+-- the word of a role
 abbrev pub role_text : VersionRole → List ℕ
 role_text Required = codes "required"
 role_text Recommended = codes "recommended"
 
+-- the mark of a verdict that is overridden, with a blank behind it
 abbrev pub overridden_text : Bool → List ℕ
 overridden_text true = codes "(overridden) "
 overridden_text false = []
@@ -50,7 +51,7 @@ shortfall_message role s = overridden_text s.overridden ++ (parts_text s.asked
     ++ (codes " " ++ (role_text role ++ (codes " by " ++ (place_text s.place
     ++ (codes ", current " ++ parts_text s.current))))))
 
--- the current version falls short of the one that is asked here
+-- the finding that the current version falls short of the one that is asked here
 abbrev pub shortfall_told : VersionRole → Shortfall → AskedView → Told
 shortfall_told role s asked = record {
   file = s.place.path;
@@ -61,7 +62,7 @@ shortfall_told role s asked = record {
   message = shortfall_message role s;
 }
 
--- so it is told as a finding, at the place where a file asks
+-- the text tells a shortfall as a finding, at the place where a file asks the version
 abbrev pub IsShortfallTold : Format → List File → VersionRole → Shortfall → List ℕ → Type 0
 IsShortfallTold format files role s text = (asked : AskedView) × IsAskedIn files role s.place asked
     × (text ≡ told_text format (shortfall_told role s asked) [])
@@ -74,7 +75,9 @@ IsVerdictFinding format files (error s) text = IsShortfallTold format files Requ
 
 -- the verdict with the features as lines for people, or as a finding alone
 abbrev pub IsVerdictTold : Format → List File → Parts → Verdict → Experimental → List ℕ → Type 0
-IsVerdictTold Human files current v experimental text = text ≡ read_text current v experimental
-IsVerdictTold Full files current v experimental text = text ≡ read_text current v experimental
+IsVerdictTold Human files current v experimental text =
+    text ≡ read_text InLine current v experimental
+IsVerdictTold Full files current v experimental text =
+    text ≡ read_text InLine current v experimental
 IsVerdictTold Github files current v experimental text = IsVerdictFinding Github files v text
 IsVerdictTold Json files current v experimental text = IsVerdictFinding Json files v text

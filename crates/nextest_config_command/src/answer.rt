@@ -7,17 +7,19 @@ ghost use Rattle.nextest_config_command.specs.Done.{IsAnswer};
 ghost use Rattle.nextest_config_command.specs.FileList.{AreDocuments, IsListedAs};
 ghost use Rattle.nextest_config_command.specs.Found.{all_files, files_of};
 ghost use Rattle.nextest_config_command.specs.Lint.{IsLint};
+ghost use Rattle.nextest_config_command.specs.Printed.{text_of};
 
 use crate::file_findings::Rules;
 use crate::file_list::configuration_of_files;
 use crate::layers::{indexed_files, layers};
 use crate::lint::Lint;
 use crate::parsed_file::ParsedFiles;
+use crate::printed::Printed;
 use crate::profile::profile;
 use crate::request::{Check, LintOptions, Task};
 use crate::verdict::verdict_text;
 use nextest_config::nextest_version::{Edition, NextestVersionEval, VersionOnlyConfig};
-use nextest_config_formats::Format;
+use nextest_config_output::findings::Format;
 use nextest_config_profiles::profile_names;
 use nextest_config_report::exit_status::ExitStatus;
 use nextest_config_report::show::{ShowFormat, show_text};
@@ -28,8 +30,8 @@ use std::collections::BTreeSet;
 /// it ends with.
 #[derive(Debug, PartialEq, Eq, Drop)]
 pub(crate) struct Answer {
-    pub text: String,
-    pub said: String,
+    pub text: Printed,
+    pub said: Printed,
     pub status: ExitStatus,
 }
 
@@ -51,19 +53,19 @@ pub(crate) fn answer_to(
 }
 
 impl Answer {
-    // This is written.
-    fn writes(alloc: Global, text: String, status: ExitStatus) -> Self
-        ensures { answer_of result ≡ writes (string_bytes text) status }
+    // The answer that writes this, and says nothing.
+    fn writes(alloc: Global, text: Printed, status: ExitStatus) -> Self
+        ensures { answer_of result ≡ writes (text_of text) status }
     {
-        let said = String::new(alloc);
+        let said = Printed::ForPeople(String::new(alloc));
         Answer { text, said, status }
     }
 
-    /// This is said, and nothing is written.
-    pub fn says(alloc: Global, said: String, status: ExitStatus) -> Self
-        ensures { answer_of result ≡ says (string_bytes said) status }
+    /// The answer that says this, and writes nothing.
+    pub fn says(alloc: Global, said: Printed, status: ExitStatus) -> Self
+        ensures { answer_of result ≡ says (text_of said) status }
     {
-        let text = String::new(alloc);
+        let text = Printed::ForPeople(String::new(alloc));
         Answer { text, said, status }
     }
 }
@@ -85,7 +87,8 @@ fn lint(
     };
     let lint = Lint::of(alloc, rules, options.format, files)?;
     let status = status_found(options.strict, files, lint.status(options.strict));
-    Ok(Answer::writes(alloc, lint.text, status))
+    let text = Printed::in_format(options.format, lint.text);
+    Ok(Answer::writes(alloc, text, status))
 }
 
 // The current version, checked against what the files ask.
@@ -102,7 +105,8 @@ fn check(
         Some(config) => check_listed(alloc, edition, check, files, &config),
         None => {
             let lint = check_lint(alloc, edition, &check.lint, files)?;
-            Ok(Answer::writes(alloc, lint.text, ExitStatus::Refused))
+            let text = Printed::in_format(check.lint.format, lint.text);
+            Ok(Answer::writes(alloc, text, ExitStatus::Refused))
         }
     }
 }
@@ -156,22 +160,27 @@ fn check_with(
     ensures { IfOk result (IsCheckWith edition (files_of files.now) check.now (verdict_of eval.now)
         (string_bytes front)) }
 {
+    let format = check.lint.format;
     if fails(eval) {
-        return Ok(Answer::writes(alloc, front, ExitStatus::Failure));
+        let text = Printed::in_format(format, front);
+        return Ok(Answer::writes(alloc, text, ExitStatus::Failure));
     }
     let lint = check_lint(alloc, edition, &check.lint, files)?;
     let mut text = front;
     text.push_str(lint.text.as_str())?;
     let strict = check.lint.strict;
     let status = status_found(strict, files, status_checked(strict, eval, &lint));
-    Ok(Answer::writes(alloc, text, status))
+    Ok(Answer::writes(alloc, Printed::in_format(format, text), status))
 }
 
-// The status of what is found in files: a strict check of what passes fails where a file that is
-// looked for is missing.
+// The status of what is found in files: there is none where one can't be read, and a strict check
+// of what passes fails where a file that is looked for is missing.
 fn status_found(strict: bool, files: &ParsedFiles<'_>, status: ExitStatus) -> ExitStatus
     ensures { result ≡ status_found strict (files_of files.now) status }
 {
+    if files.is_partial {
+        return ExitStatus::NoOutcome;
+    }
     match status {
         ExitStatus::Success if strict && !files.notices.is_empty() => ExitStatus::Failure,
         status => status,
@@ -215,6 +224,7 @@ fn show(
     match configuration_of_files(alloc, edition, files)? {
         Some(config) => {
             let text = shown_text(alloc, format, files, &config)?;
+            let text = Printed::in_show_format(format, text);
             Ok(Answer::writes(alloc, text, ExitStatus::Success))
         }
         None => {
@@ -253,7 +263,7 @@ fn show_refusal(alloc: Global, format: ShowFormat, text: String) -> Answer
     ensures { answer_of result ≡ shown_refusal format (string_bytes text) }
 {
     match format {
-        ShowFormat::Human => Answer::writes(alloc, text, ExitStatus::Refused),
-        ShowFormat::Json => Answer::says(alloc, text, ExitStatus::Refused),
+        ShowFormat::Human => Answer::writes(alloc, Printed::ForPeople(text), ExitStatus::Refused),
+        ShowFormat::Json => Answer::says(alloc, Printed::ForPeople(text), ExitStatus::Refused),
     }
 }

@@ -2,21 +2,20 @@
 
 ghost use Rattle.std.specs.Prelude.{◌≡◌, ◌↔◌, ℕ, IfOk, IfSome, IsSome, IsTrue, List, map, MatchOption};
 ghost use Rattle.toml.specs.View.{table_view};
-ghost use Rattle.nextest_config_sources.specs.NextestVersion.{place_of};
-ghost use Rattle.nextest_config_positions.specs.Index.{OfDocument};
-ghost use Rattle.nextest_config_positions.specs.Line.{found_in};
-ghost use Rattle.nextest_config_positions.specs.Step.{step_of};
+ghost use Rattle.nextest_config.specs.NextestVersion.{place_of};
+ghost use Rattle.toml_spans.specs.Index.{OfDocument};
+ghost use Rattle.toml_spans.specs.Line.{found_in};
+ghost use Rattle.toml_spans.specs.Step.{step_of};
 ghost use Rattle.nextest_config_command.specs.Asked.{asked_of, AsksAt, has_version_table, IsAskedBy, IsAskedIn, IsRangeAt, NoneAsks, role_key, SomeAsks, version_path};
 ghost use Rattle.nextest_config_command.specs.Found.{all_files, files_of};
 
 use crate::parsed_file::{ParsedFile, ParsedFiles};
-use nextest_config::nextest_version::{UnmetVersion, VersionRole};
-use nextest_config_findings::value_or_key;
-use nextest_config_positions::{Index, Span, Step};
-use nextest_config_sources::nextest_version::ConfigSource;
+use nextest_config::nextest_version::{ConfigSource, UnmetVersion, VersionRole};
+use nextest_config_lint::value_or_key;
 use nextest_config_values::read::value_at;
 use std::alloc::{AllocError, Global};
 use toml::Table;
+use toml_spans::{Index, Span, Step};
 
 const VERSION_KEY: &str = "nextest-version";
 

@@ -1,18 +1,19 @@
 //! What is found in files that were read.
 
-ghost use Rattle.std.specs.Prelude.{◌≡◌, IfOk, List, filter, length, map};
+ghost use Rattle.std.specs.Prelude.{◌≡◌, ◌++◌, IfOk, List, OnOk, filter, length, map};
 ghost use Rattle.std.specs.List.{AllZip};
-ghost use Rattle.nextest_config_findings.specs.Defined.{IsDefinedBy, ListFile};
-ghost use Rattle.nextest_config_positions.specs.Step.{step_of};
-ghost use Rattle.nextest_config_command.specs.FileFindings.{AreFound, AreFoundInTools, found_of, is_allowed, judging_of, is_of_source, is_source_key, is_told, IsFoundAfter, IsFoundIn, refuses, tells};
+ghost use Rattle.nextest_config.specs.declared.nextest_version.source.ConfigSourceKind.TheVariants.{DiscoveredRepository};
+ghost use Rattle.nextest_config_lint.specs.Defined.{file_of, IsDefinedBy, ListFile};
+ghost use Rattle.toml_spans.specs.Step.{step_of};
+ghost use Rattle.nextest_config_command.specs.FileFindings.{AreFound, AreFoundInTools, found_of, is_allowed, judging_of, is_of_source, is_source_key, is_told, IsFoundAfter, IsFoundIn, refuses, tells, unread_files};
 ghost use Rattle.nextest_config_command.specs.Found.{files_of};
 ghost use Rattle.nextest_config_command.specs.Positions.{AllZipFrom};
 
 use crate::parsed_file::{ParsedFile, ParsedFiles, list_files};
-use nextest_config_findings::{
-    Defined, Finding, FindingCode, FindingSeverity, LocatedFinding, Step,
+use nextest_config::nextest_version::{ConfigSourceKind, Edition};
+use nextest_config_lint::{
+    Defined, Finding, FindingCode, FindingSeverity, ListedFile, LocatedFinding, Step,
 };
-use nextest_config_sources::nextest_version::Edition;
 use nextest_config_values::read::Word;
 use std::alloc::{AllocError, Global};
 
@@ -35,8 +36,8 @@ pub(crate) struct FileFindings<'f> {
     pub located: Vec<LocatedFinding>,
 }
 
-/// What is found in the files: in those of tools, in the list of all; and in each of the repository's,
-/// in a list with those of tools.
+/// What is found in the files: in those of tools, in the list of all; and in each of the
+/// repository's, in a list with those of tools.
 pub(crate) fn findings_in<'f>(
     alloc: Global,
     rules: Rules<'_>,
@@ -46,8 +47,7 @@ pub(crate) fn findings_in<'f>(
         AreFound (judging_of rules.entry) (files_of files.now) (map found_of found.items)) }
 {
     let mut found = in_tools(alloc, rules, files)?;
-    let tools = files.tools.as_slice();
-    let mut rest = in_repository(alloc, rules, tools, files.repository.as_slice())?;
+    let mut rest = in_repository(alloc, rules, files)?;
     found.append(&mut rest)?;
     Ok(found)
 }
@@ -61,6 +61,7 @@ fn in_tools<'f>(
     ensures { IfOk result (λ found.
         AreFoundInTools (judging_of rules.entry) (files_of files.now) (map found_of found.items)) }
 {
+    let unread = ConfigSourceKind::DiscoveredRepository;
     let mut list = list_files(alloc, files.tools.as_slice())?;
     let mut rest = list_files(alloc, files.repository.as_slice())?;
     list.append(&mut rest)?;
@@ -68,6 +69,7 @@ fn in_tools<'f>(
         // Then it doesn't matter what the list defines.
         return Ok(Vec::new(alloc));
     }
+    push_unread(&mut list, files.is_partial, &unread)?;
     let defined = Defined::of(alloc, list.as_slice())?;
     in_list(alloc, rules, &defined, files.tools.as_slice())
 }
@@ -81,7 +83,8 @@ fn in_list<'f>(
 ) -> Result<Vec<FileFindings<'f>>, AllocError>
     requires { (list : List ListFile) × IsDefinedBy list defined.now }
     ensures { IfOk result (λ found. (list : List ListFile) → IsDefinedBy list defined.now
-        → AllZipFrom (IsFoundIn (judging_of rules.entry) list) 0 files.now (map found_of found.items)) }
+        → AllZipFrom (IsFoundIn (judging_of rules.entry) list) 0 files.now
+            (map found_of found.items)) }
 {
     let mut found = Vec::new(alloc);
     for (position, file) in files.iter().enumerate() {
@@ -94,15 +97,15 @@ fn in_list<'f>(
 fn in_repository<'f>(
     alloc: Global,
     rules: Rules<'_>,
-    tools: &[ParsedFile<'_>],
-    files: &'f [ParsedFile<'_>],
+    files: &'f ParsedFiles<'_>,
 ) -> Result<Vec<FileFindings<'f>>, AllocError>
-    ensures { IfOk result (λ found.
-        AllZip (IsFoundAfter (judging_of rules.entry) tools.now) files.now (map found_of found.items)) }
+    ensures { IfOk result (λ found. AllZip
+        (IsFoundAfter (judging_of rules.entry) (files_of files.now))
+        (files_of files.now).repository (map found_of found.items)) }
 {
     let mut found = Vec::new(alloc);
-    for file in files {
-        found.push(after_tools(alloc, rules, tools, file)?)?;
+    for file in &files.repository {
+        found.push(after_tools(alloc, rules, files, file)?)?;
     }
     Ok(found)
 }
@@ -111,15 +114,39 @@ fn in_repository<'f>(
 fn after_tools<'f>(
     alloc: Global,
     rules: Rules<'_>,
-    tools: &[ParsedFile<'_>],
+    files: &'f ParsedFiles<'_>,
     file: &'f ParsedFile<'_>,
 ) -> Result<FileFindings<'f>, AllocError>
-    ensures { IfOk result (λ found. IsFoundAfter (judging_of rules.entry) tools.now file.now (found_of found)) }
+    ensures { IfOk result (λ found.
+        IsFoundAfter (judging_of rules.entry) (files_of files.now) file.now (found_of found)) }
 {
+    let unread = ConfigSourceKind::DiscoveredRepository;
+    let tools = files.tools.as_slice();
     let mut list = list_files(alloc, tools)?;
     list.push(file.listed())?;
+    push_unread(&mut list, files.is_partial, &unread)?;
     let defined = Defined::of(alloc, list.as_slice())?;
     in_file(alloc, rules, &defined, tools.len(), file)
+}
+
+// Pushes a repository's file that couldn't be read, if there is one: none that is known to be a
+// document, so it may define any name.
+fn push_unread<'f>(
+    list: &mut Vec<ListedFile<'f>>,
+    is_partial: bool,
+    source: &'f ConfigSourceKind,
+) -> Result<(), AllocError>
+    requires { source.now ≡ DiscoveredRepository }
+    ensures { OnOk result (map file_of list.new.items
+        ≡ map file_of list.old.items ++ unread_files is_partial) }
+{
+    if is_partial {
+        list.push(ListedFile {
+            source,
+            document: None,
+        })?;
+    }
+    Ok(())
 }
 
 // What is found in the file at this position of a list that defines this.
@@ -144,13 +171,14 @@ fn in_file<'f>(
 }
 
 impl Rules<'_> {
-    // Those of the findings that are told.
+    // The findings that are told, of all of a file.
     fn told(
         &self,
         alloc: Global,
         all: Vec<LocatedFinding>,
     ) -> Result<Vec<LocatedFinding>, AllocError>
-        ensures { IfOk result (λ told. told.items ≡ filter (tells (judging_of self.now)) all.items) }
+        ensures { IfOk result (λ told.
+            told.items ≡ filter (tells (judging_of self.now)) all.items) }
     {
         if self.allowed.is_empty() {
             return Ok(all);

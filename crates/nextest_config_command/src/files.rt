@@ -1,11 +1,12 @@
 //! Places that files are read from.
 
 ghost use Rattle.std.specs.Prelude.{◌≡◌, ℕ, IfErr, IfOk, List, None, Option, Some};
-ghost use Rattle.nextest_config_sources.specs.NextestVersion.{place_of};
+ghost use Rattle.nextest_config.specs.NextestVersion.{place_of};
 ghost use Rattle.nextest_config_command.specs.Files.{file_of, IsThere, IsUnreadAt, PathState, path_state_of, unanswered_text, UnlessMemory, unread_text};
 
+use nextest_config::nextest_version::ConfigSource;
 use nextest_config_report::streams::OUT_OF_MEMORY;
-use nextest_config_sources::nextest_version::ConfigSource;
+use nextest_config_values::literal::Shown;
 use std::alloc::{AllocError, Global};
 
 /// What a read of a path gave. Where it gave no bytes, the system says why.
@@ -56,13 +57,13 @@ impl Unanswered {
     pub fn unread(alloc: Global, path: &str, reason: &str) -> Self
         ensures { UnlessMemory (λ said. said ≡ unread_text path.now reason.now) result }
     {
-        match format!(in alloc; "{path}: {reason}") {
+        match format!(in alloc; "{}: {}", Shown(path), Shown(reason)) {
             Ok(said) => Unanswered::Unread(said),
             Err(AllocError) => Unanswered::Memory,
         }
     }
 
-    /// What is said of it.
+    /// What is said where there is no answer.
     pub fn as_str(&self) -> &str
         ensures { result.now ≡ unanswered_text self.now }
     {

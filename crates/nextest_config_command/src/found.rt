@@ -1,15 +1,15 @@
 //! What is read of the files that are asked for.
 
-ghost use Rattle.std.specs.Prelude.{◌≡◌, ◌++◌, ◌∷◌, [], IfErr, IfOk, map, MatchOption, OnOk};
+ghost use Rattle.std.specs.Prelude.{◌≡◌, ◌++◌, ◌∷◌, [], IfErr, IfOk, map, MatchOption, OnOk, option_map, Some, string_bytes};
 ghost use Rattle.std.specs.List.{AllZip};
-ghost use Rattle.nextest_config_sources.specs.NextestVersion.{place_of};
-ghost use Rattle.nextest_config_command.specs.Files.{file_of, IsFirstFailure, IsThere, IsUnreadAt, UnlessMemory};
-ghost use Rattle.nextest_config_command.specs.Found.{AreAllFound, AreToolsRead, found_file, IsFirstUnreadFile, IsFirstUnreadTool, IsFound, IsFoundAt, IsFoundIn, IsMetAt, IsNearest, IsPassedAt, IsUnread, IsUnreadAbove, IsUnreadIn, IsUnreadOnWalk, IsUnreadThere, outcome_of};
+ghost use Rattle.nextest_config.specs.NextestVersion.{place_of};
+ghost use Rattle.nextest_config_command.specs.Files.{file_of, IsFirstFailure, IsThere, IsUnreadAt, path_state_of, UnlessMemory};
+ghost use Rattle.nextest_config_command.specs.Found.{AreAllFound, AreToolsRead, found_file, has_bytes, IsConfigOf, IsFirstUnreadFile, IsFirstUnreadTool, IsFound, IsFoundIn, IsFoundThere, is_lint, IsMeant, IsMeantBy, IsMetAt, IsMissing, IsNearest, IsOutcome, IsPassedAt, is_path, IsStopped, IsUnread, IsUnreadAbove, IsUnreadIn, IsUnreadOnWalk, IsUnreadThere, outcome_of, passes_over};
 ghost use Rattle.nextest_config_command.specs.Request.{at_path, folders_above, in_folder, input, named, tool_places, wanted_of};
 
 use crate::files::{FileRead, Files, SourceFile, Unanswered, read_source};
-use crate::request::{RepositoryFile, Request};
-use nextest_config_sources::nextest_version::ConfigSource;
+use crate::request::{RepositoryFile, Request, Task};
+use nextest_config::nextest_version::ConfigSource;
 use nextest_config_values::helpers::join_path;
 use std::alloc::{AllocError, Global};
 
@@ -20,8 +20,14 @@ const USUAL_PATH: &str = ".config/nextest.toml";
 #[derive(Debug, PartialEq, Eq, Drop)]
 pub(crate) enum Found {
     File(SourceFile),
-    /// There is none at this path, where it is looked for.
-    Missing(String),
+    /// There is no file at this path, where one is looked for.
+    Missing {
+        path: String,
+        /// The folder that may be meant in place of its `.config`.
+        folder: Option<String>,
+    },
+    /// A PATH of a lint can't be read, as this says: the others are told all the same.
+    Unread(String),
 }
 
 /// Reads the files of the tools in turn, those of a lower priority first, up to the first one that
@@ -70,7 +76,8 @@ fn read_sources<F: Files>(
     Ok(read)
 }
 
-/// Looks for the repository's files in turn, up to the first one that can't be read.
+/// Looks for the repository's files in turn, up to the first one that can't be read; a lint passes
+/// over a PATH that can't.
 pub(crate) fn find_all<F: Files>(
     alloc: Global,
     files: &F,
@@ -83,10 +90,47 @@ pub(crate) fn find_all<F: Files>(
 {
     let mut found = Vec::new(alloc);
     for file in &request.repository {
-        let file = find(alloc, files, file)?;
+        let file = find_or_pass(alloc, files, &request.task, file)?;
         push(&mut found, file)?;
     }
     Ok(found)
+}
+
+// Looks for a repository's file, which a lint passes over where it is a PATH that can't be read.
+fn find_or_pass<F: Files>(
+    alloc: Global,
+    files: &F,
+    task: &Task,
+    file: &RepositoryFile,
+) -> Result<Found, Unanswered>
+    ensures read { IfOk result (λ found.
+        IsOutcome (F.holds files.now) task.now (wanted_of file.now) (outcome_of found)) }
+    ensures unread { IfErr result
+        (UnlessMemory (IsStopped (F.holds files.now) task.now (wanted_of file.now))) }
+{
+    match find(alloc, files, file) {
+        Err(Unanswered::Unread(said)) if passes_over(task, file) => Ok(Found::Unread(said)),
+        found => found,
+    }
+}
+
+// Whether a file that can't be read leaves the others as they are.
+fn passes_over(task: &Task, file: &RepositoryFile) -> bool
+    ensures { result ≡ passes_over task.now (wanted_of file.now) }
+{
+    is_lint(task) && is_path(file)
+}
+
+fn is_lint(task: &Task) -> bool
+    ensures { result ≡ is_lint task.now }
+{
+    matches!(task, Task::Lint(_))
+}
+
+fn is_path(file: &RepositoryFile) -> bool
+    ensures { result ≡ is_path (wanted_of file.now) }
+{
+    matches!(file, RepositoryFile::At(_) | RepositoryFile::Input(_))
 }
 
 fn push<T: Drop>(items: &mut Vec<T>, item: T) -> Result<(), AllocError>
@@ -183,13 +227,18 @@ fn find_in<F: Files>(alloc: Global, files: &F, folder: &str) -> Result<Found, Un
     ensures unread { IfErr result (UnlessMemory (IsUnreadIn (F.holds files.now) folder.now)) }
 {
     let path = join_path(alloc, folder, USUAL_PATH)?;
-    look_for(alloc, files, path.as_str())
+    look_for(alloc, files, folder, path.as_str())
 }
 
-// The file at a path, where one is looked for.
-fn look_for<F: Files>(alloc: Global, files: &F, path: &str) -> Result<Found, Unanswered>
+// The file of a folder at its path, where one is looked for.
+fn look_for<F: Files>(
+    alloc: Global,
+    files: &F,
+    folder: &str,
+    path: &str,
+) -> Result<Found, Unanswered>
     ensures read { IfOk result (λ found.
-        IsFoundAt (F.holds files.now) path.now (outcome_of found)) }
+        IsFoundThere (F.holds files.now) folder.now path.now (outcome_of found)) }
     ensures unread { IfErr result (UnlessMemory (IsUnreadThere (F.holds files.now) path.now)) }
 {
     match files.read(alloc, path)? {
@@ -197,10 +246,85 @@ fn look_for<F: Files>(alloc: Global, files: &F, path: &str) -> Result<Found, Una
             let file = found_file(alloc, path, contents)?;
             Ok(file)
         }
-        FileRead::Absent(_) => Ok(Found::Missing(String::from_str(alloc, path)?)),
+        FileRead::Absent(_) => {
+            let found = missing(alloc, files, folder, path)?;
+            Ok(found)
+        }
         FileRead::Folder(reason) | FileRead::Unreadable(reason) => {
             Err(Unanswered::unread(alloc, path, reason.as_str()))
         }
+    }
+}
+
+// That a folder has no file at its path.
+fn missing<F: Files>(
+    alloc: Global,
+    files: &F,
+    folder: &str,
+    path: &str,
+) -> Result<Found, AllocError>
+    ensures { IfOk result (λ found.
+        IsMissing (F.holds files.now) folder.now path.now (outcome_of found)) }
+{
+    let folder = folder_meant(alloc, files, folder)?;
+    let path = String::from_str(alloc, path)?;
+    Ok(Found::Missing { path, folder })
+}
+
+// The folder that may be meant by a path: the one of which it is the `.config`, if that has the
+// file.
+fn folder_meant<F: Files>(
+    alloc: Global,
+    files: &F,
+    path: &str,
+) -> Result<Option<String>, AllocError>
+    ensures { IfOk result
+        (λ meant. IsMeant (F.holds files.now) path.now (option_map string_bytes meant)) }
+{
+    match folder_of_config(path) {
+        Some(folder) => {
+            let meant = meant_by(alloc, files, path, folder)?;
+            Ok(meant)
+        }
+        None => Ok(None),
+    }
+}
+
+// The folder of a `.config`, if that has the file.
+fn meant_by<F: Files>(
+    alloc: Global,
+    files: &F,
+    path: &str,
+    folder: &str,
+) -> Result<Option<String>, AllocError>
+    ensures { IfOk result (λ meant. IsMeantBy (F.holds files.now) path.now (Some folder.now)
+        (option_map string_bytes meant)) }
+{
+    let file = join_path(alloc, path, "nextest.toml")?;
+    let read = files.read(alloc, file.as_str())?;
+    if !has_contents(&read) {
+        return Ok(None);
+    }
+    let folder = String::from_str(alloc, folder)?;
+    Ok(Some(folder))
+}
+
+fn has_contents(read: &FileRead) -> bool
+    ensures { result ≡ has_bytes (path_state_of read.now) }
+{
+    matches!(read, FileRead::Contents(_))
+}
+
+// The folder of which this is the `.config`.
+fn folder_of_config(path: &str) -> Option<&str>
+    ensures { IsConfigOf path.now (option_map (λ folder. folder.now) result) }
+{
+    if path == ".config" {
+        return Some(".");
+    }
+    match path.strip_suffix("/.config") {
+        Some("") => Some("/"),
+        folder => folder,
     }
 }
 
@@ -217,7 +341,7 @@ fn find_nearest<F: Files>(alloc: Global, files: &F, many: usize) -> Result<Found
         path = format!(in alloc; "../{path}")?;
     }
     let path = String::from_str(alloc, USUAL_PATH)?;
-    Ok(Found::Missing(path))
+    Ok(Found::Missing { path, folder: None })
 }
 
 // The file at a path, or that the walk passes it.

@@ -7,12 +7,12 @@ ghost use Rattle.nextest_config_command.specs.Found.{all_files, files_of};
 ghost use Rattle.nextest_config_command.specs.Layers.{IsIndexed, IsLent};
 
 use crate::parsed_file::{ParsedFile, ParsedFiles};
-use nextest_config_positions::PartialIndex;
-use nextest_config_profiles::{Layer, profiles_at_hand};
-use nextest_config_sources::nextest_version::ConfigSource;
+use nextest_config::nextest_version::ConfigSource;
+use nextest_config_profiles::{Layer, profiles_to_locate};
 use std::alloc::{AllocError, Global};
 use std::collections::BTreeSet;
 use toml::Table;
+use toml_spans::PartialIndex;
 
 /// A file that is a document, with the index of its places.
 #[derive(Drop)]
@@ -23,7 +23,7 @@ pub(crate) struct IndexedFile<'f> {
 }
 
 /// The names of the profiles whose places are looked up where the profile of this name is told.
-pub(crate) fn names_at_hand(
+pub(crate) fn names_to_locate(
     alloc: Global,
     files: &ParsedFiles<'_>,
     name: &str,
@@ -34,7 +34,7 @@ pub(crate) fn names_at_hand(
             documents.push(document)?;
         }
     }
-    profiles_at_hand(alloc, documents.as_slice(), name)
+    profiles_to_locate(alloc, documents.as_slice(), name)
 }
 
 /// The files, each of which is a document, with their indices, which have these profiles at hand.

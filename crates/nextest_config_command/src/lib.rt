@@ -13,6 +13,7 @@ pub mod laws;
 mod layers;
 mod lint;
 mod parsed_file;
+mod printed;
 mod profile;
 mod request;
 mod streams;
@@ -20,8 +21,8 @@ mod verdict;
 mod words;
 
 pub use files::{FileRead, Files};
-pub use nextest_config_findings::FindingCode;
-pub use nextest_config_formats::Format;
+pub use nextest_config_lint::FindingCode;
+pub use nextest_config_output::findings::Format;
 pub use nextest_config_report::show::ShowFormat;
 pub use request::{Check, LintOptions, ProfileTask, RepositoryFile, Request, Task};
 pub use streams::serve;

@@ -5,13 +5,13 @@ ghost use Rattle.std.specs.Str.Lines.{lines};
 ghost use Rattle.nextest_config_command.specs.FileFindings.{found_of, is_error, judging_of};
 ghost use Rattle.nextest_config_command.specs.Found.{files_of};
 ghost use Rattle.nextest_config_command.specs.Lint.{AreTextsOf, fails_by, file_text, is_note, IsLint, is_warning, lint_status, lint_text, located_text, path_if, paths_in, severities_of, severity_of, shown_text, summary_line, summary_of, told_at};
-ghost use Rattle.nextest_config_formats.specs.Told.{told_text};
+ghost use Rattle.nextest_config_output.specs.Findings.Told.{told_text};
 
 use crate::distinct::count_distinct;
 use crate::file_findings::{FileFindings, Rules, findings_in};
 use crate::parsed_file::ParsedFiles;
-use nextest_config_findings::{Finding, FindingSeverity, LocatedFinding, PathText};
-use nextest_config_formats::{Format, Summary, ToldFinding, push_finding};
+use nextest_config_lint::{Finding, FindingSeverity, LocatedFinding, PathText};
+use nextest_config_output::findings::{Format, Summary, ToldFinding, push_finding};
 use nextest_config_report::exit_status::ExitStatus;
 use nextest_config_values::read::Word;
 use std::alloc::{AllocError, Global};
@@ -80,7 +80,7 @@ fn summary_of(alloc: Global, found: &[FileFindings<'_>]) -> Result<Summary, Allo
     Ok(summary_with(severities.as_slice(), files))
 }
 
-// How many there are of each severity, and in so many files.
+// How many findings there are of each severity, in so many files.
 fn summary_with(severities: &[FindingSeverity], files: usize) -> Summary
     ensures errors { result.errors ≡ count_by is_error severities.now }
     ensures warnings { result.warnings ≡ count_by is_warning severities.now }
@@ -115,7 +115,8 @@ fn is_note(severity: FindingSeverity) -> bool
 
 // How grave each finding is.
 fn severities(alloc: Global, found: &[FileFindings<'_>]) -> Result<Vec<FindingSeverity>, AllocError>
-    ensures { IfOk result (λ severities. severities.items ≡ severities_of (map found_of found.now)) }
+    ensures { IfOk result (λ severities.
+        severities.items ≡ severities_of (map found_of found.now)) }
 {
     let mut severities = Vec::new(alloc);
     for file in found {
@@ -139,7 +140,8 @@ fn push_severities(
 
 // The paths of the files in which something is found.
 fn paths<'f>(alloc: Global, found: &[FileFindings<'f>]) -> Result<Vec<&'f str>, AllocError>
-    ensures { IfOk result (λ paths. map (λ path. path.now) paths.items ≡ paths_in (map found_of found.now)) }
+    ensures { IfOk result (λ paths.
+        map (λ path. path.now) paths.items ≡ paths_in (map found_of found.now)) }
 {
     let mut paths = Vec::new(alloc);
     for file in found {
@@ -266,7 +268,7 @@ struct FindingTexts {
 }
 
 impl FindingTexts {
-    // Writes those of a finding.
+    // Writes the texts of a finding.
     fn rewrite(&mut self, finding: &Finding) -> Result<(), AllocError>
         ensures { OnOk result (AreTextsOf finding.now self.new) }
     {
@@ -277,7 +279,7 @@ impl FindingTexts {
     }
 }
 
-// Pushes one of them, whose texts these are.
+// Pushes a finding of the file at a path, with these lines; its texts are written already.
 fn push_one(
     alloc: Global,
     text: &mut String,

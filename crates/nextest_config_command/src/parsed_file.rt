@@ -1,22 +1,21 @@
 //! Files, each parsed once.
 
-ghost use Rattle.std.specs.Prelude.{◌≡◌, IfOk, List, map, MatchOption, OnOk, Some};
+ghost use Rattle.std.specs.Prelude.{◌≡◌, ◌++◌, IfOk, List, map, MatchOption, OnOk, option_map, Some, string_bytes};
 ghost use Rattle.toml.specs.Parse.{parse_document};
 ghost use Rattle.toml.specs.View.{table_view};
-ghost use Rattle.nextest_config_sources.specs.NextestVersion.{place_of};
-ghost use Rattle.nextest_config.specs.NextestVersion.{IsDocumentOf};
-ghost use Rattle.nextest_config_findings.specs.Defined.{IsDefinedBy, ListFile};
-ghost use Rattle.nextest_config_findings.specs.File.{AreLocated, IsReadOf, IsTextOf};
+ghost use Rattle.nextest_config.specs.NextestVersion.{place_of, IsDocumentOf};
+ghost use Rattle.nextest_config_lint.specs.Defined.{IsDefinedBy, ListFile};
+ghost use Rattle.nextest_config_lint.specs.File.{AreLocated, IsReadOf, IsTextOf};
 ghost use Rattle.nextest_config_command.specs.FileList.{given_file, IsDocumentFile};
 ghost use Rattle.nextest_config_command.specs.Files.{File, file_of};
-ghost use Rattle.nextest_config_command.specs.Found.{files_of, list_of, outcome_of, with_outcome};
+ghost use Rattle.nextest_config_command.specs.Found.{files_of, hint, list_of, notice, outcome_of, with_outcome};
 ghost use Rattle.nextest_config_command.specs.FileFindings.{AreListed, IsListed};
 
 use crate::files::SourceFile;
 use crate::found::Found;
-use nextest_config::nextest_version::SourceDocument;
-use nextest_config_findings::{Defined, FileContents, ListedFile, LocatedFinding};
-use nextest_config_sources::nextest_version::{ConfigSource, Edition};
+use nextest_config::nextest_version::{ConfigSource, Edition, SourceDocument};
+use nextest_config_lint::{Defined, FileContents, ListedFile, LocatedFinding};
+use nextest_config_values::literal::Shown;
 use std::alloc::{AllocError, Global};
 use std::fmt::Write;
 use std::marker::Model;
@@ -30,7 +29,7 @@ pub(crate) struct ParsedFile<'a> {
 }
 
 impl<'a> Model for ParsedFile<'a> {
-    ghost use Rattle.nextest_config_findings.specs.File.{IsReadOf};
+    ghost use Rattle.nextest_config_lint.specs.File.{IsReadOf};
     ghost use Rattle.nextest_config_command.specs.Files.{File, file_of};
 
     ghost Value = { File };
@@ -49,12 +48,14 @@ impl<'a> ParsedFile<'a> {
         Ok(ParsedFile { file, contents })
     }
 
+    /// The path of the file, as it prints.
     pub fn path(&self) -> &str
         ensures { result.now ≡ self.now.place.path }
     {
         self.file.source.path.as_str()
     }
 
+    /// The bytes of the file, UTF-8 or not.
     pub fn contents(&self) -> &[u8]
         ensures { result.now ≡ self.now.contents }
     {
@@ -124,8 +125,10 @@ impl<'a> ParsedFile<'a> {
 pub(crate) struct ParsedFiles<'a> {
     pub tools: Vec<ParsedFile<'a>>,
     pub repository: Vec<ParsedFile<'a>>,
-    /// A line for each file that is looked for and missing.
+    /// A line for each file that is looked for and missing, or can't be read.
     pub notices: String,
+    /// Whether there is one that can't be read.
+    pub is_partial: bool,
 }
 
 impl<'a> ParsedFiles<'a> {
@@ -142,6 +145,7 @@ impl<'a> ParsedFiles<'a> {
             tools: parse_files(alloc, tools)?,
             repository: Vec::new(alloc),
             notices: String::new(alloc),
+            is_partial: false,
         };
         for outcome in found {
             parsed.add(alloc, outcome)?;
@@ -156,12 +160,49 @@ impl<'a> ParsedFiles<'a> {
     {
         match outcome {
             Found::File(file) => self.repository.push(ParsedFile::of(alloc, file)?)?,
-            Found::Missing(path) => {
-                writeln!(self.notices, "no configuration file: {path} isn't there")?;
+            Found::Missing { path, folder } => {
+                push_notice(&mut self.notices, path.as_str(), folder)?;
+            }
+            Found::Unread(said) => {
+                writeln!(self.notices, "{said}")?;
+                self.is_partial = true;
             }
         }
         Ok(())
     }
+}
+
+// Pushes that no file is at this path, with the folder that may be meant.
+fn push_notice(notices: &mut String, path: &str, folder: &Option<String>) -> Result<(), AllocError>
+    ensures { OnOk result (string_bytes notices.new ≡ string_bytes notices.old
+        ++ notice path.now (option_map string_bytes folder.now)) }
+{
+    write!(
+        notices,
+        "no configuration file: {} isn't there",
+        Shown(path)
+    )?;
+    push_hint(notices, folder)?;
+    notices.push_str("\n")?;
+    Ok(())
+}
+
+// Pushes the folder that may be meant, if there is one.
+fn push_hint(notices: &mut String, folder: &Option<String>) -> Result<(), AllocError>
+    ensures { OnOk result (string_bytes notices.new ≡ string_bytes notices.old
+        ++ hint (option_map string_bytes folder.now)) }
+{
+    match folder {
+        Some(folder) => push_meant(notices, folder.as_str()),
+        None => Ok(()),
+    }
+}
+
+fn push_meant(notices: &mut String, folder: &str) -> Result<(), AllocError>
+    ensures { OnOk result
+        (string_bytes notices.new ≡ string_bytes notices.old ++ hint (Some folder.now)) }
+{
+    write!(notices, ", did you mean {}", Shown(folder))
 }
 
 // The files, each parsed.

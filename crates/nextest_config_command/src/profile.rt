@@ -1,33 +1,36 @@
 //! What the command answers about a profile.
 
-ghost use Rattle.std.specs.Prelude.{◌≡◌, ◌++◌, IfOk, MatchOption, OnOk, string_bytes};
+ghost use Rattle.std.specs.Prelude.{◌≡◌, ◌==◌, ◌++◌, IfOk, MatchOption, OnOk, string_bytes};
+ghost use Rattle.std.specs.List.{list_any};
 ghost use Rattle.nextest_config_profiles.specs.Inherits.{IsPlacedFault};
 ghost use Rattle.nextest_config_profiles.specs.Profile.{profile_wrong};
 ghost use Rattle.nextest_config_command.specs.Answer.{answer_of};
 ghost use Rattle.nextest_config_command.specs.FileList.{AreDocuments};
 ghost use Rattle.nextest_config_command.specs.Found.{all_files, files_of};
-ghost use Rattle.nextest_config_command.specs.Profile.{front_text, IsAnsweredBy, IsNoProfileTold, IsProfiled, IsProfileIn, IsRefusedFor, IsReported, IsReportTold, IsWrongTold, line_text, lint_format, no_text, ring_text, status_told, undefined_text};
+ghost use Rattle.nextest_config_command.specs.Profile.{front_text, IsAnsweredBy, IsNoProfileTold, IsProfiled, IsProfileIn, IsRefusedFor, IsReported, IsReportTold, IsWrongTold, line_text, is_like_path, lint_format, no_text, path_hint, ring_text, status_told, undefined_text};
+ghost use Rattle.nextest_config_command.specs.Request.{slash};
 
 use crate::answer::Answer;
 use crate::file_findings::Rules;
-use crate::layers::{indexed_files, layers, names_at_hand};
+use crate::layers::{indexed_files, layers, names_to_locate};
 use crate::lint::Lint;
 use crate::parsed_file::ParsedFiles;
+use crate::printed::Printed;
 use crate::request::ProfileTask;
-use nextest_config_formats::{Escaped, Escapes, Format};
-use nextest_config_positions::Span;
-use nextest_config_profile_formats::{outside_text, profile_text};
-use nextest_config_profile_report::ProfileReport;
+use nextest_config::nextest_version::Edition;
+use nextest_config_output::findings::{Escaped, Escapes, Format};
+use nextest_config_output::profile::{other_profiles_text, profile_text};
+use nextest_config_profiles::report::ProfileReport;
 use nextest_config_profiles::{
     EffectiveProfile, InheritsPlace, Layer, ProfileFault, profile_names,
 };
 use nextest_config_report::exit_status::ExitStatus;
 use nextest_config_report::names::push_names;
 use nextest_config_report::show::ShowFormat;
-use nextest_config_sources::nextest_version::Edition;
 use nextest_config_values::read::{QuotedText, found_text};
 use std::alloc::{AllocError, Global};
 use std::fmt::Write;
+use toml_spans::Span;
 
 /// What the profile gets for its settings by these files, or why it gets nothing.
 pub(crate) fn profile(
@@ -46,7 +49,8 @@ pub(crate) fn profile(
     };
     let lint = Lint::of(alloc, rules, lint_format(task.format), files)?;
     if lint.summary.errors > 0 {
-        return Ok(Answer::says(alloc, lint.text, ExitStatus::Refused));
+        let said = Printed::in_show_format(task.format, lint.text);
+        return Ok(Answer::says(alloc, said, ExitStatus::Refused));
     }
     let answer = profile_in(alloc, task, files)?;
     Ok(answer)
@@ -62,7 +66,8 @@ fn lint_format(format: ShowFormat) -> Format
     }
 }
 
-// The same of files each of which is a document.
+// What the profile gets for its settings by files each of which is a document, or why it gets
+// nothing.
 fn profile_in(
     alloc: Global,
     task: &ProfileTask,
@@ -72,14 +77,14 @@ fn profile_in(
     ensures { IfOk result (λ answer.
         IsProfileIn (all_files (files_of files.now)) task.now (answer_of answer)) }
 {
-    let profiles = names_at_hand(alloc, files, task.name.as_str())?;
+    let profiles = names_to_locate(alloc, files, task.name.as_str())?;
     let indexed = indexed_files(alloc, files, &profiles)?;
     let layers = layers(alloc, indexed.as_slice())?;
     let answer = profile_by(alloc, task, layers.as_slice())?;
     Ok(answer)
 }
 
-// The same by the files as layers.
+// What the profile gets for its settings by layers, or why it gets nothing.
 fn profile_by<'a>(
     alloc: Global,
     task: &ProfileTask,
@@ -116,8 +121,8 @@ fn report_of(
 fn told(alloc: Global, format: ShowFormat, report: &ProfileReport<'_>) -> Result<Answer, AllocError>
     ensures { IfOk result (λ answer. IsReportTold format report.now (answer_of answer)) }
 {
-    let text = profile_text(alloc, format, report)?;
-    let said = outside_text(alloc, report)?;
+    let text = Printed::in_show_format(format, profile_text(alloc, format, report)?);
+    let said = Printed::ForPeople(other_profiles_text(alloc, report)?);
     let status = status_of(report);
     Ok(Answer { text, said, status })
 }
@@ -145,7 +150,7 @@ fn refusal<'a>(
 {
     let mut said = fault_text(alloc, layers, name, fault)?;
     said.push_str("\n")?;
-    Ok(Answer::says(alloc, said, ExitStatus::Refused))
+    Ok(Answer::says(alloc, Printed::ForPeople(said), ExitStatus::Refused))
 }
 
 // Why the profile has no settings.
@@ -177,7 +182,32 @@ fn no_profile_text(alloc: Global, layers: &[Layer<'_>], name: &str) -> Result<St
     let names = profile_names(alloc, layers)?;
     let mut text = format!(in alloc; "no profile {}, there are ", QuotedText(name))?;
     push_names(&mut text, names.as_slice())?;
+    text.push_str(path_hint(name))?;
     Ok(text)
+}
+
+// What is said of a name that is rather a path.
+fn path_hint(name: &str) -> &'static str
+    ensures { result.now ≡ path_hint name.now }
+{
+    if is_like_path(name) {
+        "; NAME stands before PATH"
+    } else {
+        ""
+    }
+}
+
+// Whether a name has a slash, or is that of a folder itself or of the one above.
+fn is_like_path(name: &str) -> bool
+    ensures { result ≡ is_like_path name.now }
+{
+    has_slash(name) || name == "." || name == ".."
+}
+
+fn has_slash(name: &str) -> bool
+    ensures { result ≡ list_any (λ byte. byte == slash) name.now }
+{
+    name.bytes().any(|byte| byte == b'/')
 }
 
 // That a profile inherits from itself, where it does.
@@ -186,7 +216,8 @@ fn ring_text(
     profile: &str,
     place: &Option<InheritsPlace<'_>>,
 ) -> Result<String, AllocError>
-    ensures { IfOk result (λ text. string_bytes text ≡ front_text place.now ++ ring_text profile.now) }
+    ensures { IfOk result (λ text.
+        string_bytes text ≡ front_text place.now ++ ring_text profile.now) }
 {
     let mut text = String::new(alloc);
     push_front(&mut text, place)?;
@@ -204,7 +235,8 @@ fn undefined_text(
     parent: &str,
     place: &Option<InheritsPlace<'_>>,
 ) -> Result<String, AllocError>
-    ensures { IfOk result (λ text. string_bytes text ≡ front_text place.now ++ undefined_text parent.now) }
+    ensures { IfOk result (λ text.
+        string_bytes text ≡ front_text place.now ++ undefined_text parent.now) }
 {
     let mut text = String::new(alloc);
     push_front(&mut text, place)?;
@@ -246,7 +278,7 @@ fn push_front(text: &mut String, place: &Option<InheritsPlace<'_>>) -> Result<()
     match place {
         Some(place) => {
             let path = place.file.source.path.as_str();
-            write!(text, "{}", Escaped(Escapes::LineEnds, path))?;
+            write!(text, "{}", Escaped(Escapes::InLine, path))?;
             push_line(text, place.span)?;
             text.push_str(": ")
         }

@@ -1,9 +1,9 @@
 //! What the command is asked for.
 
-use nextest_config_findings::FindingCode;
-use nextest_config_formats::Format;
+use nextest_config::nextest_version::Edition;
+use nextest_config_lint::FindingCode;
+use nextest_config_output::findings::Format;
 use nextest_config_report::show::ShowFormat;
-use nextest_config_sources::nextest_version::Edition;
 use nextest_config_values::tool_config::ToolConfigFile;
 use semver::Version;
 
@@ -12,8 +12,8 @@ use semver::Version;
 pub struct Request {
     /// The files of tools, of which the first has the highest priority.
     pub tools: Vec<ToolConfigFile>,
-    /// The repository's files, above those of tools. Each is judged with those of tools as a list of
-    /// its own.
+    /// The repository's files, above those of tools. Each is judged with those of tools as a list
+    /// of its own.
     pub repository: Vec<RepositoryFile>,
     pub edition: Edition,
     pub task: Task,

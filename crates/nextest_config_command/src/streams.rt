@@ -1,11 +1,11 @@
 //! From a request to what is written, and to a status.
 
-ghost use Rattle.std.specs.Prelude.{◌≡◌, ◌≢◌, ◌⊎◌, IfErr, IfOk, string_bytes};
+ghost use Rattle.std.specs.Prelude.{◌≡◌, ◌⊎◌, IfErr, IfOk, IsTrue};
 ghost use Rattle.nextest_config_report.specs.declared.exit_status.ExitStatus.TheVariants.{NoOutcome};
 ghost use Rattle.nextest_config_report.specs.Streams.{AddsOrFails};
 ghost use Rattle.nextest_config_command.specs.Files.{unanswered_text, UnlessMemory};
 ghost use Rattle.nextest_config_command.specs.Found.{files_of, IsFirstUnread};
-ghost use Rattle.nextest_config_command.specs.Streams.{IsCutShort, IsReply, IsReplyAbout, IsServed, IsTold, IsUnwritten, line_of};
+ghost use Rattle.nextest_config_command.specs.Streams.{AddsPrintable, AddTwoPrintable, IsEnded, IsReply, IsReplyAbout, is_told_to_people, IsTold, IsUnwritten, line_of};
 
 use crate::answer::{Answer, answer_to};
 use crate::files::{Files, Unanswered};
@@ -13,19 +13,23 @@ use crate::found::{find_all, read_tools};
 use crate::parsed_file::ParsedFiles;
 use crate::request::Request;
 use nextest_config_report::exit_status::ExitStatus;
-use nextest_config_report::streams::{CANNOT_WRITE, Stream, complain, write_report};
+use nextest_config_report::streams::{
+    CANNOT_WRITE, Stream, complain, is_reader_gone, write_report,
+};
+use nextest_config_values::literal::shown_lines;
 use std::alloc::{AllocError, Global};
 
-/// An answer, and what is said before it: a line for each file that is missing, and what the answer
-/// says beside what it writes.
+/// An answer as it is printed, and what is said before it: a line for each file that is missing,
+/// and what the answer says beside what it writes.
 #[derive(Debug, PartialEq, Eq, Drop)]
 pub(crate) struct Reply {
     notices: String,
-    answer: Answer,
+    text: String,
+    status: ExitStatus,
 }
 
-/// Does what is asked for, and answers the number that the command ends with. Where a file is looked
-/// for and missing, the second stream says so, and the command goes on without it.
+/// Does what is asked for, and answers the number that the command ends with. Where a file is
+/// looked for and missing, the second stream says so, and the command goes on without it.
 pub fn serve<F: Files, W: Stream, E: Stream>(
     alloc: Global,
     request: &Request,
@@ -33,12 +37,14 @@ pub fn serve<F: Files, W: Stream, E: Stream>(
     writer: &mut W,
     faults: &mut E,
 ) -> u8
-    ensures served { (result ≡ 3) ⊎ IsServed (F.holds files.now) request.now result
+    ensures ended { IsEnded (F.holds files.now) request.now result
+        (W.may_have_failed writer.new) (W.reader_may_be_gone writer.new)
         (W.contents writer.old) (W.contents writer.new)
         (E.may_have_failed faults.new) (E.contents faults.old) (E.contents faults.new) }
-    ensures cut_short { result ≡ 3 → IsCutShort (F.holds files.now) request.now
-        (W.may_have_failed writer.new) (W.contents writer.old) (W.contents writer.new)
-        (E.may_have_failed faults.new) (E.contents faults.old) (E.contents faults.new) }
+    ensures writes_printable { IsTrue (is_told_to_people request.now.task)
+        → AddsPrintable (W.contents writer.old) (W.contents writer.new) }
+    ensures says_printable { IsTrue (is_told_to_people request.now.task)
+        → AddTwoPrintable (E.contents faults.old) (E.contents faults.new) }
 {
     match reply_to(alloc, request, files) {
         Ok(reply) => tell(&reply, writer, faults).code(),
@@ -66,25 +72,34 @@ fn reply_about(
 ) -> Result<Reply, AllocError>
     ensures { IfOk result (IsReplyAbout request.now (files_of files.now)) }
 {
-    let mut notices = String::from_str(alloc, files.notices.as_str())?;
-    let answer = answer_to(alloc, request.edition, &request.task, files)?;
-    notices.push_str(answer.said.as_str())?;
-    Ok(Reply { notices, answer })
+    let notices = String::from_str(alloc, files.notices.as_str())?;
+    let mut notices = shown_lines(alloc, notices)?;
+    let Answer { text, said, status } = answer_to(alloc, request.edition, &request.task, files)?;
+    let said = said.text(alloc)?;
+    notices.push_str(said.as_str())?;
+    let text = text.text(alloc)?;
+    Ok(Reply {
+        notices,
+        text,
+        status,
+    })
 }
 
 // Says the notices, writes the answer, and tells how the command ends.
 fn tell<W: Stream, E: Stream>(reply: &Reply, writer: &mut W, faults: &mut E) -> ExitStatus
     ensures { IsTold reply.now result (W.contents writer.old) (W.contents writer.new)
         (E.may_have_failed faults.new) (E.contents faults.old) (E.contents faults.new)
-        ⊎ IsUnwritten reply.now result (W.may_have_failed writer.new) (W.contents writer.old)
-        (W.contents writer.new) (E.may_have_failed faults.new) (E.contents faults.old)
-        (E.contents faults.new) }
+        ⊎ IsUnwritten reply.now result (W.may_have_failed writer.new)
+        (W.reader_may_be_gone writer.new) (W.contents writer.old) (W.contents writer.new)
+        (E.may_have_failed faults.new) (E.contents faults.old) (E.contents faults.new) }
 {
     say(reply.notices.as_str(), faults);
-    match write_report(writer, reply.answer.text.as_bytes()) {
-        Ok(()) => reply.answer.status,
-        Err(_) => {
-            let _ = complain(faults, CANNOT_WRITE, "");
+    match write_report(writer, reply.text.as_bytes()) {
+        Ok(()) => reply.status,
+        Err(error) => {
+            if !is_reader_gone(&error) {
+                let _ = complain(faults, CANNOT_WRITE, "");
+            }
             ExitStatus::NoOutcome
         }
     }

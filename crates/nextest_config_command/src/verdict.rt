@@ -2,8 +2,7 @@
 
 ghost use Rattle.std.specs.Prelude.{◌≡◌, IfOk, string_bytes};
 ghost use Rattle.semver.specs.Identifiers.{parts_of};
-ghost use Rattle.nextest_config.specs.NextestVersion.{experimental_of, verdict_of};
-ghost use Rattle.nextest_config_sources.specs.NextestVersion.{place_of};
+ghost use Rattle.nextest_config.specs.NextestVersion.{experimental_of, verdict_of, place_of};
 ghost use Rattle.nextest_config_command.specs.Asked.{SomeAsks};
 ghost use Rattle.nextest_config_command.specs.Found.{all_files, files_of};
 ghost use Rattle.nextest_config_command.specs.Verdict.{IsAskedFor, IsShortfallTold, IsVerdictFinding, IsVerdictTold, overridden_text, role_text, shortfall_message, shortfall_of, shortfall_severity};
@@ -14,9 +13,10 @@ use crate::request::Check;
 use nextest_config::nextest_version::{
     ExperimentalConfig, NextestVersionEval, UnmetVersion, VersionRole,
 };
-use nextest_config_findings::{FindingSeverity, PathText};
-use nextest_config_formats::{Format, ToldFinding, push_finding};
+use nextest_config_lint::{FindingSeverity, PathText};
+use nextest_config_output::findings::{Format, ToldFinding, push_finding};
 use nextest_config_report::lines::report_text;
+use nextest_config_report::source::SourceStyle;
 use std::alloc::{AllocError, Global};
 
 /// The verdict on the current version of a check: with the features, as lines for people, or alone,
@@ -29,12 +29,20 @@ pub(crate) fn verdict_text(
     experimental: &ExperimentalConfig,
 ) -> Result<String, AllocError>
     requires { IsAskedFor (all_files (files_of files.now)) (verdict_of eval.now) }
-    ensures { IfOk result (λ text. IsVerdictTold check.now.lint.format (all_files (files_of files.now))
-        (parts_of check.now.current) (verdict_of eval.now) (experimental_of experimental.now)
-        (string_bytes text)) }
+    ensures { IfOk result (λ text. IsVerdictTold check.now.lint.format
+        (all_files (files_of files.now)) (parts_of check.now.current) (verdict_of eval.now)
+        (experimental_of experimental.now) (string_bytes text)) }
 {
     match check.lint.format {
-        Format::Human | Format::Full => report_text(alloc, eval, &check.current, experimental),
+        Format::Human | Format::Full => {
+            report_text(
+                alloc,
+                SourceStyle::InLine,
+                eval,
+                &check.current,
+                experimental,
+            )
+        }
         Format::Github | Format::Json => finding_text(alloc, check.lint.format, files, eval),
     }
 }

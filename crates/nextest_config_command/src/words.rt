@@ -2,7 +2,7 @@
 
 ghost use Rattle.std.specs.Prelude.{◌≡◌, IfOk, map};
 ghost use Rattle.nextest_config_command.specs.Request.{wanted_of};
-ghost use Rattle.nextest_config_command.specs.Words.{inputs, misuse_in, name_of_input, paths_of, text, wanted_at, wanted_in, wanted_without};
+ghost use Rattle.nextest_config_command.specs.Words.{inputs, misuse_in, misuse_text, name_of_input, paths_of, text, wanted_at, wanted_in, wanted_without};
 
 use crate::request::RepositoryFile;
 use std::alloc::{AllocError, Global};
@@ -37,8 +37,10 @@ pub enum Misuse {
 }
 
 impl Misuse {
-    /// What is said of it.
-    pub fn as_str(self) -> &'static str {
+    /// What is said of words that ask for no file.
+    pub fn as_str(self) -> &'static str
+        ensures { result.now ≡ misuse_text self }
+    {
         match self {
             Misuse::PathBesideFile => "a PATH can't stand beside --config-file",
             Misuse::InputTwice => "standard input can be read only once",

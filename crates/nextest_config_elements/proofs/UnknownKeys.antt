@@ -11,7 +11,7 @@ use Rattle.std.specs.String.{string_cmp}
 use Rattle.toml.proofs.Views.{Entry}
 use Rattle.toml.specs.Data.{get_member}
 use Rattle.toml.specs.View.{members_view, view}
-use Rattle.nextest_config_values.proofs.Elements.{all_weaker}
+use Rattle.toml_spans.proofs.Elements.{all_weaker}
 use Rattle.nextest_config_elements.specs.UnknownKeys.{ComesBefore, HasOnlyKeys, IsFirstUnknownKey, IsOneOf}
 use Rattle.nextest_config_elements.specs.UnknownKeysLaws.{found_at, found_later, not_itself}
 

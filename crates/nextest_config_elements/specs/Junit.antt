@@ -26,7 +26,7 @@ pub record Report (P : Type 0) : Type 0 where
   pub skipped : ReportSkipPolicy
   pub flaky_fail_status : JunitFlakyFailStatus
 
--- what settings say
+-- what the settings of a report say, whose path may be missing
 abbrev pub settings_of : JunitSettings → Report (Option (List ℕ))
 settings_of s = record {
   path = option_map (λ path. path.now) s.path;
@@ -37,7 +37,7 @@ settings_of s = record {
   flaky_fail_status = s.flaky_fail_status;
 }
 
--- what a configuration says
+-- what the configuration of a report says
 abbrev pub report_of : JunitConfig → Report (List ℕ)
 report_of config = record {
   path = string_bytes config.path;
@@ -48,7 +48,7 @@ report_of config = record {
   flaky_fail_status = config.flaky_fail_status;
 }
 
--- the same report, at this path
+-- a report with another path than its own, or with one where it may have none
 abbrev pub at_path : {P : Type 0} → Report P → List ℕ → Report (List ℕ)
 at_path report path = record {
   path = path;
@@ -66,9 +66,11 @@ report_in folder settings =
 
 -- ---- the words of the status
 
+-- how a flaky test that is to fail may be reported, in the order of the words
 abbrev pub flaky_fail_statuses : List JunitFlakyFailStatus
 flaky_fail_statuses = Failure ∷ Success ∷ []
 
+-- the word of how a flaky test that is to fail is reported
 abbrev pub flaky_fail_word : JunitFlakyFailStatus → List ℕ
 flaky_fail_word Failure = codes "failure"
 flaky_fail_word Success = codes "success"
@@ -77,6 +79,7 @@ pub flaky_fail_reads_back : (status : JunitFlakyFailStatus)
     → value_of flaky_fail_word flaky_fail_statuses (flaky_fail_word status) ≡ Some status
 flaky_fail_reads_back status = search rules
 
+-- the reading of `flaky-fail-status`: one of its words
 abbrev pub flaky_fail_reading : Reading Data JunitFlakyFailStatus
 flaky_fail_reading = word_reading flaky_fail_statuses flaky_fail_word flaky_fail_reads_back
 
@@ -110,34 +113,40 @@ junit_of junit = table_of_keys (option_map string_bytes junit.path)
     (option_map string_bytes junit.report_name) junit.store_success_output
     junit.store_failure_output junit.report_skipped junit.flaky_fail_status
 
--- the table that says nothing
+-- the table that says nothing of a report
 abbrev pub empty_table : JunitTable
 empty_table = table_of_keys None None None None None None
 
+-- the key of where the report is written to
 abbrev pub path_key : List ℕ
 path_key = codes "path"
 
+-- the key of the report's name
 abbrev pub report_name_key : List ℕ
 report_name_key = codes "report-name"
 
+-- the key of whether the report has the output of tests that pass
 abbrev pub store_success_output_key : List ℕ
 store_success_output_key = codes "store-success-output"
 
+-- the key of whether the report has the output of tests that fail
 abbrev pub store_failure_output_key : List ℕ
 store_failure_output_key = codes "store-failure-output"
 
+-- the key of which skipped tests the report has
 abbrev pub report_skipped_key : List ℕ
 report_skipped_key = codes "report-skipped"
 
+-- the key of how flaky tests that are to fail are reported
 abbrev pub flaky_fail_status_key : List ℕ
 flaky_fail_status_key = codes "flaky-fail-status"
 
--- the keys that the table may have
+-- the keys that the table `junit` may have
 abbrev pub junit_keys : List (List ℕ)
 junit_keys = path_key ∷ report_name_key ∷ store_success_output_key ∷ store_failure_output_key
     ∷ report_skipped_key ∷ flaky_fail_status_key ∷ []
 
--- the keys after the path and the name
+-- the keys of `junit` after the path and the name, in turn
 abbrev pub keys_after_texts : Option (List ℕ) → Option (List ℕ) → Reading Members JunitTable
 keys_after_texts path report_name =
     then (optional store_success_output_key bool_reading) (λ store_success_output.
@@ -146,7 +155,7 @@ keys_after_texts path report_name =
     made_of (table_of_keys path report_name store_success_output store_failure_output
     report_skipped) (optional flaky_fail_status_key flaky_fail_reading))))
 
--- the keys in turn; other keys don't count
+-- the keys of `junit` in turn, each of which may be missing; other keys don't count
 abbrev pub junit_table : Reading Members JunitTable
 junit_table = then (optional path_key text_reading) (λ path.
     then (optional report_name_key text_reading) (keys_after_texts path))
@@ -155,10 +164,11 @@ junit_table = then (optional path_key text_reading) (λ path.
 abbrev pub HasText : JunitTable → Type 0
 HasText said = IsSome said.path ⊎ IsSome said.report_name
 
--- what the setting takes
+-- what `junit` takes, as a refusal says it
 abbrev pub junit_expected : List ℕ
 junit_expected = codes "a table"
 
+-- the reading of `junit`: a table (TOML 1.1, "Table")
 abbrev pub junit_reading : Reading Data JunitTable
 junit_reading = kind as_table (inner junit_table) (wrong_kind junit_expected)
 

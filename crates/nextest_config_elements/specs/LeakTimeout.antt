@@ -11,7 +11,7 @@ use Rattle.nextest_config_elements.specs.declared.leak_timeout.LeakTimeout.{Leak
 use Rattle.nextest_config_elements.specs.declared.leak_timeout.LeakTimeoutResult.{LeakTimeoutResult}
 use Rattle.nextest_config_elements.specs.declared.leak_timeout.LeakTimeoutResult.TheVariants.{Fail, Pass}
 
--- a timeout; the period is in nanoseconds
+-- a timeout of leaky tests; the period is in nanoseconds
 pub record LeakTimeoutRecord : Type 0 where
   pub period : ℕ
   pub result : LeakTimeoutResult
@@ -20,18 +20,19 @@ pub record LeakTimeoutRecord : Type 0 where
 abbrev pub leak_timeout : ℕ → LeakTimeoutResult → LeakTimeoutRecord
 leak_timeout period result = record { period = period; result = result }
 
--- what a timeout says
+-- what a timeout of leaky tests says
 abbrev pub leak_timeout_of : LeakTimeout → LeakTimeoutRecord
 leak_timeout_of t = leak_timeout (as_nanos t.period) t.result
 
--- the timeout where none is given
+-- the timeout of leaky tests where none is given
 abbrev pub default_leak_timeout : LeakTimeoutRecord
 default_leak_timeout = leak_timeout (milliseconds 100) Pass
 
--- the results, in the order of their words
+-- what may become of a leaky test, in the order of the words
 abbrev pub leak_timeout_results : List LeakTimeoutResult
 leak_timeout_results = Fail ∷ Pass ∷ []
 
+-- the word of what becomes of a leaky test
 abbrev pub leak_timeout_word : LeakTimeoutResult → List ℕ
 leak_timeout_word Fail = codes "fail"
 leak_timeout_word Pass = codes "pass"
@@ -42,17 +43,19 @@ leak_timeout_reads_back result = search rules
 
 -- ---- the table form
 
+-- the key of how long a test may leak its handles
 abbrev pub period_key : List ℕ
 period_key = codes "period"
 
+-- the key of what becomes of a leaky test
 abbrev pub result_key : List ℕ
 result_key = codes "result"
 
--- the keys that the table may have
+-- the keys that the table `leak-timeout` may have
 abbrev pub leak_timeout_keys : List (List ℕ)
 leak_timeout_keys = period_key ∷ result_key ∷ []
 
--- the table has a period, and may have a result; other keys don't count
+-- the table `leak-timeout` has a period, and may have a result; other keys don't count
 abbrev pub leak_timeout_table : Reading Members LeakTimeoutRecord
 leak_timeout_table =
     then (required period_key duration_reading) (λ period.
@@ -61,12 +64,13 @@ leak_timeout_table =
 
 -- ---- the setting
 
--- what the setting takes
+-- what `leak-timeout` takes, as a refusal says it
 abbrev pub leak_timeout_expected : List ℕ
 leak_timeout_expected =
     codes "a table ({ period = \"500ms\", result = \"fail\" }) or a string (\"100ms\")"
 
--- a text, which is the period of a test that passes where it leaks; or a table
+-- the reading of `leak-timeout`: a text, which is the period of a test that passes where it leaks;
+-- or a table (TOML 1.1, "String" and "Table")
 abbrev pub leak_timeout_reading : Reading Data (Option LeakTimeoutRecord)
 leak_timeout_reading =
     kind as_str (λ text. made_of (λ period. Some (leak_timeout period Pass)) duration_reading)

@@ -1,4 +1,4 @@
--- The setting `priority`: an integer from -100 to 100.
+-- The setting `priority`: an integer from -100 to 100 (nextest's configuration reference).
 use Rattle.std.specs.Prelude.{◌≡◌, ◌≤ℤ◌, ℕ, ℤ, pos, neg_ℤ, List, codes, FitsSigned, ◌⊎◌}
 use Rattle.std.specs.Int.{w8}
 use Rattle.std.proofs.Common.{refl, sym, ◌∙◌, inl, inr, rules}
@@ -9,11 +9,11 @@ use Rattle.nextest_config_values.specs.Read.Fault.{Fault, priority_outside}
 use Rattle.nextest_config_values.specs.Read.{broken_by, kind, Reading, wrong_kind, wrong_value}
 use Rattle.nextest_config_elements.specs.IntegerLaws.{at_most_decided, fits_decided}
 
--- from -100 to 100
+-- the integer is from -100 to 100
 abbrev pub IsPriority : ℤ → Type 0
 IsPriority number = (neg_ℤ (pos 100) ≤ℤ number) × (number ≤ℤ pos 100)
 
--- what the setting takes
+-- what `priority` takes, as a refusal says it
 abbrev pub priority_expected : List ℕ
 priority_expected = codes "i8"
 
@@ -41,7 +41,8 @@ no_priority_fault held value f h (inl a) = a.0 (priority_fits held h)
 no_priority_fault held value f h (inr a) = a.1 h
 
 pub priority_or_fault : (held : ℤ) (value : Data)
-    → HasMeaningOrFault (λ priority. (priority ≡ held) × IsPriority held) (PriorityFaults held value)
+    → HasMeaningOrFault (λ priority. (priority ≡ held) × IsPriority held)
+    (PriorityFaults held value)
 priority_or_fault held value = elim (priority_decided held) [
   | inl is ↦ inl (held, (refl, is))
   | inr not ↦ elim (fits_decided w8 held) [
@@ -64,5 +65,6 @@ priority_in held = record {
   };
 }
 
+-- the reading of `priority`: an integer (TOML 1.1, "Integer") from -100 to 100
 abbrev pub priority_reading : Reading Data ℤ
 priority_reading = kind as_integer priority_in (wrong_kind priority_expected)

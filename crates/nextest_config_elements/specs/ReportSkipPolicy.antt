@@ -1,4 +1,5 @@
--- The setting `report-skipped`: which skipped tests are reported.
+-- The setting `report-skipped`: which skipped tests are reported (nextest's configuration
+-- reference).
 use Rattle.std.specs.Prelude.{◌≡◌, ◌≢◌, ℕ, List, [], ◌∷◌, codes, Some}
 use Rattle.std.proofs.Common.{rules}
 use Rattle.toml.specs.Data.{Data}
@@ -10,9 +11,11 @@ use Rattle.nextest_config_elements.specs.declared.report_skip_policy.ReportSkipP
 
 -- ---- the words of the policies
 
+-- the policies of `report-skipped`, in the order of their words
 abbrev pub report_skip_policies : List ReportSkipPolicy
 report_skip_policies = policies.None ∷ policies.Ignored ∷ policies.All ∷ []
 
+-- the word of a policy of `report-skipped`
 abbrev pub report_skip_word : ReportSkipPolicy → List ℕ
 report_skip_word policies.None = codes "none"
 report_skip_word policies.Ignored = codes "ignored"
@@ -22,6 +25,7 @@ pub report_skip_reads_back : (policy : ReportSkipPolicy)
     → value_of report_skip_word report_skip_policies (report_skip_word policy) ≡ Some policy
 report_skip_reads_back policy = search rules
 
+-- the reading of `report-skipped`: the word of a policy
 abbrev pub report_skip_reading : Reading Data ReportSkipPolicy
 report_skip_reading = word_reading report_skip_policies report_skip_word report_skip_reads_back
 

@@ -1,4 +1,5 @@
--- The setting `retries`: the maximum number of retries of a failed test, and when they come.
+-- The setting `retries`: the maximum number of retries of a failed test, and when they come
+-- (nextest's configuration reference).
 use Rattle.std.specs.Prelude.{◌≡◌, ◌<◌, ℕ, ℤ, pos, negsuc, Bool, true, false, List, [], ◌∷◌, ◌++◌, codes, Option, Some, None, option_map}
 use Rattle.std.proofs.Common.{ap, inl, inr, refl, rules}
 use Rattle.std.specs.Duration.{as_nanos}
@@ -17,24 +18,26 @@ use Rattle.nextest_config_elements.specs.declared.retry_policy.FlakyResult.TheVa
 use Rattle.nextest_config_elements.specs.declared.retry_policy.RetryPolicy.{RetryPolicy}
 use Rattle.nextest_config_elements.specs.declared.retry_policy.RetryPolicy.TheVariants as policies
 
--- the same delay between all tries, in nanoseconds
+-- a policy with the same delay between all tries, in nanoseconds
 pub record FixedPolicy : Type 0 where
   pub count : ℕ
   pub delay : ℕ
   pub jitter : Bool
 
--- a delay that grows from try to try, up to the maximum, if there is one; both in nanoseconds
+-- a policy with a delay that grows from try to try, up to the maximum, if there is one; both in
+-- nanoseconds
 pub record ExponentialPolicy : Type 0 where
   pub count : ℕ
   pub delay : ℕ
   pub jitter : Bool
   pub max_delay : Option ℕ
 
+-- how often a test that fails is tried again, and after what delays
 pub data RetryPolicyRecord : Type 0 where
   fixed : FixedPolicy → RetryPolicyRecord
   exponential : ExponentialPolicy → RetryPolicyRecord
 
--- what a policy says
+-- what a retry policy says
 abbrev pub retry_policy_of : RetryPolicy → RetryPolicyRecord
 retry_policy_of (policies.Fixed count delay jitter) =
     fixed (record { count = count; delay = as_nanos delay; jitter = jitter })
@@ -46,16 +49,16 @@ retry_policy_of (policies.Exponential count delay jitter max_delay) =
       max_delay = option_map as_nanos max_delay;
     })
 
--- so many retries, with no delay
+-- the policy of so many retries, with no delay
 abbrev pub without_delay : ℕ → RetryPolicyRecord
 without_delay count = fixed (record { count = count; delay = 0; jitter = false })
 
--- the maximum number of retries
+-- the maximum number of retries of a policy
 abbrev pub count_of : RetryPolicyRecord → ℕ
 count_of (fixed policy) = policy.count
 count_of (exponential policy) = policy.count
 
--- what is said of a test that passed on this attempt of so many: nothing where it passes
+-- what is said of a flaky test that passed on this attempt of so many: nothing where it passes
 abbrev pub fail_message : FlakyResult → ℕ → ℕ → Option (List ℕ)
 fail_message results.Pass attempt total_attempts = None
 fail_message results.Fail attempt total_attempts =
@@ -65,9 +68,11 @@ fail_message results.Fail attempt total_attempts =
 
 -- ---- the words of the results of flaky tests
 
+-- what may become of a flaky test, in the order of the words
 abbrev pub flaky_results : List FlakyResult
 flaky_results = results.Fail ∷ results.Pass ∷ []
 
+-- the word of what becomes of a flaky test
 abbrev pub flaky_result_word : FlakyResult → List ℕ
 flaky_result_word results.Fail = codes "fail"
 flaky_result_word results.Pass = codes "pass"
@@ -76,14 +81,17 @@ pub flaky_result_reads_back : (result : FlakyResult)
     → value_of flaky_result_word flaky_results (flaky_result_word result) ≡ Some result
 flaky_result_reads_back result = search rules
 
+-- the reading of `flaky-result`: one of its words
 abbrev pub flaky_result_reading : Reading Data FlakyResult
 flaky_result_reading = word_reading flaky_results flaky_result_word flaky_result_reads_back
 
 -- ---- the words of the kinds of backoff
 
+-- the kinds of backoff, in the order of their words
 abbrev pub backoffs_in_order : List Backoff
 backoffs_in_order = backoffs.Fixed ∷ backoffs.Exponential ∷ []
 
+-- the word of a kind of backoff
 abbrev pub backoff_word : Backoff → List ℕ
 backoff_word backoffs.Fixed = codes "fixed"
 backoff_word backoffs.Exponential = codes "exponential"
@@ -94,18 +102,23 @@ backoff_reads_back backoff = search rules
 
 -- ---- the keys of a table
 
+-- the key of the kind of backoff
 abbrev pub backoff_key : List ℕ
 backoff_key = codes "backoff"
 
+-- the key of the number of retries
 abbrev pub count_key : List ℕ
 count_key = codes "count"
 
+-- the key of the delay, between all tries or before the first retry
 abbrev pub delay_key : List ℕ
 delay_key = codes "delay"
 
+-- the key of whether delays vary at random
 abbrev pub jitter_key : List ℕ
 jitter_key = codes "jitter"
 
+-- the key of the greatest delay
 abbrev pub max_delay_key : List ℕ
 max_delay_key = codes "max-delay"
 
@@ -128,7 +141,7 @@ IsJitterAlone delay jitter = (jitter ≡ true) × (delay ≡ 0)
 pub jitter_decided : (delay : ℕ) (jitter : Bool) → IsDecided (IsJitterAlone delay jitter)
 jitter_decided delay jitter = both_decided (true_decided jitter) (same_decided delay 0)
 
--- the keys in turn, no other key, and then the rule
+-- the table of a fixed backoff: the keys in turn, no other key, and then the rule
 abbrev pub fixed_table : Reading Members RetryPolicyRecord
 fixed_table =
     then (required count_key u32_reading) (λ count.
@@ -164,9 +177,10 @@ exponential_rules count delay max_delay =
     both (rule_check (count ≡ 0) (same_decided count 0) count_zero)
     (both (rule_check (delay ≡ 0) (same_decided delay 0) delay_zero)
     (both (rule_check (max_delay ≡ Some 0) (zero_max_decided max_delay) max_delay_zero)
-    (rule_check (IsMaxBelow delay max_delay) (max_below_decided delay max_delay) max_delay_below_delay)))
+    (rule_check (IsMaxBelow delay max_delay) (max_below_decided delay max_delay)
+    max_delay_below_delay)))
 
--- the keys in turn, no other key, and then the rules
+-- the table of an exponential backoff: the keys in turn, no other key, and then the rules
 abbrev pub exponential_table : Reading Members RetryPolicyRecord
 exponential_table =
     then (required count_key u32_reading) (λ count.
@@ -189,7 +203,7 @@ abbrev pub table_with_backoff : Backoff → Reading Members RetryPolicyRecord
 table_with_backoff backoffs.Fixed = fixed_table
 table_with_backoff backoffs.Exponential = exponential_table
 
--- the backoff, and the keys of that
+-- the table `retries`: its backoff, and the keys of that
 abbrev pub retry_table : Reading Members RetryPolicyRecord
 retry_table =
     then (required backoff_key (word_reading backoffs_in_order backoff_word backoff_reads_back))
@@ -197,16 +211,17 @@ retry_table =
 
 -- ---- the setting
 
--- what the setting takes
+-- what `retries` takes, as a refusal says it
 abbrev pub retries_expected : List ℕ
 retries_expected = codes "a table ({ backoff = \"fixed\", count = 5 }) or a number (5)"
 
 -- an integer is a number of retries with no delay: it isn't negative, and fits a u32
 abbrev pub retry_number : ℤ → Reading Data RetryPolicyRecord
-retry_number (pos number) = made_of without_delay (in_range IsU32 u32_decided (codes "a u32") (pos number))
+retry_number (pos number) =
+    made_of without_delay (in_range IsU32 u32_decided (codes "a u32") (pos number))
 retry_number (negsuc number) = outside retries_expected
 
--- an integer, or a table
+-- the reading of `retries`: an integer, or a table (TOML 1.1, "Integer" and "Table")
 abbrev pub retry_policy_reading : Reading Data (Option RetryPolicyRecord)
 retry_policy_reading =
     kind as_integer (λ number. made_of Some (retry_number number))

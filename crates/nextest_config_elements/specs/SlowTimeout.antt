@@ -1,4 +1,5 @@
--- The setting `slow-timeout`: when a test is slow, and when it is terminated.
+-- The setting `slow-timeout`: when a test is slow, and when it is terminated (nextest's
+-- configuration reference).
 use Rattle.std.specs.Prelude.{◌≡◌, ℕ, List, [], ◌∷◌, codes, Option, Some, None}
 use Rattle.std.proofs.Common.{rules}
 use Rattle.std.specs.Duration.{as_nanos}
@@ -11,14 +12,14 @@ use Rattle.nextest_config_elements.specs.declared.slow_timeout.SlowTimeout.{Slow
 use Rattle.nextest_config_elements.specs.declared.slow_timeout.SlowTimeoutResult.{SlowTimeoutResult}
 use Rattle.nextest_config_elements.specs.declared.slow_timeout.SlowTimeoutResult.TheVariants.{Fail, Pass}
 
--- a timeout; the period and the grace period are in nanoseconds
+-- a timeout of slow tests; the period and the grace period are in nanoseconds
 pub record SlowTimeoutRecord : Type 0 where
   pub period : ℕ
   pub terminate_after : Option ℕ
   pub grace_period : ℕ
   pub on_timeout : SlowTimeoutResult
 
--- what a timeout says
+-- what a timeout of slow tests says
 abbrev pub slow_timeout_of : SlowTimeout → SlowTimeoutRecord
 slow_timeout_of t = record {
   period = as_nanos t.period;
@@ -27,7 +28,7 @@ slow_timeout_of t = record {
   on_timeout = t.on_timeout;
 }
 
--- the grace period where none is given
+-- the grace period where none is given, in nanoseconds
 abbrev pub default_grace_period : ℕ
 default_grace_period = seconds 10
 
@@ -43,9 +44,11 @@ with_period period =
 
 -- ---- the words of the results
 
+-- what may become of a test that is terminated, in the order of the words
 abbrev pub slow_timeout_results : List SlowTimeoutResult
 slow_timeout_results = Fail ∷ Pass ∷ []
 
+-- the word of what becomes of a test that is terminated
 abbrev pub slow_timeout_word : SlowTimeoutResult → List ℕ
 slow_timeout_word Fail = codes "fail"
 slow_timeout_word Pass = codes "pass"
@@ -56,23 +59,27 @@ slow_timeout_reads_back result = search rules
 
 -- ---- the table form
 
+-- the key of how long a test runs until it is slow
 abbrev pub period_key : List ℕ
 period_key = codes "period"
 
+-- the key of after how many periods a test is terminated
 abbrev pub terminate_after_key : List ℕ
 terminate_after_key = codes "terminate-after"
 
+-- the key of how long a test that is terminated has to end by itself
 abbrev pub grace_period_key : List ℕ
 grace_period_key = codes "grace-period"
 
+-- the key of what becomes of a test that is terminated
 abbrev pub on_timeout_key : List ℕ
 on_timeout_key = codes "on-timeout"
 
--- the keys that the table may have
+-- the keys that the table `slow-timeout` may have
 abbrev pub slow_timeout_keys : List (List ℕ)
 slow_timeout_keys = period_key ∷ terminate_after_key ∷ grace_period_key ∷ on_timeout_key ∷ []
 
--- the table has a period, and may have the rest; other keys don't count
+-- the table `slow-timeout` has a period, and may have the rest; other keys don't count
 abbrev pub slow_timeout_table : Reading Members SlowTimeoutRecord
 slow_timeout_table =
     then (required period_key duration_reading) (λ period.
@@ -88,17 +95,17 @@ slow_timeout_table =
 
 -- ---- the setting
 
--- the text means no timeout where it is empty; any other is a period alone
+-- a text means no timeout where it is empty; any other is a period alone
 abbrev pub slow_timeout_text : List ℕ → Reading Data (Option SlowTimeoutRecord)
 slow_timeout_text [] = only None
 slow_timeout_text (b ∷ rest) = made_of (λ period. Some (with_period period)) duration_reading
 
--- what the setting takes
+-- what `slow-timeout` takes, as a refusal says it
 abbrev pub slow_timeout_expected : List ℕ
 slow_timeout_expected =
     codes "a table ({ period = \"60s\", terminate-after = 2 }) or a string (\"60s\")"
 
--- a text, or a table
+-- the reading of `slow-timeout`: a text, or a table (TOML 1.1, "String" and "Table")
 abbrev pub slow_timeout_reading : Reading Data (Option SlowTimeoutRecord)
 slow_timeout_reading =
     kind as_str slow_timeout_text (set_by_table slow_timeout_table slow_timeout_expected)

@@ -1,4 +1,5 @@
--- The setting `threads-required`: a positive integer, or one of two words.
+-- The setting `threads-required`: a positive integer, or one of two words (nextest's configuration
+-- reference).
 use Rattle.std.specs.Prelude.{◌≡◌, ℕ, List, codes, Option, Some, None}
 use Rattle.std.proofs.Common.{ap, inl, inr, rules, sym}
 use Rattle.toml.specs.Data.{Data, as_integer, as_str}
@@ -20,7 +21,7 @@ threads_text (Count count) = None
 threads_text NumCpus = Some (codes "num-cpus")
 threads_text NumTestThreads = Some (codes "num-test-threads")
 
--- what the setting takes
+-- what `threads-required` takes, as a refusal says it
 abbrev pub threads_expected : List ℕ
 threads_expected = codes "an integer, the string \"num-cpus\" or the string \"num-test-threads\""
 
@@ -43,13 +44,14 @@ threads_or_none held = elim (same_text_decided held (codes "num-cpus")) [
   ]
 ]
 
--- a text that is the word of a setting
+-- the reading of `threads-required` by a text that is held: it is one of the words
 abbrev pub threads_in : List ℕ → Reading Data ThreadsRequired
 threads_in held = one_that (λ threads. threads_text threads ≡ Some held) (one_threads held)
     (threads_or_none held) (λ value. wrong_value value threads_expected)
 
--- an integer that is a count, or a text
+-- the reading of `threads-required`: an integer that is a count, or a word
 abbrev pub threads_reading : Reading Data ThreadsRequired
 threads_reading =
-    kind as_integer (λ number. made_of Count (in_range IsCount count_decided threads_expected number))
+    kind as_integer
+    (λ number. made_of Count (in_range IsCount count_decided threads_expected number))
     (kind as_str threads_in (wrong_kind threads_expected))

@@ -21,8 +21,8 @@ module _ {known : List (List ℕ)} {members : Members} where
       absurd (a.is_first l b.is_unknown
       (nat_list_cmp_total.antisymm l k ∙ ap ordering_reverse order))
 
-  pub one_first : (k l : List ℕ) → IsFirstUnknownKey known members k → IsFirstUnknownKey known members l
-      → k ≡ l
+  pub one_first : (k l : List ℕ) → IsFirstUnknownKey known members k
+      → IsFirstUnknownKey known members l → k ≡ l
   one_first k l = one_by_order (slice_cmp nat_cmp k l) k l refl
 
 -- ---- each table has a first unknown key, or none
@@ -72,7 +72,8 @@ module _ (known : List (List ℕ)) (key : List ℕ) (value : Data) (others : Mem
   unknown_of : (text : List ℕ) → IsUnknownKey known Whole text
       → ((text ≡ key) × ¬ IsOneOf known key) ⊎ IsUnknownKey known others text
   unknown_of text unknown = found_at (slice_cmp nat_cmp text key) text key value
-      (get_member text others) (((text ≡ key) × ¬ IsOneOf known key) ⊎ IsUnknownKey known others text) refl
+      (get_member text others)
+      (((text ≡ key) × ¬ IsOneOf known key) ⊎ IsUnknownKey known others text) refl
       (λ same. inl (same, rw same at unknown.1)) (λ some. inr (some, unknown.1)) unknown.0
 
   still_unknown : (text : List ℕ) → IsUnknownKey known others text → IsUnknownKey known Whole text

@@ -264,7 +264,7 @@ impl Default for JunitImpl {
 }
 
 impl JunitImpl {
-    /// The keys of its table.
+    /// The keys that the table `junit` may have.
     pub const KEYS: &'static [&'static str] = &[
         PATH_KEY,
         REPORT_NAME_KEY,

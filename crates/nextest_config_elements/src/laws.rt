@@ -60,8 +60,8 @@ pub fn law_priority_order()
     ensures equality { (a b : ℤ) → IsTrue (⟦<TestPriority as PartialEq>⟧.eq a b) ↔ (a ≡ b) }
 {}
 
-/// As each of these settings, and as a relative path, a value means one thing and has no fault, or it
-/// means nothing and has one fault.
+/// As each of these settings, and as a relative path, a value means one thing and has no fault, or
+/// it means nothing and has one fault.
 pub fn law_setting_once()
     ensures slow_timeout { IsReading slow_timeout_reading.means slow_timeout_reading.faults }
     ensures global_timeout { IsReading duration_reading.means duration_reading.faults }

@@ -28,7 +28,7 @@ pub struct LeakTimeout {
 }
 
 impl LeakTimeout {
-    /// The keys of its table.
+    /// The keys that the table `leak-timeout` may have.
     pub const KEYS: &'static [&'static str] = &[PERIOD_KEY, RESULT_KEY];
 }
 

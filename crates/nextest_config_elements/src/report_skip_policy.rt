@@ -10,7 +10,7 @@ use nextest_config_values::read::Word;
 pub enum ReportSkipPolicy {
     /// None of them, so that reports stay as they are.
     None,
-    /// Those whose ignore status isn't the one asked for.
+    /// Tests whose ignore status isn't the one asked for.
     Ignored,
     /// All but those that are no benchmarks where benchmarks are run. Where a run has several
     /// partitions, each reports the tests of the others as skipped.

@@ -216,9 +216,9 @@ fn broken(alloc: Global, rule: Rule) -> ValueFault
 // How the delay between tries grows.
 #[derive(Clone, Copy, Debug, PartialEq, Eq)]
 enum Backoff {
-    // It doesn't.
+    // The delay doesn't grow.
     Fixed,
-    // Exponentially, from try to try.
+    // The delay grows exponentially, from try to try.
     Exponential,
 }
 
@@ -250,7 +250,8 @@ impl Backoff {
     fn read_table(self, alloc: Global, table: &Table) -> Result<RetryPolicy, ValueFault>
         ensures meant { IfOk result (λ policy.
             (table_with_backoff self).means (table_view table.now) (retry_policy_of policy)) }
-        ensures refused { IfErr result (RefusesBy (table_with_backoff self) (table_view table.now)) }
+        ensures refused { IfErr result
+            (RefusesBy (table_with_backoff self) (table_view table.now)) }
     {
         match self {
             Backoff::Fixed => read_fixed(alloc, table),

@@ -39,7 +39,7 @@ pub struct SlowTimeout {
 }
 
 impl SlowTimeout {
-    /// The keys of its table.
+    /// The keys that the table `slow-timeout` may have.
     pub const KEYS: &'static [&'static str] = &[
         PERIOD_KEY,
         TERMINATE_AFTER_KEY,

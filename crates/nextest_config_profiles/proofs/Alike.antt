@@ -2,7 +2,7 @@
 use Rattle.std.proofs.Common.{◌≡◌, ◌↔◌, ℕ, List, [], ◌∷◌, Option, Some, None, IsSome, refl, sym, ap, ◌∙◌, ◌⊎◌, inl, inr}
 use Rattle.toml.specs.Data.{array, boolean, Data, datetime, float, get_member, integer, member, Members, no_members, string, table}
 use Rattle.nextest_config_profiles.specs.Alike.{AreAlike}
-use Rattle.nextest_config_profiles.specs.Laid.{HasLeaf, leaf_of}
+use Rattle.nextest_config_profiles.specs.Merged.{HasLeaf, leaf_of}
 use Rattle.nextest_config_profiles.specs.Said.{Path, said_at, said_here}
 use Rattle.nextest_config_profiles.proofs.Members.{first_member}
 

@@ -2,28 +2,28 @@
 use Rattle.std.proofs.Common.{◌≡◌, ℕ, List, [], ◌∷◌, ◌++◌, Option, Some, None, ap, drop, refl, sym, subst, ◌∙◌, inl, inr}
 use Rattle.std.specs.List.{AllByRecursion}
 use Rattle.toml.specs.Data.{Data}
-use Rattle.nextest_config_values.proofs.Elements.{all_right}
+use Rattle.toml_spans.proofs.Elements.{all_right}
 use Rattle.nextest_config_values.specs.Read.{Reading}
 use Rattle.nextest_config_profiles.specs.Alike.{AreAlike, given_by, given_value, TakesAlike}
 use Rattle.nextest_config_profiles.specs.Effective.{IsEffective, IsGiven, IsGivenFirst, IsOf, IsRead, Passes}
-use Rattle.nextest_config_profiles.specs.Laid.{HasNoValue, IsLaidOver, Layers}
+use Rattle.nextest_config_profiles.specs.Merged.{HasNoValue, IsMergedOver, Layers}
 use Rattle.nextest_config_profiles.specs.Said.{Path}
 use Rattle.nextest_config_profiles.specs.declared.effective.Effective.{Effective}
 use Rattle.nextest_config_profiles.specs.declared.effective.Effective.TheVariants as given
 use Rattle.nextest_config_profiles.proofs.Alike.{alike_back, some_leaf}
 
 -- values that the same layers come to have the same leaves
-pub laid_alike : (layers : Layers) (path : Path) (v w : Data) → IsLaidOver layers path v → IsLaidOver layers path w → AreAlike v w
-laid_alike layers path v w one other below value =
+pub merged_alike : (layers : Layers) (path : Path) (v w : Data) → IsMergedOver layers path v → IsMergedOver layers path w → AreAlike v w
+merged_alike layers path v w one other below value =
     let first = one below value in
     let second = other below value in
     (λ has. second.1 (first.0 has), λ has. first.1 (second.0 has))
 
 -- where they come to a value, there is one
-pub laid_or_none : (layers : Layers) (path : Path) (v : Data) → IsLaidOver layers path v → HasNoValue layers path → ⊥
-laid_or_none layers path v laid none =
+pub merged_or_none : (layers : Layers) (path : Path) (v : Data) → IsMergedOver layers path v → HasNoValue layers path → ⊥
+merged_or_none layers path v merged none =
     let leaf = some_leaf v in
-    let found = (laid leaf.0 leaf.1).0 leaf.2 in
+    let found = (merged leaf.0 leaf.1).0 leaf.2 in
     none leaf.0 found.0 leaf.1 found.1
 
 -- the first of a list, or this
@@ -79,16 +79,16 @@ module _ {X Y : Type 0} (seen : X → Y) (reading : Reading Data (Option Y)) (ta
     Passed = Passes seen reading layers keys
 
     given_or_passed : (profile : List ℕ) (a : Effective X) → IsGiven seen reading layers keys profile a → Passed profile → ⊥
-    given_or_passed profile a gives (inl none) = laid_or_none layers (profile ∷ keys) gives.value gives.laid none
-    given_or_passed profile a gives (inr (value, laid, none)) =
-        read_or_none gives.value a gives.read (takes.means_alike value gives.value (laid_alike layers (profile ∷ keys) value gives.value laid gives.laid) None none)
+    given_or_passed profile a gives (inl none) = merged_or_none layers (profile ∷ keys) gives.value gives.merged none
+    given_or_passed profile a gives (inr (value, merged, none)) =
+        read_or_none gives.value a gives.read (takes.means_alike value gives.value (merged_alike layers (profile ∷ keys) value gives.value merged gives.merged) None none)
 
     abbrev Same : Effective X → Effective X → Type 0
     Same a b = (given_value seen a ≡ given_value seen b) × (given_by a ≡ given_by b)
 
     given_once : (profile : List ℕ) (a b : Effective X) → IsGiven seen reading layers keys profile a → IsGiven seen reading layers keys profile b → Same a b
     given_once profile a b one other = (
-      values_once one.value other.value a b profile (laid_alike layers (profile ∷ keys) one.value other.value one.laid other.laid) one.read one.of_profile other.read other.of_profile,
+      values_once one.value other.value a b profile (merged_alike layers (profile ∷ keys) one.value other.value one.merged other.merged) one.read one.of_profile other.read other.of_profile,
       of_name a profile one.of_profile ∙ sym (of_name b profile other.of_profile),
     )
 

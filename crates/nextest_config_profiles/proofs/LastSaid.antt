@@ -1,6 +1,6 @@
 -- The last of what layers say, with one more layer.
 use Rattle.std.proofs.Common.{◌≡◌, ℕ, List, [], ◌∷◌, ◌++◌, length, Option, Some, None, refl, ap, ◌∙◌, inl, inr, append_assoc}
-use Rattle.nextest_config_values.proofs.Elements.{all_joined}
+use Rattle.toml_spans.proofs.Elements.{all_joined}
 use Rattle.nextest_config_profiles.specs.LastValue.{IsLastValue}
 use Rattle.nextest_config_profiles.specs.Said.{barred, Said, silent}
 use Rattle.nextest_config_profiles.specs.Selection.{IsLast}

@@ -5,10 +5,10 @@ use mathlib.Core.List.{map-append}
 use Rattle.std.specs.List.{AllByRecursion}
 use Rattle.std.specs.Prelude.{unwrap_or}
 use Rattle.toml.specs.Data.{array, boolean, Data, datetime, float, get_member, integer, member, no_members, string, table}
-use Rattle.nextest_config_values.proofs.Elements.{all_left, all_right}
-use Rattle.nextest_config_merge.proofs.Lists.{all_mapped}
+use Rattle.toml_spans.proofs.Elements.{all_left, all_right}
+use Rattle.nextest_config.proofs.Lists.{all_mapped}
 use Rattle.nextest_config_profiles.specs.Chain.{IsChain, IsNext, of_inherits}
-use Rattle.nextest_config_profiles.specs.Laid.{IsLeaf, Layers, leaf_of}
+use Rattle.nextest_config_profiles.specs.Merged.{IsLeaf, Layers, leaf_of}
 use Rattle.nextest_config_profiles.specs.Said.{bare, barred, branch, leaf, Path, Said, said_at, silent}
 use Rattle.nextest_config_profiles.specs.Selection.{HasNothing, IsLast, IsLeafAmong}
 use Rattle.nextest_config_profiles.proofs.LastSaid.{new_last, still_last}
@@ -171,14 +171,14 @@ pub nothing_or_said : (all : List Said) (q : ℕ) (said : Said) → HasNothing a
 nothing_or_said all q said (inl none) last some free = some (all_right (λ said. said ≡ silent) last.below (said ∷ last.above) (subst AllSilent last.whole none)).0
 nothing_or_said all q said (inr (p, barred_last)) last some free = free (sym (last_once all p q barred said barred_last last (λ e. cc e) some).1)
 
-nothing_or_leaf : (all : List Said) (q : ℕ) (v : Data) → HasNothing all → IsLast all q (leaf v) → ⊥
+pub nothing_or_leaf : (all : List Said) (q : ℕ) (v : Data) → HasNothing all → IsLast all q (leaf v) → ⊥
 nothing_or_leaf all q v none last = nothing_or_said all q (leaf v) none last (λ e. cc e) (λ e. cc e)
 
 abbrev text_of : Said → List ℕ → List ℕ
 text_of (leaf (string text)) other = text
 text_of said other = other
 
-next_once : (layers : Layers) (name n m : List ℕ) → IsNext layers name n → IsNext layers name m → n ≡ m
+pub next_once : (layers : Layers) (name n m : List ℕ) → IsNext layers name n → IsNext layers name m → n ≡ m
 next_once layers name n m (inl a) (inl b) = a.1 ∙ sym b.1
 next_once layers name n m (inl a) (inr b) = absurd (nothing_or_leaf (of_inherits layers name) b.0.0 (string m) a.0 b.0.1)
 next_once layers name n m (inr a) (inl b) = absurd (nothing_or_leaf (of_inherits layers name) a.0.0 (string n) b.0 a.0.1)
@@ -188,9 +188,9 @@ next_once layers name n m (inr a) (inr b) =
 pub chain_once : (layers : Layers) (name : List ℕ) (c d : List (List ℕ)) → IsChain layers name c → IsChain layers name d → c ≡ d
 chain_once layers name [] d h k = absurd h
 chain_once layers name (x ∷ c) [] h k = absurd k
-chain_once layers name (x ∷ c) (y ∷ d) (first, inl a) (other, inl b) = rw (first, other, a.1, b.1) refl
-chain_once layers name (x ∷ c) (y ∷ d) (first, inl a) (other, inr b) = absurd (b.0 a.0)
-chain_once layers name (x ∷ c) (y ∷ d) (first, inr a) (other, inl b) = absurd (a.0 b.0)
-chain_once layers name (x ∷ c) (y ∷ d) (first, inr (apart, (next, is_next, rest))) (other, inr (apart_too, (next_other, is_other, rest_other))) =
+chain_once layers name (x ∷ c) (y ∷ d) (first, is, inl a) (other, is_too, inl b) = rw (first, other, a.1, b.1) refl
+chain_once layers name (x ∷ c) (y ∷ d) (first, is, inl a) (other, is_too, inr b) = absurd (b.0 a.0)
+chain_once layers name (x ∷ c) (y ∷ d) (first, is, inr a) (other, is_too, inl b) = absurd (a.0 b.0)
+chain_once layers name (x ∷ c) (y ∷ d) (first, is, inr (apart, (next, is_next, rest))) (other, is_too, inr (apart_too, (next_other, is_other, rest_other))) =
     let same = next_once layers name next next_other is_next is_other in
     ap (λ f. f ∷ c) (first ∙ sym other) ∙ ap (λ r. y ∷ r) (chain_once layers next c d rest (subst (λ n. IsChain layers n d) (sym same) rest_other))

@@ -1,12 +1,11 @@
 pub mod Members
-pub mod Laying
+pub mod Merging
 pub mod Selection
-pub mod LaidOver
+pub mod MergedOver
 pub mod LastSaid
 pub mod Names
 pub mod NamesInOrder
 pub mod Ways
-pub mod DefaultsParse
 pub mod FilesOfLayers
 pub mod Given
 pub mod LeafLaws
@@ -17,3 +16,12 @@ pub mod EffectiveOnce
 pub mod OneLeaf
 pub mod Placed
 pub mod Listing
+pub mod ChainOrWrong
+pub mod Filtered
+pub mod Layered
+pub mod Messages
+pub mod Numbered
+pub mod Somes
+pub mod VeryLong
+pub mod Without
+pub mod Zipped

@@ -8,15 +8,15 @@ use Rattle.std.specs.String.{string_cmp}
 use Rattle.toml.proofs.Views.{Entry}
 use Rattle.toml.specs.Data.{Data, get_member, Members, no_members, table}
 use Rattle.toml.specs.View.{members_view, view}
-use Rattle.nextest_config_values.proofs.Elements.{all_joined, all_weaker}
-use Rattle.nextest_config_profiles.specs.Laid.{IsLaidOver, IsLeaf, Layers, leaf_of}
-use Rattle.nextest_config_profiles.specs.Laying.{seen}
+use Rattle.toml_spans.proofs.Elements.{all_joined, all_weaker}
+use Rattle.nextest_config_profiles.specs.Merged.{IsMergedOver, IsLeaf, Layers, leaf_of}
+use Rattle.nextest_config_profiles.specs.Merging.{seen}
 use Rattle.nextest_config_profiles.specs.Leaves.{Adds, AreAllLeaves, AreLeavesAt, AreLeavesIn, HasLeafAt, IsLeafBelow, IsOfLayers, placed, PlacedLeaf}
 use Rattle.nextest_config_profiles.specs.Profiles.{SomeOf}
 use Rattle.nextest_config_profiles.specs.Said.{bare, branch, leaf, Path, Said, said_here, silent}
 use Rattle.nextest_config_profiles.specs.Selection.{HasNothing, IsLast, IsLeafAmong}
 use Rattle.nextest_config_profiles.specs.declared.leaves.Leaf.{Leaf}
-use Rattle.nextest_config_profiles.proofs.Laying.{seen_value}
+use Rattle.nextest_config_profiles.proofs.Merging.{seen_value}
 use Rattle.nextest_config_profiles.proofs.LeafLaws.{last_once, leaf_once, nothing_or_said}
 use Rattle.nextest_config_profiles.proofs.Members.{is_key, last_member, not_before, one_key, other_last}
 use Rattle.nextest_config_profiles.proofs.Names.{mapped_some, some_left, some_right}
@@ -124,15 +124,15 @@ more_leaves path done e more sorted before between after old new = record {
 
 -- ---- with their layers
 
-pub of_layers : {A : Type 0} (at : A → PlacedLeaf) (layers : Layers) (path : Path) (whole : Data) (leaves : List A) → IsLaidOver layers path whole
+pub of_layers : {A : Type 0} (at : A → PlacedLeaf) (layers : Layers) (path : Path) (whole : Data) (leaves : List A) → IsMergedOver layers path whole
     → AreLeavesAt [] (Some whole) (map at leaves) → AllByRecursion (λ leaf. IsOfLayers layers path (at leaf)) leaves
-of_layers at layers path whole leaves laid those =
+of_layers at layers path whole leaves merged those =
     all_unmapped (IsOfLayers layers path) at leaves
-    (all_weaker _ _ (λ leaf h. (laid leaf.0 leaf.1).0 (subst (λ below. HasLeafAt (Some whole) below leaf.1) (sym h.1) h.2)) (map at leaves) those.each)
+    (all_weaker _ _ (λ leaf h. (merged leaf.0 leaf.1).0 (subst (λ below. HasLeafAt (Some whole) below leaf.1) (sym h.1) h.2)) (map at leaves) those.each)
 
-pub all_listed : (layers : Layers) (path : Path) (whole : Data) (found : List Leaf) → IsLaidOver layers path whole
+pub all_listed : (layers : Layers) (path : Path) (whole : Data) (found : List Leaf) → IsMergedOver layers path whole
     → AreLeavesAt [] (Some whole) (map placed found) → AllByRecursion (IsLeafBelow layers path) found → AreAllLeaves layers path found
-all_listed layers path whole found laid those each below position value is =
+all_listed layers path whole found merged those each below position value is =
     some_of_all (IsLeafBelow layers path) (λ leaf. ((placed leaf).0 ≡ below) × ((placed leaf).1 ≡ value)) _
     (λ leaf of at. (
       at.0,
@@ -141,7 +141,7 @@ all_listed layers path whole found laid those each below position value is =
       at.1,
     ))
     found each
-    (mapped_some (λ leaf. (leaf.0 ≡ below) × (leaf.1 ≡ value)) placed found (those.all below value ((laid below value).1 (position, is))))
+    (mapped_some (λ leaf. (leaf.0 ≡ below) × (leaf.1 ≡ value)) placed found (those.all below value ((merged below value).1 (position, is))))
 
 said_some : (value : Data) → said_here value ≡ silent → ⊥
 said_some value h = seen_value value (ap seen h)

@@ -10,8 +10,8 @@ use Rattle.std.specs.List.{AllByRecursion, filter}
 use Rattle.std.specs.List.Sorted.{IsStrictlySortedBy}
 use Rattle.std.specs.Ordering.{nat_cmp}
 use Rattle.std.specs.Prelude.{◌||◌, ◌⊎◌, nat_eq}
-use Rattle.nextest_config_sources.proofs.Members.{seen_in_order}
-use Rattle.nextest_config_profiles.specs.Laid.{Layers}
+use Rattle.nextest_config.proofs.Members.{seen_in_order}
+use Rattle.nextest_config_profiles.specs.Merged.{Layers}
 use Rattle.nextest_config_profiles.specs.NameList.{AreInOrder, AreNamesOf, is_own, IsOther}
 use Rattle.nextest_config_profiles.specs.Profiles.{default_miri, default_profile, HasName, IsProfile, SomeOf}
 use Rattle.nextest_config_profiles.specs.Reach.{words_of}

@@ -1,15 +1,13 @@
 -- What is wrong with a chain stands in a file: nextest's own document says of no profile what it inherits from.
-use Rattle.std.specs.Prelude.{codes, option_and_then, string_bytes}
+use Rattle.std.specs.Prelude.{codes, string_bytes}
 use Rattle.std.proofs.Common.{◌≡◌, ◌≢◌, ℕ, suc, Ordering, Less, Equal, Greater, List, [], ◌∷◌, ◌++◌, Some, None, nat_cmp, ap, refl, subst, sym, inl, inr}
 use Rattle.std.specs.Cmp.Lexicographic.{slice_cmp}
 use Rattle.std.specs.Ordering.{match_ordering}
-use Rattle.toml.proofs.OnLiterals.{toml_on_literals}
 use Rattle.toml.specs.Data.{array, boolean, Data, datetime, float, integer, member, no_members, string, table}
-use Rattle.toml.specs.Parse.{parse_document}
 use Rattle.nextest_config_profiles.specs.Chain.{Inherits, InheritsNoText, IsNext, IsWay, of_inherits}
-use Rattle.nextest_config_profiles.specs.Defaults.{default_text}
+use Rattle.nextest_config_profiles.specs.Defaults.{default_values}
 use Rattle.nextest_config_profiles.specs.Inherits.{HasPlace, IsPlacedFault}
-use Rattle.nextest_config_profiles.specs.Laid.{Layers}
+use Rattle.nextest_config_profiles.specs.Merged.{Layers}
 use Rattle.nextest_config_profiles.specs.Layer.{all_layers, profiles_at, profiles_in}
 use Rattle.nextest_config_profiles.specs.Profile.{IsProfileFault}
 use Rattle.nextest_config_profiles.specs.Profiles.{default_profile}
@@ -28,8 +26,7 @@ one_silent Less value h = refl
 one_silent Equal value h = h
 one_silent Greater value h = refl
 
-defaults_silent : (profile : List ℕ) → said_at (profile ∷ codes "inherits" ∷ []) (option_and_then profiles_at (parse_document default_text)) ≡ silent
-unfolding toml_on_literals
+defaults_silent : (profile : List ℕ) → said_at (profile ∷ codes "inherits" ∷ []) (profiles_at default_values) ≡ silent
 defaults_silent profile = one_silent (slice_cmp nat_cmp profile (codes "default")) _ refl
 
 nothing_above : (rest : List Said) → HasNothing rest → HasNothing (silent ∷ rest)
@@ -52,7 +49,7 @@ nothing_at_all files profile none =
 
 -- ---- what is wrong
 
-some_value : (value : Data) → (said_here value ≡ silent → ⊥) × (said_here value ≡ barred → ⊥)
+pub some_value : (value : Data) → (said_here value ≡ silent → ⊥) × (said_here value ≡ barred → ⊥)
 some_value (table no_members) = (λ e. cc e, λ e. cc e)
 some_value (table (member key value rest)) = (λ e. cc e, λ e. cc e)
 some_value (string text) = (λ e. cc e, λ e. cc e)
@@ -62,7 +59,7 @@ some_value (boolean truth) = (λ e. cc e, λ e. cc e)
 some_value (datetime time) = (λ e. cc e, λ e. cc e)
 some_value (array items) = (λ e. cc e, λ e. cc e)
 
-no_text_placed : (layers : Layers) (profile : List ℕ) → InheritsNoText layers profile → HasNothing (of_inherits layers profile) → ⊥
+pub no_text_placed : (layers : Layers) (profile : List ℕ) → InheritsNoText layers profile → HasNothing (of_inherits layers profile) → ⊥
 no_text_placed layers profile wrong none =
     let some = some_value wrong.value in
     nothing_or_said (of_inherits layers profile) wrong.position (said_here wrong.value) none wrong.last some.0 some.1

@@ -3,8 +3,8 @@ use Rattle.std.proofs.Common.{◌≡◌, ◌⊎◌, ℕ, suc, List, [], ◌∷�
 use Rattle.std.specs.List.{AllByRecursion}
 use Rattle.std.specs.Prelude.{unwrap_or}
 use Rattle.toml.specs.Data.{Data, no_members, table}
-use Rattle.nextest_config_profiles.specs.Laid.{leaf_of}
-use Rattle.nextest_config_profiles.specs.Laying.{over, seen}
+use Rattle.nextest_config_profiles.specs.Merged.{leaf_of}
+use Rattle.nextest_config_profiles.specs.Merging.{over, seen}
 use Rattle.nextest_config_profiles.specs.Said.{bare, barred, branch, leaf, Said, silent}
 use Rattle.nextest_config_profiles.specs.Selection.{EndsIn, IsEmptied, IsEmpty, IsLast, IsLeafAmong, IsValue}
 

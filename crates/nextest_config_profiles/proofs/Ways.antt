@@ -3,8 +3,8 @@ use Rattle.std.proofs.Common.{◌≡◌, ◌≢◌, ℕ, Bool, true, false, not,
 use Rattle.std.specs.Cmp.Lexicographic.{other_text, pointwise}
 use Rattle.std.specs.Prelude.{unwrap_or}
 use Rattle.toml.specs.Data.{array, as_str, boolean, Data, datetime, float, integer, string, table}
-use Rattle.nextest_config_profiles.specs.Chain.{Inherits, InheritsNoText, IsChain, IsChainFault, IsNext, IsNextFault, IsWay, LeadsOn}
-use Rattle.nextest_config_profiles.specs.Laid.{Layers}
+use Rattle.nextest_config_profiles.specs.Chain.{Asks, Inherits, InheritsNoText, IsChain, IsChainFault, IsNext, IsNextFault, IsWay, LeadsOn}
+use Rattle.nextest_config_profiles.specs.Merged.{Layers}
 use Rattle.nextest_config_profiles.specs.Profiles.{default_profile, IsProfile, SomeOf}
 use Rattle.nextest_config_profiles.specs.Said.{leaf, said_here}
 use Rattle.nextest_config_profiles.specs.declared.chain.ChainFault.{ChainFault}
@@ -68,26 +68,26 @@ among name (first ∷ rest) (inr later) =
     record { before = first ∷ there.before; after = there.after; whole = ap (λ names. first ∷ names) there.whole }
 
 -- the chain of a profile begins with it
-pub chain_from : (layers : Layers) (name next : List ℕ) (rest : List (List ℕ)) → name ≢ default_profile → IsNext layers name next → IsChain layers next rest
-    → IsChain layers name (name ∷ rest)
-chain_from layers name next rest other is_next chain = (refl, inr (other, (next, is_next, chain)))
+pub chain_from : (layers : Layers) (name next : List ℕ) (rest : List (List ℕ)) → IsProfile layers name → name ≢ default_profile → IsNext layers name next
+    → IsChain layers next rest → IsChain layers name (name ∷ rest)
+chain_from layers name next rest is_profile other is_next chain = (refl, is_profile, inr (other, (next, is_next, chain)))
 
 pub chain_ends : (layers : Layers) (name : List ℕ) → name ≡ default_profile → IsChain layers name (default_profile ∷ [])
-chain_ends layers name is = (sym is, inl (is, refl))
+chain_ends layers name is = (sym is, inl is, inl (is, refl))
 
 pub next_profile_is : (layers : Layers) (name next : List ℕ) → IsNext layers name next → IsProfile layers next
 next_profile_is layers name next (inl none) = inl none.1
 next_profile_is layers name next (inr parent) = parent.1
 
 -- what is wrong right after a profile that is led to
-pub next_is_wrong : (layers : Layers) (name current : List ℕ) (fault : ChainFault) → LeadsOn layers name current → IsNextFault layers current fault → IsChainFault layers name fault
-next_is_wrong layers name current Memory leads h = absurd h
-next_is_wrong layers name current NoProfile leads h = absurd h
-next_is_wrong layers name current (Ring profile) leads h = absurd h
-next_is_wrong layers name current (NotDefined profile parent) leads h =
-    (subst (LeadsOn layers name) (sym h.0) leads, (refl, subst (λ from. Inherits layers from parent.now) (sym h.0) h.1, h.2))
-next_is_wrong layers name current (NotText profile) leads h =
-    (subst (LeadsOn layers name) (sym h.0) leads, (refl, subst (InheritsNoText layers) (sym h.0) h.1))
+pub next_is_wrong : (layers : Layers) (name current : List ℕ) (fault : ChainFault) → Asks layers name current → IsNextFault layers current fault → IsChainFault layers name fault
+next_is_wrong layers name current Memory asks h = absurd h
+next_is_wrong layers name current NoProfile asks h = absurd h
+next_is_wrong layers name current (Ring profile) asks h = absurd h
+next_is_wrong layers name current (NotDefined profile parent) asks h =
+    (subst (Asks layers name) (sym h.0) asks, (refl, subst (λ from. Inherits layers from parent.now) (sym h.0) h.1, h.2))
+next_is_wrong layers name current (NotText profile) asks h =
+    (subst (Asks layers name) (sym h.0) asks, (refl, subst (InheritsNoText layers) (sym h.0) h.1))
 
 not_so : (b : Bool) → not b ≡ true → b ≡ false
 not_so true h = absurd (cc h)

@@ -2,12 +2,13 @@
 use Rattle.std.specs.Prelude.{◌↔◌, ℕ, List, Option, Some, None}
 use Rattle.toml.specs.Data.{Data}
 use Rattle.nextest_config_values.specs.Read.{Reading}
-use Rattle.nextest_config_profiles.specs.Laid.{HasLeaf}
+use Rattle.nextest_config_profiles.specs.Merged.{HasLeaf}
 use Rattle.nextest_config_profiles.specs.Said.{Path}
 use Rattle.nextest_config_profiles.specs.declared.effective.Effective.{Effective}
 use Rattle.nextest_config_profiles.specs.declared.effective.Effective.TheVariants as given
 
 -- two values have the same leaves: they differ at most in the order in which tables have their keys
+-- (TOML 1.1, "Table")
 abbrev pub AreAlike : Data → Data → Type 0
 AreAlike v w = (path : Path) (value : Data) → HasLeaf v path value ↔ HasLeaf w path value
 

@@ -1,4 +1,4 @@
--- What a profile gets of its report, and the report that this makes.
+-- What a profile gets of its report, and the report that this makes (nextest's documentation).
 use Rattle.std.specs.Prelude.{◌≡◌, ℕ, codes, IsSome, List, [], ◌∷◌, Option, Some, None, option_map, string_bytes}
 use Rattle.nextest_config_values.specs.Read.{bool_reading, made_of, text_reading}
 use Rattle.nextest_config_elements.specs.Junit.{flaky_fail_reading, Report}
@@ -11,11 +11,11 @@ use Rattle.nextest_config_profiles.specs.declared.junit.JunitFault.{JunitFault}
 use Rattle.nextest_config_profiles.specs.declared.junit.JunitFault.TheVariants.{Memory, NotGiven}
 use Rattle.nextest_config_profiles.specs.declared.profile.EffectiveProfile.{EffectiveProfile}
 
--- a key of the table of a report
+-- the path of a key in the `junit` table of a profile
 abbrev pub junit_path : List ℕ → List (List ℕ)
 junit_path key = codes "junit" ∷ key ∷ []
 
--- what the profile gets for each of the six
+-- what the profile gets for each of the six settings of its report
 pub record GetsJunit (profile : EffectiveProfile) (junit : EffectiveJunit) : Type 0 where
   pub of_path : Gets string_bytes (made_of Some text_reading) profile
       (junit_path (codes "path")) junit.path
@@ -32,7 +32,7 @@ pub record GetsJunit (profile : EffectiveProfile) (junit : EffectiveJunit) : Typ
 
 -- ---- the report
 
--- the value that is given
+-- the value that is given for a setting, where there is one that is judged
 abbrev pub value_in : {X : Type 0} → Effective X → Option X
 value_in (given.Value profile x) = Some x
 value_in (given.NotJudged profile) = None
@@ -46,7 +46,7 @@ path_in (given.NotJudged profile) = None
 path_in (given.Fault profile refused) = None
 path_in given.Nothing = Some None
 
--- the six say all of the report; nothing may give its path
+-- the six settings say all of a report: its path, or that it has none, and its five other parts
 pub record SaysReport (junit : EffectiveJunit) (report : Report (Option (List ℕ))) : Type 0 where
   pub of_path : option_map (option_map string_bytes) (path_in junit.path) ≡ Some report.path
   pub of_name : option_map string_bytes (value_in junit.report_name) ≡ Some report.name
@@ -55,11 +55,11 @@ pub record SaysReport (junit : EffectiveJunit) (report : Report (Option (List �
   pub of_skipped : value_in junit.report_skipped ≡ Some report.skipped
   pub of_flaky_fail_status : value_in junit.flaky_fail_status ≡ Some report.flaky_fail_status
 
--- the six say no report
+-- there is no report of which the six settings say all
 abbrev pub SaysNone : EffectiveJunit → Type 0
 SaysNone junit = (report : Report (Option (List ℕ))) → ¬ SaysReport junit report
 
--- they say none; or memory was refused to the report's path
+-- the six settings say no report; or memory was refused to the path of the one that they say
 abbrev pub IsJunitFault : EffectiveJunit → JunitFault → Type 0
 IsJunitFault junit NotGiven = SaysNone junit
 IsJunitFault junit Memory =

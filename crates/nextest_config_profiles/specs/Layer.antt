@@ -1,28 +1,29 @@
 -- The files of a list, as layers.
-use Rattle.std.specs.Prelude.{ℕ, zero, suc, codes, List, ◌∷◌, false, map, Option, None, option_and_then, slice_get}
+use Rattle.std.specs.Prelude.{ℕ, zero, suc, codes, List, ◌∷◌, false, map, Option, None, slice_get}
 use Rattle.toml.specs.Data.{Data, get_member, Members}
-use Rattle.toml.specs.Parse.{parse_document}
 use Rattle.toml.specs.View.{table_view}
-use Rattle.nextest_config_positions.specs.Index.{IsSpanOf}
-use Rattle.nextest_config_positions.specs.Partial.{AreRangesOf, IsPartialIndexOf}
-use Rattle.nextest_config_positions.specs.Ranges.{Ranges}
-use Rattle.nextest_config_positions.specs.Step.{PathStep}
-use Rattle.nextest_config_positions.specs.declared.place.Span.{Span}
-use Rattle.nextest_config_findings.specs.File.{range_at}
-use Rattle.nextest_config_profiles.specs.Defaults.{default_text}
-use Rattle.nextest_config_profiles.specs.Laid.{Layers}
+use Rattle.toml_spans.specs.Index.{IsSpanOf}
+use Rattle.toml_spans.specs.Partial.{AreRangesOf, IsPartialIndexOf}
+use Rattle.toml_spans.specs.Ranges.{Ranges}
+use Rattle.toml_spans.specs.Step.{PathStep}
+use Rattle.toml_spans.specs.declared.place.Span.{Span}
+use Rattle.nextest_config_lint.specs.File.{range_at}
+use Rattle.nextest_config_profiles.specs.Defaults.{default_values}
+use Rattle.nextest_config_profiles.specs.Merged.{Layers}
 use Rattle.nextest_config_profiles.specs.declared.layer.Layer.{Layer}
 
 -- what a document has for profiles
 abbrev pub profiles_at : Members → Option Data
 profiles_at = get_member (codes "profile")
 
+-- what each of the files has for profiles
 abbrev pub profiles_in : List Layer → Layers
 profiles_in layers = map (λ layer. profiles_at (table_view layer.document.now)) layers
 
 -- the layers of a list: what nextest sets itself, and above that the files
+-- (nextest's documentation)
 abbrev pub all_layers : List Layer → Layers
-all_layers layers = option_and_then profiles_at (parse_document default_text) ∷ profiles_in layers
+all_layers layers = profiles_at default_values ∷ profiles_in layers
 
 -- the file of a layer; the first layer is none
 abbrev pub file_at : List Layer → ℕ → Option Layer

@@ -1,7 +1,7 @@
 pub mod Said
 pub mod Selection
-pub mod Laid
-pub mod Laying
+pub mod Merged
+pub mod Merging
 pub mod Reach
 pub mod LastValue
 pub mod Profiles
@@ -11,8 +11,10 @@ pub mod Alike
 pub mod Defaults
 pub mod Layer
 pub mod Profile
+pub mod SettingKey
 pub mod NameList
 pub mod OneLeaf
 pub mod Inherits
 pub mod Junit
 pub mod Leaves
+pub mod Report

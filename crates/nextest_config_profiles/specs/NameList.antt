@@ -4,7 +4,7 @@ use Rattle.std.specs.Cmp.Lexicographic.{pointwise, slice_cmp}
 use Rattle.std.specs.List.{AllByRecursion}
 use Rattle.std.specs.List.Sorted.{IsStrictlySortedBy}
 use Rattle.std.specs.Ordering.{nat_cmp}
-use Rattle.nextest_config_profiles.specs.Laid.{Layers}
+use Rattle.nextest_config_profiles.specs.Merged.{Layers}
 use Rattle.nextest_config_profiles.specs.Profiles.{default_miri, default_profile, IsProfile, SomeOf}
 
 -- a name is one of these
@@ -15,6 +15,7 @@ IsAmong name names = SomeOf (λ other. other ≡ name) names
 abbrev pub is_own : List ℕ → Bool
 is_own name = pointwise nat_eq name default_profile || pointwise nat_eq name default_miri
 
+-- the name is that of no profile that nextest has itself
 abbrev pub IsOther : List ℕ → Type 0
 IsOther name = (name ≢ default_profile) × (name ≢ default_miri)
 

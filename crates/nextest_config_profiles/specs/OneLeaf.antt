@@ -1,7 +1,7 @@
 -- A value that has one leaf alone, and the paths apart from it.
-use Rattle.std.specs.Prelude.{◌≡◌, List, ◌++◌}
+use Rattle.std.specs.Prelude.{◌≡◌, ◌++◌}
 use Rattle.toml.specs.Data.{Data}
-use Rattle.nextest_config_profiles.specs.Laid.{HasLeaf}
+use Rattle.nextest_config_profiles.specs.Merged.{HasLeaf}
 use Rattle.nextest_config_profiles.specs.Said.{Path}
 
 -- a value has a leaf at this path alone

@@ -3,11 +3,11 @@ use Rattle.std.specs.Prelude.{◌≡◌, ℕ, codes, List, ◌∷◌, map, Match
 use Rattle.toml.specs.Data.{Data}
 use Rattle.toml.specs.View.{table_view}
 use Rattle.nextest_config_values.specs.Read.{Reading}
-use Rattle.nextest_config_positions.specs.Step.{key, PathStep}
-use Rattle.nextest_config_positions.specs.declared.place.Span.{Span}
+use Rattle.toml_spans.specs.Step.{key, PathStep}
+use Rattle.toml_spans.specs.declared.place.Span.{Span}
 use Rattle.nextest_config_profiles.specs.Chain.{IsWrong, no_profile, not_defined, not_text, ring, Wrong}
 use Rattle.nextest_config_profiles.specs.Effective.{IsEffective}
-use Rattle.nextest_config_profiles.specs.Laid.{Layers}
+use Rattle.nextest_config_profiles.specs.Merged.{Layers}
 use Rattle.nextest_config_profiles.specs.Layer.{file_at, IsSpanAt, profiles_at, profiles_in}
 use Rattle.nextest_config_profiles.specs.Said.{Path}
 use Rattle.nextest_config_profiles.specs.declared.effective.Effective.{Effective}
@@ -18,15 +18,15 @@ use Rattle.nextest_config_profiles.specs.declared.profile.EffectiveProfile.{Effe
 use Rattle.nextest_config_profiles.specs.declared.profile.ProfileFault.{ProfileFault}
 use Rattle.nextest_config_profiles.specs.declared.profile.ProfileFault.TheVariants as faults
 
--- the layers by which it is told
+-- the layers by which a profile is told: what nextest sets itself, and above that the files
 abbrev pub layers_in : EffectiveProfile → Layers
 layers_in profile = profiles_at (table_view profile.defaults) ∷ profiles_in profile.layers.now
 
--- the profile and those that come after it
+-- the names of a profile and of those that come after it, up to `default`
 abbrev pub chain_in : EffectiveProfile → List (List ℕ)
 chain_in profile = map string_bytes profile.chain.items
 
--- what a fault says, unless memory was refused
+-- what a fault of a profile says, unless memory was refused
 abbrev pub profile_wrong : ProfileFault → Option Wrong
 profile_wrong faults.NoProfile = Some no_profile
 profile_wrong (faults.Ring profile place) = Some (ring (string_bytes profile))
@@ -35,6 +35,7 @@ profile_wrong (faults.NotDefined profile parent place) =
 profile_wrong (faults.NotText profile place) = Some (not_text (string_bytes profile))
 profile_wrong faults.Memory = None
 
+-- what a fault with texts of its own says, unless memory was refused
 abbrev pub owned_wrong : OwnedFault → Option Wrong
 owned_wrong owned.NoProfile = Some no_profile
 owned_wrong (owned.Ring profile) = Some (ring (string_bytes profile))
@@ -43,7 +44,7 @@ owned_wrong (owned.NotDefined profile parent) =
 owned_wrong (owned.NotText profile) = Some (not_text (string_bytes profile))
 owned_wrong owned.Memory = None
 
--- the fault tells what is wrong with the chain of a profile
+-- the fault tells what is wrong with the chain of a profile, unless memory was refused
 abbrev pub IsProfileFault : Layers → List ℕ → ProfileFault → Type 0
 IsProfileFault layers name fault =
     MatchOption (profile_wrong fault) (Unit {0}) (IsWrong layers name)
@@ -54,10 +55,11 @@ IsProfileFault layers name fault =
 abbrev pub steps_to : Path → List PathStep
 steps_to path = key (codes "profile") ∷ map key path
 
--- the files by which it is told, and that of a layer
+-- the files by which a profile is told, the lowest first
 abbrev pub files_in : EffectiveProfile → List Layer
 files_in profile = profile.layers.now
 
+-- the file of the layer at a position, if it is one
 abbrev pub file_in : EffectiveProfile → ℕ → Option Layer
 file_in profile = file_at (files_in profile)
 
@@ -69,12 +71,13 @@ layer_at layers position = option_and_then (λ layer. layer) (slice_get layers p
 abbrev pub IsSpanBy : Layer → Path → Option Span → Type 0
 IsSpanBy file path = IsSpanAt file (steps_to path)
 
--- the same in the file of a layer
+-- the range of a path below `profile` in the file of a layer, and none where that is no file
 abbrev pub IsSpanIn : EffectiveProfile → ℕ → Path → Option Span → Type 0
 IsSpanIn profile layer path span =
     MatchOption (file_in profile layer) (span ≡ None) (λ file. IsSpanBy file path span)
 
 -- what a profile gets for the setting at these keys
-abbrev pub Gets : {X Y : Type 0} → (X → Y) → Reading Data (Option Y) → EffectiveProfile → Path → Effective X → Type 0
+abbrev pub Gets : {X Y : Type 0} → (X → Y) → Reading Data (Option Y) → EffectiveProfile → Path
+    → Effective X → Type 0
 Gets seen reading profile keys effective =
     IsEffective seen reading (layers_in profile) keys (chain_in profile) effective

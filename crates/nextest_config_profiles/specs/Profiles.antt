@@ -2,11 +2,13 @@
 use Rattle.std.specs.Prelude.{◌≡◌, ◌⊎◌, ℕ, codes, IsSome, List, [], ◌∷◌, Option, option_and_then}
 use Rattle.std.proofs.Common.{Bor}
 use Rattle.toml.specs.Data.{as_table, Data, get_member, Members}
-use Rattle.nextest_config_profiles.specs.Laid.{Layers}
+use Rattle.nextest_config_profiles.specs.Merged.{Layers}
 
+-- the name of the profile on which all others fall back in the end
 abbrev pub default_profile : List ℕ
 default_profile = codes "default"
 
+-- the name of the profile that nextest has itself for Miri
 abbrev pub default_miri : List ℕ
 default_miri = codes "default-miri"
 
@@ -23,7 +25,7 @@ profiles_of = option_and_then as_table
 abbrev pub HasProfile : List ℕ → Option Data → Type 0
 HasProfile name layer = IsSome (option_and_then (get_member name) (profiles_of layer))
 
--- nextest has the profile itself, or some layer has it
+-- nextest has the profile itself, or some layer has it (nextest's documentation)
 abbrev pub IsProfile : Layers → List ℕ → Type 0
 IsProfile layers name =
     (name ≡ default_profile) ⊎ ((name ≡ default_miri) ⊎ SomeOf (HasProfile name) layers)

@@ -18,6 +18,6 @@ said_below below reached.Nothing = silent
 said_below below reached.Barred = barred
 said_below below (reached.Value value) = said_at below (Some (view value.now))
 
--- layers as they are lent
+-- what layers have that are lent, as data
 abbrev pub layers_of : List (Option (Bor Value)) → List (Option Data)
 layers_of layers = map (option_map (λ value. view value.now)) layers

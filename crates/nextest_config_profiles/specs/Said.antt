@@ -1,4 +1,4 @@
--- What a layer says of a path of keys.
+-- What a layer says of a path of keys (TOML 1.1, "Table").
 use Rattle.std.specs.Prelude.{ℕ, List, [], ◌∷◌, Option, Some, None}
 use Rattle.toml.specs.Data.{array, boolean, Data, datetime, float, get_member, integer, member, no_members, string, table}
 
@@ -6,8 +6,8 @@ use Rattle.toml.specs.Data.{array, boolean, Data, datetime, float, get_member, i
 abbrev pub Path : Type 0
 Path = List (List ℕ)
 
--- nothing; that a value which is no table stands on the way; a table, with keys or without; or a
--- value that is no table
+-- what is said of a path: nothing; that a value which is no table stands on the way; a table, with
+-- keys or without; or a value that is no table
 pub data Said : Type 0 where
   silent : Said
   barred : Said

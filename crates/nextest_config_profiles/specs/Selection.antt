@@ -5,6 +5,7 @@ use Rattle.toml.specs.Data.{Data, no_members, table}
 use Rattle.nextest_config_profiles.specs.Said.{bare, barred, branch, leaf, Said, silent}
 
 -- the last layer that isn't silent stands at this position, and says this
+-- (nextest's documentation)
 pub record IsLast (all : List Said) (position : ℕ) (said : Said) : Type 0 where
   pub below : List Said
   pub above : List Said
@@ -28,7 +29,7 @@ IsEmpty barred = ⊥
 IsEmpty branch = ⊥
 IsEmpty (leaf value) = ⊥
 
--- nothing, or a list whose last is so
+-- a list is empty, or its last element is so
 abbrev pub EndsIn : (Said → Type 0) → List Said → Type 0
 EndsIn P [] = Unit {0}
 EndsIn P (said ∷ []) = P said

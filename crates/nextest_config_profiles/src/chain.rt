@@ -2,7 +2,6 @@
 
 ghost use Rattle.std.specs.Prelude.{◌≡◌, ◌++◌, ◌∷◌, [], IfErr, IfOk, OnOk};
 ghost use Rattle.nextest_config_profiles.specs.Chain.{IsChain, IsChainFault, IsNext, IsNextFault};
-ghost use Rattle.nextest_config_profiles.specs.Profiles.{IsProfile};
 ghost use Rattle.nextest_config_profiles.specs.Reach.{layers_of, words_of};
 
 use crate::last_value::last_value;
@@ -43,7 +42,6 @@ pub(crate) fn chain_of<'a>(
     layers: &[Option<&'a Value>],
     name: &'a str,
 ) -> Result<Vec<&'a str>, ChainFault<'a>>
-    ensures profile { OnOk result (IsProfile (layers_of layers.now) name.now) }
     ensures chain { IfOk result (λ chain.
         IsChain (layers_of layers.now) name.now (words_of chain.items)) }
     ensures fault { IfErr result (IsChainFault (layers_of layers.now) name.now) }

@@ -1,9 +1,8 @@
 //! What nextest sets itself, below all files.
 
-ghost use Rattle.std.specs.Prelude.{◌≡◌, IfOk, Some};
-ghost use Rattle.toml.specs.Parse.{parse_document};
+ghost use Rattle.std.specs.Prelude.{◌≡◌, IfOk};
 ghost use Rattle.toml.specs.View.{table_view};
-ghost use Rattle.nextest_config_profiles.specs.Defaults.{default_text};
+ghost use Rattle.nextest_config_profiles.specs.Defaults.{default_values};
 
 use std::alloc::{AllocError, Global};
 use toml::Table;
@@ -30,9 +29,9 @@ slow-timeout = { period = "30y" }
 global-timeout = "30y"
 "#;
 
-/// The document that these are.
+/// What nextest sets itself, as a document.
 pub(crate) fn default_document(alloc: Global) -> Result<Table, AllocError>
-    ensures { IfOk result (λ table. parse_document default_text ≡ Some (table_view table)) }
+    ensures { IfOk result (λ table. table_view table ≡ default_values) }
 {
     match toml::table_from_str(alloc, DEFAULTS) {
         Ok(table) => Ok(table),

@@ -1,14 +1,14 @@
 //! What a chain of profiles gives a setting.
 
-ghost use Rattle.std.specs.Prelude.{◌≡◌, ◌∷◌, IfOk, map, MatchOption, None, string_bytes};
+ghost use Rattle.std.specs.Prelude.{◌≡◌, ◌∷◌, [], IfOk, map, MatchOption, None, string_bytes};
 ghost use Rattle.toml.specs.View.{view};
 ghost use Rattle.nextest_config_values.specs.Read.{RefusesBy};
 ghost use Rattle.nextest_config_profiles.specs.Effective.{IsEffective, IsGiven, IsOf, IsRead, Passes};
 ghost use Rattle.nextest_config_profiles.specs.Reach.{layers_of, words_of};
 
-use crate::laid::laid_over;
+use crate::merged::merged_over;
 use crate::setting::Setting;
-use nextest_config_findings::is_unjudged;
+use nextest_config_lint::is_unjudged;
 use nextest_config_values::read::ValueFault;
 use std::alloc::{AllocError, Global};
 use toml::Value;
@@ -20,7 +20,7 @@ pub enum Effective<'p, T: Drop> {
     Value { profile: &'p str, value: T },
     /// A value with a duration that isn't judged here.
     NotJudged { profile: &'p str },
-    /// A value that its reader refuses, as the layers lie over one another.
+    /// A value that its reader refuses, as the layers are merged.
     Fault { profile: &'p str, fault: ValueFault },
     /// Nothing: no profile of the chain has a value that counts.
     Nothing,
@@ -44,6 +44,22 @@ pub(crate) fn first_given<'p, T: Setting>(
     Ok(Effective::Nothing)
 }
 
+/// What a profile alone gives the setting at these keys.
+pub(crate) fn given_alone<'p, T: Setting>(
+    alloc: Global,
+    layers: &[Option<&Value>],
+    profile: &'p str,
+    keys: &[&str],
+) -> Result<Effective<'p, T>, AllocError>
+    ensures { IfOk result (IsEffective T.seen T.reading (layers_of layers.now) (words_of keys.now)
+        (profile.now ∷ [])) }
+{
+    match given_by(alloc, layers, profile, keys)? {
+        Some(given) => Ok(given),
+        None => Ok(Effective::Nothing),
+    }
+}
+
 // What a profile gives the setting, if it counts.
 fn given_by<'p, T: Setting>(
     alloc: Global,
@@ -56,7 +72,7 @@ fn given_by<'p, T: Setting>(
         (IsGiven T.seen T.reading (layers_of layers.now) (words_of keys.now) profile.now)) }
 {
     let path = path_of(alloc, profile, keys)?;
-    match laid_over(alloc, layers, path.as_slice())? {
+    match merged_over(alloc, layers, path.as_slice())? {
         Some(value) => {
             let given = read_value(alloc, profile, &value)?;
             Ok(given)

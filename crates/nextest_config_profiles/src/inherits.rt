@@ -8,9 +8,9 @@ use crate::chain::INHERITS;
 use crate::last_value::{LayerValue, last_value};
 use crate::layer::{Layer, profiles_of_files};
 use crate::profile::steps_to;
-use nextest_config_positions::Span;
 use std::alloc::{AllocError, Global};
 use toml::Value;
+use toml_spans::Span;
 
 /// What a file has at `inherits` of a profile.
 #[derive(Clone, Copy, Debug)]

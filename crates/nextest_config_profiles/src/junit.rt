@@ -6,6 +6,10 @@ ghost use Rattle.nextest_config_profiles.specs.Junit.{GetsJunit, IsJunitFault, p
 
 use crate::effective::Effective;
 use crate::profile::EffectiveProfile;
+use crate::setting_key::{
+    JUNIT_FLAKY_FAIL_STATUS, JUNIT_PATH, JUNIT_REPORT_NAME, JUNIT_REPORT_SKIPPED,
+    JUNIT_STORE_FAILURE_OUTPUT, JUNIT_STORE_SUCCESS_OUTPUT,
+};
 use nextest_config_elements::junit::{JunitConfig, JunitFlakyFailStatus, JunitSettings};
 use nextest_config_elements::report_skip_policy::ReportSkipPolicy;
 use std::alloc::{AllocError, Global};
@@ -50,12 +54,12 @@ impl EffectiveProfile<'_> {
     pub fn junit(&self, alloc: Global) -> Result<EffectiveJunit<'_>, AllocError>
         ensures { IfOk result (GetsJunit self.now) }
     {
-        let path = self.junit_path(alloc)?;
-        let report_name = self.junit_report_name(alloc)?;
-        let store_success_output = self.junit_store_success_output(alloc)?;
-        let store_failure_output = self.junit_store_failure_output(alloc)?;
-        let report_skipped = self.junit_report_skipped(alloc)?;
-        let flaky_fail_status = self.junit_flaky_fail_status(alloc)?;
+        let path = self.get(alloc, &JUNIT_PATH)?;
+        let report_name = self.get(alloc, &JUNIT_REPORT_NAME)?;
+        let store_success_output = self.get(alloc, &JUNIT_STORE_SUCCESS_OUTPUT)?;
+        let store_failure_output = self.get(alloc, &JUNIT_STORE_FAILURE_OUTPUT)?;
+        let report_skipped = self.get(alloc, &JUNIT_REPORT_SKIPPED)?;
+        let flaky_fail_status = self.get(alloc, &JUNIT_FLAKY_FAIL_STATUS)?;
         Ok(EffectiveJunit {
             path,
             report_name,

@@ -28,7 +28,7 @@ pub(crate) fn last_value<'a>(layers: &[Option<&'a Value>], path: &[&str]) -> Opt
     last
 }
 
-// The same with one more layer, in which the path leads there.
+// What the last layer has once one more lies above them, in which the path leads to this.
 fn later<'a>(last: Option<LayerValue<'a>>, layer: usize, reach: Reach<'a>) -> Option<LayerValue<'a>>
     ensures { (all : List Said) → length all ≡ layer → IsLastValue all last.entry
         → IsLastValue (all ++ said_below [] reach.entry ∷ []) result }

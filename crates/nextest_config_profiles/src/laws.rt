@@ -9,9 +9,9 @@ ghost use Rattle.nextest_config_elements.specs.MaxFail.{fail_fast_reading};
 ghost use Rattle.nextest_config_elements.specs.RetryPolicy.{retry_policy_reading};
 ghost use Rattle.nextest_config_elements.specs.SlowTimeout.{slow_timeout_reading};
 ghost use Rattle.nextest_config_profiles.specs.Alike.{given_by, given_value, TakesAlike};
-ghost use Rattle.nextest_config_profiles.specs.Chain.{IsChain};
+ghost use Rattle.nextest_config_profiles.specs.Chain.{IsChain, IsWrong, Wrong};
 ghost use Rattle.nextest_config_profiles.specs.Effective.{IsEffective};
-ghost use Rattle.nextest_config_profiles.specs.Laid.{IsLeaf, Layers};
+ghost use Rattle.nextest_config_profiles.specs.Merged.{IsLeaf, Layers};
 ghost use Rattle.nextest_config_profiles.specs.OneLeaf.{AreApart, HasLeafAlone};
 ghost use Rattle.nextest_config_profiles.specs.Said.{leaf, Path, said_at, silent};
 ghost use Rattle.nextest_config_profiles.specs.declared.effective.Effective.{Effective};
@@ -36,6 +36,12 @@ pub fn law_chain_once()
         → IsChain layers name d → c ≡ d }
 {}
 
+/// No name has both a chain and something that is wrong with it.
+pub fn law_chain_or_wrong()
+    ensures { (layers : Layers) (name : List ℕ) (chain : List (List ℕ)) (wrong : Wrong)
+        → IsChain layers name chain → IsWrong layers name wrong → ⊥ }
+{}
+
 /// A chain gives a setting at most one value, of one profile, where its reader takes tables alike
 /// whose keys stand in another order.
 pub fn law_effective_once<T: Setting>()
@@ -48,7 +54,7 @@ pub fn law_effective_once<T: Setting>()
         → IsEffective T.seen T.reading layers keys chain b → given_by a ≡ given_by b }
 {}
 
-/// The readers of all settings take tables so.
+/// The readers of all settings take tables alike whose keys stand in another order.
 pub fn law_settings_take_alike()
     ensures retries { TakesAlike retry_policy_reading }
     ensures flaky_result { TakesAlike (made_of Some ⟦<FlakyResult as FromToml>⟧.reading) }

@@ -2,15 +2,15 @@
 
 ghost use Rattle.std.specs.Prelude.{◌≡◌, ◌++◌, ◌∷◌, IfOk, map, OnOk, option_map};
 ghost use Rattle.toml.specs.View.{table_view, view};
-ghost use Rattle.nextest_config_positions.specs.Step.{step_of};
+ghost use Rattle.toml_spans.specs.Step.{step_of};
 ghost use Rattle.nextest_config_profiles.specs.Layer.{IsSpanAt, profiles_at, profiles_in};
 ghost use Rattle.nextest_config_profiles.specs.Reach.{layers_of};
 
-use nextest_config_positions::{PartialIndex, Span, Step};
-use nextest_config_sources::nextest_version::ConfigSource;
+use nextest_config::nextest_version::ConfigSource;
 use nextest_config_values::read::value_at;
 use std::alloc::{AllocError, Global};
 use toml::{Table, Value};
+use toml_spans::{PartialIndex, Span, Step};
 
 /// A file of a list, with its document and the index of its places.
 #[derive(Clone, Copy, Debug)]

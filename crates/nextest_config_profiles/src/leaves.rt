@@ -1,14 +1,15 @@
-//! All that layers together have below a path, leaf by leaf, each with the layer that it comes from.
+//! All that layers together have below a path, leaf by leaf, each with the layer that it comes
+//! from.
 
 ghost use Rattle.std.specs.Prelude.{◌≡◌, ◌++◌, ◌∷◌, [], IfOk, map, OnOk, Some, string_bytes};
 ghost use Rattle.std.specs.List.{AllByRecursion};
 ghost use Rattle.toml.specs.View.{table_view, view};
-ghost use Rattle.nextest_config_profiles.specs.Laid.{IsLeaf};
+ghost use Rattle.nextest_config_profiles.specs.Merged.{IsLeaf};
 ghost use Rattle.nextest_config_profiles.specs.Leaves.{Adds, AreAllLeaves, AreLeavesAt, AreLeavesIn, IsLeafBelow, IsOfLayers, placed, placed_leaf};
 ghost use Rattle.nextest_config_profiles.specs.Reach.{layers_of, words_of};
 
-use crate::laid::laid_over;
 use crate::last_value::last_value;
+use crate::merged::merged_over;
 use std::alloc::{AllocError, Global};
 use toml::{Table, Value};
 
@@ -23,7 +24,7 @@ pub struct Leaf {
     pub value: Value,
 }
 
-// The same of one value, without a layer.
+// A leaf of one value, without a layer.
 #[derive(Drop)]
 pub(crate) struct ValueLeaf {
     keys: Vec<String>,
@@ -41,7 +42,7 @@ pub(crate) fn leaves_below(
     ensures all { IfOk result (λ leaves. AreAllLeaves (layers_of layers.now) (words_of path.now)
         leaves.items) }
 {
-    match laid_over(alloc, layers, path)? {
+    match merged_over(alloc, layers, path)? {
         Some(value) => {
             let leaves = leaves_of(alloc, &value)?;
             Ok(with_layers(alloc, layers, path, leaves)?)

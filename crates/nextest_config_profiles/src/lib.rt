@@ -1,26 +1,26 @@
-//! What a profile gets of its settings, and which file says so.
+//! What a profile gets of its settings, which file says so, and what is told of it.
 #![tactic(auto)]
 
-mod at_hand;
 mod chain;
 mod defaults;
 mod effective;
-mod getters;
 mod inherits;
 mod junit;
-mod laid;
 mod last_value;
 pub mod laws;
 mod layer;
 mod leaves;
+mod locate;
+mod merged;
 mod name_list;
 mod owned_chain;
 mod profile;
 mod profiles;
 mod reach;
+pub mod report;
 mod setting;
+mod setting_key;
 
-pub use at_hand::profiles_at_hand;
 pub use defaults::DEFAULTS;
 pub use effective::Effective;
 pub use inherits::InheritsPlace;
@@ -28,6 +28,13 @@ pub use junit::{EffectiveJunit, JunitFault};
 pub use last_value::LayerValue;
 pub use layer::Layer;
 pub use leaves::Leaf;
+pub use locate::profiles_to_locate;
 pub use name_list::profile_names;
 pub use profile::{EffectiveProfile, ProfileFault};
 pub use setting::Setting;
+pub use setting_key::{
+    BENCH_GLOBAL_TIMEOUT, BENCH_SLOW_TIMEOUT, FAIL_FAST, FLAKY_RESULT, GLOBAL_TIMEOUT,
+    JUNIT_FLAKY_FAIL_STATUS, JUNIT_PATH, JUNIT_REPORT_NAME, JUNIT_REPORT_SKIPPED,
+    JUNIT_STORE_FAILURE_OUTPUT, JUNIT_STORE_SUCCESS_OUTPUT, LEAK_TIMEOUT, RETRIES, SLOW_TIMEOUT,
+    SettingKey, THREADS_REQUIRED, setting_keys,
+};

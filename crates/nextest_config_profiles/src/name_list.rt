@@ -9,8 +9,8 @@ use crate::layer::{Layer, profiles_of_files};
 use crate::profiles::{DEFAULT, DEFAULT_MIRI, name_set};
 use std::alloc::{AllocError, Global};
 
-/// The names of all profiles: those that some file has, and those that nextest has itself. `default`
-/// and `default-miri` come first, and then the others in the order of their bytes.
+/// The names of all profiles: those that some file has, and those that nextest has itself.
+/// `default` and `default-miri` come first, and then the others in the order of their bytes.
 pub fn profile_names<'a>(alloc: Global, layers: &[Layer<'a>]) -> Result<Vec<&'a str>, AllocError>
     ensures names { IfOk result (λ names.
         AreNamesOf (profiles_in layers.now) (words_of names.items)) }

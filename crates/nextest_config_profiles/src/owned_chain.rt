@@ -60,7 +60,6 @@ pub(crate) fn owned_chain(
     }
 }
 
-// Copies of names.
 fn copies(alloc: Global, names: &[&str]) -> Result<Vec<String>, AllocError>
     ensures { IfOk result (λ copies. map string_bytes copies.items ≡ words_of names.now) }
 {

@@ -1,32 +1,34 @@
 //! A profile with what it falls back on.
 
-ghost use Rattle.std.specs.Prelude.{◌≡◌, ◌∷◌, IfErr, IfOk, length, map, MatchOption, None, option_map, string_bytes};
+ghost use Rattle.std.specs.Prelude.{◌≡◌, ◌∷◌, [], IfErr, IfOk, length, map, MatchOption, None, option_map, string_bytes};
 ghost use Rattle.std.specs.List.{AllByRecursion};
 ghost use Rattle.toml.specs.View.{table_view, view};
-ghost use Rattle.nextest_config_positions.specs.Step.{step_of};
+ghost use Rattle.toml_spans.specs.Step.{step_of};
 ghost use Rattle.nextest_config_profiles.specs.Effective.{IsEffective};
 ghost use Rattle.nextest_config_profiles.specs.Chain.{IsChain};
 ghost use Rattle.nextest_config_profiles.specs.Inherits.{HasPlace, IsPlacedFault};
 ghost use Rattle.nextest_config_profiles.specs.Layer.{all_layers, profiles_at, profiles_in};
-ghost use Rattle.nextest_config_profiles.specs.Laid.{HasNoValue, IsLaidOver};
-ghost use Rattle.nextest_config_profiles.specs.Profile.{chain_in, file_in, files_in, IsProfileFault, IsSpanIn, layer_at, layers_in, owned_wrong, profile_wrong, steps_to};
+ghost use Rattle.nextest_config_profiles.specs.Merged.{HasNoValue, IsMergedOver};
+ghost use Rattle.nextest_config_profiles.specs.Profile.{chain_in, file_in, files_in, Gets, IsProfileFault, IsSpanIn, layer_at, layers_in, owned_wrong, profile_wrong, steps_to};
+ghost use Rattle.nextest_config_profiles.specs.SettingKey.{keys_of};
 ghost use Rattle.nextest_config_profiles.specs.LastValue.{IsLastValue};
 ghost use Rattle.nextest_config_profiles.specs.Leaves.{AreAllLeaves, IsLeafBelow};
 ghost use Rattle.nextest_config_profiles.specs.Reach.{words_of};
 ghost use Rattle.nextest_config_profiles.specs.Said.{said_at};
 
 use crate::defaults::default_document;
-use crate::effective::{Effective, first_given};
+use crate::effective::{Effective, first_given, given_alone};
 use crate::inherits::{InheritsPlace, inherits_place};
-use crate::laid::laid_over;
 use crate::last_value::{LayerValue, last_value};
 use crate::layer::{Layer, profiles_at, profiles_in};
 use crate::leaves::{Leaf, leaves_below};
+use crate::merged::merged_over;
 use crate::owned_chain::{OwnedFault, owned_chain};
 use crate::setting::Setting;
-use nextest_config_positions::{Span, Step};
+use crate::setting_key::SettingKey;
 use std::alloc::{AllocError, Global};
 use toml::{Table, Value};
+use toml_spans::{Span, Step};
 
 /// A profile of the layers of a list, with those whose settings it falls back on.
 #[derive(Drop)]
@@ -36,8 +38,8 @@ pub struct EffectiveProfile<'a> {
     chain: Vec<String>,
 }
 
-/// Why a profile has no effective settings. The place is where a file says what the profile inherits
-/// from: the last that says anything of that. There always is one.
+/// Why a profile has no effective settings. The place is where a file says what the profile
+/// inherits from: the last that says anything of that. There always is one.
 #[derive(Debug, Drop)]
 pub enum ProfileFault<'a> {
     /// There is no profile of the name.
@@ -104,6 +106,34 @@ impl<'a> EffectiveProfile<'a> {
         Ok(given)
     }
 
+    /// What the profile gets for the setting of this key.
+    pub fn get<T: Setting>(
+        &self,
+        alloc: Global,
+        key: &SettingKey<T>,
+    ) -> Result<Effective<'_, T>, AllocError>
+        ensures { IfOk result (Gets T.seen T.reading self.now (keys_of key.now)) }
+    {
+        let given = self.setting(alloc, key.0)?;
+        Ok(given)
+    }
+
+    /// What a profile of this name alone gives the setting at these keys, whatever it falls back
+    /// on.
+    pub fn setting_of<'n, T: Setting>(
+        &self,
+        alloc: Global,
+        name: &'n str,
+        keys: &[&str],
+    ) -> Result<Effective<'n, T>, AllocError>
+        ensures { IfOk result (IsEffective T.seen T.reading (layers_in self.now)
+            (words_of keys.now) (name.now ∷ [])) }
+    {
+        let profiles = profiles_in(alloc, &self.defaults, self.layers)?;
+        let given = given_alone(alloc, profiles.as_slice(), name, keys)?;
+        Ok(given)
+    }
+
     /// What the last of the layers that say anything of a path below `profile` has there, if that
     /// is a value. Where it is no table, it is what the profile gets, and this layer is its source.
     pub fn last_value(
@@ -111,7 +141,8 @@ impl<'a> EffectiveProfile<'a> {
         alloc: Global,
         path: &[&str],
     ) -> Result<Option<LayerValue<'_>>, AllocError>
-        ensures { IfOk result (IsLastValue (map (said_at (words_of path.now)) (layers_in self.now))) }
+        ensures { IfOk result
+            (IsLastValue (map (said_at (words_of path.now)) (layers_in self.now))) }
     {
         let profiles = profiles_in(alloc, &self.defaults, self.layers)?;
         Ok(last_value(profiles.as_slice(), path))
@@ -134,7 +165,7 @@ impl<'a> EffectiveProfile<'a> {
         }
     }
 
-    /// The files by which it is told, the lowest first.
+    /// The files by which the profile is told, the lowest first.
     pub fn files(&self) -> &'a [Layer<'a>]
         ensures { result.now ≡ files_in self.now }
     {
@@ -150,7 +181,8 @@ impl<'a> EffectiveProfile<'a> {
 
     /// What a layer alone has for profiles.
     pub fn layer(&self, layer: usize) -> Option<&Value>
-        ensures { option_map (λ value. view value.now) result ≡ layer_at (layers_in self.now) layer }
+        ensures { option_map (λ value. view value.now) result
+            ≡ layer_at (layers_in self.now) layer }
     {
         match layer {
             0 => profiles_at(&self.defaults),
@@ -171,18 +203,18 @@ impl<'a> EffectiveProfile<'a> {
         }
     }
 
-    /// What the layers, laid over one another, have at a path below `profile`.
+    /// What the merged layers have at a path below `profile`.
     pub fn value(&self, alloc: Global, path: &[&str]) -> Result<Option<Value>, AllocError>
         ensures { IfOk result (λ value. MatchOption value
             (HasNoValue (layers_in self.now) (words_of path.now))
-            (λ value. IsLaidOver (layers_in self.now) (words_of path.now) (view value))) }
+            (λ value. IsMergedOver (layers_in self.now) (words_of path.now) (view value))) }
     {
         let profiles = profiles_in(alloc, &self.defaults, self.layers)?;
-        let value = laid_over(alloc, profiles.as_slice(), path)?;
+        let value = merged_over(alloc, profiles.as_slice(), path)?;
         Ok(value)
     }
 
-    /// The leaves of what the layers, laid over one another, have at a path below `profile`, each
+    /// The leaves of what the merged layers have at a path below `profile`, each
     /// with the layer that it comes from.
     pub fn leaves(&self, alloc: Global, path: &[&str]) -> Result<Vec<Leaf>, AllocError>
         ensures each { IfOk result (λ leaves. AllByRecursion

@@ -14,7 +14,8 @@ pub(crate) const DEFAULT: &str = "default";
 
 pub(crate) const DEFAULT_MIRI: &str = "default-miri";
 
-/// The set of the names of all profiles: those that some layer has, and those that nextest has itself.
+/// The set of the names of all profiles: those that some layer has, and those that nextest has
+/// itself.
 pub(crate) fn name_set<'a>(
     alloc: Global,
     layers: &[Option<&'a Value>],
@@ -31,7 +32,7 @@ pub(crate) fn name_set<'a>(
     Ok(names)
 }
 
-// Adds the names of those that a layer has.
+// Adds the names of the profiles that a layer has.
 fn add_profiles<'a>(
     layer: Option<&'a Value>,
     names: &mut BTreeSet<&'a str>,
@@ -49,7 +50,6 @@ fn add_profiles<'a>(
     Ok(())
 }
 
-// Adds a name.
 fn add_name<'a>(name: &'a str, names: &mut BTreeSet<&'a str>) -> Result<(), AllocError>
     ensures { OnOk result ((other : List ℕ) → HasName names.new.keys other
         ↔ (HasName names.old.keys other ⊎ (name.now ≡ other))) }

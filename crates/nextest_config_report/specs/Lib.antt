@@ -2,4 +2,5 @@ pub mod ExitStatus
 pub mod Lines
 pub mod Names
 pub mod Show
+pub mod Source
 pub mod Streams

@@ -5,31 +5,31 @@ use Rattle.semver.specs.Parse.{Parts}
 use Rattle.nextest_config_values.specs.Read.{comma_list, quoted_texts}
 use Rattle.nextest_config.specs.NextestVersion.ExperimentalConfig.{Experimental}
 use Rattle.nextest_config.specs.NextestVersion.Verdict.{Verdict}
-use Rattle.nextest_config_sources.specs.NextestVersion.{SourcePlace, place_text, word_of}
-use Rattle.nextest_config.specs.NextestVersion.{error, satisfied, Unknown, warn}
-use Rattle.nextest_config_sources.specs.declared.nextest_version.experimental.ConfigExperimental.{ConfigExperimental}
+use Rattle.nextest_config.specs.NextestVersion.{SourcePlace, word_of, error, satisfied, Unknown, warn}
+use Rattle.nextest_config_report.specs.Source.{source_text}
+use Rattle.nextest_config_report.specs.declared.source.SourceStyle.{SourceStyle}
+use Rattle.nextest_config.specs.declared.nextest_version.experimental.ConfigExperimental.{ConfigExperimental}
 
 -- the word of a verdict, by whether it is overridden
 abbrev pub verdict_word : List ℕ → Bool → List ℕ
 verdict_word says true = says ++ codes " (overridden)"
 verdict_word says false = says
 
--- the current version isn't enough for the one that a place asks in this role
-abbrev pub shortfall_text : List ℕ → Parts → List ℕ → SourcePlace → Parts → List ℕ
-shortfall_text says asked role place current =
+-- how a shortfall prints: the version that a place asks in this role, and the current one
+abbrev pub shortfall_text : SourceStyle → List ℕ → Parts → List ℕ → SourcePlace → Parts → List ℕ
+shortfall_text style says asked role place current =
     says ++ (codes ": " ++ (parts_text asked
     ++ (codes " " ++ (role
-    ++ (codes " by " ++ (place_text place
+    ++ (codes " by " ++ (source_text style place
     ++ (codes ", current " ++ parts_text current)))))))
 
--- a verdict on the current version
-abbrev pub verdict_text : Parts → Verdict → List ℕ
-verdict_text current satisfied = codes "satisfied: " ++ parts_text current
-verdict_text current (warn s) = shortfall_text (verdict_word (codes "warning") s.overridden) s.asked
-    (codes "recommended") s.place s.current
-verdict_text current (error s) =
-    shortfall_text (verdict_word (codes "error") s.overridden) s.asked (codes "required") s.place
-    s.current
+-- how a verdict on the current version prints
+abbrev pub verdict_text : SourceStyle → Parts → Verdict → List ℕ
+verdict_text style current satisfied = codes "satisfied: " ++ parts_text current
+verdict_text style current (warn s) = shortfall_text style
+    (verdict_word (codes "warning") s.overridden) s.asked (codes "recommended") s.place s.current
+verdict_text style current (error s) = shortfall_text style
+    (verdict_word (codes "error") s.overridden) s.asked (codes "required") s.place s.current
 
 -- the words of the known features, or that there is none
 abbrev pub known_text : List ConfigExperimental → List ℕ
@@ -37,24 +37,25 @@ known_text [] = codes "none"
 known_text (feature ∷ features) = comma_list (map word_of (feature ∷ features))
 
 -- the line of a source that has unknown feature names
-abbrev pub unknown_line : Unknown → List ℕ
-unknown_line unknown =
-    codes "unknown in " ++ (place_text unknown.place
+abbrev pub unknown_line : SourceStyle → Unknown → List ℕ
+unknown_line style unknown =
+    codes "unknown in " ++ (source_text style unknown.place
     ++ (codes ": " ++ (quoted_texts unknown.names ++ codes "\n")))
 
 -- the line of a source that names its features in an array
-abbrev pub array_line : SourcePlace → List ℕ
-array_line place = codes "deprecated array form in " ++ (place_text place ++ codes "\n")
+abbrev pub array_line : SourceStyle → SourcePlace → List ℕ
+array_line style place =
+    codes "deprecated array form in " ++ (source_text style place ++ codes "\n")
 
 -- the lines of the features: the known ones, the sources that have unknown feature names, and those
 -- that name theirs in an array
-abbrev pub features_text : Experimental → List ℕ
-features_text experimental =
+abbrev pub features_text : SourceStyle → Experimental → List ℕ
+features_text style experimental =
     codes "known: " ++ (known_text experimental.known
-    ++ (codes "\n" ++ (flat_map unknown_line experimental.unknown
-    ++ flat_map array_line experimental.arrays)))
+    ++ (codes "\n" ++ (flat_map (unknown_line style) experimental.unknown
+    ++ flat_map (array_line style) experimental.arrays)))
 
 -- the lines of a list that reads
-abbrev pub read_text : Parts → Verdict → Experimental → List ℕ
-read_text current v experimental = verdict_text current v
-    ++ (codes "\n" ++ features_text experimental)
+abbrev pub read_text : SourceStyle → Parts → Verdict → Experimental → List ℕ
+read_text style current v experimental = verdict_text style current v
+    ++ (codes "\n" ++ features_text style experimental)

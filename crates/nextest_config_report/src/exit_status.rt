@@ -12,12 +12,13 @@ pub enum ExitStatus {
     Failure,
     /// The words of its command line, its input or a file are refused.
     Refused,
-    /// It gives no outcome: its input can't be read, its output can't be written, or memory ran out.
+    /// It gives no outcome: its input can't be read, its output can't be written, or memory ran
+    /// out.
     NoOutcome,
 }
 
 impl ExitStatus {
-    /// The number that the system is told.
+    /// The number that the system is told of how the program ended.
     pub fn code(self) -> u8
         ensures { result ≡ exit_code self }
     {

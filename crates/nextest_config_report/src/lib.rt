@@ -7,4 +7,5 @@ pub mod laws;
 pub mod lines;
 pub mod names;
 pub mod show;
+pub mod source;
 pub mod streams;

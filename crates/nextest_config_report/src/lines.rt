@@ -2,10 +2,10 @@
 
 ghost use Rattle.std.specs.Prelude.{◌≡◌, ◌++◌, IfOk, OnOk, flat_map, string_bytes};
 ghost use Rattle.semver.specs.Identifiers.{parts_of};
-ghost use Rattle.nextest_config_sources.specs.NextestVersion.{place_of};
-ghost use Rattle.nextest_config.specs.NextestVersion.{arrays_left, errors_left, experimental_of, verdict_of};
+ghost use Rattle.nextest_config.specs.NextestVersion.{place_of, arrays_left, errors_left, experimental_of, verdict_of};
 ghost use Rattle.nextest_config_report.specs.Lines.{array_line, features_text, known_text, read_text, shortfall_text, unknown_line, verdict_text};
 
+use crate::source::{SourceStyle, source_text};
 use nextest_config::nextest_version::{
     ArraySources, ConfigExperimental, ExperimentalConfig, NextestVersionEval, SourceErrors,
     UnmetVersion, VersionRole,
@@ -20,39 +20,47 @@ use std::fmt::Write;
 /// features.
 pub fn report_text(
     alloc: Global,
+    style: SourceStyle,
     eval: &NextestVersionEval,
     current: &Version,
     experimental: &ExperimentalConfig,
 ) -> Result<String, AllocError>
-    ensures { IfOk result (λ text. string_bytes text ≡ read_text (parts_of current.now)
+    ensures { IfOk result (λ text. string_bytes text ≡ read_text style (parts_of current.now)
         (verdict_of eval.now) (experimental_of experimental.now)) }
 {
-    let mut text = verdict_line(alloc, eval, current)?;
+    let mut text = verdict_line(alloc, style, eval, current)?;
     text.push_str("\n")?;
-    push_features(&mut text, experimental)?;
+    push_features(alloc, &mut text, style, experimental)?;
     Ok(text)
 }
 
 // The line of a verdict on the current version, without its end.
 fn verdict_line(
     alloc: Global,
+    style: SourceStyle,
     eval: &NextestVersionEval,
     current: &Version,
 ) -> Result<String, AllocError>
     ensures { IfOk result (λ text. string_bytes text
-        ≡ verdict_text (parts_of current.now) (verdict_of eval.now)) }
+        ≡ verdict_text style (parts_of current.now) (verdict_of eval.now)) }
 {
     let Some(unmet) = eval.unmet_version() else {
         return format!(in alloc; "satisfied: {current}");
     };
     match (unmet.role, unmet.overridden) {
-        (VersionRole::Required, false) => unmet_line(alloc, &unmet, "error", "required"),
+        (VersionRole::Required, false) => unmet_line(alloc, style, &unmet, "error", "required"),
         (VersionRole::Required, true) => {
-            unmet_line(alloc, &unmet, "error (overridden)", "required")
+            unmet_line(alloc, style, &unmet, "error (overridden)", "required")
         }
-        (VersionRole::Recommended, false) => unmet_line(alloc, &unmet, "warning", "recommended"),
+        (VersionRole::Recommended, false) => unmet_line(
+            alloc,
+            style,
+            &unmet,
+            "warning",
+            "recommended",
+        ),
         (VersionRole::Recommended, true) => {
-            unmet_line(alloc, &unmet, "warning (overridden)", "recommended")
+            unmet_line(alloc, style, &unmet, "warning (overridden)", "recommended")
         }
     }
 }
@@ -60,12 +68,13 @@ fn verdict_line(
 // The line of a verdict that isn't satisfied, with the words of the verdict and of the role.
 fn unmet_line(
     alloc: Global,
+    style: SourceStyle,
     unmet: &UnmetVersion<'_>,
     says: &str,
     asks: &str,
 ) -> Result<String, AllocError>
     ensures { IfOk result (λ text. string_bytes text
-        ≡ shortfall_text says.now (parts_of unmet.now.version.now) asks.now
+        ≡ shortfall_text style says.now (parts_of unmet.now.version.now) asks.now
         (place_of unmet.now.source.now) (parts_of unmet.now.current.now)) }
 {
     let UnmetVersion {
@@ -74,21 +83,27 @@ fn unmet_line(
         current,
         ..
     } = unmet;
+    let source = source_text(alloc, style, source)?;
     format!(in alloc; "{says}: {version} {asks} by {source}, current {current}")
 }
 
 /// Pushes the lines of the features: the words of the known ones, or that there is none, then a
 /// line for each source that has unknown feature names, and then one for each that names its
 /// features in an array. Where memory is refused, some of it may have been pushed.
-pub fn push_features(text: &mut String, experimental: &ExperimentalConfig) -> Result<(), AllocError>
+pub fn push_features(
+    alloc: Global,
+    text: &mut String,
+    style: SourceStyle,
+    experimental: &ExperimentalConfig,
+) -> Result<(), AllocError>
     ensures { OnOk result (string_bytes text.new
-        ≡ string_bytes text.old ++ features_text (experimental_of experimental.now)) }
+        ≡ string_bytes text.old ++ features_text style (experimental_of experimental.now)) }
 {
     text.push_str("known: ")?;
     push_known(text, experimental.known())?;
     text.push_str("\n")?;
-    push_unknown(text, experimental.source_errors())?;
-    push_arrays(text, experimental.array_sources())
+    push_unknown(alloc, text, style, experimental.source_errors())?;
+    push_arrays(alloc, text, style, experimental.array_sources())
 }
 
 // Pushes the words of the features, or that there is none.
@@ -109,22 +124,34 @@ fn push_known(text: &mut String, known: &BTreeSet<ConfigExperimental>) -> Result
 }
 
 // Pushes a line for each source that has unknown feature names.
-fn push_unknown(text: &mut String, errors: SourceErrors<'_>) -> Result<(), AllocError>
+fn push_unknown(
+    alloc: Global,
+    text: &mut String,
+    style: SourceStyle,
+    errors: SourceErrors<'_>,
+) -> Result<(), AllocError>
     ensures { OnOk result (string_bytes text.new
-        ≡ string_bytes text.old ++ flat_map unknown_line (errors_left errors.entry)) }
+        ≡ string_bytes text.old ++ flat_map (unknown_line style) (errors_left errors.entry)) }
 {
     for (source, names) in errors {
+        let source = source_text(alloc, style, source)?;
         writeln!(text, "unknown in {source}: {}", QuotedTexts(names))?;
     }
     Ok(())
 }
 
 // Pushes a line for each source that names its features in an array.
-fn push_arrays(text: &mut String, arrays: ArraySources<'_>) -> Result<(), AllocError>
+fn push_arrays(
+    alloc: Global,
+    text: &mut String,
+    style: SourceStyle,
+    arrays: ArraySources<'_>,
+) -> Result<(), AllocError>
     ensures { OnOk result (string_bytes text.new
-        ≡ string_bytes text.old ++ flat_map array_line (arrays_left arrays.entry)) }
+        ≡ string_bytes text.old ++ flat_map (array_line style) (arrays_left arrays.entry)) }
 {
     for source in arrays {
+        let source = source_text(alloc, style, source)?;
         writeln!(text, "deprecated array form in {source}")?;
     }
     Ok(())

@@ -3,11 +3,11 @@
 ghost use Rattle.std.specs.Prelude.{◌≡◌, ◌++◌, OnOk, string_bytes};
 ghost use Rattle.nextest_config_report.specs.Names.{names_text, texts_of};
 
-use nextest_config_literals::KeyText;
 use std::alloc::AllocError;
 use std::fmt::Write;
+use toml_spans::NameText;
 
-/// Pushes names, each as a key is printed, with a comma and a space between. Where memory is
+/// Pushes names, each as a key prints in a path, with a comma and a space between. Where memory is
 /// refused, some of them may have been pushed.
 pub fn push_names(text: &mut String, names: &[&str]) -> Result<(), AllocError>
     ensures { OnOk result (string_bytes text.new
@@ -16,7 +16,7 @@ pub fn push_names(text: &mut String, names: &[&str]) -> Result<(), AllocError>
     let mut separator = "";
     for name in names {
         text.push_str(separator)?;
-        write!(text, "{}", KeyText(name))?;
+        write!(text, "{}", NameText(name))?;
         separator = ", ";
     }
     Ok(())

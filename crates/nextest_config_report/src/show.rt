@@ -10,6 +10,7 @@ ghost use Rattle.nextest_config_report.specs.Show.{array_of, feature_data, forma
 
 use crate::lines::push_features;
 use crate::names::push_names;
+use crate::source::{SourceStyle, source_text};
 use nextest_config::nextest_version::{
     ArraySources, ConfigExperimental, ConfigSource, NextestVersionReq, SourceErrors,
     VersionOnlyConfig,
@@ -25,8 +26,8 @@ use std::fmt::Write;
 pub enum ShowFormat {
     /// Lines for people.
     Human,
-    /// For programs, an object of JSON on a line of its own: `required` and `recommended`, each with
-    /// its `version` and `source` or null, `known`, `unknown` by their sources,
+    /// For programs, an object of JSON on a line of its own: `required` and `recommended`, each
+    /// with its `version` and `source` or null, `known`, `unknown` by their sources,
     /// `deprecated_arrays`, and `profiles`.
     Json,
 }
@@ -82,9 +83,9 @@ fn show_lines(
 {
     let kept = config.nextest_version();
     let mut text = String::new(alloc);
-    push_role(&mut text, "required", &kept.required)?;
-    push_role(&mut text, "recommended", &kept.recommended)?;
-    push_features(&mut text, config.experimental())?;
+    push_role(alloc, &mut text, "required", &kept.required)?;
+    push_role(alloc, &mut text, "recommended", &kept.recommended)?;
+    push_features(alloc, &mut text, SourceStyle::InLine, config.experimental())?;
     push_profiles(&mut text, profiles)?;
     Ok(text)
 }
@@ -100,12 +101,18 @@ fn push_profiles(text: &mut String, profiles: &[&str]) -> Result<(), AllocError>
 }
 
 // Pushes the line of the version that is kept in a role.
-fn push_role(text: &mut String, role: &str, kept: &NextestVersionReq) -> Result<(), AllocError>
+fn push_role(
+    alloc: Global,
+    text: &mut String,
+    role: &str,
+    kept: &NextestVersionReq,
+) -> Result<(), AllocError>
     ensures { OnOk result (string_bytes text.new ≡ string_bytes text.old
         ++ role_line role.now (kept_of kept.now)) }
 {
     match kept {
         NextestVersionReq::Version { version, source } => {
+            let source = source_text(alloc, SourceStyle::InLine, source)?;
             writeln!(text, "{role}: {version} by {source}")
         }
         NextestVersionReq::None => writeln!(text, "{role}: none"),
@@ -197,7 +204,7 @@ fn entry_value(
     })
 }
 
-// The names.
+// The unknown feature names of a source.
 fn names_value(alloc: Global, names: &BTreeSet<String>) -> Result<Value, AllocError>
     ensures { IfOk result (λ value. view value
         ≡ array_of string (map string_bytes names.now.keys)) }

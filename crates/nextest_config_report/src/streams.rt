@@ -1,9 +1,9 @@
 //! How reports and complaints are written to streams, and the texts that programs have in common.
 
-ghost use Rattle.std.specs.Prelude.{◌≡◌, ◌<◌, ◌++◌, ℕ, List, Option, codes, IfOk, length, OnErr, OnOk};
+ghost use Rattle.std.specs.Prelude.{◌≡◌, ◌<◌, ◌++◌, ◌↔◌, ℕ, List, Option, codes, IfErr, IfOk, IsTrue, length, OnErr, OnOk};
 ghost use Rattle.std.specs.Io.{WritesAtMost};
 ghost use Rattle.std.specs.Io.KnownBytes.{Appends, Keeps, WriteAppends};
-ghost use Rattle.nextest_config_report.specs.Streams.{AddsFront};
+ghost use Rattle.nextest_config_report.specs.Streams.{AddsFront, IsReaderGone};
 
 use std::io::{self, ErrorKind, Write};
 
@@ -24,12 +24,16 @@ pub trait Stream {
     // A call of it may have failed.
     ghost may_have_failed: { Self → Type 0 };
 
+    // A call of it may have said that who reads it is gone.
+    ghost reader_may_be_gone: { Self → Type 0 };
+
     /// Takes a front of the bytes, and answers how long that is: at least one byte, where there is
     /// one, unless it fails.
     fn write(&mut self, bytes: &[u8]) -> io::Result<usize>
         ensures bound { WritesAtMost result bytes.now }
         ensures bytes { WriteAppends (contents self.old) (contents self.new) result bytes.now }
         ensures failed { OnErr result (may_have_failed self.new) }
+        ensures gone { IfErr result (λ error. IsReaderGone error → reader_may_be_gone self.new) }
         ensures stuck { IfOk result (λ count. count ≡ 0 → 0 < length bytes.now
             → may_have_failed self.new) }
         ensures kept { may_have_failed self.old → may_have_failed self.new };
@@ -38,14 +42,17 @@ pub trait Stream {
     fn flush(&mut self) -> io::Result<()>
         ensures bytes { Keeps (contents self.old) (contents self.new) }
         ensures failed { OnErr result (may_have_failed self.new) }
+        ensures gone { IfErr result (λ error. IsReaderGone error → reader_may_be_gone self.new) }
         ensures kept { may_have_failed self.old → may_have_failed self.new };
 }
 
-/// A writer doesn't say whether a call of it has failed.
+/// A writer doesn't say whether a call of it has failed, or why.
 impl<W: Write> Stream for W {
     ghost contents = { λ writer. W.Write.contents writer };
 
     ghost may_have_failed = { λ _. Unit {0} };
+
+    ghost reader_may_be_gone = { λ _. Unit {0} };
 
     fn write(&mut self, bytes: &[u8]) -> io::Result<usize> {
         Write::write(self, bytes)
@@ -64,6 +71,7 @@ pub fn complain<S: Stream>(faults: &mut S, complaint: &str, word: &str) -> io::R
     ensures front { AddsFront (S.contents faults.old) (S.contents faults.new)
         ((complaint.now ++ word.now) ++ codes "\n") }
     ensures failed { OnErr result (S.may_have_failed faults.new) }
+    ensures gone { IfErr result (λ error. IsReaderGone error → S.reader_may_be_gone faults.new) }
     ensures kept { S.may_have_failed faults.old → S.may_have_failed faults.new }
 {
     write_text(faults, complaint.as_bytes())?;
@@ -72,16 +80,24 @@ pub fn complain<S: Stream>(faults: &mut S, complaint: &str, word: &str) -> io::R
     faults.flush()
 }
 
-/// Writes the text of a report, with nothing left in the stream's buffers. Where that fails, a front
-/// of it may have been written.
+/// Writes the text of a report, with nothing left in the stream's buffers. Where that fails, a
+/// front of it may have been written.
 pub fn write_report<S: Stream>(stream: &mut S, text: &[u8]) -> io::Result<()>
     ensures whole { OnOk result (Appends (S.contents stream.old) (S.contents stream.new) text.now) }
     ensures front { AddsFront (S.contents stream.old) (S.contents stream.new) text.now }
     ensures failed { OnErr result (S.may_have_failed stream.new) }
+    ensures gone { IfErr result (λ error. IsReaderGone error → S.reader_may_be_gone stream.new) }
     ensures kept { S.may_have_failed stream.old → S.may_have_failed stream.new }
 {
     write_text(stream, text)?;
     stream.flush()
+}
+
+/// Whether an error says that who reads what is written is gone, and wants no more of it.
+pub fn is_reader_gone(error: &io::Error) -> bool
+    ensures { IsTrue result ↔ IsReaderGone error.now }
+{
+    matches!(error.kind(), ErrorKind::BrokenPipe)
 }
 
 // Writes the text; where that fails, a front of it may have been written.
@@ -89,6 +105,7 @@ fn write_text<S: Stream>(stream: &mut S, text: &[u8]) -> io::Result<()>
     ensures whole { OnOk result (Appends (S.contents stream.old) (S.contents stream.new) text.now) }
     ensures front { AddsFront (S.contents stream.old) (S.contents stream.new) text.now }
     ensures failed { OnErr result (S.may_have_failed stream.new) }
+    ensures gone { IfErr result (λ error. IsReaderGone error → S.reader_may_be_gone stream.new) }
     ensures kept { S.may_have_failed stream.old → S.may_have_failed stream.new }
 {
     let mut rest = text;
@@ -106,6 +123,7 @@ fn write_some<S: Stream>(stream: &mut S, bytes: &[u8]) -> io::Result<usize>
     ensures bound { WritesAtMost result bytes.now }
     ensures bytes { WriteAppends (S.contents stream.old) (S.contents stream.new) result bytes.now }
     ensures failed { OnErr result (S.may_have_failed stream.new) }
+    ensures gone { IfErr result (λ error. IsReaderGone error → S.reader_may_be_gone stream.new) }
     ensures stuck { IfOk result (λ count. count ≡ 0 → 0 < length bytes.now
         → S.may_have_failed stream.new) }
     ensures kept { S.may_have_failed stream.old → S.may_have_failed stream.new }

@@ -2,7 +2,7 @@
 //! them, with what `serve` promises there as one contract.
 
 ghost use Rattle.std.specs.Prelude.{◌≡◌, false, IsTrue, Some};
-ghost use Rattle.nextest_config_test_command.specs.Kept.{SaysWhy};
+ghost use Rattle.nextest_config_test_command.specs.Kept.{IsDoneOrSaysWhy};
 
 use crate::memory::MemoryFiles;
 use nextest_config_command::{Files, Request, serve};
@@ -22,6 +22,8 @@ impl Stream for KeptStream {
 
     ghost may_have_failed = { λ stream. IsTrue stream.has_failed };
 
+    ghost reader_may_be_gone = { λ stream. IsTrue stream.has_failed };
+
     fn write(&mut self, bytes: &[u8]) -> io::Result<usize> {
         match self.bytes.extend_from_slice(bytes) {
             Ok(()) => Ok(bytes.len()),
@@ -37,8 +39,8 @@ impl Stream for KeptStream {
     }
 }
 
-/// Does what is asked for over files and streams in memory. Where no call of these has failed, status 3
-/// comes with the whole line that says why, and nothing written.
+/// Does what is asked for over files and streams in memory. Where no call of these has failed, all of
+/// it is told; or status 3 comes with the whole line that says why, and nothing written.
 pub fn serve_kept(
     alloc: Global,
     request: &Request,
@@ -46,11 +48,10 @@ pub fn serve_kept(
     writer: &mut KeptStream,
     faults: &mut KeptStream,
 ) -> u8
-    ensures says_why { result ≡ 3 → writer.new.has_failed ≡ false → faults.new.has_failed ≡ false
-        → SaysWhy (⟦<MemoryFiles as Files>⟧.holds files.now) request.now faults.old.bytes.items
-        faults.new.bytes.items }
-    ensures unwritten { result ≡ 3 → writer.new.has_failed ≡ false
-        → writer.new.bytes.items ≡ writer.old.bytes.items }
+    ensures { writer.new.has_failed ≡ false → faults.new.has_failed ≡ false
+        → IsDoneOrSaysWhy (⟦<MemoryFiles as Files>⟧.holds files.now) request.now result
+        writer.old.bytes.items writer.new.bytes.items
+        faults.old.bytes.items faults.new.bytes.items }
 {
     serve(alloc, request, files, writer, faults)
 }

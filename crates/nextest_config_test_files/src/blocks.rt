@@ -7,12 +7,14 @@
 //! feed. Blank lines in front of the next block aren't the file's.
 
 use crate::ThisCrate;
-use nextest_config_findings::{
-    Defined, FileContents, Finding, FindingCode, FindingSeverity, LocatedFinding, Place, Span,
+use nextest_config::nextest_version::{ConfigSourceKind, Edition};
+use nextest_config_lint::{
+    Defined, FileContents, Finding, FindingKind, FindingSeverity, LocatedFinding, Place, Span,
     findings, located,
 };
-use nextest_config_sources::nextest_version::{ConfigSourceKind, Edition};
-use nextest_config_test_rows::rows::{Escaped, Subject, compare, cut, done, push, shown, unknown};
+use nextest_config_test_rows::rows::{
+    Escaped, Subject, compare, copied, cut, done, push, shown, unknown,
+};
 use nextest_config_test_rows::runner::Runner;
 use nextest_config_test_rows::tables::Held;
 use nextest_config_test_rows::told::Told;
@@ -221,13 +223,12 @@ fn range_line(rt: &impl Runner, located: &LocatedFinding) -> String {
 fn listed_line(rt: &impl Runner, located: &LocatedFinding) -> String {
     let Place { line, column } = located.span.begin;
     let severity = severity(&located.finding);
-    let code = located.finding.code();
     let text = shown(rt, &located.finding);
-    let text = match code {
-        FindingCode::NotToml => starred(text.as_str()),
-        _ => text.as_str(),
+    let text = match &located.finding.kind {
+        FindingKind::NotToml { message, .. } => starred(rt, message.as_str(), text.as_str()),
+        _ => text,
     };
-    let code = code.as_word();
+    let code = located.finding.code().as_word();
     let line = format!(in rt.alloc(); "{line}:{column}: {severity}: {text} [{code}]");
     done(rt, line)
 }
@@ -240,12 +241,13 @@ fn severity(finding: &Finding) -> &'static str {
     }
 }
 
-// A star in the place of a message that is one line.
-fn starred(message: &str) -> &str {
+// A star in the place of what `toml` says, if that is one line.
+fn starred(rt: &impl Runner, message: &str, text: &str) -> String {
+    let behind = text.strip_prefix(message).unwrap_or(text);
     if message.is_empty() || message.contains('\n') || message.contains('\r') {
-        message
+        copied(rt, text)
     } else {
-        "*"
+        done(rt, format!(in rt.alloc(); "*{behind}"))
     }
 }
 

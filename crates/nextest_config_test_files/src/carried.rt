@@ -33,7 +33,7 @@ repository leak_timeout_adheres_to_hierarchy 3 | [profile.default]\nleak-timeout
 repository leak_timeout_adheres_to_hierarchy 4 | [profile.default]\nleak-timeout = { period = "5s", result = "fail" }\n\n[profile.ci]\nleak-timeout = "1s"\n |  |
 repository leak_timeout_adheres_to_hierarchy 5 | [profile.default]\nleak-timeout = { period = "5s" }\n |  |
 repository leak_timeout_adheres_to_hierarchy 6 | [profile.default]\nleak-timeout = "1s"\n\n[profile.ci]\nleak-timeout = { result = "fail" }\n | 5:16: error: profile.ci.leak-timeout: missing configuration field "profile.ci.leak-timeout.period" [missing-field]
-repository leak_timeout_adheres_to_hierarchy 7 | [profile.default]\nleak-timeout = 123\n | 2:16: error: profile.default.leak-timeout: invalid type: integer `123`, expected a table ({ period = "500ms", result = "fail" }) or a string ("100ms"), did you mean "123s" [invalid-type]
+repository leak_timeout_adheres_to_hierarchy 7 | [profile.default]\nleak-timeout = 123\n | 2:16: error: profile.default.leak-timeout: invalid type: integer `123`, expected a table ({ period = "500ms", result = "fail" }) or a string ("100ms"), did you mean "123ms" or "123s" [invalid-type]
 repository globaltimeout_adheres_to_hierarchy 1 |  |  |
 repository globaltimeout_adheres_to_hierarchy 2 | [profile.default]\nglobal-timeout = "30s"\n |  |
 repository globaltimeout_adheres_to_hierarchy 3 | [profile.default]\nglobal-timeout = "30s"\n\n[profile.ci]\nglobal-timeout = "60s"\n |  |

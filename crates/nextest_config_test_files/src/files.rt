@@ -369,26 +369,93 @@ repository | [profile."a\u{5c}nb"]\n"c\u{5c}nd" = 1\nretries = "e\u{5c}nf\u{5c}r
 /// Those that are no documents.
 pub const REFUSED: &str = r#"
 # a word that is no value: nothing else is judged beside it, and of two the first
-repository | [profile.ci]\nretries = 1\nfail-fast = flase\n | 3:13: error: * [not-toml]
-repository | nextest-version = 1\nunknown = 1\n[profile.ci]\nretries = "two"\nfail-fast = flase\n | 5:13: error: * [not-toml]
-tool | a = flase\nb = flase\n | 1:5: error: * [not-toml]
-repository | [profile.ci]\noverrides = [\n  { filter = flase },\n]\n | 3:14: error: * [not-toml]
+repository | [profile.ci]\nretries = 1\nfail-fast = flase\n | 3:13: error: *, did you mean false [not-toml]
+repository | nextest-version = 1\nunknown = 1\n[profile.ci]\nretries = "two"\nfail-fast = flase\n | 5:13: error: *, did you mean false [not-toml]
+tool | a = flase\nb = flase\n | 1:5: error: *, did you mean false [not-toml]
+repository | [profile.ci]\noverrides = [\n  { filter = flase },\n]\n | 3:14: error: *, did you mean false [not-toml]
 
 # columns are in characters: a tab is one, and one of four bytes is
-repository | "éé" = flase\n | 1:8: error: * [not-toml]
-repository | \u{9}"😀" = flase\n | 1:8: error: * [not-toml]
+repository | "éé" = flase\n | 1:8: error: *, did you mean false [not-toml]
+repository | \u{9}"😀" = flase\n | 1:8: error: *, did you mean false [not-toml]
 
 # a byte order mark counts, on its line alone
-repository | \u{feff}fail = flase\n | 1:9: error: * [not-toml]
-repository | \u{feff}a = 1\nb = flase\n | 2:5: error: * [not-toml]
+repository | \u{feff}fail = flase\n | 1:9: error: *, did you mean false [not-toml]
+repository | \u{feff}a = 1\nb = flase\n | 2:5: error: *, did you mean false [not-toml]
 
 # carriage returns at line ends; one alone ends no line
-repository | a = 1\u{d}\nb = flase\u{d}\n | 2:5: error: * [not-toml]
+repository | a = 1\u{d}\nb = flase\u{d}\n | 2:5: error: *, did you mean false [not-toml]
 repository | a = 1\u{d}b = 2\n | 1:6: error: * [not-toml]
 
+# a word that is near a boolean: one edit away, the same but for case, and two edits away from six letters on
+repository | a = fals\n | 1:5: error: *, did you mean false [not-toml]
+repository | a = falze # no\n | 1:5: error: *, did you mean false [not-toml]
+repository | a = tru\n | 1:5: error: *, did you mean true [not-toml]
+repository | a = true1\n | 1:5: error: *, did you mean true [not-toml]
+repository | a = True\n | 1:5: error: *, did you mean true [not-toml]
+repository | a = FALSE\n | 1:5: error: *, did you mean false [not-toml]
+repository | a = faalsee\n | 1:5: error: *, did you mean false [not-toml]
+repository | a = { b = [1, fale] }\n | 1:15: error: *, did you mean false [not-toml]
+
+# or two letters have changed places
+repository | a = aflse\n | 1:5: error: *, did you mean false [not-toml]
+repository | a = fasle\n | 1:5: error: *, did you mean false [not-toml]
+repository | a = fales\n | 1:5: error: *, did you mean false [not-toml]
+repository | a = rtue\n | 1:5: error: *, did you mean true [not-toml]
+repository | a = ture\n | 1:5: error: *, did you mean true [not-toml]
+repository | a = treu\n | 1:5: error: *, did you mean true [not-toml]
+
+# a word that is near none
+repository | a = falsse1x\n | 1:5: error: *, quotes missing? [not-toml]
+repository | a = Treu\n | 1:5: error: *, quotes missing? [not-toml]
+repository | a = yes\n | 1:5: error: *, quotes missing? [not-toml]
+repository | a = t\n | 1:5: error: *, quotes missing? [not-toml]
+repository | a = junit.xml\n | 1:5: error: *, quotes missing? [not-toml]
+repository | a = test(x)\n | 1:5: error: *, quotes missing? [not-toml]
+repository | a = one 5\n | 1:5: error: *, quotes missing? [not-toml]
+repository | a = [\n  "b",\n  cc,\n]\n | 3:3: error: *, quotes missing? [not-toml]
+
+# no letter stands there first, and no value where it ends
+repository | a = 10s\n | 1:5: error: * [not-toml]
+repository | a = 1.2.3\n | 1:5: error: * [not-toml]
+repository | a = _x\n | 1:5: error: * [not-toml]
+repository | a = -inf1\n | 1:5: error: * [not-toml]
+repository | a = 2026-13-01\n | 1:5: error: * [not-toml]
+repository | a = é\n | 1:5: error: * [not-toml]
+repository | a = @x\n | 1:5: error: * [not-toml]
+repository | a = true b\n | 1:10: error: * [not-toml]
+repository | a b = 1\n | 1:3: error: * [not-toml]
+
 # a key and a table twice
-repository | a = 1\na = 2\n | 2:1: error: * [not-toml]
-repository | [profile.ci]\nretries = 1\n[profile.ci]\n | 3:1: error: * [not-toml]
+repository | a = 1\na = 2\n | 2:1: error: *, "a" stands on line 1 already [not-toml]
+repository | [profile.ci]\nretries = 1\n[profile.ci]\n | 3:1: error: *, "ci" stands on line 1 already [not-toml]
+repository | \u{feff}# a\n\na = [\n  1,\n]\na = 2\n | 6:1: error: *, "a" stands on line 3 already [not-toml]
+repository | a = 1\u{d}\n\u{d}\na = 2\u{d}\n | 3:1: error: *, "a" stands on line 1 already [not-toml]
+repository | "a\u{5c}"b" = 1\n'a"b' = 2 | 2:1: error: *, "a\"b" stands on line 1 already [not-toml]
+repository | é = 1\n | 1:1: error: * [not-toml]
+repository | "é" = 1\n "é" = 1\n | 2:2: error: *, "é" stands on line 1 already [not-toml]
+
+# in the table of the last header, and of a dotted key its last part
+repository | a = 1\n[b]\na = 1\n\n[c] # [d]\nx = 1\na = 1\nb = 1\na = 2\n | 9:1: error: *, "a" stands on line 7 already [not-toml]
+repository | a = 1\n\u{9}[ b . 'c d' ]\n  a = 1\n  a = 2\n | 4:3: error: *, "a" stands on line 3 already [not-toml]
+repository | [a]\nb.c = 1\nb . "c" = 2\n | 3:1: error: *, "c" stands on line 2 already [not-toml]
+repository | [a]\nb.c = 1\nb = 2\n | 3:1: error: *, "b" stands on line 2 already [not-toml]
+repository | [a]\nb = { c = 1 }\nb.c = 2\n | 3:1: error: *, "c" stands on line 2 already [not-toml]
+repository | [[a.b]]\nx = 1\n[[a.b]]\nx = 1\nx = 2\n | 5:1: error: *, "x" stands on line 4 already [not-toml]
+
+# tables: two kinds, and one that a pair or a dotted key made
+repository | [a]\n[[a]]\n | 2:1: error: *, "a" stands on line 1 already [not-toml]
+repository | [[a]]\n\n[a]\n | 3:1: error: *, "a" stands on line 1 already [not-toml]
+repository | a = 1\n[a]\n | 2:1: error: *, "a" stands on line 1 already [not-toml]
+repository | [x]\n[b]\na.c = 1\n[b.a]\n | 4:1: error: *, "a" stands on line 3 already [not-toml]
+
+# what isn't told: a key within a value and in an inline table; where another header put it; where a line that begins
+# with a bracket is none; a key of an element that isn't the first
+repository | a = 1\na.b = 2\n | 2:1: error: * [not-toml]
+repository | a = { b = 1, b = 2 }\n | 1:14: error: * [not-toml]
+repository | [a.b]\nc = 1\n[a]\nb = 2\n | 4:1: error: * [not-toml]
+repository | a = [\n  [1],\n]\na = 2\n | 4:1: error: * [not-toml]
+repository | a = """\n[b]\n"""\na = 2\n | 4:1: error: * [not-toml]
+repository | [[a]]\n[a.b]\n[a.b]\n | 3:1: error: * [not-toml]
 
 # an array, a text and a header that aren't closed
 repository | invalid = [ | 1:12: error: * [not-toml]

@@ -2,7 +2,7 @@
 
 use crate::ThisCrate;
 use crate::lines::steps;
-use nextest_config_findings::{Finding, FindingKind, FindingSeverity, Hint, Home};
+use nextest_config_lint::{Finding, FindingKind, FindingSeverity, Hint, Home, Mistake};
 use nextest_config_test_rows::compared::ordered;
 use nextest_config_test_rows::rows::{Subject, copied, done, shown, unknown};
 use nextest_config_test_rows::runner::Runner;
@@ -25,6 +25,10 @@ whole | type | Error: invalid type: integer `60`, expected a duration, did you m
 whole | missing | Error: missing configuration field "a.b" [missing-field]
 whole | utf8 | Error: not UTF-8 [not-utf8]
 whole | toml unclosed array | Error: unclosed array [not-toml]
+whole | repeated 12 profile | Error: duplicate key, "profile" stands on line 12 already [not-toml]
+whole | repeated 1 a"b é | Error: duplicate key, "a\"b é" stands on line 1 already [not-toml]
+whole | misspelt false | Error: invalid value, did you mean false [not-toml]
+whole | unquoted | Error: invalid value, quotes missing? [not-toml]
 whole | duration | Note: not judged here: a duration other than whole numbers, each with a unit [unjudged-duration]
 whole | features a b | Error: experimental features in a tool configuration: "a", "b" [tool-features]
 whole | feature future | Warning: unknown feature "future" [unknown-feature]
@@ -120,7 +124,9 @@ fn kind(rt: &impl Runner, input: &str) -> FindingKind {
         "utf8" => FindingKind::NotUtf8,
         "toml" => FindingKind::NotToml {
             message: copied(rt, rest),
+            mistake: None,
         },
+        "repeated" | "misspelt" | "unquoted" => mistaken(rt, name, rest),
         "array" => FindingKind::DeprecatedArray {
             table: copied(rt, rest),
         },
@@ -134,6 +140,27 @@ fn fault(rt: &impl Runner, severity: &str, fault: &str, meant: &str) -> FindingK
         fault: FaultKind::from_row(rt, fault),
         severity: FindingSeverity::from_row(rt, severity),
         hint: hint(rt, meant),
+    }
+}
+
+// A text that is no document, with a mistake.
+fn mistaken(rt: &impl Runner, kind: &str, rest: &str) -> FindingKind {
+    match kind {
+        "repeated" => {
+            let (line, key) = word(rest);
+            let line = usize::from_row(rt, line);
+            let key = copied(rt, key);
+            not_toml(rt, "duplicate key", Mistake::Repeated { key, line })
+        }
+        "misspelt" => not_toml(rt, "invalid value", Mistake::Misspelt(copied(rt, rest))),
+        _ => not_toml(rt, "invalid value", Mistake::Unquoted),
+    }
+}
+
+fn not_toml(rt: &impl Runner, message: &str, mistake: Mistake) -> FindingKind {
+    FindingKind::NotToml {
+        message: copied(rt, message),
+        mistake: Some(mistake),
     }
 }
 

@@ -1,9 +1,9 @@
 //! Lines of values in documents.
 
-use nextest_config_positions::{Step, line_of};
 use nextest_config_test_rows::rows::{Escaped, Subject, copied, done, shown, written};
 use nextest_config_test_rows::runner::Runner;
 use nextest_config_test_rows::tables::Tables;
+use toml_spans::{Step, line_of};
 
 /// Names these tables.
 pub fn tables(tables: &mut impl Tables) {

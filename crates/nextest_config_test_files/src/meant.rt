@@ -34,6 +34,35 @@ slow-timeout = "18446744073709551615"
 > 11:13: warning: profile.b.overrides[0]: an override needs a "filter" or a "platform" [override-of-all]
 > 12:16: error: profile.b.overrides[0].slow-timeout: invalid value: string "18446744073709551615", expected a duration, did you mean "18446744073709551615s" [invalid-value]
 
+=== milliseconds, or seconds | repository
+[profile.a]
+leak-timeout = 500
+[profile.b]
+leak-timeout = 99
+[profile.c]
+leak-timeout = "100"
+[profile.d]
+leak-timeout = { period = 100 }
+[profile.e]
+leak-timeout.period = "099"
+[[profile.e.overrides]]
+filter = "x"
+leak-timeout = "18446744073709551615"
+[profile.f]
+leak-timeout = "18446744073709551616"
+slow-timeout = 500
+[profile.g]
+leak-timeout = { period = -500 }
+> 2:16: error: profile.a.leak-timeout: invalid type: integer `500`, expected a table ({ period = "500ms", result = "fail" }) or a string ("100ms"), did you mean "500ms" or "500s" [invalid-type]
+> 4:16: error: profile.b.leak-timeout: invalid type: integer `99`, expected a table ({ period = "500ms", result = "fail" }) or a string ("100ms"), did you mean "99s" [invalid-type]
+> 6:16: error: profile.c.leak-timeout: invalid value: string "100", expected a duration, did you mean "100ms" or "100s" [invalid-value]
+> 8:27: error: profile.d.leak-timeout.period: invalid type: integer `100`, expected a duration, did you mean "100ms" or "100s" [invalid-type]
+> 10:23: error: profile.e.leak-timeout.period: invalid value: string "099", expected a duration, did you mean "099s" [invalid-value]
+> 13:16: error: profile.e.overrides[0].leak-timeout: invalid value: string "18446744073709551615", expected a duration, did you mean "18446744073709551615ms" or "18446744073709551615s" [invalid-value]
+> 15:16: error: profile.f.leak-timeout: invalid value: string "18446744073709551616", expected a duration [invalid-value]
+> 16:16: error: profile.f.slow-timeout: invalid type: integer `500`, expected a table ({ period = "60s", terminate-after = 2 }) or a string ("60s"), did you mean "500s" [invalid-type]
+> 18:27: error: profile.g.leak-timeout.period: invalid type: integer `-500`, expected a duration [invalid-type]
+
 === no seconds | repository
 [profile.a]
 slow-timeout = -1
@@ -247,4 +276,105 @@ flaky-result = "FAIL"
 > 5:16: error: profile.b.flaky-result: unknown variant `wait`, expected `fail` or `pass` [unknown-variant]
 > 6:24: error: profile.b.junit.report-skipped: unknown variant `some`, expected one of `none`, `ignored`, `all` [unknown-variant]
 > 8:16: error: profile.c.flaky-result: unknown variant `FAIL`, expected `fail` or `pass`, did you mean "fail" [unknown-variant]
+
+=== a name near one of a hundred groups | repository
+test-groups = {
+  serial = { max-threads = 1 }, g00 = { max-threads = 1 }, g01 = { max-threads = 1 }, g02 = { max-threads = 1 },
+  g03 = { max-threads = 1 }, g04 = { max-threads = 1 }, g05 = { max-threads = 1 }, g06 = { max-threads = 1 },
+  g07 = { max-threads = 1 }, g08 = { max-threads = 1 }, g09 = { max-threads = 1 }, g10 = { max-threads = 1 },
+  g11 = { max-threads = 1 }, g12 = { max-threads = 1 }, g13 = { max-threads = 1 }, g14 = { max-threads = 1 },
+  g15 = { max-threads = 1 }, g16 = { max-threads = 1 }, g17 = { max-threads = 1 }, g18 = { max-threads = 1 },
+  g19 = { max-threads = 1 }, g20 = { max-threads = 1 }, g21 = { max-threads = 1 }, g22 = { max-threads = 1 },
+  g23 = { max-threads = 1 }, g24 = { max-threads = 1 }, g25 = { max-threads = 1 }, g26 = { max-threads = 1 },
+  g27 = { max-threads = 1 }, g28 = { max-threads = 1 }, g29 = { max-threads = 1 }, g30 = { max-threads = 1 },
+  g31 = { max-threads = 1 }, g32 = { max-threads = 1 }, g33 = { max-threads = 1 }, g34 = { max-threads = 1 },
+  g35 = { max-threads = 1 }, g36 = { max-threads = 1 }, g37 = { max-threads = 1 }, g38 = { max-threads = 1 },
+  g39 = { max-threads = 1 }, g40 = { max-threads = 1 }, g41 = { max-threads = 1 }, g42 = { max-threads = 1 },
+  g43 = { max-threads = 1 }, g44 = { max-threads = 1 }, g45 = { max-threads = 1 }, g46 = { max-threads = 1 },
+  g47 = { max-threads = 1 }, g48 = { max-threads = 1 }, g49 = { max-threads = 1 }, g50 = { max-threads = 1 },
+  g51 = { max-threads = 1 }, g52 = { max-threads = 1 }, g53 = { max-threads = 1 }, g54 = { max-threads = 1 },
+  g55 = { max-threads = 1 }, g56 = { max-threads = 1 }, g57 = { max-threads = 1 }, g58 = { max-threads = 1 },
+  g59 = { max-threads = 1 }, g60 = { max-threads = 1 }, g61 = { max-threads = 1 }, g62 = { max-threads = 1 },
+  g63 = { max-threads = 1 }, g64 = { max-threads = 1 }, g65 = { max-threads = 1 }, g66 = { max-threads = 1 },
+  g67 = { max-threads = 1 }, g68 = { max-threads = 1 }, g69 = { max-threads = 1 }, g70 = { max-threads = 1 },
+  g71 = { max-threads = 1 }, g72 = { max-threads = 1 }, g73 = { max-threads = 1 }, g74 = { max-threads = 1 },
+  g75 = { max-threads = 1 }, g76 = { max-threads = 1 }, g77 = { max-threads = 1 }, g78 = { max-threads = 1 },
+  g79 = { max-threads = 1 }, g80 = { max-threads = 1 }, g81 = { max-threads = 1 }, g82 = { max-threads = 1 },
+  g83 = { max-threads = 1 }, g84 = { max-threads = 1 }, g85 = { max-threads = 1 }, g86 = { max-threads = 1 },
+  g87 = { max-threads = 1 }, g88 = { max-threads = 1 }, g89 = { max-threads = 1 }, g90 = { max-threads = 1 },
+  g91 = { max-threads = 1 }, g92 = { max-threads = 1 }, g93 = { max-threads = 1 }, g94 = { max-threads = 1 },
+  g95 = { max-threads = 1 }, g96 = { max-threads = 1 }, g97 = { max-threads = 1 }, g98 = { max-threads = 1 }
+}
+[[profile.default.overrides]]
+filter = "x"
+test-group = "seriall"
+> 30:14: warning: profile.default.overrides[0].test-group: no file defines the test group "seriall", did you mean "serial" [undefined-group]
+
+=== a name near one of more groups | repository
+test-groups = {
+  serial = { max-threads = 1 }, g00 = { max-threads = 1 }, g01 = { max-threads = 1 }, g02 = { max-threads = 1 },
+  g03 = { max-threads = 1 }, g04 = { max-threads = 1 }, g05 = { max-threads = 1 }, g06 = { max-threads = 1 },
+  g07 = { max-threads = 1 }, g08 = { max-threads = 1 }, g09 = { max-threads = 1 }, g10 = { max-threads = 1 },
+  g11 = { max-threads = 1 }, g12 = { max-threads = 1 }, g13 = { max-threads = 1 }, g14 = { max-threads = 1 },
+  g15 = { max-threads = 1 }, g16 = { max-threads = 1 }, g17 = { max-threads = 1 }, g18 = { max-threads = 1 },
+  g19 = { max-threads = 1 }, g20 = { max-threads = 1 }, g21 = { max-threads = 1 }, g22 = { max-threads = 1 },
+  g23 = { max-threads = 1 }, g24 = { max-threads = 1 }, g25 = { max-threads = 1 }, g26 = { max-threads = 1 },
+  g27 = { max-threads = 1 }, g28 = { max-threads = 1 }, g29 = { max-threads = 1 }, g30 = { max-threads = 1 },
+  g31 = { max-threads = 1 }, g32 = { max-threads = 1 }, g33 = { max-threads = 1 }, g34 = { max-threads = 1 },
+  g35 = { max-threads = 1 }, g36 = { max-threads = 1 }, g37 = { max-threads = 1 }, g38 = { max-threads = 1 },
+  g39 = { max-threads = 1 }, g40 = { max-threads = 1 }, g41 = { max-threads = 1 }, g42 = { max-threads = 1 },
+  g43 = { max-threads = 1 }, g44 = { max-threads = 1 }, g45 = { max-threads = 1 }, g46 = { max-threads = 1 },
+  g47 = { max-threads = 1 }, g48 = { max-threads = 1 }, g49 = { max-threads = 1 }, g50 = { max-threads = 1 },
+  g51 = { max-threads = 1 }, g52 = { max-threads = 1 }, g53 = { max-threads = 1 }, g54 = { max-threads = 1 },
+  g55 = { max-threads = 1 }, g56 = { max-threads = 1 }, g57 = { max-threads = 1 }, g58 = { max-threads = 1 },
+  g59 = { max-threads = 1 }, g60 = { max-threads = 1 }, g61 = { max-threads = 1 }, g62 = { max-threads = 1 },
+  g63 = { max-threads = 1 }, g64 = { max-threads = 1 }, g65 = { max-threads = 1 }, g66 = { max-threads = 1 },
+  g67 = { max-threads = 1 }, g68 = { max-threads = 1 }, g69 = { max-threads = 1 }, g70 = { max-threads = 1 },
+  g71 = { max-threads = 1 }, g72 = { max-threads = 1 }, g73 = { max-threads = 1 }, g74 = { max-threads = 1 },
+  g75 = { max-threads = 1 }, g76 = { max-threads = 1 }, g77 = { max-threads = 1 }, g78 = { max-threads = 1 },
+  g79 = { max-threads = 1 }, g80 = { max-threads = 1 }, g81 = { max-threads = 1 }, g82 = { max-threads = 1 },
+  g83 = { max-threads = 1 }, g84 = { max-threads = 1 }, g85 = { max-threads = 1 }, g86 = { max-threads = 1 },
+  g87 = { max-threads = 1 }, g88 = { max-threads = 1 }, g89 = { max-threads = 1 }, g90 = { max-threads = 1 },
+  g91 = { max-threads = 1 }, g92 = { max-threads = 1 }, g93 = { max-threads = 1 }, g94 = { max-threads = 1 },
+  g95 = { max-threads = 1 }, g96 = { max-threads = 1 }, g97 = { max-threads = 1 }, g98 = { max-threads = 1 },
+  g99 = { max-threads = 1 }
+}
+[[profile.default.overrides]]
+filter = "x"
+test-group = "seriall"
+> 31:14: warning: profile.default.overrides[0].test-group: no file defines the test group "seriall" [undefined-group]
+
+=== a name near one of a hundred profiles, with nextest's own two | repository
+profile = {
+  a = { inherits = "cii" }, ci = {},
+  p00 = {}, p01 = {}, p02 = {}, p03 = {}, p04 = {}, p05 = {}, p06 = {}, p07 = {}, p08 = {},
+  p09 = {}, p10 = {}, p11 = {}, p12 = {}, p13 = {}, p14 = {}, p15 = {}, p16 = {}, p17 = {},
+  p18 = {}, p19 = {}, p20 = {}, p21 = {}, p22 = {}, p23 = {}, p24 = {}, p25 = {}, p26 = {},
+  p27 = {}, p28 = {}, p29 = {}, p30 = {}, p31 = {}, p32 = {}, p33 = {}, p34 = {}, p35 = {},
+  p36 = {}, p37 = {}, p38 = {}, p39 = {}, p40 = {}, p41 = {}, p42 = {}, p43 = {}, p44 = {},
+  p45 = {}, p46 = {}, p47 = {}, p48 = {}, p49 = {}, p50 = {}, p51 = {}, p52 = {}, p53 = {},
+  p54 = {}, p55 = {}, p56 = {}, p57 = {}, p58 = {}, p59 = {}, p60 = {}, p61 = {}, p62 = {},
+  p63 = {}, p64 = {}, p65 = {}, p66 = {}, p67 = {}, p68 = {}, p69 = {}, p70 = {}, p71 = {},
+  p72 = {}, p73 = {}, p74 = {}, p75 = {}, p76 = {}, p77 = {}, p78 = {}, p79 = {}, p80 = {},
+  p81 = {}, p82 = {}, p83 = {}, p84 = {}, p85 = {}, p86 = {}, p87 = {}, p88 = {}, p89 = {},
+  p90 = {}, p91 = {}, p92 = {}, p93 = {}, p94 = {}, p95 = {}
+}
+> 2:20: warning: profile.a.inherits: no file defines the profile "cii", did you mean "ci" [undefined-profile]
+
+=== a name near one of more profiles | repository
+profile = {
+  a = { inherits = "cii" }, ci = {},
+  p00 = {}, p01 = {}, p02 = {}, p03 = {}, p04 = {}, p05 = {}, p06 = {}, p07 = {}, p08 = {},
+  p09 = {}, p10 = {}, p11 = {}, p12 = {}, p13 = {}, p14 = {}, p15 = {}, p16 = {}, p17 = {},
+  p18 = {}, p19 = {}, p20 = {}, p21 = {}, p22 = {}, p23 = {}, p24 = {}, p25 = {}, p26 = {},
+  p27 = {}, p28 = {}, p29 = {}, p30 = {}, p31 = {}, p32 = {}, p33 = {}, p34 = {}, p35 = {},
+  p36 = {}, p37 = {}, p38 = {}, p39 = {}, p40 = {}, p41 = {}, p42 = {}, p43 = {}, p44 = {},
+  p45 = {}, p46 = {}, p47 = {}, p48 = {}, p49 = {}, p50 = {}, p51 = {}, p52 = {}, p53 = {},
+  p54 = {}, p55 = {}, p56 = {}, p57 = {}, p58 = {}, p59 = {}, p60 = {}, p61 = {}, p62 = {},
+  p63 = {}, p64 = {}, p65 = {}, p66 = {}, p67 = {}, p68 = {}, p69 = {}, p70 = {}, p71 = {},
+  p72 = {}, p73 = {}, p74 = {}, p75 = {}, p76 = {}, p77 = {}, p78 = {}, p79 = {}, p80 = {},
+  p81 = {}, p82 = {}, p83 = {}, p84 = {}, p85 = {}, p86 = {}, p87 = {}, p88 = {}, p89 = {},
+  p90 = {}, p91 = {}, p92 = {}, p93 = {}, p94 = {}, p95 = {}, p96 = {}
+}
+> 2:20: warning: profile.a.inherits: no file defines the profile "cii" [undefined-profile]
 "#;

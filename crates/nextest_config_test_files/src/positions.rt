@@ -2,12 +2,12 @@
 
 use crate::lines;
 use crate::lines::{Lines, line_text, steps};
-use nextest_config_positions::{Index, PartialIndex, Span, Step, line_of};
 use nextest_config_test_rows::rows::{Escaped, Subject, copied, done, shown, unknown};
 use nextest_config_test_rows::runner::Runner;
 use nextest_config_test_rows::tables::{Rows, Tables};
 use nextest_config_test_rows::values::{names, word};
 use std::alloc::AllocError;
+use toml_spans::{Index, PartialIndex, Span, Step, line_of};
 
 /// Names these tables.
 pub fn tables(tables: &mut impl Tables) {

@@ -4,7 +4,7 @@ use Rattle.std.proofs.Math.Seq.{take-add}
 use Rattle.std.proofs.lemmas.List.{append-nil, length-drop, length-map, length-take-le, map-append, take-append-drop}
 use Rattle.std.proofs.lemmas.List.Folds.{drop_split}
 use Rattle.std.specs.List.{slice_range}
-use Rattle.nextest_config_merge.specs.Merge.{in_a_row, IsCut}
+use Rattle.nextest_config.specs.Merge.{in_a_row, IsCut}
 
 module _ {X Y : Type 0} (f : X → Y) (xs : List X) (from to : ℕ) (in_order : from ≤ to) where
   abbrev pub front : List Y

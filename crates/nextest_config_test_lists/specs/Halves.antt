@@ -1,6 +1,6 @@
 -- Numbers as sources, of which those below a least one are read.
 use Rattle.std.proofs.Common.{◌≡◌, ◌<◌, ◌≤◌, ℕ, List, [], ◌∷◌, sym, ◌∙◌, arith}
-use Rattle.nextest_config_merge.specs.Merge.{IsReadingOne}
+use Rattle.nextest_config.specs.Merge.{IsReadingOne}
 
 -- the number is below the least one that is refused, and is read as a list of its own
 abbrev pub IsNumber : ℕ → ℕ → List ℕ → Type 0

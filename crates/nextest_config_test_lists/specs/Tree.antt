@@ -1,6 +1,6 @@
 -- The first and the last number of leaves in a row.
 use Rattle.std.proofs.Common.{◌≡◌, refl}
-use Rattle.nextest_config_merge.specs.Merge.{IsMonoid}
+use Rattle.nextest_config.specs.Merge.{IsMonoid}
 use Rattle.nextest_config_test_lists.specs.declared.tree.Ends.{Ends}
 use Rattle.nextest_config_test_lists.specs.declared.tree.Ends.TheVariants.{Nothing, Between}
 

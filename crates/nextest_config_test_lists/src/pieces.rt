@@ -3,9 +3,8 @@
 
 ghost use Rattle.std.specs.Prelude.{◌≡◌, ◌≤◌, IfErr, IfOk, length, map, OnOk, take};
 ghost use Rattle.semver.specs.Identifiers.{parts_of};
-ghost use Rattle.nextest_config_sources.specs.NextestVersion.{source_under};
-ghost use Rattle.nextest_config.specs.NextestVersion.{configuration_of, IsRefusalOf, IsSelectedFor, Reads, StandsFor, verdict_of};
-ghost use Rattle.nextest_config_merge.specs.declared.merge.PieceRefusal.TheVariants.{Memory};
+ghost use Rattle.nextest_config.specs.NextestVersion.{source_under, configuration_of, IsRefusalOf, IsSelectedFor, Reads, StandsFor, verdict_of};
+ghost use Rattle.nextest_config.specs.declared.merge.PieceRefusal.TheVariants.{Memory};
 
 use nextest_config::laws::{law_cut, law_join, law_known_in_order, law_selected};
 use nextest_config::merge::Merge;

@@ -1,7 +1,7 @@
 //! A tree of choices over leaves of our own, and what each change of it costs.
 
 ghost use Rattle.std.specs.Prelude.{◌≡◌, ◌<◌, ◌≤◌, length, slice_set};
-ghost use Rattle.nextest_config_merge.specs.Choice.{halvings};
+ghost use Rattle.nextest_config.specs.Choice.{halvings};
 ghost use Rattle.nextest_config_test_lists.specs.Tree.{ends_join, join_ends};
 ghost use Rattle.nextest_config_test_lists.specs.declared.tree.Ends.TheVariants.{Nothing};
 

@@ -10,7 +10,7 @@ use Rattle.std.specs.Str.{IsUtf8, skip_leading_whitespace, trim_start}
 use Rattle.std.proofs.lemmas.Str.Parse.{IsNumeralModel, numerals_by_value, parse_digits}
 use Rattle.std.specs.Str.Parse.{ParsesUnsigned, digits_value}
 use Rattle.std.specs.Result.{OkIff}
-use Rattle.nextest_config_values.proofs.Elements.{all_joined, all_weaker}
+use Rattle.toml_spans.proofs.Elements.{all_joined, all_weaker}
 use Rattle.nextest_config_values.proofs.Texts.{ascii_encoded}
 use Rattle.nextest_config_values.specs.Duration.Fronts.{fault_stops, longest_front, run_begins, white_no_end}
 use Rattle.nextest_config_values.specs.Duration.{AreAll, AreFittingDigits, BeginsWith, EndsWith, HasNumberThatFits, is_in_word, IsCutAfter, IsDuration, IsDurationFault, IsFaultAt, IsFaultAfter, IsFront, IsItemText, IsNext, IsNextFault, IsReadItem, IsRun, IsUncut, Item, nothing_stops, offset, Spells, total, unit_length}

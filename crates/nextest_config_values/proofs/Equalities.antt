@@ -13,14 +13,12 @@ use Rattle.nextest_config_values.specs.Identifier.{identifier_fault, tool_name_f
 use Rattle.nextest_config_values.specs.contracts.read.fault.FaultKindPartialEq.TheImpl as kind_eq
 use Rattle.nextest_config_values.specs.contracts.read.fault.ReadFaultPartialEq.TheImpl as fault_eq
 use Rattle.nextest_config_values.specs.contracts.read.fault.RulePartialEq.TheImpl as rule_eq
-use Rattle.nextest_config_values.specs.contracts.read.step.StepPartialEq.TheImpl as step_eq
+use Rattle.toml_spans.specs.contracts.step.StepPartialEq.TheImpl as step_eq
 use Rattle.nextest_config_values.specs.contracts.read.value_fault.FaultCausePartialEq.TheImpl as cause_eq
 use Rattle.nextest_config_values.specs.contracts.read.value_fault.ValueFaultPartialEq.TheImpl as value_eq
-use Rattle.nextest_config_values.specs.declared.read.step.Step.{Step}
-use Rattle.nextest_config_values.specs.declared.read.step.Step.TheVariants as steps
-use Rattle.nextest_config_values.specs.declared.read.value_fault.FaultCause.{FaultCause}
+use Rattle.toml_spans.specs.declared.step.Step.{Step}
+use Rattle.toml_spans.specs.declared.step.Step.TheVariants as steps
 use Rattle.nextest_config_values.specs.declared.read.value_fault.FaultCause.TheVariants as causes
-use Rattle.nextest_config_values.specs.declared.read.fault.FaultKind.{FaultKind}
 use Rattle.nextest_config_values.specs.declared.read.fault.FaultKind.TheVariants as kinds
 use Rattle.nextest_config_values.specs.declared.read.fault.Rule.TheVariants as broken
 

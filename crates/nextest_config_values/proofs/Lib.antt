@@ -1,14 +1,15 @@
 pub mod Arguments
 pub mod Components
 pub mod Durations
-pub mod Elements
 pub mod Equalities
 pub mod Faults
 pub mod Joined
 pub mod Paths
 pub mod Runs
-pub mod Styled
 pub mod Texts
 pub mod Unjudged
 pub mod Units
 pub mod Words
+pub mod JsonValues
+pub mod Literals
+pub mod Printable

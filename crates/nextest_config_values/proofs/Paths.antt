@@ -4,7 +4,7 @@ use Rattle.std.proofs.lemmas.Bool.{cases_Bool, ne_eqb}
 use Rattle.std.proofs.lemmas.List.{get_or-reverse}
 use Rattle.std.specs.Path.{path_join, with_separator}
 use Rattle.std.specs.Prelude.{◌==◌}
-use Rattle.nextest_config_values.specs.Characters.{slash}
+use Rattle.toml_spans.specs.Characters.{slash}
 use Rattle.nextest_config_values.specs.Helpers.Paths.{begins_with_slash, joined_path, separator}
 
 -- ---- the join of two paths

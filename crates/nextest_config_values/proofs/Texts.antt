@@ -3,8 +3,7 @@ use Rattle.std.proofs.Common.{◌≡◌, ◌≢◌, ℕ, ◌+◌, ◌<◌, Bool,
 use Rattle.std.specs.Prelude.{MatchOption, MatchBool, IsUtf8, chars, encode_utf8, encode_utf8_all}
 use Rattle.std.specs.Borrow.{Bor}
 use Rattle.std.specs.List.{AllByRecursion}
-use Rattle.std.specs.Str.{NonePass}
-use Rattle.std.specs.Str.{all_scalars as scalars}
+use Rattle.std.specs.Str.{NonePass, all_scalars as scalars}
 use Rattle.std.specs.Str.Pattern.{FindsTextPrefix, HasPrefixMatch}
 use Rattle.std.proofs.Math.Seq.{drop-append_seam, get_or-append_seam, take-append_seam}
 use Rattle.std.proofs.Math.Dec.{eqb}
@@ -13,7 +12,7 @@ use Rattle.std.proofs.lemmas.List.{length-append}
 use Rattle.std.proofs.lemmas.List.Elements.{All-from_get_or, recursion_from_All}
 use Rattle.std.proofs.lemmas.Str.{IsCharBoundary-before_ascii, IsUtf8-drop, IsUtf8-past_char, IsUtf8-take, chars-append, chars-encodes, chars_past_char, encode_ascii, encodes-append, encodes-chars}
 use Rattle.std.proofs.lemmas.Str.Pattern.{IsSplitOnceResult, NoCharPasses-char, split_parts}
-use Rattle.nextest_config_values.proofs.Elements.{all_left, all_right}
+use Rattle.toml_spans.proofs.Elements.{all_left, all_right}
 use Rattle.nextest_config_values.specs.Identifier.{HasNoColon, IsCutAtColon, tool_mark}
 
 -- ---- what a text begins with

@@ -5,11 +5,11 @@ use Rattle.std.proofs.lemmas.Bool.{cases_Bool, cases_lt}
 use Rattle.std.specs.Cmp.Lexicographic.{other_text, pointwise, same_text}
 use Rattle.std.specs.List.{AllByRecursion}
 
--- it holds, or it doesn't
+-- a fact is decided: it holds, or it doesn't
 abbrev pub IsDecided : Type 0 → Type 0
 IsDecided P = P ⊎ ¬ P
 
--- it holds of some, or of none
+-- something of which a fact holds is found, or the fact holds of nothing
 abbrev pub IsFoundOrNone : {X : Type 0} → (X → Type 0) → Type 0
 IsFoundOrNone {X} Holds = ((x : X) × Holds x) ⊎ ((x : X) → ¬ Holds x)
 

@@ -1,4 +1,3 @@
-pub mod Characters
 pub mod Decisions
 pub mod Duration
 pub mod Equality
@@ -7,3 +6,4 @@ pub mod Identifier
 pub mod Once
 pub mod Read
 pub mod ToolConfig
+pub mod Literal

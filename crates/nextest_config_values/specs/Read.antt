@@ -7,10 +7,10 @@ pub mod Plain
 pub mod Word
 pub mod Field
 pub mod Readings
-pub use Step.{index, key, path_along, path_by, path_of, PathStep, step_of}
+pub use Rattle.toml_spans.specs.Step.{index, key, PathStep, step_of}
+pub use Step.{path_along, path_by, path_of}
 pub use Fault.{Always, array_form, as_told, broken_rule, BrokenRule, build_metadata, Cause, cause_of, count_zero, custom, delay_zero, duration_expected, fault_below, fault_here, fault_of, fault_text, fault_with, identifier, IsMemory, IsNameKind, jitter_without_delay, kind_text, max_delay_below_delay, max_delay_zero, missing, missing_key, no_duration, not_version, path_text, pre_release, Reason, reason_at, reason_of, reason_text, Refuses, RefusesAs, RefusesKind, RefusesOne, required_above_recommended, rule_text, styled_kind_text, styled_rule_text, TellsAs, TellsMemory, told_at, told_of, told_with, ToldFault, tool_name, unknown_key, unknown_word, wrong_type, wrong_value}
-pub use Text.{comma_list, FaultOrMemory, found_text, quoted_character, quoted_texts, told_text, unnamed_character}
-unfoldable pub use Text.{quoted_text}
+pub use Text.{comma_list, FaultOrMemory, found_text, quoted_texts, told_text}
 pub use FromToml.{faults_at, IsReading, IsRefusal, Reading, RefusesAt, RefusesBy, WantsMemory}
 pub use Plain.{bool_reading, count_reading, in_range, IsCount, IsU32, MeansNumber, number_reading, text_expected, text_reading, u32_reading}
 pub use Word.{value_of, with_word, word_reading, words_text}

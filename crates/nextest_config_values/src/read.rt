@@ -4,7 +4,6 @@ mod fault;
 mod field;
 mod from_toml;
 mod plain;
-mod step;
 mod text;
 mod value_fault;
 mod word;
@@ -16,7 +15,7 @@ pub use field::{
 pub use from_toml::FromToml;
 pub use plain::NonZeroCount;
 pub(crate) use plain::held_text;
-pub use step::Step;
-pub use text::{QuotedText, QuotedTexts, found_text, quoted};
+pub use text::{QuotedTexts, found_text};
+pub use toml_spans::{QuotedText, Step, quoted};
 pub use value_fault::{FaultCause, ValueFault};
 pub use word::Word;

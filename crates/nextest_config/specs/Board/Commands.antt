@@ -2,26 +2,26 @@
 use Rattle.std.specs.Prelude.{◌≡◌, ◌≢◌, ◌⊎◌, ℕ, List, [], ◌∷◌, ◌++◌, replicate, set, Option, Some, None}
 use Rattle.std.specs.List.{AllByRecursion}
 use Rattle.nextest_config.specs.Board.Slots.{ask_of_versions, BoardState, IsChanged, IsPut}
-use Rattle.nextest_config_sources.specs.NextestVersion.Source.{Source}
+use Rattle.nextest_config.specs.NextestVersion.Source.{Source}
 use Rattle.nextest_config.specs.NextestVersion.VersionOnly.{IsRead, SourceAsk}
-use Rattle.nextest_config_sources.specs.NextestVersion.VersionOnlyDeserialize.{Ask}
+use Rattle.nextest_config.specs.NextestVersion.VersionOnlyDeserialize.{Ask}
 
 -- a change that a board accepts: a source is put into a slot, or the slot is left empty
 pub data BoardCommand : Type 0 where
   put : ℕ → Source → BoardCommand
   withdraw : ℕ → BoardCommand
 
--- the slot that is changed
+-- the slot that a command changes
 abbrev pub slot_in : BoardCommand → ℕ
 slot_in (put slot source) = slot
 slot_in (withdraw slot) = slot
 
--- the board changes so
+-- the command changes a board from the first state to the second
 abbrev pub Changes : BoardCommand → BoardState → BoardState → Type 0
 Changes (put slot source) = IsPut slot source
 Changes (withdraw slot) = IsChanged slot None
 
--- the board changes so, by one command after the other
+-- the commands, one after the other, change a board from the first state to the second
 abbrev pub ChangesInTurn : List BoardCommand → BoardState → BoardState → Type 0
 ChangesInTurn [] old new = old ≡ new
 ChangesInTurn (command ∷ commands) old new = (between : BoardState) × Changes command old between
@@ -51,7 +51,8 @@ abbrev pub IsOfOther : ℕ → BoardCommand → Type 0
 IsOfOther slot command = slot_in command ≢ slot
 
 -- this is what the last command of the slot leaves
-pub record IsLeft (commands : List BoardCommand) (slot : ℕ) (occupant : Option SourceAsk) : Type 0 where
+pub record IsLeft (commands : List BoardCommand) (slot : ℕ) (occupant : Option SourceAsk)
+    : Type 0 where
   pub before : List BoardCommand
   pub last : BoardCommand
   pub after : List BoardCommand

@@ -3,15 +3,15 @@ use Rattle.std.specs.Prelude.{ℕ, Option, None, option_map}
 use Rattle.std.proofs.Common.{refl}
 use Rattle.semver.specs.Parse.{Parts}
 use Rattle.semver.specs.declared.Version.{Version}
-use Rattle.nextest_config_merge.specs.Merge.{IsMonoid}
-use Rattle.nextest_config_sources.specs.NextestVersion.VersionText.{plain}
+use Rattle.nextest_config.specs.Merge.{IsMonoid}
+use Rattle.nextest_config.specs.NextestVersion.VersionText.{plain}
 use Rattle.nextest_config.specs.NextestVersion.Later.{later_joins, later_of}
 use Rattle.nextest_config.specs.NextestVersion.Parts.{parts_join}
 use Rattle.nextest_config.specs.declared.board.role_pair.SlotVersion.{SlotVersion}
 use Rattle.nextest_config.specs.declared.board.role_pair.RolePair.{RolePair}
-use Rattle.nextest_config_sources.specs.declared.nextest_version.nextest_version_deserialize.NextestVersionDeserialize.{NextestVersionDeserialize}
+use Rattle.nextest_config.specs.declared.nextest_version.nextest_version_deserialize.NextestVersionDeserialize.{NextestVersionDeserialize}
 
--- the version that is asked
+-- the version that is asked from a slot, by its three numbers
 abbrev pub version_at : SlotVersion → Parts
 version_at asked = plain asked.numbers
 
@@ -20,7 +20,7 @@ abbrev pub slot_version : ℕ → Version → SlotVersion
 slot_version slot version =
     record { numbers = (version.major, version.minor, version.patch); slot = slot }
 
--- what a source asks, from this slot
+-- what a source asks in each role, from this slot
 abbrev pub pair_in : ℕ → NextestVersionDeserialize → RolePair
 pair_in slot asked =
     record {
@@ -28,18 +28,18 @@ pair_in slot asked =
       recommended = option_map (slot_version slot) asked.recommended;
     }
 
--- the later one, unless its version is below the earlier one's
+-- of two versions that are asked from slots the later one, unless it is below the earlier one
 abbrev pub later_asked : Option SlotVersion → Option SlotVersion → Option SlotVersion
 later_asked = later_of version_at
 
--- the same in each role
+-- of two pairs the later version in each role, unless it is below the earlier one
 abbrev pub later_pair : RolePair → RolePair → RolePair
 later_pair earlier later = record {
   required = later_asked earlier.required later.required;
   recommended = later_asked earlier.recommended later.recommended;
 }
 
--- nothing is asked
+-- the pair that asks no version in either role
 abbrev pub no_pair : RolePair
 no_pair = record { required = None; recommended = None }
 

@@ -1,16 +1,16 @@
 -- The slots of a board, and the list of sources that they hold.
 use Rattle.std.specs.Prelude.{◌≡◌, ℕ, suc, ◌<◌, false, List, [], ◌∷◌, length, get_or, set, Option, Some, None, option_map}
-use Rattle.nextest_config_merge.specs.Choice.Halvings.{halvings}
+use Rattle.nextest_config.specs.Choice.Halvings.{halvings}
 use Rattle.nextest_config.specs.Board.RolePair.{no_pair, version_at}
-use Rattle.nextest_config_sources.specs.NextestVersion.ExperimentalDeserialize.{no_features}
-use Rattle.nextest_config_sources.specs.NextestVersion.NextestVersionDeserialize.{Versions, versions}
+use Rattle.nextest_config.specs.NextestVersion.ExperimentalDeserialize.{no_features}
+use Rattle.nextest_config.specs.NextestVersion.NextestVersionDeserialize.{Versions, versions}
 use Rattle.nextest_config.specs.NextestVersion.KeptVersions.{Kept, Roles}
-use Rattle.nextest_config_sources.specs.NextestVersion.Source.{SourcePlace, Source, place_of}
+use Rattle.nextest_config.specs.NextestVersion.Source.{SourcePlace, Source, place_of}
 use Rattle.nextest_config.specs.NextestVersion.VersionOnly.{IsRead, SourceAsk}
-use Rattle.nextest_config_sources.specs.NextestVersion.VersionOnlyDeserialize.{Ask}
+use Rattle.nextest_config.specs.NextestVersion.VersionOnlyDeserialize.{Ask}
 use Rattle.nextest_config.specs.declared.board.role_pair.SlotVersion.{SlotVersion}
 use Rattle.nextest_config.specs.declared.board.role_pair.RolePair.{RolePair}
-use Rattle.nextest_config_sources.specs.declared.nextest_version.source.ConfigSource.{ConfigSource}
+use Rattle.nextest_config.specs.declared.nextest_version.source.ConfigSource.{ConfigSource}
 
 -- the versions that a source at this place asks; a board keeps no features
 abbrev pub ask_of_versions : SourcePlace → Versions → SourceAsk
@@ -38,7 +38,7 @@ slot_of source pair =
     (versions (option_map version_at pair.required) (option_map version_at pair.recommended)))
     source
 
--- what the slots hold
+-- what the slots with these sources and these pairs hold, one each
 abbrev pub slots_of : List (Option ConfigSource) → List RolePair → List (Option SourceAsk)
 slots_of [] pairs = []
 slots_of (source ∷ sources) [] = []
@@ -49,7 +49,7 @@ abbrev pub IsFrom : ℕ → Option SlotVersion → Type 0
 IsFrom slot None = Unit {0}
 IsFrom slot (Some asked) = asked.slot ≡ slot
 
--- an empty slot asks nothing; what another one asks names it
+-- an empty slot asks nothing; what a slot with a source asks names that slot
 abbrev pub IsHeld : ℕ → Option ConfigSource → RolePair → Type 0
 IsHeld slot None pair = pair ≡ no_pair
 IsHeld slot (Some source) pair = IsFrom slot pair.required × IsFrom slot pair.recommended
@@ -62,14 +62,14 @@ AreHeld slot (source ∷ sources) [] = ⊥
 AreHeld slot (source ∷ sources) (pair ∷ pairs) = IsHeld slot source pair
     × AreHeld (suc slot) sources pairs
 
--- what is asked, with the place of the source in its slot
+-- the version that is asked, if any, with the place of the source in its slot
 abbrev pub kept_in : List (Option ConfigSource) → Option SlotVersion → Option Kept
 kept_in sources None = None
 kept_in sources (Some asked) =
     option_map (λ source. record { version = version_at asked; place = place_of source })
     (get_or sources asked.slot None)
 
--- the same in each role
+-- the versions that a pair asks, each with the place of the source in its slot
 abbrev pub roles_in : List (Option ConfigSource) → RolePair → Roles
 roles_in sources pair =
     record {

@@ -1,8 +1,8 @@
 -- Sources that are borrowed to be read: files, and documents that are at hand.
 use Rattle.std.specs.Prelude.{◌≡◌, List, Option}
 use Rattle.std.specs.List.{AllZip}
-use Rattle.nextest_config_sources.specs.NextestVersion.Source.{Given, under}
-use Rattle.nextest_config_sources.specs.declared.nextest_version.edition.Edition.{Edition}
+use Rattle.nextest_config.specs.NextestVersion.Source.{Given, under}
+use Rattle.nextest_config.specs.declared.nextest_version.edition.Edition.{Edition}
 use Rattle.nextest_config.specs.NextestVersion.Document.{IsDocumentOf, IsErrorOfDocument, StandsForDocument}
 use Rattle.nextest_config.specs.NextestVersion.Error.{Refusal}
 use Rattle.nextest_config.specs.NextestVersion.File.{file_given}

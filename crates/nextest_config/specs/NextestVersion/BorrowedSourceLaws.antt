@@ -1,11 +1,11 @@
 -- The law of what is read of one borrowed source.
 use Rattle.std.proofs.Common.{◌≡◌, [], ◌∷◌, Option, Some, None, sym, ap, ap₂, subst, ◌∙◌}
-use Rattle.nextest_config_merge.specs.Merge.{IsReadingOne}
-use Rattle.nextest_config_sources.specs.NextestVersion.ErrorKind.{Wrong}
-use Rattle.nextest_config_sources.specs.NextestVersion.Source.{SourcePlace, under}
-use Rattle.nextest_config_sources.specs.NextestVersion.VersionOnlyDeserialize.{Ask}
-use Rattle.nextest_config_sources.specs.NextestVersion.VersionOnlyDeserializeLaws.{asks_not_wrong, asks_once, one_table_error}
-use Rattle.nextest_config_sources.specs.declared.nextest_version.edition.Edition.{Edition}
+use Rattle.nextest_config.specs.Merge.{IsReadingOne}
+use Rattle.nextest_config.specs.NextestVersion.ErrorKind.{Wrong}
+use Rattle.nextest_config.specs.NextestVersion.Source.{SourcePlace, under}
+use Rattle.nextest_config.specs.NextestVersion.VersionOnlyDeserialize.{Ask}
+use Rattle.nextest_config.specs.NextestVersion.VersionOnlyDeserializeLaws.{asks_not_wrong, asks_once, one_table_error}
+use Rattle.nextest_config.specs.declared.nextest_version.edition.Edition.{Edition}
 use Rattle.nextest_config.specs.NextestVersion.BorrowedSource.{IsErrorOfBorrowed, StandsForBorrowed}
 use Rattle.nextest_config.specs.NextestVersion.Document.{document_members, document_place, IsErrorOfDocument, StandsForDocument}
 use Rattle.nextest_config.specs.NextestVersion.Error.{Refusal}

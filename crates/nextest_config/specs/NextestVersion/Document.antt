@@ -4,9 +4,9 @@ use Rattle.std.specs.List.{AllZip}
 use Rattle.toml.specs.Data.{Members}
 use Rattle.toml.specs.Parse.{parse_document}
 use Rattle.toml.specs.View.{table_view}
-use Rattle.nextest_config_sources.specs.NextestVersion.Source.{Given, SourcePlace, place_of}
-use Rattle.nextest_config_sources.specs.NextestVersion.VersionOnlyDeserialize.{Ask, IsWrongTable, TableAsks}
-use Rattle.nextest_config_sources.specs.declared.nextest_version.edition.Edition.{Edition}
+use Rattle.nextest_config.specs.NextestVersion.Source.{Given, SourcePlace, place_of}
+use Rattle.nextest_config.specs.NextestVersion.VersionOnlyDeserialize.{Ask, IsWrongTable, TableAsks}
+use Rattle.nextest_config.specs.declared.nextest_version.edition.Edition.{Edition}
 use Rattle.nextest_config.specs.NextestVersion.Error.{Refusal}
 use Rattle.nextest_config.specs.NextestVersion.VersionOnly.{Configuration, StandsForAsks}
 use Rattle.nextest_config.specs.declared.nextest_version.document.SourceDocument.{SourceDocument}
@@ -15,11 +15,12 @@ use Rattle.nextest_config.specs.declared.nextest_version.document.SourceDocument
 abbrev pub document_place : SourceDocument → SourcePlace
 document_place document = place_of document.source.now
 
--- what the document holds
+-- the keys and values of the document's table
 abbrev pub document_members : SourceDocument → Members
 document_members document = table_view document.document.now
 
 -- what is given is a text at the place of the document's source, which `toml` reads as the document
+-- (TOML 1.1)
 pub record IsDocumentOf (given : Given) (document : SourceDocument) : Type 0 where
   pub text : List ℕ
   pub place : given.place ≡ document_place document

@@ -5,15 +5,15 @@ use Rattle.std.specs.BTreeSet.{BTreeSet}
 use Rattle.std.specs.Ordering.{eq_by_cmp}
 use Rattle.std.specs.Set.{is_member}
 use Rattle.std.specs.declared.alloc.Global.{Global}
-use Rattle.nextest_config_sources.specs.NextestVersion.Experimental.{feature_cmp, FeaturesInOrder}
-use Rattle.nextest_config_sources.specs.NextestVersion.ExperimentalDeserialize.{FeatureSetting}
-use Rattle.nextest_config_sources.specs.NextestVersion.Source.{SourcePlace, place_of}
-use Rattle.nextest_config_sources.specs.declared.nextest_version.experimental.ConfigExperimental.{ConfigExperimental}
+use Rattle.nextest_config.specs.NextestVersion.Experimental.{feature_cmp, FeaturesInOrder}
+use Rattle.nextest_config.specs.NextestVersion.ExperimentalDeserialize.{FeatureSetting}
+use Rattle.nextest_config.specs.NextestVersion.Source.{SourcePlace, place_of}
+use Rattle.nextest_config.specs.declared.nextest_version.experimental.ConfigExperimental.{ConfigExperimental}
 use Rattle.nextest_config.specs.declared.nextest_version.experimental_config.ArraySources.{ArraySources}
 use Rattle.nextest_config.specs.declared.nextest_version.experimental_config.ExperimentalConfig.{ExperimentalConfig}
 use Rattle.nextest_config.specs.declared.nextest_version.experimental_config.SourceErrors.{SourceErrors}
 use Rattle.nextest_config.specs.declared.nextest_version.experimental_config.UnknownFeatures.{UnknownFeatures}
-use Rattle.nextest_config_sources.specs.declared.nextest_version.source.ConfigSource.{ConfigSource}
+use Rattle.nextest_config.specs.declared.nextest_version.source.ConfigSource.{ConfigSource}
 
 -- unknown feature names, and the place of the source that names them
 pub record Unknown : Type 0 where
@@ -31,7 +31,7 @@ pub record Experimental : Type 0 where
 abbrev pub unknown_from : ConfigSource → BTreeSet (String Global) → Unknown
 unknown_from source names = record { place = place_of source; names = map string_bytes names.keys }
 
--- the entry of a source
+-- the unknown names in an entry, with the place of its source
 abbrev pub unknown_of : UnknownFeatures → Unknown
 unknown_of entry = unknown_from entry.source entry.names
 
@@ -44,7 +44,7 @@ experimental_of config =
       arrays = map place_of config.array_sources.items;
     }
 
--- what no source names
+-- no feature, no unknown name and no array
 abbrev pub no_experimental : Experimental
 no_experimental = record { known = []; unknown = []; arrays = [] }
 

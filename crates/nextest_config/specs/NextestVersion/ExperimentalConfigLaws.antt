@@ -3,7 +3,7 @@ use Rattle.std.specs.Prelude.{◌≡◌, Bool, true, false, ◌||◌}
 use Rattle.std.proofs.Common.{refl, append_assoc}
 use Rattle.std.proofs.Math.Bool.{or_assoc}
 use Rattle.std.proofs.lemmas.List.{append-nil}
-use Rattle.nextest_config_merge.specs.Merge.{IsMonoid}
+use Rattle.nextest_config.specs.Merge.{IsMonoid}
 use Rattle.nextest_config.specs.NextestVersion.ExperimentalConfig.{join_features, no_features_seen}
 
 or_false : (enabled : Bool) → (enabled || false) ≡ enabled

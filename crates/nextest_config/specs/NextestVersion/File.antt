@@ -1,14 +1,14 @@
 -- The files of tools and of a repository, as a list of sources.
 use Rattle.std.specs.Prelude.{List, [], ◌∷◌, ◌++◌, map, reverse}
-use Rattle.nextest_config_sources.specs.NextestVersion.Source.{Given, repository_given, Source, tool_given, under}
-use Rattle.nextest_config_sources.specs.declared.nextest_version.edition.Edition.{Edition}
-use Rattle.nextest_config_sources.specs.declared.nextest_version.edition.Edition.TheVariants.{ArrayAllowed}
+use Rattle.nextest_config.specs.NextestVersion.Source.{Given, repository_given, Source, tool_given, under}
+use Rattle.nextest_config.specs.declared.nextest_version.edition.Edition.{Edition}
+use Rattle.nextest_config.specs.declared.nextest_version.edition.Edition.TheVariants.{ArrayAllowed}
 use Rattle.nextest_config.specs.declared.nextest_version.file.File.{File}
 use Rattle.nextest_config.specs.declared.nextest_version.file.File.TheVariants as files
-use Rattle.nextest_config_sources.specs.declared.nextest_version.source.RepositoryText.{RepositoryText}
-use Rattle.nextest_config_sources.specs.declared.nextest_version.source.ToolText.{ToolText}
+use Rattle.nextest_config.specs.declared.nextest_version.source.RepositoryText.{RepositoryText}
+use Rattle.nextest_config.specs.declared.nextest_version.source.ToolText.{ToolText}
 
--- a tool's file or a repository's
+-- what is given of a tool's file or a repository's
 abbrev pub file_given : File → Given
 file_given (files.Tool tool) = tool_given tool.now
 file_given (files.Repository repository) = repository_given repository.now

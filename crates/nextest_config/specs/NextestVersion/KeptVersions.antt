@@ -3,9 +3,9 @@ use Rattle.std.specs.Prelude.{◌≡◌, Option, Some, None, option_map}
 use Rattle.semver.specs.Identifiers.{parts_of}
 use Rattle.semver.specs.Parse.{Parts}
 use Rattle.semver.specs.declared.Version.{Version}
-use Rattle.nextest_config_sources.specs.NextestVersion.NextestVersionDeserialize.{Versions}
-use Rattle.nextest_config_sources.specs.NextestVersion.Source.{SourcePlace, place_of}
-use Rattle.nextest_config_sources.specs.declared.nextest_version.source.ConfigSource.{ConfigSource}
+use Rattle.nextest_config.specs.NextestVersion.NextestVersionDeserialize.{Versions}
+use Rattle.nextest_config.specs.NextestVersion.Source.{SourcePlace, place_of}
+use Rattle.nextest_config.specs.declared.nextest_version.source.ConfigSource.{ConfigSource}
 use Rattle.nextest_config.specs.NextestVersion.Later.{later_of}
 use Rattle.nextest_config.specs.declared.nextest_version.kept_versions.NextestVersionReq.{NextestVersionReq}
 use Rattle.nextest_config.specs.declared.nextest_version.kept_versions.NextestVersionReq.TheVariants as kept_as
@@ -16,12 +16,12 @@ pub record Kept : Type 0 where
   pub version : Parts
   pub place : SourcePlace
 
--- the two roles of a version
+-- what is kept in the two roles, the required version and the recommended one
 pub record Roles : Type 0 where
   pub required : Option Kept
   pub recommended : Option Kept
 
--- the kept version
+-- the version of what is kept
 abbrev pub kept_version : Kept → Parts
 kept_version kept = kept.version
 
@@ -61,7 +61,7 @@ roles_from place versions =
 abbrev pub join_kept : Option Kept → Option Kept → Option Kept
 join_kept = later_of kept_version
 
--- the join of each role
+-- the join of what is kept in each role
 abbrev pub join_roles : Roles → Roles → Roles
 join_roles earlier later = record {
   required = join_kept earlier.required later.required;

@@ -1,7 +1,7 @@
 -- The laws of the join of what is kept.
 use Rattle.std.specs.Prelude.{None}
 use Rattle.std.proofs.Common.{refl}
-use Rattle.nextest_config_merge.specs.Merge.{IsMonoid}
+use Rattle.nextest_config.specs.Merge.{IsMonoid}
 use Rattle.nextest_config.specs.NextestVersion.KeptVersions.{Roles, join_kept, join_roles, kept_version, no_roles}
 use Rattle.nextest_config.specs.NextestVersion.Later.{later_joins}
 use Rattle.nextest_config.specs.NextestVersion.Parts.{parts_join}

@@ -3,11 +3,11 @@ use Rattle.std.specs.Prelude.{◌≡◌, Bool, true, false, Option, Some, None, 
 use Rattle.std.proofs.Common.{refl, sym, ◌∙◌}
 use Rattle.std.proofs.lemmas.Bool.{false_from_ne_true, false≢true}
 use Rattle.semver.specs.Parse.{Parts}
-use Rattle.nextest_config_merge.specs.Merge.{IsMonoid}
-use Rattle.nextest_config_sources.specs.NextestVersion.Precedence.{is_below, IsBelow}
-use Rattle.nextest_config_sources.specs.NextestVersion.PrecedenceLaws.{below_trans, not_below_trans}
+use Rattle.nextest_config.specs.Merge.{IsMonoid}
+use Rattle.nextest_config.specs.NextestVersion.Precedence.{is_below, IsBelow}
+use Rattle.nextest_config.specs.NextestVersion.PrecedenceLaws.{below_trans, not_below_trans}
 
--- the later one, unless its version is below the earlier one's
+-- the later one of two, unless its version is below the earlier one's; the only one, or none
 abbrev pub later_of : {A : Type 0} → (A → Parts) → Option A → Option A → Option A
 later_of version None later = later
 later_of version (Some earlier) None = Some earlier

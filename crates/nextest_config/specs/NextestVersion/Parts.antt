@@ -1,7 +1,7 @@
 -- What is joined part by part.
 use Rattle.std.specs.Prelude.{◌≡◌}
 use Rattle.std.proofs.Common.{sym, ap, ap₂, ◌∙◌}
-use Rattle.nextest_config_merge.specs.Merge.{IsMonoid}
+use Rattle.nextest_config.specs.Merge.{IsMonoid}
 
 -- two parts, each with its own join, are joined part by part
 side_by_side : {A B : Type 0} (j : A → A → A) (k : B → B → B) (a : A) (b : B) → IsMonoid j a
@@ -15,7 +15,7 @@ side_by_side {A} {B} j k a b first second =
       neutral_last = λ x. ap₂ pair (first.neutral_last x.0) (second.neutral_last x.1);
     }
 
--- and so is what has two parts and nothing else
+-- what has two parts and nothing else is joined part by part
 pub parts_join : {A B R : Type 0} (parts : R → A × B) (whole : A × B → R) (j : A → A → A)
     (k : B → B → B) (a : A) (b : B) → ((p : A × B) → parts (whole p) ≡ p)
     → ((r : R) → whole (parts r) ≡ r) → IsMonoid j a → IsMonoid k b

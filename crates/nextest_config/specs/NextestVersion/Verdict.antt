@@ -3,11 +3,11 @@ use Rattle.std.specs.Prelude.{◌≡◌, ◌≢◌, ℕ, ◌≤◌, Bool, true, 
 use Rattle.std.specs.List.{AllByRecursion}
 use Rattle.semver.specs.Identifiers.{parts_of}
 use Rattle.semver.specs.Parse.{Parts}
-use Rattle.nextest_config_sources.specs.NextestVersion.Precedence.{is_enough, IsBelow}
+use Rattle.nextest_config.specs.NextestVersion.Precedence.{is_enough, IsBelow}
 use Rattle.nextest_config.specs.NextestVersion.KeptVersions.{Kept, Roles}
-use Rattle.nextest_config_sources.specs.NextestVersion.Source.{SourcePlace, place_of}
+use Rattle.nextest_config.specs.NextestVersion.Source.{SourcePlace, place_of}
 use Rattle.semver.specs.declared.Version.{Version}
-use Rattle.nextest_config_sources.specs.declared.nextest_version.source.ConfigSource.{ConfigSource}
+use Rattle.nextest_config.specs.declared.nextest_version.source.ConfigSource.{ConfigSource}
 use Rattle.nextest_config.specs.declared.nextest_version.verdict.NextestVersionEval.{NextestVersionEval}
 use Rattle.nextest_config.specs.declared.nextest_version.verdict.NextestVersionEval.TheVariants as evals
 use Rattle.nextest_config.specs.declared.nextest_version.verdict.Severity.{Severity}
@@ -30,7 +30,7 @@ pub data Verdict : Type 0 where
   warn : Shortfall → Verdict
   error : Shortfall → Verdict
 
--- the current version isn't enough for the one that the source asks
+-- how the current version falls short of the one that the source asks
 abbrev pub shortfall : Version → Version → ConfigSource → Bool → Shortfall
 shortfall asked current source overridden = record {
   asked = parts_of asked;
@@ -66,21 +66,24 @@ abbrev pub not_met : Option Kept → Parts → Option Kept
 not_met None current = None
 not_met (Some kept) current = if is_enough current kept.version then None else Some kept
 
--- the current version isn't enough for the kept one
+-- how the current version falls short of the kept one
 abbrev pub short_of : Kept → Parts → Bool → Shortfall
 short_of kept current overridden =
     record { asked = kept.version; current = current; place = kept.place; overridden = overridden }
 
 -- an unmet required version is an error; else an unmet recommended one is a warning
 abbrev pub verdict_by : Option Kept → Option Kept → Parts → Bool → Verdict
-verdict_by (Some required) recommended current overridden = error (short_of required current overridden)
-verdict_by None (Some recommended) current overridden = warn (short_of recommended current overridden)
+verdict_by (Some required) recommended current overridden =
+    error (short_of required current overridden)
+verdict_by None (Some recommended) current overridden =
+    warn (short_of recommended current overridden)
 verdict_by None None current overridden = satisfied
 
--- the verdict of two roles
+-- the verdict of two roles on a current version, overridden or not
 abbrev pub verdict : Roles → Parts → Bool → Verdict
 verdict roles current overridden =
-    verdict_by (not_met roles.required current) (not_met roles.recommended current) current overridden
+    verdict_by (not_met roles.required current) (not_met roles.recommended current) current
+    overridden
 
 -- how grave a verdict is, overridden or not
 abbrev pub severity_of : Verdict → Severity
@@ -88,7 +91,7 @@ severity_of satisfied = severities.Satisfied
 severity_of (warn shortfall) = severities.Warn
 severity_of (error shortfall) = severities.Error
 
--- severities ascend: satisfied, warning, error
+-- the rank of a severity, in ascending order: satisfied, warning, error
 abbrev pub rank : Severity → ℕ
 rank severities.Satisfied = 0
 rank severities.Warn = 1
@@ -114,7 +117,7 @@ named_place (error shortfall) = Some shortfall.place
 abbrev pub IsSatisfied : Verdict → Type 0
 IsSatisfied v = v ≡ satisfied
 
--- the other verdict is no worse
+-- the other verdict is no graver than the first one
 abbrev pub IsNoGraver : Verdict → Verdict → Type 0
 IsNoGraver v other = gravity other ≤ gravity v
 
@@ -151,8 +154,10 @@ IsSelected verdicts v = (AllByRecursion IsSatisfied verdicts × (v ≡ satisfied
 -- that it names may be another
 abbrev pub SaysTheSame : Verdict → Verdict → Type 0
 SaysTheSame satisfied v = v ≡ satisfied
-SaysTheSame (warn shortfall) v = (place : SourcePlace) × (v ≡ warn (record shortfall { place = place }))
-SaysTheSame (error shortfall) v = (place : SourcePlace) × (v ≡ error (record shortfall { place = place }))
+SaysTheSame (warn shortfall) v = (place : SourcePlace)
+    × (v ≡ warn (record shortfall { place = place }))
+SaysTheSame (error shortfall) v = (place : SourcePlace)
+    × (v ≡ error (record shortfall { place = place }))
 
 -- the shortfall, with the check overridden
 abbrev pub override_of : Shortfall → Shortfall

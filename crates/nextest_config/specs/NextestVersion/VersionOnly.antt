@@ -2,22 +2,22 @@
 use Rattle.std.specs.Prelude.{◌≡◌, ◌≢◌, ◌↔◌, ◌+◌, ℕ, List, [], ◌∷◌, ◌++◌, length, map, flat_map, Contains, Bool, Option, Some, None, IfSome, option_map}
 use Rattle.std.specs.List.{AllByRecursion, AllZip}
 use Rattle.semver.specs.Parse.{Parts}
-use Rattle.nextest_config_merge.specs.Merge.{in_a_row, IsFirstWrong, IsReordering, total}
+use Rattle.nextest_config.specs.Merge.{in_a_row, IsFirstWrong, IsReordering, total}
 use Rattle.nextest_config.specs.NextestVersion.Error.{kind_of, Refusal, RefusesBy, refusal_of}
-use Rattle.nextest_config_sources.specs.NextestVersion.Experimental.{FeaturesInOrder}
+use Rattle.nextest_config.specs.NextestVersion.Experimental.{FeaturesInOrder}
 use Rattle.nextest_config.specs.NextestVersion.ExperimentalConfig.{AreSeenAs, Experimental, SeenFeatures, Unknown, array_at, entry_at, experimental_of, features_from, join_features, no_experimental, seen_features}
-use Rattle.nextest_config_sources.specs.NextestVersion.Precedence.{IsBelow}
+use Rattle.nextest_config.specs.NextestVersion.Precedence.{IsBelow}
 use Rattle.nextest_config.specs.NextestVersion.KeptVersions.{Kept, Roles, kept_version, no_roles, roles_of, roles_from, join_roles}
-use Rattle.nextest_config_sources.specs.NextestVersion.Source.{SourcePlace, Source, place_of}
+use Rattle.nextest_config.specs.NextestVersion.Source.{SourcePlace, Source, place_of}
 use Rattle.nextest_config.specs.NextestVersion.Verdict.{Verdict, verdict, named_place, IsSelected, SaysTheSame}
-use Rattle.nextest_config_sources.specs.NextestVersion.VersionOnlyDeserialize.{Ask, ask_of, IsWrong, TextAsks}
+use Rattle.nextest_config.specs.NextestVersion.VersionOnlyDeserialize.{Ask, ask_of, IsWrong, TextAsks}
 use Rattle.nextest_config.specs.declared.nextest_version.error.ConfigParseError.{ConfigParseError}
-use Rattle.nextest_config_merge.specs.declared.merge.PieceRefusal.{PieceRefusal}
-use Rattle.nextest_config_merge.specs.declared.merge.PieceRefusal.TheVariants as refusals
-use Rattle.nextest_config_sources.specs.declared.nextest_version.error_kind.ConfigParseErrorKind.TheVariants as kinds
-use Rattle.nextest_config_sources.specs.declared.nextest_version.experimental.ConfigExperimental.{ConfigExperimental}
-use Rattle.nextest_config_sources.specs.declared.nextest_version.source.ConfigSource.{ConfigSource}
-use Rattle.nextest_config_sources.specs.declared.nextest_version.version_only_deserialize.VersionOnlyDeserialize.{VersionOnlyDeserialize}
+use Rattle.nextest_config.specs.declared.merge.PieceRefusal.{PieceRefusal}
+use Rattle.nextest_config.specs.declared.merge.PieceRefusal.TheVariants as refusals
+use Rattle.nextest_config.specs.declared.nextest_version.error_kind.ConfigParseErrorKind.TheVariants as kinds
+use Rattle.nextest_config.specs.declared.nextest_version.experimental.ConfigExperimental.{ConfigExperimental}
+use Rattle.nextest_config.specs.declared.nextest_version.source.ConfigSource.{ConfigSource}
+use Rattle.nextest_config.specs.declared.nextest_version.version_only_deserialize.VersionOnlyDeserialize.{VersionOnlyDeserialize}
 use Rattle.nextest_config.specs.declared.nextest_version.version_only.VersionOnlyConfig.{VersionOnlyConfig}
 
 -- ---- one source
@@ -79,15 +79,15 @@ pub record IsFirstRefusedAmong (parts : List (List Source)) (position : ℕ) (re
 
 -- ---- what stands for a list of asks
 
--- in this role none is asked
+-- in this role the source asks no version
 abbrev pub AsksNone : (Ask → Option Parts) → SourceAsk → Type 0
 AsksNone role asked = role asked.ask ≡ None
 
--- in this role this version isn't asked
+-- in this role the source doesn't ask this version
 abbrev pub AsksOther : (Ask → Option Parts) → Parts → SourceAsk → Type 0
 AsksOther role version asked = role asked.ask ≢ Some version
 
--- in this role none greater is asked
+-- in this role the source asks no version above this one
 abbrev pub AsksNoGreater : (Ask → Option Parts) → Parts → SourceAsk → Type 0
 AsksNoGreater role version asked = IfSome (role asked.ask) (λ greater. ¬ IsBelow version greater)
 
@@ -128,12 +128,12 @@ entry_of asked = entry_at asked.place asked.ask.features.unknown
 abbrev pub array_of : SourceAsk → List SourcePlace
 array_of asked = array_at asked.place asked.ask.array
 
--- what reading a list gives
+-- what reading a list gives: the versions that are kept, and what is named of features
 pub record Configuration : Type 0 where
   pub roles : Roles
   pub experimental : Experimental
 
--- what was read
+-- what was read of a list, without where it lies in memory
 abbrev pub configuration_of : VersionOnlyConfig → Configuration
 configuration_of config =
     record {
@@ -145,7 +145,8 @@ configuration_of config =
 abbrev pub neutral : Configuration
 neutral = record { roles = no_roles; experimental = no_experimental }
 
--- the configuration stands for the asks
+-- the configuration stands for the asks: it keeps the greatest version in each role, and has the
+-- features that some ask enables, and the unknown names and arrays of all, in order
 pub record StandsForAsks (asked : List SourceAsk) (configuration : Configuration) : Type 0 where
   pub required : StandsIn (λ ask. ask.versions.required) asked configuration.roles.required
   pub recommended : StandsIn (λ ask. ask.versions.recommended) asked configuration.roles.recommended
@@ -153,7 +154,7 @@ pub record StandsForAsks (asked : List SourceAsk) (configuration : Configuration
   pub unknown : configuration.experimental.unknown ≡ flat_map entry_of asked
   pub arrays : configuration.experimental.arrays ≡ flat_map array_of asked
 
--- the configuration stands for the sources
+-- the configuration stands for the sources, that is, for what they ask, one each
 abbrev pub StandsFor : List Source → Configuration → Type 0
 StandsFor sources configuration = (asked : List SourceAsk) × AreRead sources asked
     × StandsForAsks asked configuration
@@ -220,7 +221,8 @@ pub record IsRefusedReading (sources : List Source) (refusal : PieceRefusal Conf
   pub only : Reads sources → refusal ≡ refusals.Memory
   pub refused : IsRefusalOf sources refusal
 
--- the same for an error, which tells no position
+-- reading the sources ends in this error, which tells no position; it is want of memory where they
+-- all read
 pub record IsErrorOfReading (sources : List Source) (error : ConfigParseError) : Type 0 where
   pub only : Reads sources → kind_of error ≡ kinds.Memory
   pub refused : IsErrorOfList sources error
@@ -263,7 +265,7 @@ seen_configuration configuration =
 abbrev pub neutral_seen : SeenConfiguration
 neutral_seen = seen_configuration neutral
 
--- the join of roles and of features
+-- the join of two configurations: that of their roles, and that of their features
 abbrev pub join_configurations : SeenConfiguration → SeenConfiguration → SeenConfiguration
 join_configurations earlier later = record {
   roles = join_roles earlier.roles later.roles;

@@ -2,19 +2,19 @@
 use Rattle.std.proofs.Common.{◌≡◌, refl, List, [], ◌∷◌, ◌++◌, Option, Some, None, sym, inl, inr, ap, ap₂, subst, ◌∙◌}
 use mathlib.Core.Logic.Iff as iff
 use Rattle.semver.specs.Parse.{Parts}
-use Rattle.nextest_config_merge.specs.Merge.{IsMonoid, IsReadingOne}
+use Rattle.nextest_config.specs.Merge.{IsMonoid, IsReadingOne}
 use Rattle.nextest_config.specs.NextestVersion.Error.{Refusal}
-use Rattle.nextest_config_sources.specs.NextestVersion.ErrorKind.{Wrong}
+use Rattle.nextest_config.specs.NextestVersion.ErrorKind.{Wrong}
 use Rattle.nextest_config.specs.NextestVersion.ExperimentalConfig.{Experimental, join_features, no_features_seen}
 use Rattle.nextest_config.specs.NextestVersion.ExperimentalConfigLaws.{features_join}
-use Rattle.nextest_config_sources.specs.NextestVersion.ExperimentalLaws.{features_in_one_order}
+use Rattle.nextest_config.specs.NextestVersion.ExperimentalLaws.{features_in_one_order}
 use Rattle.nextest_config.specs.NextestVersion.KeptVersions.{join_roles, Kept, no_roles, role_from, Roles}
 use Rattle.nextest_config.specs.NextestVersion.KeptVersionsLaws.{roles_join}
 use Rattle.nextest_config.specs.NextestVersion.Parts.{parts_join}
-use Rattle.nextest_config_sources.specs.NextestVersion.Source.{SourcePlace, Source}
+use Rattle.nextest_config.specs.NextestVersion.Source.{SourcePlace, Source}
 use Rattle.nextest_config.specs.NextestVersion.VersionOnly.{Configuration, IsErrorOf, IsRead, IsReadAs, IsRefused, join_configurations, neutral_seen, seen_configuration, SeenConfiguration, SourceAsk, StandsForAsks, StandsForOne, StandsIn}
-use Rattle.nextest_config_sources.specs.NextestVersion.VersionOnlyDeserialize.{Ask, IsWrong}
-use Rattle.nextest_config_sources.specs.NextestVersion.VersionOnlyDeserializeLaws.{one_wrong, ask_or_error, text_asks_once, text_not_wrong}
+use Rattle.nextest_config.specs.NextestVersion.VersionOnlyDeserialize.{Ask, IsWrong}
+use Rattle.nextest_config.specs.NextestVersion.VersionOnlyDeserializeLaws.{one_wrong, ask_or_error, text_asks_once, text_not_wrong}
 use Rattle.nextest_config_values.specs.Once.{HasMeaningOrFault}
 
 pub configurations_join : IsMonoid join_configurations neutral_seen
@@ -25,7 +25,8 @@ configurations_join = parts_join (λ (seen : SeenConfiguration). (seen.roles, se
 -- ---- one source
 
 pub read_once : (source : Source) (a b : SourceAsk) → IsReadAs source a → IsReadAs source b → a ≡ b
-read_once source a b h k = ap₂ (λ (place : SourcePlace) (ask : Ask). record { place = place; ask = ask })
+read_once source a b h k =
+    ap₂ (λ (place : SourcePlace) (ask : Ask). record { place = place; ask = ask })
     (h.place ∙ sym k.place)
     (text_asks_once source.edition source.place.kind source.contents a.ask b.ask h.read k.read)
 
@@ -91,8 +92,8 @@ alone_once a c d h k =
     ap₂ (λ (r : Roles) (e : Experimental). record { roles = r; experimental = e }) roles
     experimental
 
-pub one_alone : (source : Source) (c d : Configuration) → StandsForOne source c → StandsForOne source d
-    → c ≡ d
+pub one_alone : (source : Source) (c d : Configuration) → StandsForOne source c
+    → StandsForOne source d → c ≡ d
 one_alone source c d ([], read, stands) k = absurd read
 one_alone source c d (a ∷ b ∷ asked, read, stands) k = absurd read.1
 one_alone source c d (a ∷ [], read, stands) ([], more_read, more) = absurd more_read
@@ -108,8 +109,8 @@ one_told source None b h k = absurd h
 one_told source (Some a) None h k = absurd k
 one_told source (Some a) (Some b) h k = ap Some (one_error source a b h k)
 
-pub none_alone : (source : Source) (c : Configuration) (told : Option Refusal) → StandsForOne source c
-    → IsErrorOf source told → ⊥
+pub none_alone : (source : Source) (c : Configuration) (told : Option Refusal)
+    → StandsForOne source c → IsErrorOf source told → ⊥
 none_alone source c None stands h = h
 none_alone source c (Some refusal) ([], read, stands) h = read
 none_alone source c (Some refusal) (a ∷ asked, read, stands) h =

@@ -6,16 +6,15 @@ ghost use Rattle.semver.specs.Identifiers.{parts_of};
 ghost use Rattle.nextest_config.specs.Board.RolePair.{pair_in};
 ghost use Rattle.nextest_config.specs.Board.Slots.{AreHeld, board_list, BoardState, IsChanged, IsHeld, IsPut, IsReadInto, kept_in, slot_of, slots_of};
 ghost use Rattle.nextest_config.specs.Board.Refusals.{IsNoSlot, IsRefusedPut, IsRefusedSource};
-ghost use Rattle.nextest_config_sources.specs.NextestVersion.{source_of};
-ghost use Rattle.nextest_config.specs.NextestVersion.{alone, IsSatisfied, IsSelected, kept_from, not_met, verdict_of};
+ghost use Rattle.nextest_config.specs.NextestVersion.{source_of, alone, IsSatisfied, IsSelected, kept_from, not_met, verdict_of};
 
 use super::refusal::BoardRefusal;
 use super::role_pair::{RolePair, SlotVersion, Tally};
-use crate::nextest_version::{ConfigParseError, NextestVersionEval};
-use nextest_config_merge::choice::{ChoiceTree, Choose};
-use nextest_config_merge::merge::PieceRefusal;
-use nextest_config_sources::nextest_version::{
-    ConfigSource, Edition, NextestVersionDeserialize, SourceText, VersionOnlyDeserialize,
+use crate::choice::{ChoiceTree, Choose};
+use crate::merge::PieceRefusal;
+use crate::nextest_version::{
+    ConfigParseError, ConfigSource, Edition, NextestVersionDeserialize, NextestVersionEval,
+    SourceText, VersionOnlyDeserialize,
 };
 use semver::Version;
 use std::alloc::{AllocError, Global};

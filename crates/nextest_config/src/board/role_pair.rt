@@ -3,9 +3,9 @@
 ghost use Rattle.std.specs.Prelude.{◌≡◌, ◌+◌, ◌<◌, None, option_map, Some};
 ghost use Rattle.semver.specs.Identifiers.{parts_of};
 ghost use Rattle.nextest_config.specs.Board.RolePair.{later_asked, later_pair, no_pair, pairs_join, slot_version};
-ghost use Rattle.nextest_config_sources.specs.NextestVersion.{plain};
+ghost use Rattle.nextest_config.specs.NextestVersion.{plain};
 
-use nextest_config_merge::choice::Choose;
+use crate::choice::Choose;
 use semver::Version;
 use std::cmp::Ordering;
 

@@ -1,17 +1,16 @@
 //! Sources that are borrowed to be read as one list.
 
 ghost use Rattle.std.specs.Prelude.{◌≡◌, IfErr, IfOk, List, map};
-ghost use Rattle.nextest_config_sources.specs.NextestVersion.{under};
-ghost use Rattle.nextest_config_sources.specs.NextestVersion.Source.{Given};
-ghost use Rattle.nextest_config.specs.NextestVersion.{AreGivenAs, configuration_of, givens_of, IsConfigurationOf, IsRefusedReading};
+ghost use Rattle.nextest_config.specs.NextestVersion.{under, AreGivenAs, configuration_of, givens_of, IsConfigurationOf, IsRefusedReading};
+ghost use Rattle.nextest_config.specs.NextestVersion.Source.{Given};
 ghost use Rattle.nextest_config.specs.declared.nextest_version.borrowed_source.BorrowedSource.TheVariants.{Document};
 
 use super::document::SourceDocument;
 use super::error::{ConfigParseError, ListRefusal};
 use super::file::File;
 use super::version_only::VersionOnlyConfig;
-use nextest_config_merge::merge::{Merge, PieceRefusal, ReadPiece, read_halves};
-use nextest_config_sources::nextest_version::{Edition, RepositoryText, ToolText};
+use crate::merge::{Merge, PieceRefusal, ReadPiece, read_halves};
+use crate::nextest_version::{Edition, RepositoryText, ToolText};
 use std::alloc::{AllocError, Global};
 use std::marker::PhantomData;
 

@@ -1,6 +1,6 @@
 //! Documents that are at hand.
 
-use nextest_config_sources::nextest_version::ConfigSource;
+use crate::nextest_version::ConfigSource;
 use toml::Table;
 
 /// A configuration source and its document, as `toml` read it.

@@ -1,11 +1,11 @@
 //! Why a source, or a list of sources, was refused.
 
 ghost use Rattle.std.specs.Prelude.{◌≡◌, ◌↔◌, IsNone, Some, None, option_map, is_none, false};
-ghost use Rattle.nextest_config_sources.specs.NextestVersion.ErrorKind.{is_memory, wrong_of};
-ghost use Rattle.nextest_config_sources.specs.declared.nextest_version.error_kind.ConfigParseErrorKind.TheVariants.{Memory};
+ghost use Rattle.nextest_config.specs.NextestVersion.ErrorKind.{is_memory, wrong_of};
+ghost use Rattle.nextest_config.specs.declared.nextest_version.error_kind.ConfigParseErrorKind.TheVariants.{Memory};
 
-use nextest_config_merge::merge::PieceRefusal;
-use nextest_config_sources::nextest_version::{ConfigParseErrorKind, ConfigSource};
+use crate::merge::PieceRefusal;
+use crate::nextest_version::{ConfigParseErrorKind, ConfigSource};
 use std::alloc::{AllocError, Global};
 use std::error::Error;
 use std::fmt;
@@ -22,7 +22,7 @@ impl ConfigParseError {
     ghost use Rattle.std.specs.Prelude.{List};
     ghost use Rattle.nextest_config.specs.NextestVersion.Error.{IsKindOf, kind_of, refusal_at, refusal_of, source_place};
     ghost use Rattle.nextest_config.specs.NextestVersion.VersionOnly.{IsErrorOfReading, IsRefusedReading};
-    ghost use Rattle.nextest_config_sources.specs.NextestVersion.Source.{place_of, Source};
+    ghost use Rattle.nextest_config.specs.NextestVersion.Source.{place_of, Source};
 
     // The error that says nothing of any source.
     fn memory() -> Self
@@ -76,7 +76,7 @@ impl ConfigParseError {
         }
     }
 
-    /// What is wrong.
+    /// What is wrong with the source, or that a request for memory was refused.
     pub fn kind(&self) -> &ConfigParseErrorKind
         ensures { result.now ≡ kind_of self.now }
     {

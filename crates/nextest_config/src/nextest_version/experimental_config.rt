@@ -3,12 +3,10 @@
 ghost use Rattle.std.specs.Prelude.{◌≡◌, ◌++◌, IfOk, map, OnOk, string_bytes};
 ghost use Rattle.std.proofs.Props.{props};
 ghost use Rattle.std.specs.Iterator.{YieldsFirstBy, item_count};
-ghost use Rattle.nextest_config_sources.specs.NextestVersion.Experimental.{FeaturesInOrder};
+ghost use Rattle.nextest_config.specs.NextestVersion.Experimental.{FeaturesInOrder};
 
-use nextest_config_merge::merge::Merge;
-use nextest_config_sources::nextest_version::{
-    ConfigExperimental, ConfigSource, ExperimentalDeserialize,
-};
+use crate::merge::Merge;
+use crate::nextest_version::{ConfigExperimental, ConfigSource, ExperimentalDeserialize};
 use std::alloc::{AllocError, Global};
 use std::collections::BTreeSet;
 use std::slice;
@@ -32,8 +30,8 @@ struct UnknownFeatures {
 
 impl ExperimentalConfig {
     ghost use Rattle.nextest_config.specs.NextestVersion.ExperimentalConfig.{AddsFeatures, array_at, arrays_left, errors_left, experimental_of, no_experimental};
-    ghost use Rattle.nextest_config_sources.specs.NextestVersion.ExperimentalDeserialize.{feature_setting_of};
-    ghost use Rattle.nextest_config_sources.specs.NextestVersion.Source.{place_of};
+    ghost use Rattle.nextest_config.specs.NextestVersion.ExperimentalDeserialize.{feature_setting_of};
+    ghost use Rattle.nextest_config.specs.NextestVersion.Source.{place_of};
 
     /// The features of no source.
     pub fn new(alloc: Global) -> Self
@@ -154,10 +152,10 @@ impl Merge for ExperimentalConfig {
 
 impl UnknownFeatures {
     ghost use Rattle.nextest_config.specs.NextestVersion.ExperimentalConfig.{entry_at, unknown_of};
-    ghost use Rattle.nextest_config_sources.specs.NextestVersion.Source.{place_of};
+    ghost use Rattle.nextest_config.specs.NextestVersion.Source.{place_of};
 
     // A copy of the names and of their source.
-    #[tactic(auto, using(nextest_config_merge::proofs::Lists::zip_same_images))]
+    #[tactic(auto, using(crate::proofs::Lists::zip_same_images))]
     fn clone(&self, alloc: Global) -> Result<Self, AllocError>
         ensures { IfOk result (λ entry. unknown_of entry ≡ unknown_of self.now) }
     {
@@ -229,7 +227,7 @@ pub struct ArraySources<'a> {
 
 impl<'a> Iterator for ArraySources<'a> {
     ghost use Rattle.nextest_config.specs.NextestVersion.ExperimentalConfig.{arrays_left};
-    ghost use Rattle.nextest_config_sources.specs.NextestVersion.Source.{place_of};
+    ghost use Rattle.nextest_config.specs.NextestVersion.Source.{place_of};
 
     type Item = &'a ConfigSource;
 

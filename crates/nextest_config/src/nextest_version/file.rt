@@ -1,17 +1,16 @@
 //! The files of tools and of a repository.
 
 ghost use Rattle.std.specs.Prelude.{◌≡◌, IfErr, IfOk, option_map, string_bytes};
-ghost use Rattle.nextest_config_merge.specs.Merge.{IsRefusalOfOne};
-ghost use Rattle.nextest_config_sources.specs.NextestVersion.{place_of, under};
-ghost use Rattle.nextest_config.specs.NextestVersion.{configuration_of, file_given, IsErrorOf, refusal_of, StandsForOne};
+ghost use Rattle.nextest_config.specs.Merge.{IsRefusalOfOne};
+ghost use Rattle.nextest_config.specs.NextestVersion.{place_of, under, configuration_of, file_given, IsErrorOf, refusal_of, StandsForOne};
 
 use super::error::ConfigParseError;
 use super::version_only::{VersionOnlyConfig, asks_nothing};
-use nextest_config_merge::merge::PieceRefusal;
-use nextest_config_sources::nextest_version::{ConfigSource, Edition, RepositoryText, ToolText};
+use crate::merge::PieceRefusal;
+use crate::nextest_version::{ConfigSource, Edition, RepositoryText, ToolText};
 use std::alloc::{AllocError, Global};
 
-/// A tool's file or a repository's.
+/// A file that is read as a source: a tool's or a repository's.
 #[derive(Clone, Copy)]
 pub(super) enum File<'a> {
     Tool(&'a ToolText),
@@ -19,7 +18,7 @@ pub(super) enum File<'a> {
 }
 
 impl<'a> File<'a> {
-    /// The configuration of the file.
+    /// The configuration of the file alone, read under the edition.
     pub(super) fn read(
         &self,
         alloc: Global,

@@ -4,8 +4,8 @@ ghost use Rattle.std.specs.Prelude.{◌≡◌, if◌then◌else◌, IfOk, IsOk, 
 ghost use Rattle.semver.specs.Identifiers.{parts_of};
 
 use super::verdict::NextestVersionEval;
-use nextest_config_merge::merge::Merge;
-use nextest_config_sources::nextest_version::{ConfigSource, NextestVersionDeserialize};
+use crate::merge::Merge;
+use crate::nextest_version::{ConfigSource, NextestVersionDeserialize};
 use semver::Version;
 use std::alloc::{AllocError, Global};
 use std::cmp::Ordering;
@@ -58,7 +58,7 @@ impl Default for NextestVersionConfig {
 
 impl NextestVersionReq {
     ghost use Rattle.nextest_config.specs.NextestVersion.KeptVersions.{IsReplacement, join_kept, kept_from, kept_of, kept_version, role_from};
-    ghost use Rattle.nextest_config_sources.specs.NextestVersion.Source.{place_of};
+    ghost use Rattle.nextest_config.specs.NextestVersion.Source.{place_of};
     ghost use Rattle.nextest_config.specs.NextestVersion.Verdict.{not_met};
 
     /// The version. `None`: no source asked for one.
@@ -182,7 +182,7 @@ impl Merge for NextestVersionConfig {
 
     ghost neutral = { no_roles };
 
-    /// Joins each role. It takes no memory.
+    /// Joins what is kept in each role with what a later part keeps in it. It takes no memory.
     fn merge(&mut self, later: &mut Self) -> Result<(), AllocError>
         ensures joined { OnOk result
             (roles_of self.new ≡ join_roles (roles_of self.old) (roles_of later.old)) }
@@ -199,9 +199,9 @@ impl Merge for NextestVersionConfig {
 }
 
 impl NextestVersionConfig {
-    ghost use Rattle.nextest_config_sources.specs.NextestVersion.NextestVersionDeserialize.{versions_of};
+    ghost use Rattle.nextest_config.specs.NextestVersion.NextestVersionDeserialize.{versions_of};
     ghost use Rattle.nextest_config.specs.NextestVersion.KeptVersions.{join_roles, roles_from, roles_of};
-    ghost use Rattle.nextest_config_sources.specs.NextestVersion.Source.{place_of};
+    ghost use Rattle.nextest_config.specs.NextestVersion.Source.{place_of};
     ghost use Rattle.nextest_config.specs.NextestVersion.Verdict.{satisfied, verdict, verdict_of};
 
     /// Takes in what a later source asks: in each role the greater version is kept, and of equal

@@ -4,7 +4,7 @@ ghost use Rattle.std.specs.Prelude.{◌≡◌, IfOk, IsOk, option_map, Some};
 ghost use Rattle.semver.specs.Identifiers.{parts_of};
 ghost use Rattle.nextest_config.specs.NextestVersion.KeptVersions.{kept_from};
 
-use nextest_config_sources::nextest_version::ConfigSource;
+use crate::nextest_version::ConfigSource;
 use semver::Version;
 use std::alloc::{AllocError, Global};
 
@@ -107,7 +107,7 @@ impl NextestVersionEval {
         )
     }
 
-    // The verdict that tells this.
+    // The verdict that tells of the unmet version.
     fn of_unmet(alloc: Global, unmet: UnmetVersion<'_>) -> Result<Self, AllocError>
         ensures { IfOk result (λ eval. verdict_of eval ≡ verdict_of_unmet (Some unmet.entry)) }
     {

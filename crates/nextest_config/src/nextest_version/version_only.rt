@@ -1,20 +1,19 @@
 //! The configuration of a list of sources.
 
 ghost use Rattle.std.specs.Prelude.{◌≡◌, IfOk, IfErr, IsTrue, List, [], ◌∷◌, map, option_map, string_bytes};
-ghost use Rattle.nextest_config_merge.specs.Merge.{IsRefusalOfOne};
-ghost use Rattle.nextest_config_sources.specs.NextestVersion.{given_at, nothing, source_of, source_under, TextAsks, under};
-ghost use Rattle.nextest_config_sources.specs.NextestVersion.Source.{Given};
-ghost use Rattle.nextest_config.specs.NextestVersion.{AreDocumentsOf, configuration_of, experimental_of, IsConfigurationOf, IsErrorOf, IsErrorOfDocument, IsErrorOfReading, IsRefusedReading, neutral, refusal_of, roles_of, source_ask, sources_of, sources_under, StandsForAsks, StandsForDocument, StandsForOne};
-ghost use Rattle.nextest_config_sources.specs.declared.nextest_version.edition.Edition.{Edition};
-ghost use Rattle.nextest_config_sources.specs.declared.nextest_version.source.ConfigSourceKind.{ConfigSourceKind};
+ghost use Rattle.nextest_config.specs.Merge.{IsRefusalOfOne};
+ghost use Rattle.nextest_config.specs.NextestVersion.{given_at, nothing, source_of, source_under, TextAsks, under, AreDocumentsOf, configuration_of, experimental_of, IsConfigurationOf, IsErrorOf, IsErrorOfDocument, IsErrorOfReading, IsRefusedReading, neutral, refusal_of, roles_of, source_ask, sources_of, sources_under, StandsForAsks, StandsForDocument, StandsForOne};
+ghost use Rattle.nextest_config.specs.NextestVersion.Source.{Given};
+ghost use Rattle.nextest_config.specs.declared.nextest_version.edition.Edition.{Edition};
+ghost use Rattle.nextest_config.specs.declared.nextest_version.source.ConfigSourceKind.{ConfigSourceKind};
 
 use super::borrowed_source::BorrowedSource;
 use super::document::SourceDocument;
 use super::error::{ConfigParseError, ListRefusal};
 use super::experimental_config::ExperimentalConfig;
 use super::kept_versions::NextestVersionConfig;
-use nextest_config_merge::merge::{Merge, PieceRefusal, ReadPiece, read_halves};
-use nextest_config_sources::nextest_version::{
+use crate::merge::{Merge, PieceRefusal, ReadPiece, read_halves};
+use crate::nextest_version::{
     ConfigSource, Edition, RepositoryText, SourceText, ToolText, VersionOnlyDeserialize,
 };
 use std::alloc::{AllocError, Global};
@@ -236,7 +235,7 @@ impl ReadPiece for VersionOnlyConfig {
     ghost use Rattle.std.specs.Prelude.{Option};
     ghost use Rattle.std.proofs.Common.{arith};
     ghost use Rattle.nextest_config.specs.NextestVersion.Error.{Refusal, refusal_of};
-    ghost use Rattle.nextest_config_sources.specs.NextestVersion.Source.{source_under};
+    ghost use Rattle.nextest_config.specs.NextestVersion.Source.{source_under};
     ghost use Rattle.nextest_config.specs.NextestVersion.VersionOnly.{configuration_of, IsErrorOf, StandsForOne};
     ghost use Rattle.nextest_config.specs.NextestVersion.VersionOnlyLaws.{one_read};
 

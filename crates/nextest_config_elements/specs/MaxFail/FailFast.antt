@@ -20,20 +20,23 @@ use Rattle.nextest_config_elements.specs.declared.max_fail.fail_fast.MaxFailCoun
 use Rattle.nextest_config_elements.specs.declared.max_fail.TerminateMode.{TerminateMode}
 use Rattle.nextest_config_elements.specs.declared.max_fail.TerminateMode.TheVariants.{Wait, Immediate}
 
--- the keys of the table
+-- the key of how many failures a run may have
 abbrev pub max_fail_key : List ℕ
 max_fail_key = codes "max-fail"
 
+-- the key of how running tests are treated once the limit is reached
 abbrev pub terminate_key : List ℕ
 terminate_key = codes "terminate"
 
+-- the keys of the table `fail-fast`
 abbrev pub fail_fast_keys : List (List ℕ)
 fail_fast_keys = max_fail_key ∷ terminate_key ∷ []
 
--- what the setting takes, and what `max-fail` takes
+-- what `fail-fast` takes, as a refusal says it
 abbrev pub fail_fast_expected : List ℕ
 fail_fast_expected = codes "a boolean or { max-fail = ... }"
 
+-- what `max-fail` takes, as a refusal says it
 abbrev pub max_fail_expected : List ℕ
 max_fail_expected = codes "a positive integer or the string \"all\""
 
@@ -55,7 +58,8 @@ IsExpected held expected =
 
 one_sign : (held : List ℕ) (m n : ℤ) → HasInteger held m → HasInteger held n → pos 0 <ℤ m
     → n ≤ℤ pos 0 → ⊥
-one_sign held m n h k a b = not_both (pos 0) n (subst (λ x. pos 0 <ℤ x) (one_number held m n h.0 k.0) a) b
+one_sign held m n h k a b =
+    not_both (pos 0) n (subst (λ x. pos 0 <ℤ x) (one_number held m n h.0 k.0) a) b
 
 pub one_expected : (held e f : List ℕ) → IsExpected held e → IsExpected held f → e ≡ f
 one_expected held e f a b = search (rules, one_sign)
@@ -72,7 +76,8 @@ expected_by held number has = by_lt_z (pos 0) number (λ positive. (
 
 expected_without : (held : List ℕ) → ((number : ℤ) → ¬ (HasInteger held number))
     → (expected : List ℕ) × IsExpected held expected
-expected_without held none = (codes "the string \"all\" or a positive integer", inr (inr (none, refl)))
+expected_without held none =
+    (codes "the string \"all\" or a positive integer", inr (inr (none, refl)))
 
 expected_fitting : (held : List ℕ) (number : ℤ) → IsNumberText held number
     → IsDecided (FitsSigned w64 number) → (expected : List ℕ) × IsExpected held expected
@@ -96,7 +101,7 @@ max_fail_or_fault held value = elim (same_text_decided held (codes "all")) [
       inr (wrong_value value told.0, (other, told.0, told.1, refl))
 ]
 
--- a text: `all`, in these letters
+-- the reading of `max-fail` by a text that is held: it is `all`, in these letters
 abbrev pub max_fail_in : List ℕ → Reading Data MaxFailCount
 max_fail_in held = record {
   means = λ value count. (held ≡ codes "all") × (count ≡ All);
@@ -112,10 +117,11 @@ max_fail_in held = record {
   };
 }
 
--- an integer that is a count, or a text
+-- the reading of `max-fail`: an integer that is a count, or the text `all`
 abbrev pub max_fail_reading : Reading Data MaxFailCount
 max_fail_reading =
-    kind as_integer (λ number. made_of Count (in_range IsCount count_decided max_fail_expected number))
+    kind as_integer
+    (λ number. made_of Count (in_range IsCount count_decided max_fail_expected number))
     (kind as_str max_fail_in (wrong_kind max_fail_expected))
 
 -- ---- `terminate`
@@ -124,6 +130,7 @@ pub mode_reads_back : (mode : TerminateMode)
     → value_of mode_word (Wait ∷ Immediate ∷ []) (mode_word mode) ≡ Some mode
 mode_reads_back mode = search rules
 
+-- the reading of `terminate`: the word of a mode
 abbrev pub terminate_reading : Reading Data TerminateMode
 terminate_reading = word_reading (Wait ∷ Immediate ∷ []) mode_word mode_reads_back
 
@@ -134,13 +141,14 @@ abbrev pub limit_of : MaxFailCount → TerminateMode → MaxFail
 limit_of (Count number) mode = limits.Count number mode
 limit_of All mode = limits.All
 
--- the table has a count, and may have a mode; other keys don't count
+-- the table `fail-fast` has a count, and may have a mode; other keys don't count
 abbrev pub fail_fast_table : Reading Members MaxFail
 fail_fast_table =
     then (required max_fail_key max_fail_reading) (λ count.
     made_of (limit_of count) (or_default terminate_key Wait terminate_reading))
 
--- a boolean, or a table; a value that is all right always sets a limit
+-- the reading of `fail-fast`: a boolean, or a table, either of which sets a limit (TOML 1.1,
+-- "Boolean" and "Table")
 abbrev pub fail_fast_reading : Reading Data (Option MaxFail)
 fail_fast_reading =
     kind as_bool (λ truth. only (Some (fail_fast_limit truth)))

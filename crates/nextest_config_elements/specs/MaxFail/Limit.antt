@@ -1,4 +1,4 @@
--- The fail limit, and when it is reached.
+-- The fail limit, and when it is reached (nextest's configuration reference).
 use Rattle.std.specs.Prelude.{◌≡◌, ℕ, ◌≤◌, Bool, true, false, List, ◌++◌, codes, Option, Some, None}
 use Rattle.std.specs.Fmt.{decimal}
 use Rattle.nextest_config_elements.specs.declared.max_fail.MaxFail.{MaxFail}
@@ -27,7 +27,7 @@ limit_text All = codes "all"
 limit_text (Count max_fail Wait) = decimal max_fail
 limit_text (Count max_fail Immediate) = decimal max_fail ++ codes ":immediate"
 
--- how it prints, whatever the format asks for: nothing is said of numbers
+-- how a limit prints, whatever the format asks for: nothing is said of numbers
 abbrev pub styled_limit_text : MaxFail → Option (List ℕ)
 styled_limit_text All = Some (limit_text All)
 styled_limit_text (Count max_fail mode) = None

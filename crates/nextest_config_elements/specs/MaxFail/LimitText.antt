@@ -1,4 +1,5 @@
--- Fail limits as texts: `all`, or a count, with or without a colon and a mode.
+-- Fail limits as texts: `all`, or a count, with or without a colon and a mode (nextest's
+-- configuration reference).
 use Rattle.std.specs.Prelude.{◌≡◌, ◌≢◌, ℕ, ◌<◌, ◌^◌, ℤ, pos, neg_ℤ, ◌≤ℤ◌, ◌<ℤ◌, List, [], ◌++◌, codes, ◌⊎◌, Option, Some, None, string_bytes, FitsSigned}
 use Rattle.std.specs.Int.{w64}
 use Rattle.std.specs.Str.{str_to_ascii_lowercase}
@@ -15,7 +16,7 @@ use Rattle.nextest_config_elements.specs.declared.max_fail.MaxFailParseError.The
 use Rattle.nextest_config_elements.specs.declared.max_fail.TerminateMode.{TerminateMode}
 use Rattle.nextest_config_elements.specs.declared.max_fail.TerminateMode.TheVariants.{Wait}
 
--- `all`, in any ASCII letter case
+-- the text is `all`, in any ASCII letter case
 abbrev pub IsAllText : List ℕ → Type 0
 IsAllText text = str_to_ascii_lowercase text ≡ codes "all"
 
@@ -69,7 +70,7 @@ limit_fault (errors.Count text reason) = Some (bad_count (string_bytes text) rea
 limit_fault errors.NotPositive = Some not_positive
 limit_fault errors.Memory = None
 
--- a word that is no mode's
+-- the word is no mode's
 abbrev pub IsNoMode : List ℕ → Type 0
 IsNoMode word = (mode : TerminateMode) → mode_word mode ≢ word
 
@@ -107,7 +108,7 @@ IsLimitFault text fault = IsBadMode text fault
 abbrev pub RefusesLimit : (LimitFault → Type 0) → MaxFailParseError → Type 0
 RefusesLimit IsFault error = FaultOrMemory (limit_fault error) (error ≡ errors.Memory) IsFault
 
--- how a fault prints
+-- how the fault of a text without a limit prints
 abbrev pub limit_fault_text : LimitFault → List ℕ
 limit_fault_text (bad_mode text) = codes "invalid terminate mode '"
     ++ (text ++ codes "', expected 'wait' or 'immediate'")

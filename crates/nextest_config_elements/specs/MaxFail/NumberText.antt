@@ -8,13 +8,13 @@ pub data Sign : Type 0 where
   plus : Sign
   minus : Sign
 
--- how it is written
+-- how a sign is written
 abbrev pub sign_text : Sign → List ℕ
 sign_text unsigned = []
 sign_text plus = codes "+"
 sign_text minus = codes "-"
 
--- the number that it makes of another
+-- the number that a sign makes of another
 abbrev pub signed_number : Sign → ℕ → ℤ
 signed_number minus number = neg_ℤ (pos number)
 signed_number _ number = pos number

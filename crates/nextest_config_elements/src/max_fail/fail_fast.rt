@@ -47,7 +47,7 @@ pub fn read_fail_fast(alloc: Global, value: &Value) -> Result<Option<MaxFail>, V
 }
 
 impl MaxFail {
-    /// The keys of its table at `fail-fast`.
+    /// The keys that the table `fail-fast` may have.
     pub const KEYS: &'static [&'static str] = &[MAX_FAIL_KEY, TERMINATE_KEY];
 }
 

@@ -7,7 +7,7 @@ use crate::tests::blocks::latin_1;
 use crate::tests::runner::Test;
 use crate::tests::words::request;
 use nextest_config_command::FindingCode;
-use nextest_config_explain::{ExampleFile, Explanation, Topic};
+use nextest_config_lint::explain::{ExampleFile, Explanation, Topic};
 use nextest_config_test_rows::compared::tell_apart;
 use nextest_config_test_rows::rows::{compare, copied, cut, done, push, shown, unknown, written};
 use nextest_config_test_rows::runner::Runner;

@@ -44,9 +44,9 @@ $ check --current=0.9.50 --format=full --allow=invalid-type = 0
 >   | ^^^^^^
 > found 0 errors, 1 warning and 0 notes in 1 file
 $ check --current=0.9.50 --format=github --allow=invalid-type = 0
-> ::warning file=.config/nextest.toml,line=2,endLine=2,col=1,endColumn=7,title=unknown-key::unknown key "colour"
+> ::warning file=.config/nextest.toml,line=2,endLine=2,col=1,endColumn=7,title=unknown-key::.config/nextest.toml:2:1: unknown key "colour"
 $ check --current=0.9.49 --format=github = 1
-> ::error file=.config/nextest.toml,line=1,endLine=1,col=19,endColumn=27,title=nextest-version::nextest-version: 0.9.50 required by repository .config/nextest.toml, current 0.9.49
+> ::error file=.config/nextest.toml,line=1,endLine=1,col=19,endColumn=27,title=nextest-version::.config/nextest.toml:1:19: nextest-version: 0.9.50 required by repository .config/nextest.toml, current 0.9.49
 $ check --current=0.9.49 --format=json --override --allow=unknown-key --allow=invalid-type = 0
 > {"path":".config/nextest.toml","line":1,"column":19,"end_line":1,"end_column":27,"severity":"warning","code":"nextest-version","key":"nextest-version","message":"(overridden) 0.9.50 required by repository .config/nextest.toml, current 0.9.49"}
 
@@ -57,10 +57,10 @@ experimental = []
 @ .config/nextest.toml
 experimental = ["benchmarks", "b", "a"]
 $ check --current=0.9.55 --tool-config-file=t:/t.toml --format=github = 0
-> ::warning file=/t.toml,line=1,endLine=1,col=56,endColumn=64,title=nextest-version::nextest-version.recommended: 0.9.60 recommended by tool t (/t.toml), current 0.9.55
-> ::notice file=.config/nextest.toml,line=1,endLine=1,col=16,endColumn=40,title=deprecated-array::experimental: the array form is deprecated, use a table: { benchmarks = true }
-> ::warning file=.config/nextest.toml,line=1,endLine=1,col=31,endColumn=34,title=unknown-feature::experimental[1]: unknown feature "b"
-> ::warning file=.config/nextest.toml,line=1,endLine=1,col=36,endColumn=39,title=unknown-feature::experimental[2]: unknown feature "a"
+> ::warning file=/t.toml,line=1,endLine=1,col=56,endColumn=64,title=nextest-version::/t.toml:1:56: nextest-version.recommended: 0.9.60 recommended by tool t (/t.toml), current 0.9.55
+> ::notice file=.config/nextest.toml,line=1,endLine=1,col=16,endColumn=40,title=deprecated-array::.config/nextest.toml:1:16: experimental: the array form is deprecated, use a table: { benchmarks = true }
+> ::warning file=.config/nextest.toml,line=1,endLine=1,col=31,endColumn=34,title=unknown-feature::.config/nextest.toml:1:31: experimental[1]: unknown feature "b"
+> ::warning file=.config/nextest.toml,line=1,endLine=1,col=36,endColumn=39,title=unknown-feature::.config/nextest.toml:1:36: experimental[2]: unknown feature "a"
 $ check --current=0.9.40 --tool-config-file=t:/t.toml --format=json = 1
 > {"path":"/t.toml","line":1,"column":32,"end_line":1,"end_column":40,"severity":"error","code":"nextest-version","key":"nextest-version.required","message":"0.9.50 required by tool t (/t.toml), current 0.9.40"}
 $ show --tool-config-file=t:/t.toml --format=json = 0
@@ -109,7 +109,7 @@ $ lint a.toml b.toml a.toml --format=full = 1
 > found 3 errors, 0 warnings and 0 notes in 2 files
 $ lint a.toml --allow=not-utf8 --strict = 0
 $ check --current=1.0.0 a.toml --allow=not-utf8 --format=github = 2
-> ::error file=a.toml,line=1,endLine=1,col=6,endColumn=6,title=not-utf8::not UTF-8
+> ::error file=a.toml,line=1,endLine=1,col=6,endColumn=6,title=not-utf8::a.toml:1:6: not UTF-8
 "#;
 
 #[test]

@@ -130,13 +130,13 @@ zone = 1
 overrides = 1
 retrie = 1
 $ lint --tool-config-file=t:/t.toml --tool-config-file=u:/u.toml = 1
-> /u.toml:1:5: error: * [not-toml]
+> /u.toml:1:5: error: *, did you mean false [not-toml]
 > /t.toml:1:16: error: experimental: experimental features in a tool configuration: "a", "benchmarks" [tool-features]
 > .config/nextest.toml:2:3: error: not UTF-8 [not-utf8]
 $ check --current=1.0.0 = 2
 > .config/nextest.toml:2:3: error: not UTF-8 [not-utf8]
 $ check --current=1.0.0 --tool-config-file=u:/u.toml --config-file=ci.toml = 2
-> /u.toml:1:5: error: * [not-toml]
+> /u.toml:1:5: error: *, did you mean false [not-toml]
 > ci.toml:2:13: error: profile.ci.overrides: invalid type: integer `1`, expected an array [invalid-type]
 > ci.toml:3:1: warning: profile.ci: unknown key "retrie", did you mean "retries" [unknown-key]
 $ check --current=1.0.0 --tool-config-file=t:/t.toml --config-file=ci.toml --strict --override = 2
@@ -146,14 +146,14 @@ $ check --current=1.0.0 --tool-config-file=t:/t.toml --config-file=ci.toml --str
 $ show = 2
 > .config/nextest.toml:2:3: error: not UTF-8 [not-utf8]
 $ show --config-file=/u.toml = 2
-> /u.toml:1:5: error: * [not-toml]
+> /u.toml:1:5: error: *, did you mean false [not-toml]
 $ show --tool-config-file=t:/t.toml other = 2
 > /t.toml:1:16: error: experimental: experimental features in a tool configuration: "a", "benchmarks" [tool-features]
 ! no configuration file: other/.config/nextest.toml isn't there
 $ lint --tool-config-file=u:/u.toml --config-file=ci.toml --format=github --strict = 1
-> ::error file=/u.toml,line=1,endLine=1,col=5,endColumn=10,title=not-toml::*
-> ::error file=ci.toml,line=2,endLine=2,col=13,endColumn=14,title=invalid-type::profile.ci.overrides: invalid type: integer `1`, expected an array
-> ::warning file=ci.toml,line=3,endLine=3,col=1,endColumn=7,title=unknown-key::profile.ci: unknown key "retrie", did you mean "retries"
+> ::error file=/u.toml,line=1,endLine=1,col=5,endColumn=10,title=not-toml::/u.toml:1:5: *, did you mean false
+> ::error file=ci.toml,line=2,endLine=2,col=13,endColumn=14,title=invalid-type::ci.toml:2:13: profile.ci.overrides: invalid type: integer `1`, expected an array
+> ::warning file=ci.toml,line=3,endLine=3,col=1,endColumn=7,title=unknown-key::ci.toml:3:1: profile.ci: unknown key "retrie", did you mean "retries"
 
 === a version out of its grammar
 @ .config/nextest.toml
@@ -218,7 +218,7 @@ $ lint --tool-config-file=t:/t.toml = 0
 $ lint --strict = 1
 > .config/nextest.toml:2:12: warning: profile.ci.inherits: no file defines the profile "base" [undefined-profile]
 $ lint --tool-config-file=u:/u.toml = 1
-> /u.toml:1:5: error: * [not-toml]
+> /u.toml:1:5: error: *, did you mean false [not-toml]
 $ check --current=1.0.0 --strict = 1
 > satisfied: 1.0.0
 > known: none
@@ -341,15 +341,15 @@ retries = { backoff = "fixed", count = 1, "a\r\nb%:," = 1 }
 $ lint --config-file=a:b,c%d.toml = 1
 > a:b,c%d.toml:2:13: error: profile."x%y".overrides: invalid type: string "50%: a,b", expected an array [invalid-type]
 $ lint --config-file=a:b,c%d.toml --format=github = 1
-> ::error file=a%3Ab%2Cc%25d.toml,line=2,endLine=2,col=13,endColumn=23,title=invalid-type::profile."x%25y".overrides: invalid type: string "50%25: a,b", expected an array
+> ::error file=a%3Ab%2Cc%25d.toml,line=2,endLine=2,col=13,endColumn=23,title=invalid-type::a:b,c%25d.toml:2:13: profile."x%25y".overrides: invalid type: string "50%25: a,b", expected an array
 $ lint --config-file=a←¶b.toml = 1
 > a\r\nb.toml:1:42: warning: nextest-version: unknown key "zone" [unknown-key]
 > a\r\nb.toml:3:11: error: profile.ci.retries: unknown field `a\r\nb%:,`, expected one of `count`, `delay`, `jitter` [unknown-field]
 $ lint --config-file=a←¶b.toml --format=github = 1
-> ::warning file=a%0D%0Ab.toml,line=1,endLine=1,col=42,endColumn=46,title=unknown-key::nextest-version: unknown key "zone"
-> ::error file=a%0D%0Ab.toml,line=3,endLine=3,col=11,endColumn=60,title=unknown-field::profile.ci.retries: unknown field `a%0D%0Ab%25:,`, expected one of `count`, `delay`, `jitter`
+> ::warning file=a\r\nb.toml,line=1,endLine=1,col=42,endColumn=46,title=unknown-key::a\r\nb.toml:1:42: nextest-version: unknown key "zone"
+> ::error file=a\r\nb.toml,line=3,endLine=3,col=11,endColumn=60,title=unknown-field::a\r\nb.toml:3:11: profile.ci.retries: unknown field `a\r\nb%25:,`, expected one of `count`, `delay`, `jitter`
 $ show --config-file=a←¶b.toml = 0
-> required: 0.9.50 by explicit a←¶b.toml
+> required: 0.9.50 by explicit a\r\nb.toml
 > recommended: none
 > known: none
 > profiles: default, default-miri, ci
@@ -487,7 +487,9 @@ $ show --config-file=d = 3
 $ lint typo-folder = 3
 ! typo-folder: nothing is there
 $ lint /a.toml /b.toml typo = 3
+> /a.toml:1:1: warning: unknown key "zone" [unknown-key]
 ! /b.toml: Permission denied (os error 13)
+! typo: nothing is there
 $ lint - = 3
 ! <stdin>: Input/output error (os error 5)
 $ lint --default-path=/a.toml = 3

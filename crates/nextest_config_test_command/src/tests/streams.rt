@@ -14,10 +14,11 @@ const NOT_FLUSHED: &str = "(not flushed)";
 // What an odd call of a writer answers: how many bytes it takes at most, or why it fails.
 type Odd = Result<usize, ErrorKind>;
 
-const ODD: [Odd; 4] = [
+const ODD: [Odd; 5] = [
     Ok(0),
     Ok(1),
     Err(ErrorKind::Interrupted),
+    Err(ErrorKind::StorageFull),
     Err(ErrorKind::BrokenPipe),
 ];
 
@@ -34,9 +35,9 @@ const PLAIN: Manner = Manner {
     odd: None,
 };
 
-const BROKEN: Manner = Manner {
+const FULL: Manner = Manner {
     step: 16,
-    odd: Some((0, Err(ErrorKind::BrokenPipe))),
+    odd: Some((0, Err(ErrorKind::StorageFull))),
 };
 
 // How the two streams of a run are, that for what it writes and that for what it complains of.
@@ -115,15 +116,15 @@ fn check_odd(rt: &impl Runner, files: &MemoryFiles, run: &Run<'_>, odd: Odd) {
         let odd = Some((call, odd));
         compare_run(rt, files, run, (PLAIN, Manner { step: 1, odd }));
         if calls > 0 && call < run.complaint.len() {
-            compare_run(rt, files, run, (BROKEN, Manner { step: 1, odd }));
+            compare_run(rt, files, run, (FULL, Manner { step: 1, odd }));
         }
     }
 }
 
 // How often the run calls a writer that takes 16 bytes a call: not at all where a file can't be
-// read.
+// read, and no other is told.
 fn written_calls(run: &Run<'_>) -> usize {
-    if run.status == "3" {
+    if run.status == "3" && run.output.is_empty() {
         0
     } else {
         run.output.len().div_ceil(16).saturating_add(1)
@@ -148,18 +149,26 @@ fn ended(rt: &impl Runner, files: &MemoryFiles, request: &Request, manners: Mann
 }
 
 // How it is to end. Where the writer fails, the status is 3, and the run complains of that at last,
-// whatever became of what it said before; where a complaint fails, the status and the output stay.
+// whatever became of what it said before, unless who reads is gone; where a complaint fails, the
+// status and the output stay.
 fn wanted(rt: &impl Runner, run: &Run<'_>, manners: Manners) -> String {
     let (is_written, output) = taken(rt, manners.0, run.output.as_str());
     let (_, complaint) = taken(rt, manners.1, run.complaint.as_str());
     let wanted = if is_written {
         let status = run.status;
         format!(in rt.alloc(); "{status} | {output} | {complaint}")
+    } else if is_reader_gone(manners.0) {
+        format!(in rt.alloc(); "3 | {output} | {complaint}")
     } else {
         let said = complaint.as_str().trim_end_matches(NOT_FLUSHED);
         format!(in rt.alloc(); "3 | {output} | {said}cannot write output\n")
     };
     done(rt, wanted)
+}
+
+// Whether a call of a writer of this manner says that who reads is gone.
+fn is_reader_gone(manner: Manner) -> bool {
+    matches!(manner.odd, Some((_, Err(ErrorKind::BrokenPipe))))
 }
 
 // Whether a writer of this manner takes the text, and what is then told of it. An interrupted write

@@ -2,10 +2,10 @@
 //! `=`.
 
 use crate::tests::blocks::characters;
+use nextest_config::nextest_version::Edition;
 use nextest_config_command::{
     Check, FindingCode, LintOptions, RepositoryFile, Request, Task, Words,
 };
-use nextest_config_sources::nextest_version::Edition;
 use nextest_config_test_rows::rows::{done, unknown};
 use nextest_config_test_rows::runner::Runner;
 use nextest_config_test_rows::values::{FromRow, word};

@@ -16,6 +16,7 @@
 
 use crate::ThisCrate;
 use crate::blocks::{Block, document, kind};
+use nextest_config::nextest_version::ConfigSource;
 use nextest_config_elements::global_timeout::GlobalTimeout;
 use nextest_config_elements::junit::JunitFlakyFailStatus;
 use nextest_config_elements::leak_timeout::LeakTimeout;
@@ -24,11 +25,9 @@ use nextest_config_elements::report_skip_policy::ReportSkipPolicy;
 use nextest_config_elements::retry_policy::{FlakyResult, RetryPolicy};
 use nextest_config_elements::slow_timeout::SlowTimeout;
 use nextest_config_elements::threads_required::ThreadsRequired;
-use nextest_config_positions::PartialIndex;
 use nextest_config_profiles::{
     Effective, EffectiveProfile, InheritsPlace, Layer, Leaf, ProfileFault, Setting,
 };
-use nextest_config_sources::nextest_version::ConfigSource;
 use nextest_config_test_rows::rows::{compare, copied, done, push, shown, unknown, written};
 use nextest_config_test_rows::runner::Runner;
 use nextest_config_test_rows::told::{self, Told, answered};
@@ -36,6 +35,7 @@ use nextest_config_test_rows::values::{names, word};
 use std::collections::BTreeSet;
 use std::fmt::{Debug, Display};
 use toml::Table;
+use toml_spans::PartialIndex;
 
 // A file of a list.
 #[derive(Drop)]

@@ -1,7 +1,7 @@
 -- Leaving out a fraction.
 use Rattle.std.proofs.Common.{◌≡◌, ℕ, Bool, true, false, List, [], ◌∷◌, ◌++◌, refl, rules}
 use Rattle.std.specs.Char.{is_ascii_digit}
-use Rattle.nextest_config_values.specs.Characters.{dot}
+use Rattle.toml_spans.specs.Characters.{dot}
 use Rattle.nextest_config_values.specs.Duration.{IsRun}
 use Rattle.nextest_config_values.specs.Duration.Unjudged.{before_by, begins_with_digit, without_fractions_after}
 use Rattle.nextest_config_values.specs.Duration.Unjudged.Before.{digit, fraction}

@@ -1,7 +1,7 @@
 -- Each text has a longest front of items, and so a duration or a fault; and what TOML values mean
 -- as durations.
 use Rattle.std.proofs.Common.{◌≡◌, ◌≢◌, ℕ, ◌≤◌, ◌<◌, ◌+◌, Bool, List, [], ◌∷◌, ◌++◌, length, Option, Some, None, zero, suc, refl, sym, ap, ◌∙◌, subst, inl, inr, rules, arith}
-use Rattle.std.specs.Prelude.{chars, codes, ◌*◌, ◌^◌, ◌⊎◌}
+use Rattle.std.specs.Prelude.{chars, ◌*◌, ◌^◌, ◌⊎◌}
 use Rattle.std.proofs.lemmas.Bool.{cases_Bool, cases_lt}
 use Rattle.std.proofs.lemmas.List.{append_assoc, append-nil, length-append}
 use Rattle.std.specs.Char.{is_ascii_digit, is_whitespace}
@@ -309,6 +309,6 @@ abbrev pub duration_in : List ℕ → Reading Data ℕ
 duration_in held = one_that (IsDuration held) (one_duration held) (duration_or_none held)
     (λ value. fault_here (no_duration (found_text value)))
 
--- that many nanoseconds
+-- the reading of a duration: a text that is one, as that many nanoseconds
 abbrev pub duration_reading : Reading Data ℕ
 duration_reading = kind as_str duration_in (wrong_kind duration_expected)

@@ -5,7 +5,7 @@ use Rattle.std.specs.Char.{is_ascii_digit, is_whitespace}
 use Rattle.std.specs.Duration.{FitsDuration}
 use Rattle.std.specs.List.{AllByRecursion}
 use Rattle.std.specs.Str.Parse.{digits_value}
-use Rattle.nextest_config_values.specs.Characters.{micro_sign}
+use Rattle.toml_spans.specs.Characters.{micro_sign}
 use Rattle.nextest_config_values.specs.Read.Word.{value_of}
 use Rattle.nextest_config_values.specs.declared.duration.DurationFault.{DurationFault}
 use Rattle.nextest_config_values.specs.declared.duration.DurationFault.TheVariants as faults
@@ -47,7 +47,8 @@ unit_length = length_in units
 
 -- ---- characters
 
--- a character that words of units are made of: neither white space nor an ASCII digit
+-- a character that words of units are made of: neither white space (Unicode, White_Space) nor an
+-- ASCII digit
 abbrev pub is_in_word : ℕ → Bool
 is_in_word c = not (is_whitespace c) && not (is_ascii_digit c)
 
@@ -60,7 +61,7 @@ abbrev pub BeginsWith : (ℕ → Bool) → List ℕ → Type 0
 BeginsWith kind [] = ⊥
 BeginsWith kind (c ∷ cs) = IsTrue (kind c)
 
--- the last one is
+-- the last character is of this kind
 abbrev pub EndsWith : (ℕ → Bool) → List ℕ → Type 0
 EndsWith kind [] = ⊥
 EndsWith kind (c ∷ []) = IsTrue (kind c)
@@ -78,7 +79,7 @@ pub record Item : Type 0 where
   pub number : ℕ
   pub unit : ℕ
 
--- white space, the digits of the number, white space, and a word of the unit
+-- the text of an item: white space, the digits of the number, white space, and a word of the unit
 pub record IsItemText (text : List ℕ) (item : Item) : Type 0 where
   pub space : List ℕ
   pub digits : List ℕ
@@ -92,7 +93,7 @@ pub record IsItemText (text : List ℕ) (item : Item) : Type 0 where
   pub gap_is_white : AreAll is_whitespace gap
   pub unit_is : unit_length word ≡ Some item.unit
 
--- one item after the other, and white space after the last
+-- items spell a text: that of one item after the other, and white space after the last
 abbrev pub Spells : List Item → List ℕ → Type 0
 Spells [] text = AreAll is_whitespace text
 Spells (item ∷ items) text = (here behind : List ℕ) × (text ≡ here ++ behind) × IsItemText here item
@@ -102,17 +103,17 @@ Spells (item ∷ items) text = (here behind : List ℕ) × (text ≡ here ++ beh
 abbrev pub IsUncut : List ℕ → List ℕ → Type 0
 IsUncut front behind = EndsWith is_in_word front → ¬ BeginsWith is_in_word behind
 
--- the number is at most 2^64 - 1
+-- the number of the item is at most 2^64 - 1
 abbrev pub HasNumberThatFits : Item → Type 0
 HasNumberThatFits item = item.number < 2 ^ 64
 
--- the sum of number times unit
+-- the length of items in nanoseconds: the sum of number times unit
 abbrev pub total : List Item → ℕ
 total [] = 0
 total (item ∷ items) = item.number * item.unit + total items
 
 -- the text is that many nanoseconds: one item or more, and their sum is at most (2^64 - 1) s and
--- 999999999 ns
+-- 999999999 ns, the greatest `Duration` of std
 pub record IsDuration (text : List ℕ) (nanoseconds : ℕ) : Type 0 where
   pub items : List Item
   pub some : items ≢ []
@@ -131,7 +132,8 @@ pub record IsFront (text front behind : List ℕ) (items : List Item) : Type 0 w
   pub fit : AllByRecursion HasNumberThatFits items
   pub uncut : IsUncut front behind
 
--- the longest one
+-- the longest of the text's fronts that are white space or are spelled by items whose numbers fit,
+-- and that don't end inside a word
 pub record IsLongestFront (text front behind : List ℕ) (items : List Item) : Type 0 where
   pub is_front : IsFront text front behind items
   pub longest : (other rest : List ℕ) (others : List Item) → IsFront text other rest others

@@ -126,7 +126,7 @@ next_of_item text item behind h over =
       of_word = record { inside = all_in_word h.word word; over = over };
     }
 
--- and in front of them its white space
+-- the white space in front of an item is a run, as long as can be
 space_of_item : (text : List ℕ) (item : Item) (behind : List ℕ) (h : IsItemText text item)
     → IsRun is_whitespace h.space (h.digits ++ (h.gap ++ (h.word ++ behind)))
 space_of_item text item behind h =

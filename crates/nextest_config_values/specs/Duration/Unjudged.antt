@@ -1,7 +1,7 @@
 -- Texts that are durations once fractions and gaps in numbers are left out of them.
 use Rattle.std.specs.Prelude.{◌≡◌, ℕ, ◌==◌, ◌&&◌, ◌||◌, Bool, true, false, List, [], ◌∷◌, codes, chars, encode_utf8_all, if◌then◌else◌, ◌⊎◌}
 use Rattle.std.specs.Char.{is_ascii_digit, is_whitespace}
-use Rattle.nextest_config_values.specs.Characters.{dot}
+use Rattle.toml_spans.specs.Characters.{dot}
 use Rattle.nextest_config_values.specs.Duration.Grammar.{IsDuration}
 
 -- a digit comes next
@@ -52,7 +52,7 @@ without_gaps_after after_digit (c ∷ cs) =
     if after_digit && (is_whitespace c && space_then_digit cs) then without_gaps_after true cs
     else c ∷ without_gaps_after (is_ascii_digit c) cs
 
--- the text without the white space between two digits
+-- the text without the white space (Unicode, White_Space) between two digits
 abbrev pub without_gaps : List ℕ → List ℕ
 without_gaps = without_gaps_after false
 

@@ -1,6 +1,6 @@
--- Relative paths, and the join of two paths.
+-- Relative paths, and the join of two paths, by the rules of Unix.
 use Rattle.std.specs.Prelude.{◌≡◌, ℕ, ◌==◌, Bool, false, List, [], ◌∷◌, ◌++◌, reverse, codes, if◌then◌else◌, ◌⊎◌}
-use Rattle.nextest_config_values.specs.Characters.{slash}
+use Rattle.toml_spans.specs.Characters.{slash}
 
 -- the text begins with a slash
 abbrev pub BeginsWithSlash : List ℕ → Type 0

@@ -12,10 +12,11 @@ use Rattle.nextest_config_values.specs.Read.FromToml.{Reading}
 use Rattle.nextest_config_values.specs.Read.Plain.{text_expected}
 use Rattle.nextest_config_values.specs.Read.Readings.{in_memory, kind, one_that, wrong_kind}
 
--- the segments, as `split` gives them
+-- the byte is a slash
 abbrev pub is_slash : ℕ → Bool
 is_slash b = eqb b 47
 
+-- the segments of a path, which stand between its slashes, as `split` gives them
 abbrev pub segments : List ℕ → List (List ℕ)
 segments = slice_split is_slash
 
@@ -150,5 +151,6 @@ relative_path_in held =
     (path_or_none held)
     (λ value. wrong_value value (codes "a relative path with no parent components")))
 
+-- the reading of a relative path: a text that is one, kept as it is written
 abbrev pub relative_path_reading : Reading Data (List ℕ)
 relative_path_reading = kind as_str relative_path_in (wrong_kind text_expected)

@@ -1,7 +1,7 @@
--- The grammar of identifiers, by the characters of a normal form.
+-- The grammar of identifiers, by the characters of a normal form; their parts are those of UAX 31.
 use Rattle.std.specs.Prelude.{◌≡◌, ◌≢◌, ℕ, List, ◌∷◌, ◌++◌, codes, chars, ◌⊎◌}
 use Rattle.std.specs.List.{AllByRecursion}
-use Rattle.nextest_config_values.specs.Characters.{colon}
+use Rattle.toml_spans.specs.Characters.{colon}
 use Rattle.nextest_config_values.specs.Helpers.Identifiers.{IsPlainFlaw, IsPlainIdentifier}
 use Rattle.nextest_config_values.specs.declared.helpers.identifiers.InvalidIdentifierKind.{InvalidIdentifierKind}
 use Rattle.nextest_config_values.specs.Identifier.Error.{Component, IdentifierFlaw, NameFault, OneComponent, Whole}
@@ -15,12 +15,12 @@ tool_mark = codes "@tool:"
 abbrev pub HasNoColon : List ℕ → Type 0
 HasNoColon = AllByRecursion (λ c. c ≢ colon)
 
--- cut at its first colon
+-- the text is cut at its first colon
 pub record IsCutAtColon (text before after : List ℕ) : Type 0 where
   pub cut : text ≡ before ++ (colon ∷ after)
   pub first : HasNoColon before
 
--- an identifier without a tool
+-- the characters don't begin with the mark of a tool identifier
 abbrev pub IsUnmarked : List ℕ → Type 0
 IsUnmarked cs = (rest : List ℕ) → cs ≢ tool_mark ++ rest
 
@@ -46,11 +46,11 @@ IsIdentifierFlaw cs OneComponent = (rest : List ℕ) × (cs ≡ tool_mark ++ res
 IsIdentifierFlaw cs (Component kind) = (rest tool name : List ℕ) × (cs ≡ tool_mark ++ rest)
     × IsCutAtColon rest tool name × AreFlawed tool name kind
 
--- the text's identifier
+-- the text is an identifier, and this is its normal form (UAX 15)
 abbrev pub IsIdentifier : List ℕ → List ℕ → Type 0
 IsIdentifier = IsNormalText IsIdentifierForm
 
--- the fault of a text without one
+-- the fault of a text that is no identifier
 abbrev pub IsIdentifierFault : List ℕ → NameFault IdentifierFlaw → Type 0
 IsIdentifierFault = IsNormalFault IsIdentifierFlaw
 
@@ -62,6 +62,6 @@ pub record AreComponents (text tool name : List ℕ) : Type 0 where
   pub tool_uncut : HasNoColon tool
   pub name_uncut : HasNoColon name
 
--- a kept tool identifier
+-- the text is a kept tool identifier
 abbrev pub IsMarked : List ℕ → Type 0
 IsMarked text = (tool name : List ℕ) × AreComponents text tool name

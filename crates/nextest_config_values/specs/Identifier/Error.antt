@@ -1,7 +1,7 @@
 -- Why a text was refused as an identifier or as a tool name, without where the text lies in memory,
 -- and how it prints.
 use Rattle.std.specs.Prelude.{ℕ, List, [], ◌++◌, Option, Some, None, codes, string_bytes}
-use Rattle.nextest_config_values.specs.Read.Text.{quoted_text}
+use Rattle.toml_spans.specs.QuotedText.{quoted_text}
 use Rattle.nextest_config_values.specs.declared.helpers.identifiers.InvalidIdentifierKind.TheVariants.{Empty, InvalidXid}
 pub use Rattle.nextest_config_values.specs.declared.identifier.error.IdentifierFlaw.{IdentifierFlaw}
 pub use Rattle.nextest_config_values.specs.declared.identifier.error.IdentifierFlaw.TheVariants.{Whole, OneComponent, Component}

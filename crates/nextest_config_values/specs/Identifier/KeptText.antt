@@ -7,7 +7,7 @@ use Rattle.nextest_config_values.specs.declared.identifier.kept_text.Place.TheVa
 abbrev pub inline_capacity : ℕ
 inline_capacity = 23
 
--- the text is kept within the value
+-- the text is short enough to be kept within the value
 abbrev pub FitsInline : List ℕ → Type 0
 FitsInline text = length text ≤ inline_capacity
 

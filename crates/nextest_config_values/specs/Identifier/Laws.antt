@@ -296,6 +296,7 @@ module _ {Flaw : Type 0} (IsInGrammar : List ℕ → Type 0) (IsFlaw : List ℕ 
     };
   }
 
+  -- the reading of a name: a text whose normal form is of the grammar, and no other kind of value
   abbrev pub name_reading : (NameFault Flaw → Reason) → Reading Data (List ℕ)
   name_reading reason = kind as_str (name_in reason) (wrong_kind text_expected)
 
@@ -311,14 +312,14 @@ one_tool_name_or_fault =
     one_name_or_fault IsPlainIdentifier IsToolNameFlaw tool_name_or_flaw one_tool_name_flaw
     tool_name_not_flawed
 
--- an identifier
+-- the reading of an identifier: a text that is one, kept in its normal form
 abbrev pub identifier_reading : Reading Data (List ℕ)
 identifier_reading =
     name_reading IsIdentifierForm IsIdentifierFlaw identifier_or_flaw one_identifier_flaw
     identifier_not_flawed
     identifier
 
--- a tool name
+-- the reading of a tool name: a text that is one, kept in its normal form
 abbrev pub tool_name_reading : Reading Data (List ℕ)
 tool_name_reading =
     name_reading IsPlainIdentifier IsToolNameFlaw tool_name_or_flaw one_tool_name_flaw

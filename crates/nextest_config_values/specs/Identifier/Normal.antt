@@ -31,6 +31,6 @@ abbrev pub IsNormalFault : {Flaw : Type 0} → (List ℕ → Flaw → Type 0) �
 IsNormalFault IsFlaw text (flawed flaw named) = IsFlaw (normal_chars text) flaw
     × (named ≡ normal_form text)
 
--- the same answers
+-- two predicates hold of the same things
 abbrev pub SameAnswers : {X : Type 0} → (X → Type 0) → (X → Type 0) → Type 0
 SameAnswers {X} P Q = (x : X) → P x ↔ Q x

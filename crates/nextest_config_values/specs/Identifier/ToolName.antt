@@ -1,24 +1,25 @@
--- The grammar of tool names, by the characters of a normal form.
+-- The grammar of tool names, by the characters of a normal form: that of UAX 31, with `-`.
 use Rattle.std.specs.Prelude.{◌≡◌, ◌≢◌, ℕ, List, [], ◌++◌, codes}
 use Rattle.nextest_config_values.specs.Helpers.Identifiers.{IsPlainIdentifier}
 use Rattle.nextest_config_values.specs.Identifier.Error.{NameFault, ToolNameFlaw}
 use Rattle.nextest_config_values.specs.declared.identifier.error.ToolNameFlaw.TheVariants.{Empty, StartsWithToolPrefix, InvalidXid}
 use Rattle.nextest_config_values.specs.Identifier.Normal.{IsNormalFault, IsNormalText}
 
--- what no tool name begins with
+-- the characters begin with `@tool`, as no tool name may
 abbrev pub BeginsWithTool : List ℕ → Type 0
 BeginsWithTool cs = (rest : List ℕ) × (cs ≡ codes "@tool" ++ rest)
 
--- the first that applies: empty, reserved for tool identifiers, not of the form
+-- the flaw of characters that are no tool name, the first that applies: they are empty, are
+-- reserved for tool identifiers, or aren't of the form
 abbrev pub IsToolNameFlaw : List ℕ → ToolNameFlaw → Type 0
 IsToolNameFlaw cs Empty = cs ≡ []
 IsToolNameFlaw cs StartsWithToolPrefix = BeginsWithTool cs
 IsToolNameFlaw cs InvalidXid = (cs ≢ []) × ¬ (BeginsWithTool cs) × ¬ (IsPlainIdentifier cs)
 
--- the tool name that the text is
+-- the text is a tool name, and this is its normal form (UAX 15)
 abbrev pub IsToolName : List ℕ → List ℕ → Type 0
 IsToolName = IsNormalText IsPlainIdentifier
 
--- the fault of a text that is none
+-- the fault of a text that is no tool name
 abbrev pub IsToolNameFault : List ℕ → NameFault ToolNameFlaw → Type 0
 IsToolNameFault = IsNormalFault IsToolNameFlaw

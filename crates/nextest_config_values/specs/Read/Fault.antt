@@ -5,8 +5,10 @@ use Rattle.semver.specs.Identifiers.{parts_of, parts_text}
 use Rattle.semver.specs.Parse.{Parts}
 use Rattle.toml.specs.Data.{Data}
 use Rattle.nextest_config_values.specs.Identifier.Error.{IdentifierFlaw, NameFault, ToolNameFlaw, identifier_fault, identifier_fault_text, tool_name_fault, tool_name_fault_text}
-use Rattle.nextest_config_values.specs.Read.Step.{path_along, path_of, PathStep, step_of}
-use Rattle.nextest_config_values.specs.Read.Text.{FaultOrMemory, found_text, quoted_text, told_text}
+use Rattle.toml_spans.specs.Step.{PathStep, step_of}
+use Rattle.nextest_config_values.specs.Read.Step.{path_along, path_of}
+use Rattle.toml_spans.specs.QuotedText.{quoted_text}
+use Rattle.nextest_config_values.specs.Read.Text.{FaultOrMemory, found_text, told_text}
 use Rattle.nextest_config_values.specs.declared.read.fault.ReadFault.{ReadFault}
 use Rattle.nextest_config_values.specs.declared.read.fault.FaultKind.{FaultKind}
 use Rattle.nextest_config_values.specs.declared.read.value_fault.FaultCause.{FaultCause}
@@ -95,6 +97,7 @@ cause_of (causes.NoDuration found) = Some (no_duration (string_bytes found))
 cause_of (causes.Missing key) = Some (missing_key (string_bytes key))
 cause_of (causes.Told kind) = option_map as_told (reason_of kind)
 
+-- the fault with these steps and this cause
 abbrev pub fault_with : List PathStep → Cause → Fault
 fault_with steps cause = record { steps = steps; cause = cause }
 
@@ -102,7 +105,7 @@ fault_with steps cause = record { steps = steps; cause = cause }
 abbrev pub fault_of : ValueFault → Option Fault
 fault_of fault = option_map (fault_with (map step_of fault.steps.items)) (cause_of fault.cause)
 
--- memory was refused
+-- the fault says that memory was refused
 abbrev pub IsMemory : ValueFault → Type 0
 IsMemory fault = fault.cause ≡ causes.Told kinds.Memory
 
@@ -114,12 +117,13 @@ told_with path reason = record { path = path; reason = reason }
 abbrev pub told_of : ReadFault → Option ToldFault
 told_of fault = option_map (told_with (string_bytes fault.path)) (reason_of fault.kind)
 
--- memory was refused, and nothing else is told
+-- the fault tells that memory was refused, at the empty path
 abbrev pub TellsMemory : ReadFault → Type 0
 TellsMemory fault = (string_bytes fault.path ≡ []) × (fault.kind ≡ kinds.Memory)
 
 -- ---- what is told of a fault
 
+-- what a reader of durations expects
 abbrev pub duration_expected : List ℕ
 duration_expected = codes "a duration"
 
@@ -156,11 +160,12 @@ rule_text max_delay_below_delay =
 rule_text (priority_outside priority) =
     codes "priority " ++ (signed_decimal priority ++ codes " must be between -100 and 100")
 
--- what was found, and what was expected
+-- what was found and what was expected, as a reason prints them
 abbrev pub mismatch_text : List ℕ → List ℕ → List ℕ
 mismatch_text found expected = found ++ (codes ", expected " ++ expected)
 
--- an unknown name, and the known ones
+-- an unknown name, whose first backquote stands before it, and the known ones, as a reason prints
+-- them
 abbrev pub unknown_text : List ℕ → List ℕ → List ℕ
 unknown_text found expected = found ++ (codes "`, expected " ++ expected)
 
@@ -232,7 +237,7 @@ missing key = fault_here (missing_key key)
 
 -- ---- refusals
 
--- memory is refused whatever the value is
+-- memory is wanted whatever the value is
 abbrev pub Always : Type 0
 Always = Unit {0}
 
@@ -249,17 +254,17 @@ RefusesAs expected = Refuses (λ fault. fault ≡ expected) Always
 abbrev pub RefusesOne : (Fault → Type 0) → ValueFault → Type 0
 RefusesOne IsFault = Refuses IsFault ((fault : Fault) × IsFault fault)
 
--- the refusal of this kind
+-- the refusal is what a kind of fault says, of the value itself, or memory was refused
 abbrev pub RefusesKind : FaultKind → ValueFault → Type 0
 RefusesKind kind fault = FaultOrMemory (reason_of kind) (IsMemory fault)
     (λ reason. RefusesAs (fault_here (as_told reason)) fault)
 
--- this is told, or that memory was refused
+-- the refusal tells this, or that memory was refused
 abbrev pub TellsAs : ToldFault → ReadFault → Type 0
 TellsAs expected fault =
     FaultOrMemory (told_of fault) (TellsMemory fault) (λ told. told ≡ expected)
 
--- the kind of the refusal of a name: running out of memory is that of the whole
+-- the kind of fault says why a name is refused; or memory was refused, and the kind says that
 abbrev pub IsNameKind : {Flaw : Type 0} → (NameFault Flaw → Reason) → Option (NameFault Flaw)
     → FaultKind → Type 0
 IsNameKind reason told kind =

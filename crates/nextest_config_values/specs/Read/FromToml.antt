@@ -31,7 +31,7 @@ pub record IsRefusal {X : Type 0} (means : X → Type 0) (IsFault : Fault → Ty
     (fault : ValueFault) : Type 0 where
   pub told : Refuses IsFault (WantsMemory means takes) fault
 
--- the refusal of a value
+-- a value is refused by a reading: for a fault of it; or memory was refused where it was wanted
 abbrev pub RefusesBy : {D X : Type 0} → Reading D X → D → ValueFault → Type 0
 RefusesBy reading value =
     IsRefusal (reading.means value) (reading.faults value) (reading.takes_memory value)
@@ -41,7 +41,8 @@ abbrev pub faults_at : {D X : Type 0} → Reading D X → D → List ℕ → Tol
 faults_at reading value at told =
     (fault : Fault) × reading.faults value fault × (told ≡ told_at at fault)
 
--- the refusal of a value at a path
+-- a value at a path is refused by a reading: its fault is told there; or memory was refused where
+-- it was wanted
 abbrev pub RefusesAt : {D X : Type 0} → Reading D X → D → List ℕ → ReadFault → Type 0
 RefusesAt reading value at fault = FaultOrMemory (told_of fault)
     (TellsMemory fault × WantsMemory (reading.means value) (reading.takes_memory value))

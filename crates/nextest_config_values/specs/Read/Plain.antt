@@ -11,11 +11,11 @@ use Rattle.nextest_config_values.specs.Read.Readings.{in_memory, kind, one_that,
 abbrev pub text_expected : List ℕ
 text_expected = codes "a string"
 
--- a boolean
+-- the reading of a boolean (TOML 1.1, "Boolean")
 abbrev pub bool_reading : Reading Data Bool
 bool_reading = kind as_bool only (wrong_kind (codes "a boolean"))
 
--- a text
+-- the reading of a text (TOML 1.1, "String")
 abbrev pub text_reading : Reading Data (List ℕ)
 text_reading = in_memory (kind as_str only (wrong_kind text_expected))
 
@@ -39,12 +39,13 @@ pub number_or_none : (IsIn : ℕ → Type 0) → ((number : ℕ) → IsDecided (
 number_or_none IsIn decided (pos number) = in_or_out IsIn number (decided number)
 number_or_none IsIn decided (negsuc below) = inr (λ x meant. cc meant.0)
 
--- an integer of the range
+-- the reading by an integer that is held: it is a number of the range, or the value is wrong
 abbrev pub in_range : (IsIn : ℕ → Type 0) → ((number : ℕ) → IsDecided (IsIn number)) → List ℕ → ℤ
     → Reading Data ℕ
 in_range IsIn decided expected held = one_that (MeansNumber IsIn held) (one_number IsIn held)
     (number_or_none IsIn decided held) (λ value. wrong_value value expected)
 
+-- the reading of an integer of a range (TOML 1.1, "Integer")
 abbrev pub number_reading : (IsIn : ℕ → Type 0) → ((number : ℕ) → IsDecided (IsIn number)) → List ℕ
     → Reading Data ℕ
 number_reading IsIn decided expected =
@@ -57,6 +58,7 @@ IsU32 number = number < 2 ^ 32
 pub u32_decided : (number : ℕ) → IsDecided (IsU32 number)
 u32_decided number = below_decided number (2 ^ 32)
 
+-- the reading of an integer that fits a u32
 abbrev pub u32_reading : Reading Data ℕ
 u32_reading = number_reading IsU32 u32_decided (codes "u32")
 
@@ -68,5 +70,6 @@ pub count_decided : (number : ℕ) → IsDecided (IsCount number)
 count_decided number =
     both_decided (below_decided 0 number) (below_decided number (2 ^ 64))
 
+-- the reading of a count
 abbrev pub count_reading : Reading Data ℕ
 count_reading = number_reading IsCount count_decided (codes "a nonzero usize")

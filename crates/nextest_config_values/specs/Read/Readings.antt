@@ -6,7 +6,7 @@ use Rattle.nextest_config_values.specs.Decisions.{IsDecided, IsFoundOrNone}
 use Rattle.nextest_config_values.specs.Once.{HasMeaningOrFault}
 use Rattle.nextest_config_values.specs.Read.Fault.{Always, as_told, BrokenRule, custom, Fault, fault_below, fault_here, wrong_type, wrong_value}
 use Rattle.nextest_config_values.specs.Read.FromToml.{Reading}
-use Rattle.nextest_config_values.specs.Read.Step.{PathStep}
+use Rattle.toml_spans.specs.Step.{PathStep}
 
 -- this result, whatever the value is
 abbrev pub only : {D X : Type 0} → X → Reading D X
@@ -58,7 +58,7 @@ one_that {D} {X} Holds one found fault_of = record {
   };
 }
 
--- a value of another kind than the expected one
+-- a value of another kind (of those of TOML 1.1) than the expected one
 abbrev pub wrong_kind : {X : Type 0} → List ℕ → Reading Data X
 wrong_kind expected = no_value (λ value. wrong_type value expected)
 
@@ -358,5 +358,6 @@ meaning {D} {X} reading = record {
 abbrev pub NoData : Type 0
 NoData = Unit {0}
 
+-- what is handed to a reading of nothing
 abbrev pub no_data : NoData
 no_data = tt

@@ -1,16 +1,6 @@
--- Steps from a value to what stands below it, and the paths that refusals print of them.
-use Rattle.std.specs.Prelude.{ℕ, List, [], ◌∷◌, ◌++◌, codes, decimal, string_bytes}
-use Rattle.nextest_config_values.specs.declared.read.step.Step.{Step}
-use Rattle.nextest_config_values.specs.declared.read.step.Step.TheVariants.{Index, Key}
-
--- a step: a key of a table, or an index of an array
-pub data PathStep : Type 0 where
-  key : List ℕ → PathStep
-  index : ℕ → PathStep
-
-abbrev pub step_of : Step → PathStep
-step_of (Key text) = key (string_bytes text)
-step_of (Index place) = index place
+-- The paths that refusals print of values.
+use Rattle.std.specs.Prelude.{ℕ, List, [], ◌∷◌, ◌++◌, codes, decimal}
+use Rattle.toml_spans.specs.Step.{index, key, PathStep}
 
 -- the path of a key in the table at a path
 abbrev pub path_of : List ℕ → List ℕ → List ℕ

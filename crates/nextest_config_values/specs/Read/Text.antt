@@ -1,32 +1,8 @@
 -- The texts of values in refusals.
-use Rattle.std.specs.Prelude.{ℕ, ◌==◌, Option, Some, None, List, [], ◌∷◌, ◌++◌, map, flat_map, codes, encode_utf8, if◌then◌else◌}
-use Rattle.std.specs.Char.{is_control}
-use Rattle.std.specs.Char.Escape.{escape_unicode}
+use Rattle.std.specs.Prelude.{ℕ, Option, Some, None, List, [], ◌∷◌, ◌++◌, map, codes, if◌then◌else◌}
 use Rattle.std.specs.Fmt.{signed_decimal}
-use Rattle.std.specs.Str.{chars}
 use Rattle.toml.specs.Data.{Data, string, integer, float, boolean, datetime, array, table}
-use Rattle.nextest_config_values.specs.Characters.{backslash, carriage_return, double_quote, line_feed, nul, tab}
-
--- a character with no escape of its own: as `\u{..}` with its code in lower case hexadecimal, where
--- it is a control character (U+0000 to U+001F, U+007F to U+009F)
-abbrev pub unnamed_character : ℕ → List ℕ
-unnamed_character c = if is_control c then flat_map encode_utf8 (escape_unicode c)
-    else encode_utf8 c
-
--- a character between the quotes
-abbrev pub quoted_character : ℕ → List ℕ
-quoted_character c =
-    if c == double_quote then codes "\\\""
-    else if c == backslash then codes "\\\\"
-    else if c == line_feed then codes "\\n"
-    else if c == carriage_return then codes "\\r"
-    else if c == tab then codes "\\t"
-    else if c == nul then codes "\\0"
-    else unnamed_character c
-
--- a text between double quotes
-unfoldable pub quoted_text : List ℕ → List ℕ
-quoted_text text = codes "\"" ++ (flat_map quoted_character (chars text) ++ codes "\"")
+use Rattle.toml_spans.specs.QuotedText.{quoted_text}
 
 -- texts with a comma and a space between
 abbrev pub comma_list : List (List ℕ) → List ℕ
@@ -38,7 +14,7 @@ comma_list (text ∷ next ∷ rest) = text ++ (codes ", " ++ comma_list (next �
 abbrev pub quoted_texts : List (List ℕ) → List ℕ
 quoted_texts texts = comma_list (map quoted_text texts)
 
--- a value, as a refusal says that it was found
+-- a value, as a refusal says that it was found: by its kind, of those of TOML 1.1
 abbrev pub found_text : Data → List ℕ
 found_text (boolean truth) =
     codes "boolean `" ++ ((if truth then codes "true" else codes "false") ++ codes "`")

@@ -3,7 +3,8 @@
 ghost use Rattle.std.specs.Prelude.{◌≡◌, ◌++◌, [], Some, string_bytes};
 ghost use Rattle.std.specs.Fmt.{WritesOnOk, WritesStyledOnOk};
 ghost use Rattle.nextest_config_values.specs.Identifier.{flawed, identifier_fault, identifier_fault_text, tool_name_fault, tool_name_fault_text};
-ghost use Rattle.nextest_config_values.specs.Read.{quoted_text, told_text};
+ghost use Rattle.toml_spans.specs.QuotedText.{quoted_text};
+ghost use Rattle.nextest_config_values.specs.Read.{told_text};
 ghost use Rattle.nextest_config_values.specs.declared.helpers.identifiers.InvalidIdentifierKind.TheVariants as kinds;
 ghost use Rattle.nextest_config_values.specs.declared.identifier.error.IdentifierFlaw.TheVariants as identifiers;
 ghost use Rattle.nextest_config_values.specs.declared.identifier.error.ToolNameFlaw.TheVariants as names;

@@ -6,12 +6,12 @@ ghost use Rattle.nextest_config_values.specs.Identifier.Error.{identifier_fault,
 ghost use Rattle.nextest_config_values.specs.Read.{broken_rule, identifier, IsNameKind, kind_text, path_text, reason_of, rule_text, styled_kind_text, styled_rule_text, TellsMemory, told_of, tool_name};
 ghost use Rattle.nextest_config_values.specs.declared.read.fault.FaultKind.TheVariants.{Memory};
 
-use super::text::QuotedText;
 use crate::identifier::{InvalidIdentifier, InvalidToolName};
 use semver::Version;
 use std::alloc::{AllocError, Global};
 use std::error::Error;
 use std::fmt::{self, Display};
+use toml_spans::QuotedText;
 
 /// A refused TOML value: the path of its key, empty for the value that was handed in, and the
 /// reason.

@@ -7,17 +7,17 @@ ghost use Rattle.nextest_config_values.specs.declared.read.fault.FaultKind.TheVa
 ghost use Rattle.nextest_config_values.specs.declared.read.value_fault.FaultCause.TheVariants as causes;
 
 use super::fault::{FaultKind, ReadFault};
-use super::step::Step;
 use super::text::found_text;
 use std::alloc::{AllocError, Global};
 use std::fmt::Write;
 use toml::Value;
+use toml_spans::Step;
 
 /// What is wrong with a value that a reader refuses, for readers that are made of others: a reader
 /// of a table adds the key of the value that it refuses. [`ValueFault::at`] gives what is told.
 #[derive(Debug, PartialEq, Eq, Drop)]
 pub struct ValueFault {
-    /// From the value to what is wrong.
+    /// The steps from the value to what is wrong.
     pub steps: Vec<Step>,
     pub cause: FaultCause,
 }
@@ -30,7 +30,7 @@ pub enum FaultCause {
     NoDuration { found: String },
     /// The table lacks this key.
     Missing { key: String },
-    /// For this reason, wherever the value stands.
+    /// The value is refused for this reason, wherever it stands.
     Told(FaultKind),
 }
 

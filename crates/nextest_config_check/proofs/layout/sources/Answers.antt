@@ -1,7 +1,7 @@
 -- Each block adds its source; a faulty one is the first line that is no source line where one has to be.
 use Rattle.std.proofs.Common.{◌≡◌, [], ◌∷◌, ◌++◌, map, rules}
 use Rattle.std.proofs.lemmas.List.{map_push}
-use Rattle.nextest_config_sources.specs.NextestVersion.{given_of}
+use Rattle.nextest_config.specs.NextestVersion.{given_of}
 use Rattle.nextest_config_check.proofs.Blocks.{faulty_line, sources_before-push}
 use Rattle.nextest_config_check.proofs.layout.sources.Goals as goal
 

@@ -1,7 +1,7 @@
 use Rattle.std.proofs.Common.{length, map}
 use denote.Text.{Utf8}
 use denote.Shadow.{shadow}
-use Rattle.nextest_config_sources.specs.NextestVersion.{given_of}
+use Rattle.nextest_config.specs.NextestVersion.{given_of}
 use Rattle.nextest_config_check.specs.Layout.{AreSourcesBefore}
 use Rattle.nextest_config_check.proofs.layout.sources.Given as goal
 

@@ -2,9 +2,8 @@ use Rattle.std.proofs.Common.{map, subst, subst₂, sym}
 use mathlib.Core.List.{map-map}
 use Rattle.std.proofs.lemmas.Result.{IfOk-weaker}
 use Rattle.semver.specs.Identifiers.{parts_of}
-use Rattle.nextest_config_sources.specs.NextestVersion.{given_of, under}
-use Rattle.nextest_config.specs.NextestVersion.{configuration_of, IsRefusalOf, SelectsFor, StandsFor, verdict}
-use Rattle.nextest_config_merge.specs.declared.merge.PieceRefusal.TheVariants as refusals
+use Rattle.nextest_config.specs.NextestVersion.{given_of, under, configuration_of, IsRefusalOf, SelectsFor, StandsFor, verdict}
+use Rattle.nextest_config.specs.declared.merge.PieceRefusal.TheVariants as refusals
 use Rattle.nextest_config_check.specs.Report.{IsReport, read_list, refused_list}
 use Rattle.nextest_config.proofs.Refusals.{text_of_told}
 use Rattle.nextest_config_check.proofs.report.report_on_sources.Goals as goal

@@ -7,7 +7,7 @@ use Rattle.nextest_config_command.proofs.answer.check_with.Goals as goal
 
 pub returns-then-fails : goal.returns-then-fails
 returns-then-fails c = λ configuration listed selected told.
-    rw c.writes.ensures (not_enough configuration (verdict_of c.args.eval.now) (string_bytes c.args.front) listed selected (search rules) told)
+    rw (c.writes.ensures, c.in_format-text.ensures) (not_enough configuration (verdict_of c.args.eval.now) (string_bytes c.args.front) listed selected (search rules) told)
 
 pub returns : goal.returns
 returns c = λ configuration listed selected told.
@@ -16,4 +16,4 @@ returns c = λ configuration listed selected told.
     let check = c.args.check.now in
     let text : string_bytes c.push_str.new.self ≡ string_bytes c.args.front ++ lint_text check.lint.format lint.found = search rules in
     let status : c.status_found-status.result ≡ status_found check.lint.strict (files_of c.args.files.now) (status_checked check.lint.strict v (summary_of lint.found)) = search rules in
-    rw (c.writes-2.ensures, text, status) (enough configuration v (string_bytes c.args.front) lint.found listed selected (search rules) told lint.are_found)
+    rw (c.writes-2.ensures, c.in_format.ensures, text, status) (enough configuration v (string_bytes c.args.front) lint.found listed selected (search rules) told lint.are_found)

@@ -10,7 +10,7 @@ shown_text-requires c =
 pub returns-in_ok-text-in-Some : goal.returns-in_ok-text-in-Some
 returns-in_ok-text-in-Some c =
     let listed = rw c.in-Some.is at c.in_ok-config.ensures in
-    rw c.writes.ensures (shown (configuration_of c.in-Some.config) _ listed.1 c.in_ok-text-in-Some.ensures)
+    rw (c.writes.ensures, c.in_show_format-text.ensures) (shown (configuration_of c.in-Some.config) _ listed.1 c.in_ok-text-in-Some.ensures)
 
 pub returns-in_ok-lint-in-None : goal.returns-in_ok-lint-in-None
 returns-in_ok-lint-in-None c =

@@ -1,9 +1,9 @@
 use Rattle.std.proofs.Common.{◌≡◌, ◌∙◌, IsSome, map, refl, Some, sym}
 use Rattle.toml.specs.Parse.{parse_document}
 use Rattle.toml.specs.View.{table_view}
-use Rattle.nextest_config_positions.specs.Line.{found_in}
-use Rattle.nextest_config_positions.specs.Step.{step_of}
-use Rattle.nextest_config_sources.specs.NextestVersion.{place_of}
+use Rattle.toml_spans.specs.Line.{found_in}
+use Rattle.toml_spans.specs.Step.{step_of}
+use Rattle.nextest_config.specs.NextestVersion.{place_of}
 use Rattle.nextest_config_command.proofs.AskedVersions.{asked_here, asks_nowhere}
 use Rattle.nextest_config_command.specs.Asked.{IsRangeAt}
 use Rattle.nextest_config_command.proofs.asked.asked_by.Goals as goal

@@ -1,5 +1,5 @@
 use Rattle.std.proofs.Common.{map}
-use Rattle.nextest_config_sources.specs.NextestVersion.{place_of}
+use Rattle.nextest_config.specs.NextestVersion.{place_of}
 use Rattle.nextest_config_command.specs.Asked.{NoneAsks}
 use Rattle.nextest_config_command.proofs.asked.asked_in.Given as goal
 

@@ -1,4 +1,4 @@
-use Rattle.nextest_config_sources.specs.NextestVersion.{place_of}
+use Rattle.nextest_config.specs.NextestVersion.{place_of}
 use Rattle.nextest_config_command.specs.Asked.{asked_of, AsksAt, IsAskedBy, NoneAsks}
 use Rattle.nextest_config_command.proofs.AskedVersions.{any_left, any_right, none_of_either}
 use Rattle.nextest_config_command.proofs.asked.asked_version.Goals as goal

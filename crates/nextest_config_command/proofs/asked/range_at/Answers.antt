@@ -1,4 +1,4 @@
-use Rattle.nextest_config_positions.specs.Index.{IsIndexOf}
+use Rattle.toml_spans.specs.Index.{IsIndexOf}
 use Rattle.nextest_config_command.proofs.AskedVersions.{range_told}
 use Rattle.nextest_config_command.proofs.asked.range_at.Goals as goal
 

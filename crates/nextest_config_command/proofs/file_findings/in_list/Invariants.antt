@@ -1,5 +1,5 @@
 use Rattle.std.proofs.Common.{List, map, take}
-use Rattle.nextest_config_findings.specs.Defined.{IsDefinedBy, ListFile}
+use Rattle.nextest_config_lint.specs.Defined.{IsDefinedBy, ListFile}
 use Rattle.nextest_config_command.specs.FileFindings.{found_of, IsFoundIn, judging_of}
 use Rattle.nextest_config_command.specs.Positions.{AllZipFrom}
 use Rattle.nextest_config_command.proofs.file_findings.in_list.Given as goal

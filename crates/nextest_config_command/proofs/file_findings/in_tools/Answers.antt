@@ -1,8 +1,8 @@
 use Rattle.std.proofs.Common.{◌≡◌, [], ◌++◌, map, rules}
 use Rattle.std.proofs.lemmas.List.{map-append, nil_from_length}
 use Rattle.std.proofs.lemmas.Result.{IfOk-weaker}
-use Rattle.nextest_config_merge.proofs.Lists.{zip_joined}
-use Rattle.nextest_config_findings.specs.Defined as findings
+use Rattle.nextest_config.proofs.Lists.{zip_joined}
+use Rattle.nextest_config_lint.specs.Defined as findings
 use Rattle.nextest_config_command.specs.FileFindings.{AreListed, IsListFile}
 use Rattle.nextest_config_command.proofs.file_findings.in_tools.Goals as goal
 
@@ -23,4 +23,5 @@ returns c =
     rw (c.in_ok-append.ensures.items, map-append findings.file_of c.in_ok-list.list.items c.in_ok-rest.rest.items)
     (zip_joined IsListFile _ _ _ _ (rw c.as_slice.ensures.value at c.in_ok-list.ensures) (rw c.as_slice-2.ensures.value at c.in_ok-rest.ensures))
     in
-    IfOk-weaker c.in_list.result _ _ (λ found each. (list, listed, rw c.as_slice-4.ensures.value at (each list (rw c.as_slice-3.ensures.value at c.in_ok-defined.ensures)))) c.in_list.ensures
+    let defined = rw (c.as_slice-3.ensures.value, c.in_ok-push_unread.ensures) at c.in_ok-defined.ensures in
+    IfOk-weaker c.in_list.result _ _ (λ found each. (list, listed, rw c.as_slice-4.ensures.value at (each _ defined))) c.in_list.ensures

@@ -1,8 +1,8 @@
 use Rattle.std.proofs.Common.{map}
 use Rattle.std.proofs.lemmas.List.{map-append}
 use Rattle.nextest_config.specs.NextestVersion.{AreDocumentsOf, IsDocumentOf}
-use Rattle.nextest_config_merge.proofs.Lists.{zip_joined}
-use Rattle.nextest_config_values.proofs.Elements.{all_joined, all_left, all_right}
+use Rattle.nextest_config.proofs.Lists.{zip_joined}
+use Rattle.toml_spans.proofs.Elements.{all_joined, all_left, all_right}
 use Rattle.nextest_config_command.specs.FileList.{AreDocuments, given_file, IsDocumentFile}
 use Rattle.nextest_config_command.proofs.file_list.all_documents.Goals as goal
 

@@ -1,8 +1,8 @@
 use Rattle.std.proofs.Common.{◌∷◌, [], map, take}
 use Rattle.std.proofs.lemmas.List.{map_push, take_more}
 use Rattle.nextest_config.specs.NextestVersion.{IsDocumentOf}
-use Rattle.nextest_config_merge.proofs.Lists.{zip_push}
-use Rattle.nextest_config_values.proofs.Elements.{all_joined}
+use Rattle.nextest_config.proofs.Lists.{zip_push}
+use Rattle.toml_spans.proofs.Elements.{all_joined}
 use Rattle.nextest_config_command.specs.FileList.{given_file, IsDocumentFile}
 use Rattle.nextest_config_command.proofs.file_list.documents.Goals as goal
 

@@ -1,7 +1,7 @@
 use Rattle.std.proofs.lemmas.List.{map_more, map_push}
 use Rattle.std.proofs.lemmas.Result.{err_from_is_err_and}
-use Rattle.nextest_config_merge.proofs.Lists.{map-around, zip_push}
-use Rattle.nextest_config_sources.specs.NextestVersion.{place_of}
+use Rattle.nextest_config.proofs.Lists.{map-around, zip_push}
+use Rattle.nextest_config.specs.NextestVersion.{place_of}
 use Rattle.nextest_config_command.specs.Files.{file_of, IsThere, IsUnreadAt}
 use Rattle.nextest_config_command.proofs.FirstFailures.{first_fails}
 use Rattle.nextest_config_command.proofs.found.read_sources.Goals as goal

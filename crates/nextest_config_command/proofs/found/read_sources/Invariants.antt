@@ -1,6 +1,6 @@
 use Rattle.std.proofs.Common.{map, take}
 use Rattle.std.specs.List.{AllZip}
-use Rattle.nextest_config_sources.specs.NextestVersion.{place_of}
+use Rattle.nextest_config.specs.NextestVersion.{place_of}
 use Rattle.nextest_config_command.specs.Files.{file_of, IsThere}
 use Rattle.nextest_config_command.proofs.found.read_sources.Given as goal
 

@@ -1,5 +1,5 @@
 use Rattle.std.proofs.Common.{◌≡◌, map}
-use Rattle.nextest_config_sources.specs.NextestVersion.{place_of, tool_place}
+use Rattle.nextest_config.specs.NextestVersion.{place_of, tool_place}
 use Rattle.nextest_config_command.proofs.found.tool_sources.Given as goal
 
 abbrev pub invariant-loop-tool : goal.invariant-loop-tool

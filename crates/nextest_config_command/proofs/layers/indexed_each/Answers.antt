@@ -1,6 +1,6 @@
 use Rattle.std.proofs.Common.{subst, sym}
 use Rattle.std.proofs.lemmas.List.{take_more}
-use Rattle.nextest_config_merge.proofs.Lists.{zip_push}
+use Rattle.nextest_config.proofs.Lists.{zip_push}
 use Rattle.nextest_config_command.specs.FileList.{IsDocumentFile}
 use Rattle.nextest_config_command.specs.Layers.{IsIndexed}
 use Rattle.nextest_config_command.proofs.LayersOfFiles.{one_of_all}

@@ -1,6 +1,6 @@
 use Rattle.std.specs.List.{AllZip}
-use Rattle.nextest_config_merge.proofs.Lists.{zip_joined}
-use Rattle.nextest_config_values.proofs.Elements.{all_left, all_right}
+use Rattle.nextest_config.proofs.Lists.{zip_joined}
+use Rattle.toml_spans.proofs.Elements.{all_left, all_right}
 use Rattle.nextest_config_command.specs.FileList.{IsDocumentFile}
 use Rattle.nextest_config_command.specs.Layers.{IsIndexed}
 use Rattle.nextest_config_command.proofs.layers.indexed_files.Goals as goal

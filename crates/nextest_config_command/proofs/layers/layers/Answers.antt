@@ -1,6 +1,6 @@
 use Rattle.std.proofs.Common.{refl}
 use Rattle.std.proofs.lemmas.List.{take_more}
-use Rattle.nextest_config_merge.proofs.Lists.{zip_push}
+use Rattle.nextest_config.proofs.Lists.{zip_push}
 use Rattle.nextest_config_command.specs.Layers.{IsLent}
 use Rattle.nextest_config_command.proofs.layers.layers.Goals as goal
 

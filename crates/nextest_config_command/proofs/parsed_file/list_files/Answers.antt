@@ -1,6 +1,6 @@
 use Rattle.std.proofs.lemmas.List.{map_push, take_more}
-use Rattle.nextest_config_merge.proofs.Lists.{zip_push}
-use Rattle.nextest_config_findings.specs.Defined as findings
+use Rattle.nextest_config.proofs.Lists.{zip_push}
+use Rattle.nextest_config_lint.specs.Defined as findings
 use Rattle.nextest_config_command.specs.FileFindings.{IsListFile}
 use Rattle.nextest_config_command.proofs.parsed_file.list_files.Goals as goal
 

@@ -10,7 +10,7 @@ returns-then-lint-gt0 c =
     faulty lint.found
     (errors_refuse c.args.edition (files_of c.args.files.now) lint.found c.in_ok-lint.lint.summary lint.are_found lint.summary c.if-lint-gt0.true)
     lint.are_found
-    (rw (c.says.ensures, lint.text, c.lint_format.ensures))
+    (rw (c.says.ensures, c.in_show_format-said.ensures, lint.text, c.lint_format.ensures))
 
 pub profile_in-requires : goal.profile_in-requires
 profile_in-requires c =

@@ -1,12 +1,22 @@
-use Rattle.std.proofs.Common.{sym, ◌∙◌}
-use Rattle.nextest_config_command.proofs.CutShort.{told_cut_short, told_served, unanswered_cut_short}
+use Rattle.nextest_config_command.proofs.CutShort.{told_ended, unanswered_ended}
+use Rattle.nextest_config_command.proofs.ShownToPeople.{nothing_added, told_says, told_writes, unanswered_says}
+use Rattle.std.proofs.KnownBytes.{Keeps-refl}
 use Rattle.nextest_config_command.proofs.streams.serve.Goals as goal
 
-pub returns-in-Ok-clause-served : goal.returns-in-Ok-clause-served
-returns-in-Ok-clause-served g c = told_served _ _ _ _ _ _ _ _ _ _ _ c.in-Ok.ensures.reply c.code.ensures c.tell.ensures
+pub returns-in-Ok-clause-ended : goal.returns-in-Ok-clause-ended
+returns-in-Ok-clause-ended g c = told_ended _ _ _ _ _ _ _ _ _ _ _ _ c.in-Ok.ensures.reply c.code.ensures c.tell.ensures
 
-pub returns-in-Ok-clause-cut_short : goal.returns-in-Ok-clause-cut_short
-returns-in-Ok-clause-cut_short g c = λ three. told_cut_short _ _ _ _ _ _ _ _ _ _ c.in-Ok.ensures.reply c.tell.ensures (sym c.code.ensures ∙ three)
+pub returns-in-Ok-clause-writes_printable : goal.returns-in-Ok-clause-writes_printable
+returns-in-Ok-clause-writes_printable g c = λ people. told_writes (g.F.Files.holds c.args.files.now) _ _ _ _ _ _ _ _ _ _ people c.in-Ok.ensures.reply c.tell.ensures
 
-pub returns-in-Err-clause-cut_short : goal.returns-in-Err-clause-cut_short
-returns-in-Err-clause-cut_short g c = λ three. unanswered_cut_short _ _ _ _ _ _ _ _ c.in-Err.ensures.unread c.give_up.ensures.told
+pub returns-in-Ok-clause-says_printable : goal.returns-in-Ok-clause-says_printable
+returns-in-Ok-clause-says_printable g c = λ people. told_says (g.F.Files.holds c.args.files.now) _ _ _ _ _ _ _ _ _ _ people c.in-Ok.ensures.reply c.tell.ensures
+
+pub returns-in-Err-clause-ended : goal.returns-in-Err-clause-ended
+returns-in-Err-clause-ended g c = unanswered_ended _ _ _ _ _ _ _ _ _ _ _ c.in-Err.ensures.unread c.code-in-Err.ensures c.give_up.ensures.status c.give_up.ensures.told
+
+pub returns-in-Err-clause-writes_printable : goal.returns-in-Err-clause-writes_printable
+returns-in-Err-clause-writes_printable g c = λ people. nothing_added _ _ (Keeps-refl _)
+
+pub returns-in-Err-clause-says_printable : goal.returns-in-Err-clause-says_printable
+returns-in-Err-clause-says_printable g c = λ people. unanswered_says (g.F.Files.holds c.args.files.now) c.args.request.now _ _ _ _ c.in-Err.ensures.unread c.give_up.ensures.told

@@ -1,5 +1,5 @@
 use Rattle.std.proofs.Common.{refl}
-use Rattle.nextest_config_values.proofs.Styled.{styled_append}
+use Rattle.toml_spans.proofs.Styled.{styled_append}
 use Rattle.nextest_config_elements.proofs.max_fail.write_named.Goals as goal
 
 pub returns-clause-styled : goal.returns-clause-styled

@@ -32,9 +32,11 @@ returns-in_err-current-clause-fault c =
     let (goes_on, way, starts, is_profile, left, utf8) = c.loop-current.invariant in
     let layers = layers_of c.args.layers.now in
     let name = c.args.name.now in
-    let leads = leads_on layers (words_of c.loop-current.chain.items) name c.loop-current.current.now starts.0 way starts.1 in
+    let current = c.loop-current.current.now in
+    let leads = leads_on layers (words_of c.loop-current.chain.items) name current starts.0 way starts.1 in
+    let other : current ≢ default_profile = told_apart current default_profile c.ne.result c.ne.ensures c.loop-current-test.true in
     passed_on (IsChainFault layers name) c.from_residual-in_err-current.result c.in_err-current.field-0.0 c.from_residual-in_err-current.ensures.1
-    (next_is_wrong layers name c.loop-current.current.now c.in_err-current.field-0.0 leads c.in_err-current.ensures.fault)
+    (next_is_wrong layers name current c.in_err-current.field-0.0 (leads, other) c.in_err-current.ensures.fault)
 
 pub loop-current-preserved : goal.loop-current-preserved
 loop-current-preserved c =
@@ -47,7 +49,7 @@ loop-current-preserved c =
     let other : current ≢ default_profile = told_apart current default_profile c.ne.result c.ne.ensures c.loop-current-test.true in
     let is_next = c.in_ok-current.ensures.next in
     rw c.in_ok-push.ensures (
-      λ rest later. subst (IsChain layers name) (sym (append_assoc chain (current ∷ []) rest)) (goes_on (current ∷ rest) (chain_from layers current next rest other is_next later)),
+      λ rest later. subst (IsChain layers name) (sym (append_assoc chain (current ∷ []) rest)) (goes_on (current ∷ rest) (chain_from layers current next rest is_profile other is_next later)),
       subst (IsWay layers) (sym (append_assoc chain (current ∷ []) (next ∷ []))) (way_more layers chain current next way other is_next),
       (starts.0 ++ next ∷ [], ap (λ names. names ++ next ∷ []) starts.1),
       next_profile_is layers current next is_next,

@@ -1,7 +1,7 @@
 use Rattle.std.proofs.Common.{◌+◌, ◌∷◌, [], drop, inl, map, string_bytes, take}
 use Rattle.std.proofs.lemmas.List.{map_push, take_more}
-use Rattle.nextest_config_merge.proofs.Lists.{map-around}
-use Rattle.nextest_config_values.proofs.Elements.{all_joined}
+use Rattle.nextest_config.proofs.Lists.{map-around}
+use Rattle.toml_spans.proofs.Elements.{all_joined}
 use Rattle.nextest_config_profiles.specs.Effective.{Passes}
 use Rattle.nextest_config_profiles.specs.Reach.{layers_of, words_of}
 use Rattle.nextest_config_profiles.proofs.effective.first_given.Goals as goal

@@ -2,7 +2,7 @@ use Rattle.std.proofs.Common.{◌≡◌, ◌<◌, ◌∷◌, ◌∙◌, ℕ, Lis
 use Rattle.std.proofs.lemmas.List.{length-append, length-map}
 use Rattle.toml.specs.Data.{Data}
 use Rattle.nextest_config_profiles.specs.Chain.{of_inherits}
-use Rattle.nextest_config_profiles.specs.Laid.{Layers}
+use Rattle.nextest_config_profiles.specs.Merged.{Layers}
 use Rattle.nextest_config_profiles.specs.LastValue.{IsLastValue}
 use Rattle.nextest_config_profiles.specs.Layer.{profiles_in}
 use Rattle.nextest_config_profiles.specs.Reach.{layers_of}

@@ -2,7 +2,7 @@ use Rattle.std.proofs.Common.{◌≡◌, [], append-nil, arith, map, take}
 use Rattle.std.proofs.lemmas.List.{take_all, take_more}
 use Rattle.nextest_config_profiles.specs.Reach.{said_below, words_of}
 use Rattle.nextest_config_profiles.specs.Said.{said_at}
-use Rattle.nextest_config_profiles.proofs.LaidOver.{lent, says_long, says_more}
+use Rattle.nextest_config_profiles.proofs.MergedOver.{lent, says_long, says_more}
 use Rattle.nextest_config_profiles.proofs.last_value.last_value.Goals as goal
 
 pub loop-position-preserved : goal.loop-position-preserved

@@ -1,5 +1,5 @@
 use Rattle.toml.specs.View.{view}
-use Rattle.nextest_config_profiles.specs.Laid.{HasNoValue}
+use Rattle.nextest_config_profiles.specs.Merged.{HasNoValue}
 use Rattle.nextest_config_profiles.specs.Leaves.{placed_leaf}
 use Rattle.nextest_config_profiles.specs.Reach.{layers_of, words_of}
 use Rattle.nextest_config_profiles.proofs.Listing.{all_listed, of_layers}

@@ -1,7 +1,7 @@
 use Rattle.std.proofs.Common.{◌≡◌, ◌∷◌, ◌++◌, [], ap, map, rules, subst, sym, ◌∙◌}
 use Rattle.std.proofs.lemmas.List.{map_push}
 use Rattle.std.specs.List.{AllByRecursion}
-use Rattle.nextest_config_values.proofs.Elements.{all_joined}
+use Rattle.toml_spans.proofs.Elements.{all_joined}
 use Rattle.nextest_config_profiles.specs.Leaves.{IsLeafBelow, IsOfLayers, placed, placed_leaf}
 use Rattle.nextest_config_profiles.specs.Reach.{layers_of, words_of}
 use Rattle.nextest_config_profiles.specs.declared.leaves.Leaf.{Leaf}

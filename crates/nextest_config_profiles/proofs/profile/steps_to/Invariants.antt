@@ -1,5 +1,5 @@
 use Rattle.std.proofs.Common.{◌≡◌, map, take}
-use Rattle.nextest_config_positions.specs.Step.{step_of}
+use Rattle.toml_spans.specs.Step.{step_of}
 use Rattle.nextest_config_profiles.specs.Profile.{steps_to}
 use Rattle.nextest_config_profiles.specs.Reach.{words_of}
 use Rattle.nextest_config_profiles.proofs.profile.steps_to.Given as goal

@@ -1,7 +1,7 @@
 use Rattle.std.proofs.Common.{◌∷◌, [], map, sym, take, ⊎_elim, inl, inr}
 use Rattle.std.proofs.lemmas.List.{map_push, take_all, take_more}
 use Rattle.nextest_config_profiles.specs.Profiles.{HasProfile}
-use Rattle.nextest_config_profiles.proofs.LaidOver.{lent}
+use Rattle.nextest_config_profiles.proofs.MergedOver.{lent}
 use Rattle.nextest_config_profiles.proofs.Names.{some_joined, some_left, some_of_one, some_right}
 use Rattle.nextest_config_profiles.proofs.profiles.name_set.Goals as goal
 

@@ -1,7 +1,7 @@
 use Rattle.std.proofs.Common.{◌+◌, ◌∷◌, [], map, refl, take, ⊎_elim, inl}
 use Rattle.std.proofs.lemmas.List.{map_push, take_more}
 use Rattle.nextest_config_profiles.specs.Profiles.{HasProfile}
-use Rattle.nextest_config_profiles.proofs.LaidOver.{lent}
+use Rattle.nextest_config_profiles.proofs.MergedOver.{lent}
 use Rattle.nextest_config_profiles.proofs.Names.{some_joined, some_mapped, some_of_one, some_right, some_within}
 use Rattle.nextest_config_profiles.proofs.profiles.some_has_profile.Goals as goal
 

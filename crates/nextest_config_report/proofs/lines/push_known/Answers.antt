@@ -2,8 +2,8 @@ use Rattle.std.proofs.Common.{◌≡◌, ◌≢◌, ◌∙◌, ℕ, List, [], �
 use Rattle.std.proofs.lemmas.Map.Iter.{iter_end}
 use Rattle.std.proofs.lemmas.Simd.{map-map}
 use Rattle.std.specs.Map.Iter.{deref}
-use Rattle.nextest_config_sources.specs.NextestVersion.{word_of}
-use Rattle.nextest_config_sources.specs.declared.nextest_version.experimental.ConfigExperimental.{ConfigExperimental}
+use Rattle.nextest_config.specs.NextestVersion.{word_of}
+use Rattle.nextest_config.specs.declared.nextest_version.experimental.ConfigExperimental.{ConfigExperimental}
 use Rattle.nextest_config_values.proofs.Joined.{joined_more, separator_after, separator_more}
 use Rattle.nextest_config_values.specs.Read.{comma_list}
 use Rattle.nextest_config_report.specs.Lines.{known_text}

@@ -1,7 +1,7 @@
 use Rattle.std.proofs.Common.{◌≡◌, ◌++◌, map, string_bytes}
 use denote.Text.{Utf8}
 use denote.Shadow.{shadow}
-use Rattle.nextest_config_sources.specs.NextestVersion.{word_of}
+use Rattle.nextest_config.specs.NextestVersion.{word_of}
 use Rattle.nextest_config_values.proofs.Joined.{separator_after}
 use Rattle.nextest_config_values.specs.Read.{comma_list}
 use Rattle.nextest_config_report.proofs.lines.push_known.Given as goal

@@ -9,7 +9,7 @@ pub loop-source-preserved : goal.loop-source-preserved
 loop-source-preserved c =
     rw (
       map_push told_by c.loop-source.yielded (c.in-Some.source, c.in-Some.names),
-      ← flat_map_more unknown_line (string_bytes c.args.text.now),
+      ← flat_map_more (unknown_line c.args.style) (string_bytes c.args.text.now),
       ← c.loop-source.invariant,
     )
     (search rules)

@@ -1,7 +1,7 @@
 use Rattle.std.proofs.Common.{◌≡◌, ℕ, List, [], ◌∷◌, ◌++◌, Bor, map, refl, ap, append_assoc, get_or, take}
 use Rattle.std.proofs.lemmas.List.{take_more}
 use Rattle.std.proofs.lemmas.Simd.{map-map}
-use Rattle.nextest_config_literals.specs.Key.{key_text}
+use Rattle.toml_spans.specs.Step.{key_text}
 use Rattle.nextest_config_values.proofs.Joined.{joined_more, separator_after, separator_more}
 use Rattle.nextest_config_values.specs.Read.{comma_list}
 use Rattle.nextest_config_report.specs.Names.{names_text, texts_of}

@@ -1,7 +1,6 @@
 use Rattle.std.proofs.Common.{rules}
 use Rattle.std.proofs.lemmas.Iterator.Consumers.{YieldsList-end, YieldsList-from_first}
-use Rattle.nextest_config_sources.specs.NextestVersion.{place_of}
-use Rattle.nextest_config.specs.NextestVersion.{arrays_left}
+use Rattle.nextest_config.specs.NextestVersion.{place_of, arrays_left}
 use Rattle.nextest_config_report.specs.Show.{place_data}
 use Rattle.nextest_config_report.proofs.Values.{array_view}
 use Rattle.nextest_config_report.proofs.show.arrays_value.Goals as goal

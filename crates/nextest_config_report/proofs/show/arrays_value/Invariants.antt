@@ -1,6 +1,6 @@
 use Rattle.std.proofs.Common.{◌≡◌, map}
 use Rattle.serde_json.specs.View.{view}
-use Rattle.nextest_config_sources.specs.NextestVersion.{place_of}
+use Rattle.nextest_config.specs.NextestVersion.{place_of}
 use Rattle.nextest_config_report.specs.Show.{place_data}
 use Rattle.nextest_config_report.proofs.show.arrays_value.Given as goal
 

@@ -1,11 +1,10 @@
 use Rattle.std.proofs.Common.{◌≡◌, ◌+◌, ◌<◌, ◌≤◌, ℕ, List, [], ◌∷◌, length, length-append, map, take, Some, refl, sym, ap, subst, ◌∙◌, arith}
 use Rattle.std.specs.List.{AllByRecursion}
-use Rattle.nextest_config_sources.specs.NextestVersion.{source_under}
-use Rattle.nextest_config_sources.specs.NextestVersion.Source.{Source}
-use Rattle.nextest_config.specs.NextestVersion.{configuration_of, Configuration, IsFirstRefused, IsFirstRefusedAmong, IsJoinOf, IsRefusalOf, join_configurations, neutral_seen, Reads, Refusal, refusal_of, seen_configuration, SeenConfiguration}
+use Rattle.nextest_config.specs.NextestVersion.{source_under, configuration_of, Configuration, IsFirstRefused, IsFirstRefusedAmong, IsJoinOf, IsRefusalOf, join_configurations, neutral_seen, Reads, Refusal, refusal_of, seen_configuration, SeenConfiguration}
+use Rattle.nextest_config.specs.NextestVersion.Source.{Source}
 use Rattle.nextest_config.specs.declared.nextest_version.error.ConfigParseError.{ConfigParseError}
-use Rattle.nextest_config_merge.specs.declared.merge.PieceRefusal.{PieceRefusal}
-use Rattle.nextest_config_merge.specs.declared.merge.PieceRefusal.TheVariants.{Refused}
+use Rattle.nextest_config.specs.declared.merge.PieceRefusal.{PieceRefusal}
+use Rattle.nextest_config.specs.declared.merge.PieceRefusal.TheVariants.{Refused}
 use Rattle.nextest_config_test_lists.proofs.Parted.{behind, cut_to, cut_whole, front, front_long, piece, piece_long}
 use Rattle.nextest_config_test_lists.proofs.pieces.add_piece.Goals as goal
 

@@ -1,7 +1,6 @@
 use Rattle.std.proofs.Common.{map, sym, ap, subst, ◌∙◌}
 use Rattle.semver.specs.Identifiers.{parts_of}
-use Rattle.nextest_config_sources.specs.NextestVersion.{source_under}
-use Rattle.nextest_config.specs.NextestVersion.{alone, configuration_of, IsSelected, Roles, verdict}
+use Rattle.nextest_config.specs.NextestVersion.{source_under, alone, configuration_of, IsSelected, Roles, verdict}
 use Rattle.nextest_config.specs.NextestVersion.Verdict.{Verdict}
 use Rattle.nextest_config_test_lists.proofs.pieces.eval_in_pieces.Goals as goal
 

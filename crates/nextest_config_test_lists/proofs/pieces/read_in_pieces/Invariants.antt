@@ -1,6 +1,5 @@
 use Rattle.std.proofs.Common.{◌≤◌, length, map, take}
-use Rattle.nextest_config_sources.specs.NextestVersion.{source_under}
-use Rattle.nextest_config.specs.NextestVersion.{configuration_of, StandsFor}
+use Rattle.nextest_config.specs.NextestVersion.{source_under, configuration_of, StandsFor}
 use Rattle.nextest_config_test_lists.proofs.pieces.read_in_pieces.Given as goal
 
 -- the configuration stands for the sources up to here

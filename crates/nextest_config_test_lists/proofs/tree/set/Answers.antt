@@ -1,5 +1,5 @@
 use Rattle.std.proofs.Common.{length, arith}
-use Rattle.nextest_config_merge.proofs.Halvings.{halvings_digits}
+use Rattle.nextest_config.proofs.Halvings.{halvings_digits}
 use Rattle.nextest_config_test_lists.proofs.tree.set.Goals as goal
 
 pub set-requires-clause-countable : goal.set-requires-clause-countable

@@ -2,10 +2,10 @@ use Rattle.std.proofs.Common.{◌≡◌, ◌∙◌, ℕ, List, None, Option, Som
 use Rattle.std.proofs.lemmas.Option.{none-some}
 use Rattle.std.proofs.lemmas.Result.{IfOk-weaker}
 use Rattle.std.specs.Option.{option_or}
-use Rattle.nextest_config_positions.specs.Index.{IsSpanOf}
-use Rattle.nextest_config_positions.specs.Ranges.{Range}
-use Rattle.nextest_config_positions.specs.declared.place.Span.{Span}
-use Rattle.nextest_config_findings.proofs.Places.{first_of_two}
+use Rattle.toml_spans.specs.Index.{IsSpanOf}
+use Rattle.toml_spans.specs.Ranges.{Range}
+use Rattle.toml_spans.specs.declared.place.Span.{Span}
+use Rattle.nextest_config_lint.proofs.Places.{first_of_two}
 use Rattle.nextest_config_profiles.proofs.layer.Layer.span.Goals as goal
 
 -- without a first range the other one counts

@@ -1,8 +1,7 @@
-use Rattle.std.proofs.Common.{◌≡◌, ◌<◌, ◌-◌, ◌∙◌, None, Option, Some, ap, arith, option_map, sym}
+use Rattle.std.proofs.Common.{◌≡◌, ◌<◌, ◌-◌, None, Some, arith}
 use Rattle.std.specs.List.{slice_get}
 use Rattle.toml.specs.View.{table_view}
 use Rattle.nextest_config_profiles.specs.Layer.{profiles_at}
-use Rattle.nextest_config_profiles.specs.declared.layer.Layer.{Layer}
 use Rattle.nextest_config_profiles.proofs.FilesOfLayers.{has_above, looked_up}
 use Rattle.nextest_config_profiles.proofs.profile.EffectiveProfile.layer.Goals as goal
 

@@ -1,7 +1,7 @@
 use Rattle.std.proofs.Common.{rules, tests, ◌≡◌, ◌==◌, ◌||◌, false}
 use Rattle.std.proofs.lemmas.Iterator.{YieldsList-from_chars, cases_from_all}
 use Rattle.unicode_ident.specs.Ident.{is_xid_continue}
-use Rattle.nextest_config_values.proofs.Elements.{decided_all}
+use Rattle.toml_spans.proofs.Elements.{decided_all}
 use Rattle.nextest_config_values.specs.Helpers.Identifiers.{GoesOn}
 use Rattle.nextest_config_values.proofs.helpers.identifiers.may_follow.Goals as goal
 

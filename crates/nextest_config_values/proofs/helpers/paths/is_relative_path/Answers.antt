@@ -2,7 +2,7 @@ use Rattle.std.proofs.Common.{◌≡◌, ◌≢◌, ◌∙◌, ◌++◌, ap, cod
 use Rattle.std.proofs.lemmas.Iterator.{cases_from_all}
 use Rattle.std.proofs.lemmas.Str.{encode_ascii}
 use Rattle.std.proofs.lemmas.Iterator.Splits.{YieldsList-from_str_split}
-use Rattle.nextest_config_values.proofs.Elements.{decided_all}
+use Rattle.toml_spans.proofs.Elements.{decided_all}
 use Rattle.nextest_config_values.specs.Helpers.Paths.{BeginsWithSlash}
 use Rattle.nextest_config_values.specs.Helpers.PathsLaws.{segments, tells_no_parent}
 use Rattle.nextest_config_values.proofs.helpers.paths.is_relative_path.Goals as goal

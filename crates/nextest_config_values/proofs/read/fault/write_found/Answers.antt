@@ -1,5 +1,5 @@
 use Rattle.std.proofs.Common.{refl}
-use Rattle.nextest_config_values.proofs.Styled.{styled_then}
+use Rattle.toml_spans.proofs.Styled.{styled_then}
 use Rattle.nextest_config_values.proofs.read.fault.write_found.Goals as goal
 
 pub returns-clause-styled : goal.returns-clause-styled

@@ -1,7 +1,7 @@
 use Rattle.std.proofs.Common.{◌≢◌, ◌∙◌}
 use Rattle.std.proofs.lemmas.List.{take_all}
 use Rattle.std.specs.Cmp.Lexicographic.{other_text}
-use Rattle.nextest_config_values.proofs.Elements.{all_more}
+use Rattle.toml_spans.proofs.Elements.{all_more}
 use Rattle.nextest_config_values.proofs.Words.{no_word}
 use Rattle.nextest_config_values.proofs.read.word.find_word.Goals as goal
 

@@ -1,7 +1,7 @@
 use Rattle.std.proofs.Common.{ℕ, length, set, ap, subst, ◌∙◌, arith}
-use Rattle.nextest_config_merge.specs.Choice.Halvings.{halvings}
+use Rattle.nextest_config.specs.Choice.Halvings.{halvings}
 use Rattle.nextest_config.specs.Board.Slots.{BoardState, IsHeld, slot_of}
-use Rattle.nextest_config_merge.proofs.Halvings.{halvings_digits}
+use Rattle.nextest_config.proofs.Halvings.{halvings_digits}
 use Rattle.nextest_config.proofs.Slots.{board_long, held_set}
 use Rattle.nextest_config.proofs.board.config_board.ConfigBoard.change.Goals as goal
 

@@ -2,9 +2,8 @@ use Rattle.std.proofs.Common.{◌∷◌, [], map, reverse, refl, subst}
 use Rattle.std.proofs.lemmas.Iterator.Adapters.{YieldsList-from_rev_slice}
 use Rattle.std.proofs.lemmas.Iterator.Consumers.{YieldsList-at, YieldsList-end}
 use Rattle.std.proofs.lemmas.List.{map-append}
-use Rattle.nextest_config_merge.proofs.Lists.{zip_push}
-use Rattle.nextest_config_sources.specs.NextestVersion.{repository_given, tool_given}
-use Rattle.nextest_config.specs.NextestVersion.{AreGivenAs, IsGivenAs}
+use Rattle.nextest_config.proofs.Lists.{zip_push}
+use Rattle.nextest_config.specs.NextestVersion.{repository_given, tool_given, AreGivenAs, IsGivenAs}
 use Rattle.nextest_config.proofs.nextest_version.borrowed_source.BorrowedSource.of_files.Goals as goal
 
 pub loop-tool-preserved : goal.loop-tool-preserved

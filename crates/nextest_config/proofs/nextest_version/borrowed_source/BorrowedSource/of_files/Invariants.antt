@@ -1,6 +1,5 @@
 use Rattle.std.proofs.Common.{map}
-use Rattle.nextest_config_sources.specs.NextestVersion.{tool_given}
-use Rattle.nextest_config.specs.NextestVersion.{AreGivenAs}
+use Rattle.nextest_config.specs.NextestVersion.{tool_given, AreGivenAs}
 use Rattle.nextest_config.proofs.nextest_version.borrowed_source.BorrowedSource.of_files.Given as goal
 
 abbrev pub invariant-loop-tool : goal.invariant-loop-tool

@@ -1,6 +1,5 @@
-use Rattle.nextest_config_sources.specs.NextestVersion.{feature_setting_of, place_of}
-use Rattle.nextest_config.specs.NextestVersion.{experimental_of, features_from}
-use Rattle.nextest_config_sources.proofs.Orders.{features_in_order}
+use Rattle.nextest_config.specs.NextestVersion.{feature_setting_of, place_of, experimental_of, features_from}
+use Rattle.nextest_config.proofs.SourceOrders.{features_in_order}
 use Rattle.nextest_config.proofs.Orders.{seen_joined}
 use Rattle.nextest_config.proofs.nextest_version.experimental_config.ExperimentalConfig.accumulate.Goals as goal
 

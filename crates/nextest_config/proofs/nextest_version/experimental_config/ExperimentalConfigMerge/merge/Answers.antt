@@ -1,9 +1,8 @@
 use Rattle.std.proofs.Common.{◌++◌, map, ap, ◌∙◌}
 use Rattle.std.proofs.lemmas.List.{map-append}
-use Rattle.nextest_config_sources.specs.NextestVersion.{place_of}
-use Rattle.nextest_config.specs.NextestVersion.{experimental_of, unknown_of}
+use Rattle.nextest_config.specs.NextestVersion.{place_of, experimental_of, unknown_of}
 use Rattle.nextest_config.proofs.Orders.{seen_joined}
-use Rattle.nextest_config_sources.proofs.Orders.{copies_equal}
+use Rattle.nextest_config.proofs.SourceOrders.{copies_equal}
 use Rattle.nextest_config.proofs.nextest_version.experimental_config.ExperimentalConfigMerge.merge.Goals as goal
 
 pub returns-clause-joined : goal.returns-clause-joined

@@ -1,6 +1,5 @@
 use Rattle.std.proofs.Common.{rules}
-use Rattle.nextest_config_sources.specs.NextestVersion.{under}
-use Rattle.nextest_config.specs.NextestVersion.{configuration_of, file_given}
+use Rattle.nextest_config.specs.NextestVersion.{under, configuration_of, file_given}
 use Rattle.nextest_config.proofs.Standing.{stands_for_nothing}
 use Rattle.nextest_config.proofs.nextest_version.file.File.read.Goals as goal
 

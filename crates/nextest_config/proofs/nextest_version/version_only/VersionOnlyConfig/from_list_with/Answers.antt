@@ -1,6 +1,5 @@
 use Rattle.std.proofs.lemmas.Result.{IfErr-weaker, IfOk-weaker}
-use Rattle.nextest_config_sources.specs.NextestVersion.{source_under}
-use Rattle.nextest_config.specs.NextestVersion.{configuration_of}
+use Rattle.nextest_config.specs.NextestVersion.{source_under, configuration_of}
 use Rattle.nextest_config.proofs.Readings.{refusal_of_list, refused_reading}
 use Rattle.nextest_config.proofs.Selection.{configured}
 use Rattle.nextest_config.proofs.Standing.{stands_for_all}

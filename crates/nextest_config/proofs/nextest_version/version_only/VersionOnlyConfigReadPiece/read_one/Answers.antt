@@ -1,6 +1,5 @@
 use Rattle.std.proofs.Common.{rules}
-use Rattle.nextest_config_sources.specs.NextestVersion.{source_under}
-use Rattle.nextest_config.specs.NextestVersion.{configuration_of}
+use Rattle.nextest_config.specs.NextestVersion.{source_under, configuration_of}
 use Rattle.nextest_config.proofs.Standing.{stands_for_nothing}
 use Rattle.nextest_config.proofs.nextest_version.version_only.VersionOnlyConfigReadPiece.read_one.Goals as goal
 

@@ -1,6 +1,6 @@
 use Rattle.std.proofs.Common.{◌≡◌, ℕ, ◌==◌, true, false, List, [], ◌++◌, codes, length, string_bytes, refl, rules, sym}
 use Rattle.std.proofs.Output.{has_written_styled_nil, has_written_styled_of_eq}
-use Rattle.nextest_config_values.proofs.Styled.{styled_after, styled_more}
+use Rattle.toml_spans.proofs.Styled.{styled_after, styled_more}
 use Rattle.nextest_config_values.specs.Read.{path_text, styled_kind_text}
 use Rattle.nextest_config_values.proofs.read.fault.ReadFaultDisplay.fmt.Goals.{then-not-is_empty+in_ok-write_str+in_ok-write_str-2, else-not-is_empty}
 use Rattle.nextest_config_values.proofs.read.fault.ReadFaultDisplay.fmt.Goals as goal

@@ -3,9 +3,10 @@ use Rattle.std.proofs.Output.{has_written_styled_of_eq}
 use Rattle.std.proofs.lemmas.Map.Iter.{iter_end}
 use Rattle.std.proofs.lemmas.Simd.{map-map}
 use Rattle.std.specs.Map.Iter.{deref}
-use Rattle.nextest_config_values.proofs.Styled.{plainly, styled_more, styled_then}
+use Rattle.toml_spans.proofs.Styled.{plainly, styled_more, styled_then}
 use Rattle.nextest_config_values.proofs.Joined.{joined_more, separator_after, separator_more}
-use Rattle.nextest_config_values.specs.Read.{comma_list, quoted_text, quoted_texts}
+use Rattle.toml_spans.specs.QuotedText.{quoted_text}
+use Rattle.nextest_config_values.specs.Read.{comma_list, quoted_texts}
 use Rattle.nextest_config_values.proofs.read.text.QuotedTextsDisplay.fmt.Goals as goal
 
 -- a text of the set, as it is written

@@ -2,7 +2,8 @@ use Rattle.std.proofs.Common.{◌≡◌, map, string_bytes}
 use Rattle.std.specs.Fmt.{HasWrittenStyled, IsFlush}
 use denote.Text.{Utf8}
 use denote.Shadow.{shadow}
-use Rattle.nextest_config_values.specs.Read.{comma_list, quoted_text}
+use Rattle.toml_spans.specs.QuotedText.{quoted_text}
+use Rattle.nextest_config_values.specs.Read.{comma_list}
 use Rattle.nextest_config_values.proofs.Joined.{separator_after}
 use Rattle.nextest_config_values.proofs.read.text.QuotedTextsDisplay.fmt.Given as goal
 

@@ -1,6 +1,0 @@
-use Rattle.std.proofs.Common.{map, take}
-use Rattle.nextest_config_findings.specs.Defined.{AreDocuments, file_of}
-use Rattle.nextest_config_findings.proofs.defined.are_documents.Given as goal
-
-abbrev pub invariant-loop-file : goal.invariant-loop-file
-invariant-loop-file l = AreDocuments (map file_of (take l.file-index l.files))

@@ -1,5 +1,0 @@
-use Rattle.nextest_config_findings.proofs.DefinedNames.{has_iff}
-use Rattle.nextest_config_findings.proofs.defined.has_name.Goals as goal
-
-pub returns : goal.returns
-returns c = has_iff c.args.names.now.keys c.args.name.now c.contains.result c.contains.ensures

@@ -1,5 +1,0 @@
-use Rattle.nextest_config_findings.proofs.Leading.{findings_lead}
-use Rattle.nextest_config_findings.proofs.laws.law_findings_lead.Goals as goal
-
-pub returns : goal.returns
-returns c = findings_lead

@@ -1,5 +1,0 @@
-use Rattle.nextest_config_findings.proofs.FindingsOnce.{findings_once}
-use Rattle.nextest_config_findings.proofs.laws.law_findings_once.Goals as goal
-
-pub returns : goal.returns
-returns c = findings_once

@@ -1,5 +1,0 @@
-use Rattle.nextest_config_findings.proofs.NoErrorReads.{no_error_reads}
-use Rattle.nextest_config_findings.proofs.laws.law_no_error_reads.Goals as goal
-
-pub returns : goal.returns
-returns c = no_error_reads

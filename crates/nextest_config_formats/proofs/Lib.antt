@@ -1,3 +1,0 @@
-pub mod FirstCharacters
-pub mod PlainLines
-pub mod PlainTexts

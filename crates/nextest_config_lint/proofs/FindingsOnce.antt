@@ -1,0 +1,275 @@
+-- What is found in a document is found once.
+use mathlib.Core.Logic.Iff as iff
+use Rattle.std.specs.Prelude.{◌≡◌, ℕ, ℤ, Bool, true, false, List, [], ◌∷◌, ◌++◌, map, Option, Some, None, option_to_list}
+use Rattle.std.proofs.Common.{arith, rules, sym, ap, ap₂, refl, subst, ◌∙◌, inl, inr}
+use Rattle.std.proofs.lemmas.Bool.{cases_lt}
+use Rattle.std.proofs.lemmas.List.Elements.{filter-append}
+use Rattle.std.specs.Fmt.{signed_decimal}
+use Rattle.toml.specs.Data.{as_str, Data, Members}
+use Rattle.nextest_config_values.specs.Read.Fault.{Fault}
+use Rattle.nextest_config_values.specs.Read.{Reason}
+use Rattle.nextest_config.specs.NextestVersion.{all_features, Features, FeatureSetting, features_under, texts_in_one_order, word_of}
+use Rattle.nextest_config.specs.declared.nextest_version.edition.Edition.{Edition}
+use Rattle.nextest_config.specs.declared.nextest_version.source.ConfigSourceKind.{ConfigSourceKind}
+use Rattle.nextest_config.specs.declared.nextest_version.source.ConfigSourceKind.TheVariants.{Tool}
+use Rattle.nextest_config_lint.specs.NearestWord.{nearest_once}
+use Rattle.toml_spans.specs.Line.{found_below}
+use Rattle.toml_spans.specs.Step.{index, key, PathStep}
+use Rattle.nextest_config_lint.proofs.ReferencesFound.{IsAtPath, meant_once, reference_at, reference_once}
+use Rattle.nextest_config_lint.specs.Defined.{ListFile}
+use Rattle.nextest_config_lint.specs.Document.{AreFindings, keys_of_document}
+use Rattle.nextest_config_lint.specs.Faults.{IsFoundKind, IsFoundOf, IsUnjudged}
+use Rattle.nextest_config_lint.specs.Features.{AreNamedFound, AreToolsFound, IsNameFound, IsStepTo}
+use Rattle.nextest_config_lint.specs.FindingsLaws.{own_findings}
+use Rattle.nextest_config_lint.specs.Found.{AreFoundIn, AreFoundOf, Found, found_at, FoundKind, Meant, refused, the_toml, tool_names, unknown_key, unknown_name}
+use Rattle.nextest_config_lint.specs.References.{IsReferenceFound}
+use Rattle.nextest_config_lint.specs.Settings.{settings_of, SettingView}
+use Rattle.nextest_config_elements.specs.MaxFail.{one_number}
+use Rattle.nextest_config_lint.specs.Integers.{IsIntegerHint}
+use Rattle.nextest_config_lint.specs.Meant.{digits_of, IsDurationHint, IsEitherHint, IsHintAt, IsHintBeside, IsSecondsHint, IsShortHint, IsWordHint, keys_taken, refused_key, taken_to, words_taken}
+use Rattle.nextest_config_lint.specs.declared.integers.IntegerRange.{IntegerRange}
+use Rattle.nextest_config_lint.specs.Reader.{reader_check}
+use Rattle.nextest_config_lint.specs.Unknown.{IsHintFor, IsKeyFound, IsKeyFoundFor, is_known, meant_beside, TableKey}
+use Rattle.nextest_config_lint.specs.declared.meant.Taken.{Taken}
+use Rattle.nextest_config_lint.specs.declared.meant.Taken.TheVariants.{Boolean, Duration, FailFast, FinalLevel, Growth, Integer, Level, Mode, Output, Result, ShortDuration, Skipped, Status, Tables}
+use Rattle.nextest_config_lint.specs.Severity.{IsSeverity}
+use Rattle.nextest_config_lint.specs.declared.finding.FindingSeverity.{FindingSeverity}
+use Rattle.nextest_config_lint.specs.Values.{accepted, AreFaults, AreFaultsFound, AreFeatures, AreFeaturesFound, AreFoundBy, AreNotes, AreNotesFound, faulty, IsOutcome, left_open, names_features, Outcome}
+
+-- one thing is found in a list, where one is found of each element
+found_once : {A : Type 0} (IsFound : A → Option Found → Type 0) → ((x : A) (a b : Option Found) → IsFound x a → IsFound x b → a ≡ b)
+    → (xs : List A) (a b : List Found) → AreFoundIn IsFound xs a → AreFoundIn IsFound xs b → a ≡ b
+found_once IsFound once [] a b h k = h ∙ sym k
+found_once IsFound once (x ∷ xs) a b (here, rest, is, are, whole) (there, others, also, are_too, too) =
+    whole ∙ ap₂ (λ (first : Option Found) (all_found : List Found). option_to_list first ++ all_found)
+    (once x here there is also) (found_once IsFound once xs rest others are are_too) ∙ sym too
+
+-- and so are lists that are found of each
+lists_once : {A : Type 0} (Are : A → List Found → Type 0) → ((x : A) (a b : List Found) → Are x a → Are x b → a ≡ b)
+    → (xs : List A) (a b : List Found) → AreFoundOf Are xs a → AreFoundOf Are xs b → a ≡ b
+lists_once Are once [] a b h k = h ∙ sym k
+lists_once Are once (x ∷ xs) a b (here, rest, is, are, whole) (there, others, also, are_too, too) =
+    whole ∙ ap₂ (λ (first all_found : List Found). first ++ all_found) (once x here there is also) (lists_once Are once xs rest others are are_too) ∙ sym too
+
+-- ---- of a value
+
+-- a value that names features is accepted
+names_passes : (edition : Edition) (setting : SettingView) (named : FeatureSetting) → IsOutcome edition setting (names_features named)
+    → (reader_check edition setting.reader).passes setting.value
+names_passes edition setting named (reads, means) = rw reads (named, means)
+
+pub one_outcome : (edition : Edition) (setting : SettingView) (a b : Outcome) → IsOutcome edition setting a → IsOutcome edition setting b → a ≡ b
+one_outcome edition setting accepted accepted h k = refl
+one_outcome edition setting accepted (names_features named) h k = absurd (h.0 k.0)
+one_outcome edition setting accepted (faulty fault) h k = absurd ((reader_check edition setting.reader).never_both setting.value fault h.1 k.0)
+one_outcome edition setting accepted (left_open fault) h k = absurd ((reader_check edition setting.reader).never_both setting.value fault h.1 k.0)
+one_outcome edition setting (names_features named) accepted h k = absurd (k.0 h.0)
+one_outcome edition setting (names_features named) (names_features other) h k = ap names_features ((features_under edition).law.one_meaning setting.value named other h.1 k.1)
+one_outcome edition setting (names_features named) (faulty fault) h k =
+    absurd ((reader_check edition setting.reader).never_both setting.value fault (names_passes edition setting named h) k.0)
+one_outcome edition setting (names_features named) (left_open fault) h k =
+    absurd ((reader_check edition setting.reader).never_both setting.value fault (names_passes edition setting named h) k.0)
+one_outcome edition setting (faulty fault) accepted h k = absurd ((reader_check edition setting.reader).never_both setting.value fault k.1 h.0)
+one_outcome edition setting (faulty fault) (names_features named) h k =
+    absurd ((reader_check edition setting.reader).never_both setting.value fault (names_passes edition setting named k) h.0)
+one_outcome edition setting (faulty fault) (faulty other) h k = ap faulty ((reader_check edition setting.reader).one_fault setting.value fault other h.0 k.0)
+one_outcome edition setting (faulty fault) (left_open other) h k =
+    absurd (h.1 (subst (IsUnjudged setting.value) ((reader_check edition setting.reader).one_fault setting.value other fault k.0 h.0) k.1))
+one_outcome edition setting (left_open fault) accepted h k = absurd ((reader_check edition setting.reader).never_both setting.value fault k.1 h.0)
+one_outcome edition setting (left_open fault) (names_features named) h k =
+    absurd ((reader_check edition setting.reader).never_both setting.value fault (names_passes edition setting named k) h.0)
+one_outcome edition setting (left_open fault) (faulty other) h k =
+    absurd (k.1 (subst (IsUnjudged setting.value) ((reader_check edition setting.reader).one_fault setting.value fault other h.0 k.0) h.1))
+one_outcome edition setting (left_open fault) (left_open other) h k = ap left_open ((reader_check edition setting.reader).one_fault setting.value fault other h.0 k.0)
+
+-- one list is found of a value, where one is by each outcome
+by_outcome_once : (edition : Edition) (setting : SettingView) (Are : Outcome → List Found → Type 0)
+    → ((outcome : Outcome) (a b : List Found) → Are outcome a → Are outcome b → a ≡ b)
+    → (a b : List Found) → AreFoundBy edition setting Are a → AreFoundBy edition setting Are b → a ≡ b
+by_outcome_once edition setting Are once a b (outcome, is, are) (other, also, are_too) =
+    once outcome a b are (subst (λ it. Are it b) (one_outcome edition setting other outcome also is) are_too)
+
+-- ---- of a fault
+
+severity_once : (setting : SettingView) (fault : Fault) (a b : FindingSeverity) → IsSeverity setting fault a → IsSeverity setting fault b → a ≡ b
+severity_once setting fault a b (inl h) (inl k) = h.1 ∙ sym k.1
+severity_once setting fault a b (inl h) (inr k) = absurd (k.0 h.0)
+severity_once setting fault a b (inr h) (inl k) = absurd (h.0 k.0)
+severity_once setting fault a b (inr h) (inr k) = h.1 ∙ sym k.1
+
+word_meant_once : (words : List (List ℕ)) (text : Option (List ℕ)) (a b : Option Meant) → IsWordHint words text a → IsWordHint words text b → a ≡ b
+word_meant_once words None a b h k = h ∙ sym k
+word_meant_once words (Some text) a b h k = meant_once words text a b h k
+
+seconds_once : (digits : List ℕ) (a b : Option Meant) → IsSecondsHint digits a → IsSecondsHint digits b → a ≡ b
+seconds_once digits a b (inl h) (inl k) = h.1 ∙ sym k.1
+seconds_once digits a b (inl h) (inr k) = absurd (k.0 h.0)
+seconds_once digits a b (inr h) (inl k) = absurd (h.0 k.0)
+seconds_once digits a b (inr h) (inr k) = h.1 ∙ sym k.1
+
+duration_once : (digits : Option (List ℕ)) (a b : Option Meant) → IsDurationHint digits a → IsDurationHint digits b → a ≡ b
+duration_once None a b h k = h ∙ sym k
+duration_once (Some digits) a b h k = seconds_once digits a b h k
+
+either_once : (digits : List ℕ) (a b : Option Meant) → IsEitherHint digits a → IsEitherHint digits b → a ≡ b
+either_once digits a b (inl h) (inl k) = h.1 ∙ sym k.1
+either_once digits a b (inl h) (inr k) = absurd (k.0 h.0)
+either_once digits a b (inr h) (inl k) = absurd (h.0 k.0)
+either_once digits a b (inr h) (inr k) = seconds_once digits a b h.1 k.1
+
+short_once : (digits : Option (List ℕ)) (a b : Option Meant) → IsShortHint digits a → IsShortHint digits b → a ≡ b
+short_once None a b h k = h ∙ sym k
+short_once (Some digits) a b h k = either_once digits a b h k
+
+integer_once : (range : IntegerRange) (text : Option (List ℕ)) (a b : Option Meant) → IsIntegerHint range text a → IsIntegerHint range text b → a ≡ b
+integer_once range None a b h k = h ∙ sym k
+integer_once range (Some text) a b (inl (number, writes, is)) (inl (other, also, is_too)) =
+    is ∙ ap (λ (it : ℤ). Some (the_toml (signed_decimal it))) (one_number text number other writes.0.0.0 also.0.0.0) ∙ sym is_too
+integer_once range (Some text) a b (inl (number, writes, is)) (inr (none, is_too)) = absurd (none number writes)
+integer_once range (Some text) a b (inr (none, is)) (inl (number, writes, is_too)) = absurd (none number writes)
+integer_once range (Some text) a b (inr (none, is)) (inr (none_too, is_too)) = is ∙ sym is_too
+
+meant_at_once : (path : List PathStep) (taken : Option Taken) (value : Option Data) (a b : Option Meant) → IsHintAt path taken value a → IsHintAt path taken value b → a ≡ b
+meant_at_once path (Some Duration) (Some value) a b h k = duration_once (digits_of value) a b h k
+meant_at_once path (Some ShortDuration) (Some value) a b h k = short_once (digits_of value) a b h k
+meant_at_once path (Some Boolean) (Some value) a b h k = h ∙ sym k
+meant_at_once path (Some FailFast) (Some value) a b h k = h ∙ sym k
+meant_at_once path (Some Tables) (Some value) a b h k = h ∙ sym k
+meant_at_once path (Some (Integer range)) (Some value) a b h k = integer_once range (as_str value) a b h k
+meant_at_once path (Some Result) (Some value) a b h k = word_meant_once (words_taken Result) (as_str value) a b h k
+meant_at_once path (Some Mode) (Some value) a b h k = word_meant_once (words_taken Mode) (as_str value) a b h k
+meant_at_once path (Some Growth) (Some value) a b h k = word_meant_once (words_taken Growth) (as_str value) a b h k
+meant_at_once path (Some Skipped) (Some value) a b h k = word_meant_once (words_taken Skipped) (as_str value) a b h k
+meant_at_once path (Some Status) (Some value) a b h k = word_meant_once (words_taken Status) (as_str value) a b h k
+meant_at_once path (Some Level) (Some value) a b h k = word_meant_once (words_taken Level) (as_str value) a b h k
+meant_at_once path (Some FinalLevel) (Some value) a b h k = word_meant_once (words_taken FinalLevel) (as_str value) a b h k
+meant_at_once path (Some Output) (Some value) a b h k = word_meant_once (words_taken Output) (as_str value) a b h k
+meant_at_once path taken value a b h k = h ∙ sym k
+
+beside_once : (name : Option (List ℕ)) (steps : List PathStep) (setting : SettingView) (a b : Option Meant) → IsHintBeside name steps setting a → IsHintBeside name steps setting b → a ≡ b
+beside_once (Some name) steps setting a b h k = meant_once (keys_taken setting.value) name a b h k
+beside_once None steps setting a b h k = meant_at_once setting.path (taken_to setting.reader steps) (found_below steps setting.value) a b h k
+
+one_kind : (setting : SettingView) (fault : Fault) (reason : Reason) (a b : FoundKind) → IsFoundKind setting fault reason a → IsFoundKind setting fault reason b → a ≡ b
+one_kind setting fault reason a b (severity, hint, grave, meant, is) (other, hint_too, grave_too, meant_too, is_too) =
+    is ∙ ap₂ (λ (s : FindingSeverity) (h : Option Meant). refused reason s h) (severity_once setting fault severity other grave grave_too)
+    (beside_once (refused_key fault.cause) fault.steps setting hint hint_too meant meant_too) ∙ sym is_too
+
+one_found : (setting : SettingView) (fault : Fault) (a b : Found) → IsFoundOf setting fault a → IsFoundOf setting fault b → a ≡ b
+one_found setting fault a b h k =
+    ap₂ found_at (h.path_is ∙ sym k.path_is) (one_kind setting fault _ a.kind b.kind h.kind_is k.kind_is)
+
+faults_once : (setting : SettingView) (outcome : Outcome) (a b : List Found) → AreFaults setting outcome a → AreFaults setting outcome b → a ≡ b
+faults_once setting accepted a b h k = h ∙ sym k
+faults_once setting (names_features named) a b h k = h ∙ sym k
+faults_once setting (faulty fault) a b (found, is, whole) (other, also, too) = whole ∙ ap (λ (it : Found). it ∷ []) (one_found setting fault found other is also) ∙ sym too
+faults_once setting (left_open fault) a b h k = h ∙ sym k
+
+-- ---- of a key
+
+hint_once : (known : List (List ℕ)) (name : List ℕ) (a b : Option Meant) → IsHintFor known name a → IsHintFor known name b → a ≡ b
+hint_once known name a b (near, nearest, is) (other, also, is_too) = is ∙ ap (meant_beside known name) (nearest_once known name near other nearest also) ∙ sym is_too
+
+key_once : (is : Bool) (setting : TableKey) (a b : Option Found) → IsKeyFoundFor is setting a → IsKeyFoundFor is setting b → a ≡ b
+key_once true setting a b h k = h ∙ sym k
+key_once false setting a b (hint, meant, is) (other, also, is_too) =
+    is ∙ ap (λ (h : Option Meant). Some (found_at setting.path (unknown_key setting.name h)))
+    (hint_once setting.known setting.name hint other meant also) ∙ sym is_too
+
+-- ---- of features
+
+step_once : (value : Data) (name : List ℕ) (a b : PathStep) → IsStepTo value name a → IsStepTo value name b → a ≡ b
+step_once value name (index i) (index j) h k = elim (cases_lt i j) [
+  | inl less ↦ absurd (k.1 i less h.0)
+  | inr more ↦ elim (cases_lt j i) [
+    | inl less ↦ absurd (h.1 j less k.0)
+    | inr same ↦ ap index (omega (arith, more, same))
+  ]
+]
+step_once value name (index i) (key text) h k = absurd (k.0 i h.0)
+step_once value name (key text) (index j) h k = absurd (h.0 j k.0)
+step_once value name (key text) (key other) h k = ap key (h.1 ∙ sym k.1)
+
+name_once : (setting : SettingView) (name : List ℕ) (a b : Option Found) → IsNameFound setting name a → IsNameFound setting name b → a ≡ b
+name_once setting name a b (step, hint, leads, nearest, is) (other, hint_too, leads_too, nearest_too, is_too) =
+    is ∙ ap₂ (λ (s : PathStep) (h : Option Meant). Some (found_at (setting.path ++ (s ∷ [])) (unknown_name name h)))
+    (step_once setting.value name step other leads leads_too) (meant_once (map word_of all_features) name hint hint_too nearest nearest_too) ∙ sym is_too
+
+tools_once : (path : List PathStep) (features : Features) (a b : List Found) → AreToolsFound path features a → AreToolsFound path features b → a ≡ b
+tools_once path features a b (inl h) (inl k) = h.1 ∙ sym k.1
+tools_once path features a b (inl h) (inr k) = absurd (k.0 h.0)
+tools_once path features a b (inr h) (inl k) = absurd (h.0 k.0)
+tools_once path features a b (inr (some, (names, are, is))) (inr (also, (others, are_too, is_too))) =
+    let same : names ≡ others = texts_in_one_order names others are.in_order are_too.in_order (λ text. iff.trans (are.of_both text) (iff.symm (are_too.of_both text))) in
+    is ∙ ap (λ (n : List (List ℕ)). found_at path (tool_names n) ∷ []) same ∙ sym is_too
+
+named_once : (kind : ConfigSourceKind) (setting : SettingView) (features : Features) (a b : List Found) → AreNamedFound kind setting features a → AreNamedFound kind setting features b → a ≡ b
+named_once (Tool name) setting features a b h k = tools_once setting.path features a b h k
+named_once kind setting features a b h k = found_once (IsNameFound setting) (name_once setting) features.unknown a b h k
+
+features_once : (kind : ConfigSourceKind) (setting : SettingView) (outcome : Outcome) (a b : List Found) → AreFeatures kind setting outcome a → AreFeatures kind setting outcome b → a ≡ b
+features_once kind setting accepted a b h k = h ∙ sym k
+features_once kind setting (names_features named) a b h k = named_once kind setting named.features a b h k
+features_once kind setting (faulty fault) a b h k = h ∙ sym k
+features_once kind setting (left_open fault) a b h k = h ∙ sym k
+
+-- ---- of all
+
+-- two lists of findings are one but for references
+record SameOwn (faults features unknown notes others_faults others_features others_unknown others_notes : List Found) : Type 0 where
+  pub of_faults : faults ≡ others_faults
+  pub of_features : features ≡ others_features
+  pub of_unknown : unknown ≡ others_unknown
+  pub of_notes : notes ≡ others_notes
+
+own_once : (edition : Edition) (kind : ConfigSourceKind) (files others : List ListFile) (position place : ℕ) (members : Members) (a b : List Found)
+    → (h : AreFindings edition kind files position members a) → (k : AreFindings edition kind others place members b)
+    → SameOwn h.faults h.features h.unknown h.notes k.faults k.features k.unknown k.notes
+own_once edition kind files others position place members a b h k = record {
+  of_faults = lists_once (AreFaultsFound edition)
+      (λ setting. by_outcome_once edition setting (AreFaults setting) (faults_once setting)) (settings_of members) h.faults k.faults h.of_faults k.of_faults;
+  of_features = lists_once (AreFeaturesFound edition kind)
+      (λ setting. by_outcome_once edition setting (AreFeatures kind setting) (features_once kind setting)) (settings_of members) h.features k.features h.of_features k.of_features;
+  of_unknown = found_once IsKeyFound
+      (λ setting. key_once (is_known setting.known setting.name) setting) (keys_of_document members) h.unknown k.unknown h.of_unknown k.of_unknown;
+  of_notes = lists_once (AreNotesFound edition kind)
+      (λ setting. by_outcome_once edition setting (AreNotes kind setting) (λ outcome c d n m. n ∙ sym m)) (settings_of members) h.notes k.notes h.of_notes k.of_notes;
+}
+
+pub findings_once : (edition : Edition) (kind : ConfigSourceKind) (files : List ListFile) (position : ℕ) (members : Members) (a b : List Found)
+    → AreFindings edition kind files position members a → AreFindings edition kind files position members b → a ≡ b
+findings_once edition kind files position members a b h k =
+    let own = own_once edition kind files files position position members a b h k in
+    let of_references : h.references ≡ k.references = found_once (IsReferenceFound files kind position) (reference_once files kind position)
+    (settings_of members) h.references k.references h.of_references k.of_references in
+    let in_row : List Found → List Found → List Found = λ first later. first ++ later in
+    h.whole ∙ ap₂ in_row own.of_faults (ap₂ in_row own.of_features (ap₂ in_row own.of_unknown (ap₂ in_row of_references own.of_notes))) ∙ sym k.whole
+
+-- ---- but for references
+
+-- no finding of references is left
+none_of_one : (path : List PathStep) (here : Option Found) → IsAtPath path here → own_findings (option_to_list here) ≡ []
+none_of_one path None is = refl
+none_of_one path (Some found) is = rw is.3 refl
+
+none_own : (files : List ListFile) (kind : ConfigSourceKind) (position : ℕ) (settings : List SettingView) (all_found : List Found)
+    → AreFoundIn (IsReferenceFound files kind position) settings all_found → own_findings all_found ≡ []
+none_own files kind position [] all_found are = rw are refl
+none_own files kind position (setting ∷ settings) all_found (here, rest, is, are, whole) =
+    ap own_findings whole ∙ filter-append _ (option_to_list here) rest
+    ∙ ap₂ (λ (first later : List Found). first ++ later) (none_of_one setting.path here (reference_at files kind position setting here is)) (none_own files kind position settings rest are)
+
+-- what is left of findings with references among them
+own_of : (faults features unknown references notes : List Found) → own_findings references ≡ []
+    → own_findings (faults ++ (features ++ (unknown ++ (references ++ notes)))) ≡ own_findings (faults ++ (features ++ (unknown ++ notes)))
+own_of faults features unknown references notes none = search (rules, filter-append, none)
+
+pub own_findings_once : (edition : Edition) (kind : ConfigSourceKind) (files others : List ListFile) (position place : ℕ) (members : Members) (a b : List Found)
+    → AreFindings edition kind files position members a → AreFindings edition kind others place members b → own_findings a ≡ own_findings b
+own_findings_once edition kind files others position place members a b h k =
+    let own = own_once edition kind files others position place members a b h k in
+    let in_row : List Found → List Found → List Found = λ first later. first ++ later in
+    ap own_findings h.whole ∙ own_of h.faults h.features h.unknown h.references h.notes (none_own files kind position (settings_of members) h.references h.of_references)
+    ∙ ap own_findings (ap₂ in_row own.of_faults (ap₂ in_row own.of_features (ap₂ in_row own.of_unknown own.of_notes)))
+    ∙ sym (own_of k.faults k.features k.unknown k.references k.notes (none_own others kind place (settings_of members) k.references k.of_references))
+    ∙ sym (ap own_findings k.whole)

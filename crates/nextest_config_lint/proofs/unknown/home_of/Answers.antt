@@ -1,0 +1,12 @@
+use Rattle.std.proofs.Common.{◌≡◌, false, rules, tests, true}
+use Rattle.std.proofs.lemmas.Iterator.{first_from_find, YieldsList-from_slice}
+use Rattle.std.proofs.lemmas.Iterator.Consumers.{YieldsList-at, YieldsList-from_copied}
+use Rattle.nextest_config_lint.proofs.Keys.{found_first}
+use Rattle.nextest_config_lint.specs.Unknown.{home_words, homes, is_known}
+use Rattle.nextest_config_lint.proofs.unknown.home_of.Goals as goal
+
+pub returns : goal.returns
+returns c = found_first (λ home. is_known (home_words home) c.args.name.now) homes c.find.result
+    (first_from_find _ _ _ (λ home. is_known (home_words home) c.args.name.now ≡ true) (λ home. is_known (home_words home) c.args.name.now ≡ false) c.find.ensures.ran
+    (YieldsList-from_copied (YieldsList-at c.copied.ensures.source (YieldsList-from_slice homes cc)))
+    (λ x q k. search (rules, tests)) (λ x q k. search (rules, tests)))

@@ -1,0 +1,164 @@
+-- The codes of findings.
+use Rattle.std.specs.Prelude.{◌≡◌, ℕ, List, [], ◌∷◌, codes, Option, Some, None}
+use Rattle.std.proofs.Common.{refl}
+use Rattle.nextest_config_values.specs.Read.{BrokenRule, Reason, value_of}
+use Rattle.nextest_config_values.specs.Read.Fault as faults
+use Rattle.nextest_config_lint.specs.Found.{FoundKind}
+use Rattle.nextest_config_lint.specs.Found as found
+use Rattle.nextest_config_lint.specs.declared.code.FindingCode.{FindingCode}
+use Rattle.nextest_config_lint.specs.declared.code.FindingCode.TheVariants as code
+
+-- ---- their words
+
+-- all codes, in the order in which they are listed
+abbrev pub codes_in_order : List FindingCode
+codes_in_order =
+    code.NotUtf8
+    ∷ code.NotToml
+    ∷ code.InvalidType
+    ∷ code.InvalidValue
+    ∷ code.UnknownVariant
+    ∷ code.UnknownField
+    ∷ code.MissingField
+    ∷ code.PreRelease
+    ∷ code.BuildMetadata
+    ∷ code.NotVersion
+    ∷ code.RequiredAboveRecommended
+    ∷ code.JitterWithoutDelay
+    ∷ code.CountZero
+    ∷ code.DelayZero
+    ∷ code.MaxDelayZero
+    ∷ code.MaxDelayBelowDelay
+    ∷ code.Priority
+    ∷ code.ArrayForm
+    ∷ code.ToolFeatures
+    ∷ code.UnknownFeature
+    ∷ code.UnknownKey
+    ∷ code.UndefinedGroup
+    ∷ code.UndefinedProfile
+    ∷ code.DefaultInherits
+    ∷ code.InheritsItself
+    ∷ code.OverrideOfAll
+    ∷ code.ReservedProfile
+    ∷ code.GroupName
+    ∷ code.UnjudgedDuration
+    ∷ code.DeprecatedArray
+    ∷ []
+
+-- the word of a code, by which it is printed and asked for
+abbrev pub code_word : FindingCode → List ℕ
+code_word code.NotUtf8 = codes "not-utf8"
+code_word code.NotToml = codes "not-toml"
+code_word code.InvalidType = codes "invalid-type"
+code_word code.InvalidValue = codes "invalid-value"
+code_word code.UnknownVariant = codes "unknown-variant"
+code_word code.UnknownField = codes "unknown-field"
+code_word code.MissingField = codes "missing-field"
+code_word code.PreRelease = codes "pre-release"
+code_word code.BuildMetadata = codes "build-metadata"
+code_word code.NotVersion = codes "not-version"
+code_word code.RequiredAboveRecommended = codes "required-above-recommended"
+code_word code.JitterWithoutDelay = codes "jitter-without-delay"
+code_word code.CountZero = codes "count-zero"
+code_word code.DelayZero = codes "delay-zero"
+code_word code.MaxDelayZero = codes "max-delay-zero"
+code_word code.MaxDelayBelowDelay = codes "max-delay-below-delay"
+code_word code.Priority = codes "priority"
+code_word code.ArrayForm = codes "array-form"
+code_word code.ToolFeatures = codes "tool-features"
+code_word code.UnknownFeature = codes "unknown-feature"
+code_word code.UnknownKey = codes "unknown-key"
+code_word code.UndefinedGroup = codes "undefined-group"
+code_word code.UndefinedProfile = codes "undefined-profile"
+code_word code.DefaultInherits = codes "default-inherits"
+code_word code.InheritsItself = codes "inherits-itself"
+code_word code.OverrideOfAll = codes "override-of-all"
+code_word code.ReservedProfile = codes "reserved-profile"
+code_word code.GroupName = codes "group-name"
+code_word code.UnjudgedDuration = codes "unjudged-duration"
+code_word code.DeprecatedArray = codes "deprecated-array"
+
+pub code_reads_back : (one : FindingCode)
+    → value_of code_word codes_in_order (code_word one) ≡ Some one
+code_reads_back code.NotUtf8 = refl
+code_reads_back code.NotToml = refl
+code_reads_back code.InvalidType = refl
+code_reads_back code.InvalidValue = refl
+code_reads_back code.UnknownVariant = refl
+code_reads_back code.UnknownField = refl
+code_reads_back code.MissingField = refl
+code_reads_back code.PreRelease = refl
+code_reads_back code.BuildMetadata = refl
+code_reads_back code.NotVersion = refl
+code_reads_back code.RequiredAboveRecommended = refl
+code_reads_back code.JitterWithoutDelay = refl
+code_reads_back code.CountZero = refl
+code_reads_back code.DelayZero = refl
+code_reads_back code.MaxDelayZero = refl
+code_reads_back code.MaxDelayBelowDelay = refl
+code_reads_back code.Priority = refl
+code_reads_back code.ArrayForm = refl
+code_reads_back code.ToolFeatures = refl
+code_reads_back code.UnknownFeature = refl
+code_reads_back code.UnknownKey = refl
+code_reads_back code.UndefinedGroup = refl
+code_reads_back code.UndefinedProfile = refl
+code_reads_back code.DefaultInherits = refl
+code_reads_back code.InheritsItself = refl
+code_reads_back code.OverrideOfAll = refl
+code_reads_back code.ReservedProfile = refl
+code_reads_back code.GroupName = refl
+code_reads_back code.UnjudgedDuration = refl
+code_reads_back code.DeprecatedArray = refl
+
+-- ---- of what is found
+
+-- the code for a rule that is broken
+abbrev pub rule_code : BrokenRule → FindingCode
+rule_code faults.pre_release = code.PreRelease
+rule_code faults.build_metadata = code.BuildMetadata
+rule_code (faults.not_version text) = code.NotVersion
+rule_code (faults.required_above_recommended required recommended) = code.RequiredAboveRecommended
+rule_code faults.array_form = code.ArrayForm
+rule_code faults.jitter_without_delay = code.JitterWithoutDelay
+rule_code faults.count_zero = code.CountZero
+rule_code faults.delay_zero = code.DelayZero
+rule_code faults.max_delay_zero = code.MaxDelayZero
+rule_code faults.max_delay_below_delay = code.MaxDelayBelowDelay
+rule_code (faults.priority_outside priority) = code.Priority
+
+-- the code for a refusal: that of its kind, or of the rule that is broken
+abbrev pub reason_code : Reason → FindingCode
+reason_code (faults.invalid_type found expected) = code.InvalidType
+reason_code (faults.invalid_value found expected) = code.InvalidValue
+reason_code (faults.unknown_variant found expected) = code.UnknownVariant
+reason_code (faults.unknown_field found expected) = code.UnknownField
+reason_code (faults.missing_field key) = code.MissingField
+reason_code (faults.custom rule) = rule_code rule
+reason_code (faults.identifier fault) = code.InvalidValue
+reason_code (faults.tool_name fault) = code.InvalidValue
+
+-- the code of what is found, which for a refused value is that of the refusal
+abbrev pub found_code : FoundKind → FindingCode
+found_code (found.refused reason severity hint) = reason_code reason
+found_code (found.tool_names names) = code.ToolFeatures
+found_code (found.unknown_name name hint) = code.UnknownFeature
+found_code (found.unknown_key name hint) = code.UnknownKey
+found_code (found.undefined_group name hint) = code.UndefinedGroup
+found_code (found.undefined_profile name hint) = code.UndefinedProfile
+found_code found.default_inherits = code.DefaultInherits
+found_code (found.inherits_itself name) = code.InheritsItself
+found_code found.override_of_all = code.OverrideOfAll
+found_code found.reserved_profile = code.ReservedProfile
+found_code (found.no_group_name reason) = code.GroupName
+found_code (found.group_outside_tool mark) = code.GroupName
+found_code found.group_of_tool = code.GroupName
+found_code found.unjudged = code.UnjudgedDuration
+found_code (found.deprecated_array table) = code.DeprecatedArray
+found_code found.not_utf8 = code.NotUtf8
+found_code (found.not_toml message mistake) = code.NotToml
+
+-- the code of what a finding tells; of a refusal of memory, which tells nothing, `invalid-value`
+abbrev pub told_code : Option FoundKind → FindingCode
+told_code (Some kind) = found_code kind
+told_code None = code.InvalidValue

@@ -1,0 +1,35 @@
+-- All that is found in a document.
+use Rattle.std.specs.Prelude.{◌≡◌, ℕ, List, [], ◌++◌, flat_map}
+use Rattle.toml.specs.Data.{Members, table}
+use Rattle.nextest_config.specs.declared.nextest_version.edition.Edition.{Edition}
+use Rattle.nextest_config.specs.declared.nextest_version.source.ConfigSourceKind.{ConfigSourceKind}
+use Rattle.nextest_config_lint.specs.Defined.{ListFile}
+use Rattle.nextest_config_lint.specs.Found.{AreFoundIn, AreFoundOf, Found}
+use Rattle.nextest_config_lint.specs.References.{IsReferenceFound}
+use Rattle.nextest_config_lint.specs.Settings.{settings_of}
+use Rattle.nextest_config_lint.specs.Schema.{file_table}
+use Rattle.nextest_config_lint.specs.Unknown.{IsKeyFound, TableKey, keys_below, keys_in}
+use Rattle.nextest_config_lint.specs.Values.{AreFaultsFound, AreFeaturesFound, AreNotesFound}
+
+-- the keys that are judged: those of the top, and those of the tables that have a place
+abbrev pub keys_of_document : Members → List TableKey
+keys_of_document members =
+    keys_below file_table [] (table members) ++ flat_map keys_in (settings_of members)
+
+-- the findings of a source of this kind: the faults of its values, then what it says of features,
+-- then its unknown keys, then what is found of references and rules between keys, as in the file at
+-- this position of the list, and then the notes on its values
+pub record AreFindings (edition : Edition) (kind : ConfigSourceKind) (files : List ListFile)
+    (position : ℕ) (members : Members) (all_found : List Found) : Type 0 where
+  pub faults : List Found
+  pub features : List Found
+  pub unknown : List Found
+  pub references : List Found
+  pub notes : List Found
+  pub of_faults : AreFoundOf (AreFaultsFound edition) (settings_of members) faults
+  pub of_features : AreFoundOf (AreFeaturesFound edition kind) (settings_of members) features
+  pub of_unknown : AreFoundIn IsKeyFound (keys_of_document members) unknown
+  pub of_references : AreFoundIn (IsReferenceFound files kind position) (settings_of members)
+      references
+  pub of_notes : AreFoundOf (AreNotesFound edition kind) (settings_of members) notes
+  pub whole : all_found ≡ faults ++ (features ++ (unknown ++ (references ++ notes)))

@@ -1,0 +1,3 @@
+pub mod Explanation
+pub mod Topic
+pub mod TopicList

@@ -1,0 +1,201 @@
+-- All that is found in a file, and where each finding stands.
+use Rattle.std.specs.Prelude.{◌≡◌, ◌⊎◌, ℕ, Bool, true, false, List, [], ◌∷◌, ◌++◌, codes, drop, IsSome, IsUtf8, map, nat_eq, Option, Some, None, take}
+use Rattle.std.specs.Cmp.Lexicographic.{pointwise}
+use Rattle.std.specs.List.{AllByRecursion, AllZip}
+use Rattle.std.specs.List.Sorted.{IsPermutation, IsSortedByKey, IsStableByKey}
+use Rattle.std.specs.Option.{option_or}
+use Rattle.std.specs.Ordering.{nat_cmp, ordering_then}
+use Rattle.std.specs.declared.cmp.Ordering.{Ordering}
+use Rattle.std.specs.Str.Lossy.{utf8_valid_len}
+use Rattle.toml.specs.Data.{Members}
+use Rattle.toml.specs.Errors.{IsMemory, IsWithin, span_end, span_start}
+use Rattle.toml.specs.Parse.{parse_document}
+use Rattle.toml.specs.View.{table_view}
+use Rattle.toml.specs.declared.de.error.Error.{Error}
+use Rattle.nextest_config.specs.declared.nextest_version.edition.Edition.{Edition}
+use Rattle.nextest_config.specs.declared.nextest_version.source.ConfigSourceKind.{ConfigSourceKind}
+use Rattle.toml_spans.specs.Index.{IsIndexOf, IsSpanOf, ranges_in}
+use Rattle.toml_spans.specs.Line.{found_in}
+use Rattle.toml_spans.specs.Place.{IsPlace}
+use Rattle.toml_spans.specs.Ranges.{Range, Ranges}
+use Rattle.toml_spans.specs.Step.{key, PathStep}
+use Rattle.nextest_config_lint.specs.Defined.{ListFile}
+use Rattle.nextest_config_lint.specs.Document.{AreFindings}
+use Rattle.nextest_config_lint.specs.Found.{Found, found_at, FoundKind, found_of, group_of_tool, group_outside_tool, Mistaken, no_group_name, not_toml, not_utf8, reserved_profile, unknown_key, unknown_name}
+use Rattle.nextest_config_lint.specs.Mistake.{IsMistake}
+use Rattle.toml_spans.specs.declared.index.Index.{Index}
+use Rattle.toml_spans.specs.declared.place.Place.{Place}
+use Rattle.toml_spans.specs.declared.place.Span.{Span}
+use Rattle.nextest_config_lint.specs.declared.file.FileContents.{FileContents}
+use Rattle.nextest_config_lint.specs.declared.file.FileContents.TheVariants as read
+use Rattle.nextest_config_lint.specs.declared.file.LocatedFinding.{LocatedFinding}
+use Rattle.nextest_config_lint.specs.declared.finding.Finding.{Finding}
+
+-- ---- the bytes of a file, judged and read
+
+-- the text is these bytes, which are UTF-8
+abbrev pub IsTextOf : List ℕ → List ℕ → Type 0
+IsTextOf contents text = IsUtf8 contents × (text ≡ contents)
+
+-- what the bytes are found to be
+abbrev pub IsReadOf : List ℕ → FileContents → Type 0
+IsReadOf contents (read.NotUtf8 front) =
+    (IsUtf8 contents → ⊥) × (front.now ≡ take (utf8_valid_len contents) contents)
+IsReadOf contents (read.NotToml text error) =
+    IsTextOf contents text.now × (parse_document contents ≡ None) × IsWithin contents error
+    × (¬ IsMemory error)
+IsReadOf contents (read.Document text document) =
+    IsTextOf contents text.now × (parse_document contents ≡ Some (table_view document))
+
+-- the document that the bytes are, if they are one
+abbrev pub IsDocument : List ℕ → Option Members → Type 0
+IsDocument contents None = IsUtf8 contents → parse_document contents ≡ None
+IsDocument contents (Some members) = IsUtf8 contents × (parse_document contents ≡ Some members)
+
+-- ---- a file that is no document
+
+-- what a located finding tells: its range, and what is found
+abbrev pub located_told : LocatedFinding → Span × Option Found
+located_told located = (located.span, found_of located.finding)
+
+-- one finding alone, of the whole file, from the end of one front of the text to that of another
+pub record IsAlone (before front : List ℕ) (kind : FoundKind) (located : List LocatedFinding) :
+    Type 0 where
+  pub span : Span
+  pub begins : IsPlace before span.begin
+  pub ends : IsPlace front span.end
+  pub told : map located_told located ≡ (span, Some (found_at [] kind)) ∷ []
+
+-- the file isn't UTF-8, where its longest front that is UTF-8 ends
+abbrev pub IsNotUtf8 : List ℕ → List LocatedFinding → Type 0
+IsNotUtf8 contents = let front = take (utf8_valid_len contents) contents in
+    IsAlone front front not_utf8
+
+-- what is told of a text that an error of `toml` refuses, from where that begins to where it ends:
+-- a message, and the mistake that is known there
+pub record IsToldBy (contents : List ℕ) (error : Error) (located : List LocatedFinding) : Type 0
+  where
+    pub message : List ℕ
+    pub mistake : Option Mistaken
+    pub known : IsMistake (take (span_start error) contents)
+        (drop (span_start error) (take (span_end error) contents)) mistake
+    pub alone : IsAlone (take (span_start error) contents) (take (span_end error) contents)
+        (not_toml message mistake) located
+
+-- the file isn't a TOML 1.1 document, as an error of `toml` says
+pub record IsNotToml (contents : List ℕ) (located : List LocatedFinding) : Type 0 where
+  pub error : Error
+  pub within : IsWithin contents error
+  pub of_text : ¬ IsMemory error
+  pub told : IsToldBy contents error located
+
+-- ---- the range of a finding
+
+-- the path that a finding is located by: for an unknown key that of the key
+abbrev pub path_after : List PathStep → FoundKind → List PathStep
+path_after path (unknown_key name hint) = path ++ (key name ∷ [])
+path_after path kind = path
+
+-- the path that a finding is located by, which for an unknown key ends in that key
+abbrev pub whole_path : Found → List PathStep
+whole_path found = path_after found.path found.kind
+
+-- the path is that of a test group
+abbrev pub is_group : List PathStep → Bool
+is_group (key table ∷ key group ∷ []) = pointwise nat_eq table (codes "test-groups")
+is_group path = false
+
+-- a key is wrong, and not its value
+abbrev pub is_key_wrong : List PathStep → FoundKind → Bool
+is_key_wrong path (unknown_name name hint) = true
+is_key_wrong path (unknown_key name hint) = true
+is_key_wrong path reserved_profile = true
+is_key_wrong path (group_outside_tool mark) = true
+is_key_wrong path group_of_tool = true
+is_key_wrong path (no_group_name fault) = is_group path
+is_key_wrong path kind = false
+
+-- the finding tells that a key is wrong, and not its value
+abbrev pub is_of_key : Found → Bool
+is_of_key found = is_key_wrong found.path found.kind
+
+-- where a key is wrong, the range of the key, or without one that of the value; else the other way
+-- round
+abbrev pub range_at : Bool → Ranges → List PathStep → Option Range
+range_at true ranges path = option_or (ranges.of_key path) (ranges.of_value path)
+range_at false ranges path = option_or (ranges.of_value path) (ranges.of_key path)
+
+-- the range of a finding: by its path, that of the key where that is wrong, else that of the value
+abbrev pub range_of : Ranges → Found → Option Range
+range_of ranges found = range_at (is_of_key found) ranges (whole_path found)
+
+-- ---- the findings of a document
+
+-- what is found, at its range in the text
+pub record IsAtRange (contents : List ℕ) (found : Found) (located : LocatedFinding) : Type 0 where
+  pub told : found_of located.finding ≡ Some found
+  pub index : Index
+  pub of_text : IsIndexOf contents index
+  pub at_range : IsSpanOf contents (range_of (ranges_in index) found) (Some located.span)
+
+-- the order of places in a text: by their lines, and in one line by their columns
+abbrev pub place_cmp : Place → Place → Ordering
+place_cmp a b = ordering_then (nat_cmp a.line b.line) (nat_cmp a.column b.column)
+
+-- findings sorted by where they begin, those that begin at one place as they were
+pub record AreSorted (before sorted : List LocatedFinding) : Type 0 where
+  pub same : IsPermutation before sorted
+  pub by_place : IsSortedByKey (λ located. located.span.begin) place_cmp sorted
+  pub stable : IsStableByKey (λ located. located.span.begin) place_cmp before sorted
+
+-- the findings of a document, by where they begin
+pub record AreLocatedIn (edition : Edition) (kind : ConfigSourceKind) (files : List ListFile)
+    (position : ℕ) (contents : List ℕ)
+    (members : Members) (located : List LocatedFinding) : Type 0 where
+  pub all_found : List Found
+  pub are_findings : AreFindings edition kind files position members all_found
+  pub before : List LocatedFinding
+  pub at_ranges : AllZip (IsAtRange contents) all_found before
+  pub sorted : AreSorted before located
+
+-- what is found in a file, if it is a document
+abbrev pub AreInText : Edition → ConfigSourceKind → List ListFile → ℕ → List ℕ → Option Members
+    → List LocatedFinding → Type 0
+AreInText edition kind files position contents None located = IsNotToml contents located
+AreInText edition kind files position contents (Some members) located =
+    AreLocatedIn edition kind files position contents members located
+
+-- what is found in a file at this position of a list
+abbrev pub AreLocated : Edition → ConfigSourceKind → List ListFile → ℕ → List ℕ
+    → List LocatedFinding → Type 0
+AreLocated edition kind files position contents located =
+    (IsUtf8 contents
+    × AreInText edition kind files position contents (parse_document contents) located)
+    ⊎ ((IsUtf8 contents → ⊥) × IsNotUtf8 contents located)
+
+-- ---- findings on the way
+
+-- what the finding tells stands at a value of the document
+abbrev pub IsIn : Members → Finding → Type 0
+IsIn members finding = (found : Found) × (found_of finding ≡ Some found)
+    × IsSome (found_in members (whole_path found))
+
+-- the findings are of the document that the text is
+abbrev pub AreIn : List ℕ → List Finding → Type 0
+AreIn contents findings = (members : Members) × (parse_document contents ≡ Some members)
+    × AllByRecursion (IsIn members) findings
+
+-- what the finding tells has a range in this index
+abbrev pub HasRange : Index → Finding → Type 0
+HasRange index finding = (found : Found) × (found_of finding ≡ Some found)
+    × IsSome (range_of (ranges_in index) found)
+
+-- the finding is at the range of what it tells
+abbrev pub IsLocated : List ℕ → Finding → LocatedFinding → Type 0
+IsLocated contents finding located = (found : Found) → found_of finding ≡ Some found
+    → IsAtRange contents found located
+
+-- the finding is at the range of what it tells in each text of which this is the index
+abbrev pub IsLocatedBy : Index → Finding → LocatedFinding → Type 0
+IsLocatedBy index finding located = (text : List ℕ) → IsIndexOf text index
+    → IsLocated text finding located

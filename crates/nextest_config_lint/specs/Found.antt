@@ -1,0 +1,168 @@
+-- Findings without where they lie in memory.
+use Rattle.std.specs.Prelude.{◌≡◌, ℕ, List, [], ◌∷◌, ◌++◌, map, Option, Some, option_map, option_to_list, string_bytes, Vec}
+use Rattle.std.specs.declared.alloc.Global.{Global}
+use Rattle.nextest_config_values.specs.Identifier.Error.{identifier_fault}
+use Rattle.nextest_config_values.specs.Read.{identifier, Reason, reason_of}
+use Rattle.nextest_config_lint.specs.NearestWord.{IsNearest}
+use Rattle.toml_spans.specs.Step.{PathStep, step_of}
+use Rattle.nextest_config_lint.specs.declared.finding.Finding.{Finding}
+use Rattle.nextest_config_lint.specs.declared.finding.FindingKind.{FindingKind}
+use Rattle.nextest_config_lint.specs.declared.finding.FindingKind.TheVariants as kinds
+use Rattle.nextest_config_lint.specs.declared.finding.Hint.{Hint}
+use Rattle.nextest_config_lint.specs.declared.finding.Hint.TheVariants.{Belongs, Toml, Word}
+use Rattle.nextest_config_lint.specs.declared.finding.Home.{Home}
+use Rattle.nextest_config_lint.specs.declared.finding.Mistake.{Mistake}
+use Rattle.nextest_config_lint.specs.declared.finding.Mistake.TheVariants as mistakes
+use Rattle.nextest_config_lint.specs.declared.finding.FindingSeverity.{FindingSeverity}
+use Rattle.nextest_config_lint.specs.declared.finding.FindingSeverity.TheVariants.{Error, Note, Warning}
+
+-- what may be meant: a word, something as TOML writes it, or the key of the same name elsewhere
+pub data Meant : Type 0 where
+  the_word : List ℕ → Meant
+  the_toml : List ℕ → Meant
+  the_key : Home → Meant
+
+-- what a hint says is meant, without where it lies in memory
+abbrev pub meant_of : Hint → Meant
+meant_of (Word word) = the_word (string_bytes word)
+meant_of (Toml text) = the_toml (string_bytes text)
+meant_of (Belongs home) = the_key home
+
+-- a name may be meant for the word that it comes nearest to, if there is one
+abbrev pub IsNearestMeant : List (List ℕ) → List ℕ → Option Meant → Type 0
+IsNearestMeant words name hint = (word : Option (List ℕ)) × IsNearest words name word
+    × (hint ≡ option_map the_word word)
+
+-- what is wrong in a text that is no document: a key stands on this line already, a value is
+-- misspelt for this word, or lacks its quotes
+pub data Mistaken : Type 0 where
+  repeated : List ℕ → ℕ → Mistaken
+  misspelt : List ℕ → Mistaken
+  unquoted : Mistaken
+
+-- what a mistake says is wrong, without where it lies in memory
+abbrev pub mistaken_of : Mistake → Mistaken
+mistaken_of (mistakes.Repeated key line) = repeated (string_bytes key) line
+mistaken_of (mistakes.Misspelt word) = misspelt (string_bytes word)
+mistaken_of mistakes.Unquoted = unquoted
+
+-- what is found, with what is told of it: a name, a text, how grave it is, or what may be meant
+pub data FoundKind : Type 0 where
+  refused : Reason → FindingSeverity → Option Meant → FoundKind
+  tool_names : List (List ℕ) → FoundKind
+  unknown_name : List ℕ → Option Meant → FoundKind
+  unknown_key : List ℕ → Option Meant → FoundKind
+  undefined_group : List ℕ → Option Meant → FoundKind
+  undefined_profile : List ℕ → Option Meant → FoundKind
+  default_inherits : FoundKind
+  inherits_itself : List ℕ → FoundKind
+  override_of_all : FoundKind
+  reserved_profile : FoundKind
+  no_group_name : Reason → FoundKind
+  group_outside_tool : List ℕ → FoundKind
+  group_of_tool : FoundKind
+  unjudged : FoundKind
+  deprecated_array : List ℕ → FoundKind
+  not_utf8 : FoundKind
+  not_toml : List ℕ → Option Mistaken → FoundKind
+
+-- what is found at a path
+pub record Found : Type 0 where
+  pub path : List PathStep
+  pub kind : FoundKind
+
+-- a refusal, how grave it is, and what may be meant
+abbrev pub refused_with : FindingSeverity → Option Hint → Reason → FoundKind
+refused_with severity hint reason = refused reason severity (option_map meant_of hint)
+
+-- what a kind of finding tells, unless it is a refusal of memory
+abbrev pub kind_told : FindingKind → Option FoundKind
+kind_told (kinds.Fault fault severity hint) =
+    option_map (refused_with severity hint) (reason_of fault)
+kind_told (kinds.ToolFeatures features) = Some (tool_names (map string_bytes features.keys))
+kind_told (kinds.UnknownFeature name hint) =
+    Some (unknown_name (string_bytes name) (option_map meant_of hint))
+kind_told (kinds.UnknownKey key hint) =
+    Some (unknown_key (string_bytes key) (option_map meant_of hint))
+kind_told (kinds.UndefinedGroup name hint) =
+    Some (undefined_group (string_bytes name) (option_map meant_of hint))
+kind_told (kinds.UndefinedProfile name hint) =
+    Some (undefined_profile (string_bytes name) (option_map meant_of hint))
+kind_told kinds.DefaultInherits = Some default_inherits
+kind_told (kinds.InheritsItself profile) = Some (inherits_itself (string_bytes profile))
+kind_told kinds.OverrideOfAll = Some override_of_all
+kind_told kinds.ReservedProfile = Some reserved_profile
+kind_told (kinds.NoGroupName error) =
+    option_map (λ fault. no_group_name (identifier fault)) (identifier_fault error)
+kind_told (kinds.GroupOutsideTool mark) = Some (group_outside_tool (string_bytes mark))
+kind_told kinds.GroupOfTool = Some group_of_tool
+kind_told kinds.UnjudgedDuration = Some unjudged
+kind_told (kinds.DeprecatedArray table) = Some (deprecated_array (string_bytes table))
+kind_told kinds.NotUtf8 = Some not_utf8
+kind_told (kinds.NotToml message mistake) =
+    Some (not_toml (string_bytes message) (option_map mistaken_of mistake))
+
+-- what is found, at this path
+abbrev pub found_at : List PathStep → FoundKind → Found
+found_at path kind = record { path = path; kind = kind }
+
+-- what a finding tells, with its path, unless it is a refusal of memory
+abbrev pub found_of : Finding → Option Found
+found_of finding = option_map (found_at (map step_of finding.path.items)) (kind_told finding.kind)
+
+-- how grave what is found is
+abbrev pub found_severity : FoundKind → FindingSeverity
+found_severity (refused reason severity hint) = severity
+found_severity (tool_names names) = Error
+found_severity not_utf8 = Error
+found_severity (not_toml message mistake) = Error
+found_severity unjudged = Note
+found_severity (deprecated_array table) = Note
+found_severity (unknown_name name hint) = Warning
+found_severity (unknown_key name hint) = Warning
+found_severity (undefined_group name hint) = Warning
+found_severity (undefined_profile name hint) = Warning
+found_severity default_inherits = Warning
+found_severity (inherits_itself name) = Warning
+found_severity override_of_all = Warning
+found_severity reserved_profile = Warning
+found_severity (no_group_name reason) = Warning
+found_severity (group_outside_tool mark) = Warning
+found_severity group_of_tool = Warning
+
+-- the findings tell these, in this order
+abbrev pub Tells : List Finding → List Found → Type 0
+Tells findings all_found = map found_of findings ≡ map Some all_found
+
+-- the findings tell a list of which this holds
+abbrev pub TellsSome : (List Found → Type 0) → Vec Finding Global → Type 0
+TellsSome AreFound findings = (all_found : List Found) × AreFound all_found
+    × Tells findings.items all_found
+
+-- ---- one for each
+
+-- what is found of each element of a list, at most one thing of each, in order
+abbrev pub AreFoundIn : {A : Type 0} → (A → Option Found → Type 0) → List A → List Found → Type 0
+AreFoundIn IsFound [] all_found = all_found ≡ []
+AreFoundIn IsFound (x ∷ xs) all_found =
+    (here : Option Found) × (rest : List Found) × IsFound x here × AreFoundIn IsFound xs rest
+    × (all_found ≡ option_to_list here ++ rest)
+
+-- the lists of what is found of each element of a list, one after the other
+abbrev pub AreFoundOf : {A : Type 0} → (A → List Found → Type 0) → List A → List Found → Type 0
+AreFoundOf AreFound [] all_found = all_found ≡ []
+AreFoundOf AreFound (x ∷ xs) all_found =
+    (here : List Found) × (rest : List Found) × AreFound x here × AreFoundOf AreFound xs rest
+    × (all_found ≡ here ++ rest)
+
+-- what is found of this element comes after other findings
+abbrev pub AddsOne : {A : Type 0} → (A → Option Found → Type 0) → A → List Finding → List Finding
+    → Type 0
+AddsOne IsFound x before now = (here : Option Found) × IsFound x here
+    × (map found_of now ≡ map found_of before ++ map Some (option_to_list here))
+
+-- what is found of these elements, at most one thing of each, comes after other findings
+abbrev pub AddsFound : {A : Type 0} → (A → Option Found → Type 0) → List A → List Finding
+    → List Finding → Type 0
+AddsFound IsFound xs before now = (all_found : List Found) × AreFoundIn IsFound xs all_found
+    × (map found_of now ≡ map found_of before ++ map Some all_found)

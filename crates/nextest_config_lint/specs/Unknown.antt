@@ -1,0 +1,106 @@
+-- The keys of a document that aren't known where they stand, and what they may be meant for.
+use Rattle.std.specs.Prelude.{◌≡◌, ℕ, ◌==◌, ◌||◌, Bool, true, false, if◌then◌else◌, List, [], ◌∷◌, find, is_some, map, Option, Some, None, option_map}
+use Rattle.std.specs.List.{slice_split}
+use Rattle.std.specs.Option.{option_or}
+use Rattle.toml.specs.Data.{Data, Members, table}
+use Rattle.nextest_config_values.specs.Read.{value_of}
+use Rattle.toml_spans.specs.Step.{PathStep}
+use Rattle.nextest_config_lint.specs.Found.{Found, found_at, Meant, the_key, the_word, unknown_key}
+use Rattle.nextest_config_lint.specs.NearestWord.{dash, distance, IsNearest, is_same}
+use Rattle.nextest_config_lint.specs.Settings.{SettingView, names_of}
+use Rattle.nextest_config_lint.specs.declared.finding.Home.{Home}
+use Rattle.nextest_config_lint.specs.declared.finding.Home.TheVariants.{Junit, Override, Profile, Top}
+use Rattle.nextest_config_lint.specs.Schema.{Below, file_rows, known_words, override_junit_table, override_table, profile_table, row_words, rows_in}
+
+-- a key of a table: the keys that are known there, and the path to the table
+pub record TableKey : Type 0 where
+  pub known : List (List ℕ)
+  pub path : List PathStep
+  pub name : List ℕ
+
+-- ---- the keys that are judged
+
+-- the key of this name, in the table at a path
+abbrev pub key_at : List (List ℕ) → List PathStep → List ℕ → TableKey
+key_at known path name = record { known = known; path = path; name = name }
+
+-- the keys of a table, where those that are known there are given
+abbrev pub keys_among : Option (List (List ℕ)) → List PathStep → Members → List TableKey
+keys_among None path held = []
+keys_among (Some known) path held = map (key_at known path) (names_of held)
+
+-- the keys of a value, if it is a table
+abbrev pub keys_below : Below → List PathStep → Data → List TableKey
+keys_below below path (table members) = keys_among (known_words below) path members
+keys_below below path value = []
+
+-- the keys of a judged value, if it is a table
+abbrev pub keys_in : SettingView → List TableKey
+keys_in setting = keys_below setting.below setting.path setting.value
+
+-- ---- what is found
+
+-- the name is one of these words
+abbrev pub is_known : List (List ℕ) → List ℕ → Bool
+is_known known name = is_some (value_of (λ word. word) known name)
+
+-- the tables that know keys, in the order in which a key is looked for
+abbrev pub homes : List Home
+homes = Top ∷ Profile ∷ Override ∷ Junit ∷ []
+
+-- the keys that a table of this kind knows
+abbrev pub home_words : Home → List (List ℕ)
+home_words Top = row_words file_rows
+home_words Profile = row_words (rows_in profile_table)
+home_words Override = row_words (rows_in override_table)
+home_words Junit = row_words (rows_in override_junit_table)
+
+-- the first table that knows a key of this name
+abbrev pub home_of : List ℕ → Option Home
+home_of name = find (λ home. is_known (home_words home) name) homes
+
+-- what stands between the dashes of a word
+abbrev pub parts_of : List ℕ → List (List ℕ)
+parts_of word = slice_split (λ b. b == dash) word
+
+-- the first word that has the name as one of its parts
+abbrev pub word_with_part : List (List ℕ) → List ℕ → Option (List ℕ)
+word_with_part words name = find (λ word. is_known (parts_of word) name) words
+
+-- the word, if the name is the same or one edit away
+abbrev pub slip_of : List ℕ → Option (List ℕ) → Option (List ℕ)
+slip_of name None = None
+slip_of name (Some word) =
+    if is_same name word || (distance name word == 1) then Some word else None
+
+-- the first of these values that there is
+abbrev pub first_some : {A : Type 0} → List (Option A) → Option A
+first_some [] = None
+first_some (first ∷ rest) = option_or first (first_some rest)
+
+-- what an unknown key may be meant for, beside its nearest word: that word where the name is the
+-- same or one edit away, the key of the same name elsewhere, the nearest word farther off, or a
+-- word that the name is a part of
+abbrev pub meant_beside : List (List ℕ) → List ℕ → Option (List ℕ) → Option Meant
+meant_beside known name near = first_some
+    (option_map the_word (slip_of name near)
+    ∷ option_map the_key (home_of name)
+    ∷ option_map the_word near
+    ∷ option_map the_word (word_with_part known name) ∷ [])
+
+-- what an unknown key may be meant for, with its nearest word
+abbrev pub IsHintFor : List (List ℕ) → List ℕ → Option Meant → Type 0
+IsHintFor known name hint = (near : Option (List ℕ)) × IsNearest known name near
+    × (hint ≡ meant_beside known name near)
+
+-- what is found of a key, by whether it is known: of a known one nothing
+abbrev pub IsKeyFoundFor : Bool → TableKey → Option Found → Type 0
+IsKeyFoundFor true key found = found ≡ None
+IsKeyFoundFor false key found =
+    (hint : Option Meant)
+    × IsHintFor key.known key.name hint
+    × (found ≡ Some (found_at key.path (unknown_key key.name hint)))
+
+-- what is found of a key: that it isn't known where it stands, or nothing
+abbrev pub IsKeyFound : TableKey → Option Found → Type 0
+IsKeyFound key = IsKeyFoundFor (is_known key.known key.name) key

@@ -1,0 +1,152 @@
+//! The codes of findings.
+
+ghost use Rattle.nextest_config_lint.specs.Code.{code_reads_back, code_word, codes_in_order};
+
+use nextest_config_values::read::Word;
+
+/// What kind of finding it is, for those that look for one. A code never changes its meaning.
+#[derive(Clone, Copy, Debug, PartialEq, Eq)]
+pub enum FindingCode {
+    /// The file isn't UTF-8.
+    NotUtf8,
+    /// The file isn't a TOML document.
+    NotToml,
+    /// A value is of a kind that the setting doesn't take.
+    InvalidType,
+    /// A value is of the right kind and outside of what the setting takes.
+    InvalidValue,
+    /// A text is none of the setting's words.
+    UnknownVariant,
+    /// A table has a key that the setting refuses.
+    UnknownField,
+    /// A table lacks a key.
+    MissingField,
+    /// A version has a pre-release.
+    PreRelease,
+    /// A version has build metadata.
+    BuildMetadata,
+    /// A text is no version.
+    NotVersion,
+    /// A required version is above the recommended one.
+    RequiredAboveRecommended,
+    /// There is jitter where there is no delay.
+    JitterWithoutDelay,
+    /// Exponential backoff has no retry.
+    CountZero,
+    /// Exponential backoff has no delay.
+    DelayZero,
+    /// Exponential backoff has a maximum delay of zero.
+    MaxDelayZero,
+    /// Exponential backoff has a maximum delay below the first one.
+    MaxDelayBelowDelay,
+    /// A priority is outside of -100 to 100.
+    Priority,
+    /// Features stand in an array, where only a table is taken.
+    ArrayForm,
+    /// The file of a tool names experimental features.
+    ToolFeatures,
+    /// No experimental feature has a name.
+    UnknownFeature,
+    /// A table has a key that isn't known there.
+    UnknownKey,
+    /// No file defines a test group.
+    UndefinedGroup,
+    /// No file defines a profile.
+    UndefinedProfile,
+    /// The profile `default` inherits.
+    DefaultInherits,
+    /// A profile inherits from itself.
+    InheritsItself,
+    /// An override says nothing of the tests that it is for.
+    OverrideOfAll,
+    /// The name of a profile is reserved.
+    ReservedProfile,
+    /// A text is no name of a test group here.
+    GroupName,
+    /// A text is no duration here, and may be one for nextest.
+    UnjudgedDuration,
+    /// Features stand in an array, which is deprecated.
+    DeprecatedArray,
+}
+
+impl Word for FindingCode {
+    ghost all = { codes_in_order };
+
+    ghost word = { code_word };
+
+    ghost reads_back = { code_reads_back };
+
+    fn all() -> &'static [Self] {
+        &[
+            FindingCode::NotUtf8,
+            FindingCode::NotToml,
+            FindingCode::InvalidType,
+            FindingCode::InvalidValue,
+            FindingCode::UnknownVariant,
+            FindingCode::UnknownField,
+            FindingCode::MissingField,
+            FindingCode::PreRelease,
+            FindingCode::BuildMetadata,
+            FindingCode::NotVersion,
+            FindingCode::RequiredAboveRecommended,
+            FindingCode::JitterWithoutDelay,
+            FindingCode::CountZero,
+            FindingCode::DelayZero,
+            FindingCode::MaxDelayZero,
+            FindingCode::MaxDelayBelowDelay,
+            FindingCode::Priority,
+            FindingCode::ArrayForm,
+            FindingCode::ToolFeatures,
+            FindingCode::UnknownFeature,
+            FindingCode::UnknownKey,
+            FindingCode::UndefinedGroup,
+            FindingCode::UndefinedProfile,
+            FindingCode::DefaultInherits,
+            FindingCode::InheritsItself,
+            FindingCode::OverrideOfAll,
+            FindingCode::ReservedProfile,
+            FindingCode::GroupName,
+            FindingCode::UnjudgedDuration,
+            FindingCode::DeprecatedArray,
+        ]
+    }
+
+    fn as_word(self) -> &'static str {
+        match self {
+            FindingCode::NotUtf8 => "not-utf8",
+            FindingCode::NotToml => "not-toml",
+            FindingCode::InvalidType => "invalid-type",
+            FindingCode::InvalidValue => "invalid-value",
+            FindingCode::UnknownVariant => "unknown-variant",
+            FindingCode::UnknownField => "unknown-field",
+            FindingCode::MissingField => "missing-field",
+            FindingCode::PreRelease => "pre-release",
+            FindingCode::BuildMetadata => "build-metadata",
+            FindingCode::NotVersion => "not-version",
+            FindingCode::RequiredAboveRecommended => "required-above-recommended",
+            FindingCode::JitterWithoutDelay => "jitter-without-delay",
+            FindingCode::CountZero => "count-zero",
+            FindingCode::DelayZero => "delay-zero",
+            FindingCode::MaxDelayZero => "max-delay-zero",
+            FindingCode::MaxDelayBelowDelay => "max-delay-below-delay",
+            FindingCode::Priority => "priority",
+            FindingCode::ArrayForm => "array-form",
+            FindingCode::ToolFeatures => "tool-features",
+            FindingCode::UnknownFeature => "unknown-feature",
+            FindingCode::UnknownKey => "unknown-key",
+            FindingCode::UndefinedGroup => "undefined-group",
+            FindingCode::UndefinedProfile => "undefined-profile",
+            FindingCode::DefaultInherits => "default-inherits",
+            FindingCode::InheritsItself => "inherits-itself",
+            FindingCode::OverrideOfAll => "override-of-all",
+            FindingCode::ReservedProfile => "reserved-profile",
+            FindingCode::GroupName => "group-name",
+            FindingCode::UnjudgedDuration => "unjudged-duration",
+            FindingCode::DeprecatedArray => "deprecated-array",
+        }
+    }
+
+    fn expected() -> &'static str {
+        "one of `not-utf8`, `not-toml`, `invalid-type`, `invalid-value`, `unknown-variant`, `unknown-field`, `missing-field`, `pre-release`, `build-metadata`, `not-version`, `required-above-recommended`, `jitter-without-delay`, `count-zero`, `delay-zero`, `max-delay-zero`, `max-delay-below-delay`, `priority`, `array-form`, `tool-features`, `unknown-feature`, `unknown-key`, `undefined-group`, `undefined-profile`, `default-inherits`, `inherits-itself`, `override-of-all`, `reserved-profile`, `group-name`, `unjudged-duration`, `deprecated-array`"
+    }
+}

@@ -1,0 +1,357 @@
+//! What is found in a configuration file.
+
+ghost use Rattle.std.specs.Prelude.{◌≡◌, Some};
+ghost use Rattle.std.specs.Fmt.{WritesOnOk};
+ghost use Rattle.nextest_config_lint.specs.Code.{rule_code, told_code};
+ghost use Rattle.nextest_config_lint.specs.Found.{kind_told};
+ghost use Rattle.nextest_config_lint.specs.Finding.{fault_code, finding_kind_text, finding_severity, finding_text, hint_text, home_text, mistake_text, name_text};
+ghost use Rattle.nextest_config_values.specs.Read.{broken_rule};
+
+use crate::code::FindingCode;
+use nextest_config_values::identifier::InvalidIdentifier;
+use nextest_config_values::read::{FaultKind, QuotedText, QuotedTexts, Rule};
+use std::collections::BTreeSet;
+use std::fmt::{self, Display};
+use toml_spans::{PathText, Step};
+
+/// What is found at a path; the empty path is that of the whole file.
+#[derive(Debug, PartialEq, Eq, Drop)]
+pub struct Finding {
+    pub path: Vec<Step>,
+    pub kind: FindingKind,
+}
+
+/// What is found.
+#[derive(Debug, PartialEq, Eq, Drop)]
+pub enum FindingKind {
+    /// The value of a setting is refused by its reader.
+    Fault {
+        fault: FaultKind,
+        severity: FindingSeverity,
+        hint: Option<Hint>,
+    },
+    /// The file of a tool names experimental features.
+    ToolFeatures {
+        features: BTreeSet<String>,
+    },
+    /// No experimental feature has this name.
+    UnknownFeature {
+        name: String,
+        hint: Option<Hint>,
+    },
+    /// A table has a key that isn't known there.
+    UnknownKey {
+        key: String,
+        hint: Option<Hint>,
+    },
+    /// No file of the list defines this test group.
+    UndefinedGroup {
+        name: String,
+        hint: Option<Hint>,
+    },
+    /// No file of the list defines this profile.
+    UndefinedProfile {
+        name: String,
+        hint: Option<Hint>,
+    },
+    /// The profile `default` names one that it inherits from.
+    DefaultInherits,
+    /// The profile comes back to itself by what it inherits from.
+    InheritsItself {
+        profile: String,
+    },
+    /// An override doesn't say which tests it is for.
+    OverrideOfAll,
+    /// The name of a profile is kept for nextest's own.
+    ReservedProfile,
+    /// The name of a test group is no identifier.
+    NoGroupName(InvalidIdentifier),
+    /// The name of a test group in a tool's file lacks this mark of the tool.
+    GroupOutsideTool {
+        mark: String,
+    },
+    /// The name of a test group is marked as a tool's, in a file that isn't one's.
+    GroupOfTool,
+    /// A text is no duration here, and may be one for nextest.
+    UnjudgedDuration,
+    /// Features stand in an array; the table that enables those of them that are known.
+    DeprecatedArray {
+        table: String,
+    },
+    /// The file isn't UTF-8.
+    NotUtf8,
+    /// The file isn't a TOML document, with what `toml` says of it, and a mistake that is known.
+    NotToml {
+        message: String,
+        mistake: Option<Mistake>,
+    },
+}
+
+/// What may be meant by what stands at a path.
+#[derive(Debug, PartialEq, Eq, Drop)]
+pub enum Hint {
+    /// A word, which prints in quotes.
+    Word(String),
+    /// A text that prints as TOML writes it.
+    Toml(String),
+    /// The key of the same name in another table.
+    Belongs(Home),
+}
+
+/// A mistake in a text that isn't a TOML document.
+#[derive(Debug, PartialEq, Eq, Drop)]
+pub enum Mistake {
+    /// This key stands on this line already.
+    Repeated { key: String, line: usize },
+    /// A value may be meant for this word of TOML.
+    Misspelt(String),
+    /// A value may lack its quotes.
+    Unquoted,
+}
+
+/// A table of a configuration file that knows keys.
+#[derive(Clone, Copy, Debug, PartialEq, Eq)]
+pub enum Home {
+    /// The whole file.
+    Top,
+    Profile,
+    Override,
+    /// `junit` of a profile or of an override.
+    Junit,
+}
+
+/// How grave a finding is.
+#[derive(Clone, Copy, Debug, PartialEq, Eq, PartialOrd, Ord)]
+pub enum FindingSeverity {
+    /// Something isn't judged here, or is to change one day.
+    Note,
+    /// A later nextest may know or take what isn't known or taken here.
+    Warning,
+    /// The file is refused.
+    Error,
+}
+
+impl Finding {
+    /// How grave the finding is.
+    pub fn severity(&self) -> FindingSeverity
+        ensures { result ≡ finding_severity self.now.kind }
+    {
+        match &self.kind {
+            FindingKind::Fault {
+                fault,
+                severity,
+                ..
+            } if !fault.is_memory() => *severity,
+            FindingKind::Fault { .. }
+            | FindingKind::NoGroupName(InvalidIdentifier::Memory)
+            | FindingKind::ToolFeatures { .. }
+            | FindingKind::NotUtf8
+            | FindingKind::NotToml { .. } => FindingSeverity::Error,
+            FindingKind::UnjudgedDuration | FindingKind::DeprecatedArray { .. } => {
+                FindingSeverity::Note
+            }
+            FindingKind::UnknownFeature { .. }
+            | FindingKind::UnknownKey { .. }
+            | FindingKind::UndefinedGroup { .. }
+            | FindingKind::UndefinedProfile { .. }
+            | FindingKind::DefaultInherits
+            | FindingKind::InheritsItself { .. }
+            | FindingKind::OverrideOfAll
+            | FindingKind::ReservedProfile
+            | FindingKind::NoGroupName(_)
+            | FindingKind::GroupOutsideTool { .. }
+            | FindingKind::GroupOfTool => FindingSeverity::Warning,
+        }
+    }
+
+    /// What kind of finding it is.
+    pub fn code(&self) -> FindingCode
+        ensures { result ≡ told_code (kind_told self.now.kind) }
+    {
+        match &self.kind {
+            FindingKind::Fault { fault, .. } => code_of_fault(fault),
+            FindingKind::ToolFeatures { .. } => FindingCode::ToolFeatures,
+            FindingKind::UnknownFeature { .. } => FindingCode::UnknownFeature,
+            FindingKind::UnknownKey { .. } => FindingCode::UnknownKey,
+            FindingKind::UndefinedGroup { .. } => FindingCode::UndefinedGroup,
+            FindingKind::UndefinedProfile { .. } => FindingCode::UndefinedProfile,
+            FindingKind::DefaultInherits => FindingCode::DefaultInherits,
+            FindingKind::InheritsItself { .. } => FindingCode::InheritsItself,
+            FindingKind::OverrideOfAll => FindingCode::OverrideOfAll,
+            FindingKind::ReservedProfile => FindingCode::ReservedProfile,
+            FindingKind::NoGroupName(InvalidIdentifier::Memory) => FindingCode::InvalidValue,
+            FindingKind::NoGroupName(_)
+            | FindingKind::GroupOutsideTool { .. }
+            | FindingKind::GroupOfTool => FindingCode::GroupName,
+            FindingKind::UnjudgedDuration => FindingCode::UnjudgedDuration,
+            FindingKind::DeprecatedArray { .. } => FindingCode::DeprecatedArray,
+            FindingKind::NotUtf8 => FindingCode::NotUtf8,
+            FindingKind::NotToml { .. } => FindingCode::NotToml,
+        }
+    }
+}
+
+// The code of a refusal.
+fn code_of_fault(fault: &FaultKind) -> FindingCode
+    ensures { result ≡ fault_code fault.now }
+{
+    match fault {
+        FaultKind::InvalidType { .. } => FindingCode::InvalidType,
+        FaultKind::UnknownVariant { .. } => FindingCode::UnknownVariant,
+        FaultKind::UnknownField { .. } => FindingCode::UnknownField,
+        FaultKind::MissingField { .. } => FindingCode::MissingField,
+        FaultKind::Custom(rule) => code_of_rule(rule),
+        FaultKind::InvalidValue { .. }
+        | FaultKind::Identifier(_)
+        | FaultKind::ToolName(_)
+        | FaultKind::Memory => FindingCode::InvalidValue,
+    }
+}
+
+// The code of a rule that is broken.
+fn code_of_rule(rule: &Rule) -> FindingCode
+    ensures { result ≡ rule_code (broken_rule rule.now) }
+{
+    match rule {
+        Rule::PreRelease => FindingCode::PreRelease,
+        Rule::BuildMetadata => FindingCode::BuildMetadata,
+        Rule::NotVersion { .. } => FindingCode::NotVersion,
+        Rule::RequiredAboveRecommended { .. } => FindingCode::RequiredAboveRecommended,
+        Rule::ArrayForm => FindingCode::ArrayForm,
+        Rule::JitterWithoutDelay => FindingCode::JitterWithoutDelay,
+        Rule::CountZero => FindingCode::CountZero,
+        Rule::DelayZero => FindingCode::DelayZero,
+        Rule::MaxDelayZero => FindingCode::MaxDelayZero,
+        Rule::MaxDelayBelowDelay => FindingCode::MaxDelayBelowDelay,
+        Rule::Priority { .. } => FindingCode::Priority,
+    }
+}
+
+impl fmt::Display for Finding {
+    ghost output = { λ finding. Some (finding_text finding) };
+
+    fn fmt<W: fmt::Write>(&self, f: &mut fmt::Formatter<W>) -> fmt::Result {
+        if !self.path.is_empty() {
+            write!(f, "{}: ", PathText(self.path.as_slice()))?;
+        }
+        self.kind.fmt(f)
+    }
+}
+
+impl fmt::Display for FindingKind {
+    ghost output = { λ kind. Some (finding_kind_text kind) };
+
+    fn fmt<W: fmt::Write>(&self, f: &mut fmt::Formatter<W>) -> fmt::Result {
+        match self {
+            FindingKind::Fault { fault, hint, .. } => {
+                fault.fmt(f)?;
+                write_hint(f, hint)
+            }
+            FindingKind::ToolFeatures { features } => write!(
+                f,
+                "experimental features in a tool configuration: {}",
+                QuotedTexts(features)
+            ),
+            FindingKind::UnknownFeature { name, hint } => {
+                write_name(f, "unknown feature ", name.as_str(), hint)
+            }
+            FindingKind::UnknownKey { key, hint } => {
+                write_name(f, "unknown key ", key.as_str(), hint)
+            }
+            FindingKind::UndefinedGroup { name, hint } => {
+                write_name(f, "no file defines the test group ", name.as_str(), hint)
+            }
+            FindingKind::UndefinedProfile { name, hint } => {
+                write_name(f, "no file defines the profile ", name.as_str(), hint)
+            }
+            FindingKind::DefaultInherits => f.write_str("the profile \"default\" can't inherit"),
+            FindingKind::InheritsItself { profile } => write!(
+                f,
+                "the profile {} inherits from itself",
+                QuotedText(profile.as_str())
+            ),
+            FindingKind::OverrideOfAll => {
+                f.write_str("an override needs a \"filter\" or a \"platform\"")
+            }
+            FindingKind::ReservedProfile => {
+                f.write_str("profile names that begin with \"default-\" are reserved")
+            }
+            FindingKind::NoGroupName(error) => error.fmt(f),
+            FindingKind::GroupOutsideTool { mark } => write!(
+                f,
+                "a tool's test groups begin with {}",
+                QuotedText(mark.as_str())
+            ),
+            FindingKind::GroupOfTool => {
+                f.write_str("only a tool's test groups begin with \"@\"")
+            }
+            FindingKind::UnjudgedDuration => f.write_str(
+                "not judged here: a duration other than whole numbers, each with a unit",
+            ),
+            FindingKind::DeprecatedArray { table } => {
+                write!(f, "the array form is deprecated, use a table: {table}")
+            }
+            FindingKind::NotUtf8 => f.write_str("not UTF-8"),
+            FindingKind::NotToml { message, mistake } => {
+                f.write_str(message.as_str())?;
+                write_mistake(f, mistake)
+            }
+        }
+    }
+}
+
+// What is said of a name, and what it may be meant for.
+fn write_name<W: fmt::Write>(
+    f: &mut fmt::Formatter<W>,
+    said: &str,
+    name: &str,
+    hint: &Option<Hint>,
+) -> fmt::Result
+    ensures { WritesOnOk W.write_str_gives f.old result (name_text said.now name.now hint.now)
+        f.new }
+{
+    write!(f, "{said}{}", QuotedText(name))?;
+    write_hint(f, hint)
+}
+
+// What may be meant.
+fn write_hint<W: fmt::Write>(f: &mut fmt::Formatter<W>, hint: &Option<Hint>) -> fmt::Result
+    ensures { WritesOnOk W.write_str_gives f.old result (hint_text hint.now) f.new }
+{
+    match hint {
+        Some(Hint::Word(word)) => write!(f, ", did you mean {}", QuotedText(word.as_str())),
+        Some(Hint::Toml(text)) => write!(f, ", did you mean {text}"),
+        Some(Hint::Belongs(home)) => write!(f, ", which belongs {}", home.as_words()),
+        None => Ok(()),
+    }
+}
+
+// What is wrong in a text that isn't a document.
+fn write_mistake<W: fmt::Write>(f: &mut fmt::Formatter<W>, mistake: &Option<Mistake>) -> fmt::Result
+    ensures { WritesOnOk W.write_str_gives f.old result (mistake_text mistake.now) f.new }
+{
+    match mistake {
+        Some(Mistake::Repeated { key, line }) => write!(
+            f,
+            ", {} stands on line {line} already",
+            QuotedText(key.as_str())
+        ),
+        Some(Mistake::Misspelt(word)) => write!(f, ", did you mean {word}"),
+        Some(Mistake::Unquoted) => f.write_str(", quotes missing?"),
+        None => Ok(()),
+    }
+}
+
+impl Home {
+    // Where that is, in words.
+    fn as_words(self) -> &'static str
+        ensures { result.now ≡ home_text self }
+    {
+        match self {
+            Home::Top => "at the top of the file",
+            Home::Profile => "in a profile",
+            Home::Override => "in an override",
+            Home::Junit => "in junit",
+        }
+    }
+}

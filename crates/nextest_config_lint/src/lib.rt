@@ -1,0 +1,39 @@
+//! What is wrong in a whole configuration file, and where; and what the codes of findings mean.
+#![tactic(auto)]
+
+mod by_place;
+mod code;
+mod conversion;
+mod defined;
+mod document;
+pub mod explain;
+mod faults;
+mod features;
+mod file;
+mod finding;
+mod forms;
+mod heirs;
+mod inheritance;
+mod integers;
+pub mod laws;
+mod meant;
+mod mistake;
+mod nearest_word;
+mod reader;
+mod references;
+mod schema;
+mod settings;
+mod severity;
+mod unknown;
+mod values;
+mod words;
+
+pub use code::FindingCode;
+pub use conversion::is_converted_at;
+pub use defined::{Defined, ListedFile};
+pub use document::findings;
+pub use faults::is_unjudged;
+pub use file::{FileContents, LocatedFinding, located, value_or_key};
+pub use finding::{Finding, FindingKind, FindingSeverity, Hint, Home, Mistake};
+pub use nearest_word::nearest;
+pub use toml_spans::{PathText, Place, Span, Step};

@@ -1,0 +1,460 @@
+//! What may be meant by a value that is refused.
+
+ghost use Rattle.std.specs.Prelude.{◌≡◌, ◌↔◌, IfOk, IfSome, IsTrue, map, option_and_then, option_map, Some, string_bytes};
+ghost use Rattle.std.specs.Char.{is_ascii_digit};
+ghost use Rattle.std.specs.List.{list_all};
+ghost use Rattle.toml.specs.Data.{as_integer, as_str, as_table};
+ghost use Rattle.toml.specs.View.{view};
+ghost use Rattle.nextest_config_values.specs.Read.{cause_of, fault_of};
+ghost use Rattle.toml_spans.specs.Line.{found_below};
+ghost use Rattle.toml_spans.specs.Step.{step_of};
+ghost use Rattle.nextest_config_lint.specs.Found.{IsNearestMeant, meant_of};
+ghost use Rattle.nextest_config_lint.specs.Meant.{digits_of, digits_of_number, digits_of_text, IsDurationHint, IsDurationText, IsFaultHint, IsEitherHint, IsHintAt, IsLongText, IsSecondsHint, IsShortHint, IsWordHint, keys_by, keys_taken, limit_by, limit_of_count, refused_key, seconds_text, tables_meant, taken_at, taken_here, taken_in_leak, taken_in_limit, taken_in_report, taken_in_retries, taken_in_timeout, taken_to, truth_meant};
+ghost use Rattle.nextest_config_lint.specs.NearestWord.{words_of};
+ghost use Rattle.nextest_config_lint.specs.Settings.{setting_view};
+
+use crate::faults::value_along;
+use crate::finding::Hint;
+use crate::integers::{IntegerRange, integer_hint};
+use crate::nearest_word::nearest_hint;
+use crate::reader::Reader;
+use crate::settings::Setting;
+use nextest_config_values::duration::parse_duration;
+use nextest_config_values::read::{FaultCause, FaultKind, ValueFault};
+use std::alloc::{AllocError, Global};
+use toml::Value;
+use toml_spans::{PathText, Step};
+
+// From how many nanoseconds on a duration is long: a hundred seconds.
+const LONG: u128 = 100_000_000_000;
+
+const STATUS_LEVELS: &[&str] = &[
+    "none", "fail", "retry", "slow", "leak", "pass", "skip", "all",
+];
+
+const FINAL_STATUS_LEVELS: &[&str] = &[
+    "none", "fail", "flaky", "slow", "skip", "leak", "pass", "all",
+];
+
+const OUTPUTS: &[&str] = &["immediate", "immediate-final", "final", "never"];
+
+/// What is taken at a place, where something may be meant by what stands there instead.
+#[derive(Clone, Copy, Debug, PartialEq, Eq)]
+pub(crate) enum Taken {
+    Duration,
+    /// A duration that is short as a rule.
+    ShortDuration,
+    Boolean,
+    FailFast,
+    Integer(IntegerRange),
+    /// An array of tables.
+    Tables,
+    /// A word for the result of a test.
+    Result,
+    /// A word for how running tests are ended.
+    Mode,
+    /// A word for how a delay grows.
+    Growth,
+    /// A word for the skipped tests in a report.
+    Skipped,
+    /// A word for the status of a flaky test.
+    Status,
+    /// A word for the tests that are shown while they run.
+    Level,
+    /// A word for the tests that are shown at the end.
+    FinalLevel,
+    /// A word for when output is shown.
+    Output,
+}
+
+/// What may be meant by what is refused of a setting.
+pub(crate) fn hint_of(
+    alloc: Global,
+    setting: &Setting,
+    fault: &ValueFault,
+) -> Result<Option<Hint>, AllocError>
+    ensures { IfOk result (λ hint. IfSome (fault_of fault.now) (λ told.
+        IsFaultHint (setting_view setting.now) told (option_map meant_of hint))) }
+{
+    match refused_key(&fault.cause) {
+        Some(name) => key_hint(alloc, name, setting.value),
+        None => hint_to(alloc, setting, fault.steps.as_slice()),
+    }
+}
+
+// The key that a table is refused for.
+fn refused_key(cause: &FaultCause) -> Option<&str>
+    ensures { IfSome (cause_of cause.now) (λ told.
+        option_map (λ name. name.now) result ≡ refused_key told) }
+{
+    match cause {
+        FaultCause::Told(FaultKind::UnknownField { found, .. }) => Some(found.as_str()),
+        _ => None,
+    }
+}
+
+// The key of a table that one which is refused comes nearest to.
+fn key_hint(alloc: Global, name: &str, value: &Value) -> Result<Option<Hint>, AllocError>
+    ensures { IfOk result (λ hint.
+        IsNearestMeant (keys_taken (view value.now)) name.now (option_map meant_of hint)) }
+{
+    let word = match value.get("backoff") {
+        Some(backoff) => backoff.as_str(),
+        None => None,
+    };
+    nearest_hint(alloc, name, keys_by(word))
+}
+
+// The keys that stand beside a backoff.
+fn keys_by(backoff: Option<&str>) -> &'static [&'static str]
+    ensures { words_of result.now ≡ keys_by (option_map (λ word. word.now) backoff.entry) }
+{
+    match backoff {
+        Some("exponential") => &["count", "delay", "jitter", "max-delay"],
+        Some(_) => &["count", "delay", "jitter"],
+        None => &[],
+    }
+}
+
+// What may be meant by the value that steps lead to.
+fn hint_to(alloc: Global, setting: &Setting, steps: &[Step]) -> Result<Option<Hint>, AllocError>
+    ensures { IfOk result (λ hint. IsHintAt (setting_view setting.now).path
+        (taken_to setting.now.reader (map step_of steps.now))
+        (found_below (map step_of steps.now) (setting_view setting.now).value)
+        (option_map meant_of hint)) }
+{
+    let Some(taken) = taken_to(setting.reader, steps) else {
+        return Ok(None);
+    };
+    let Some(value) = value_along(setting.value, steps) else {
+        return Ok(None);
+    };
+    hint_at(alloc, setting, taken, value)
+}
+
+// What may be meant by a value in place of what is taken.
+fn hint_at(
+    alloc: Global,
+    setting: &Setting,
+    taken: Taken,
+    value: &Value,
+) -> Result<Option<Hint>, AllocError>
+    ensures { IfOk result (λ hint. IsHintAt (setting_view setting.now).path (Some taken)
+        (Some (view value.now)) (option_map meant_of hint)) }
+{
+    match taken {
+        Taken::Duration => duration_hint(alloc, value),
+        Taken::ShortDuration => short_duration_hint(alloc, value),
+        Taken::Boolean => truth_hint(alloc, value),
+        Taken::FailFast => limit_hint(alloc, value),
+        Taken::Integer(range) => integer_hint(alloc, range, value),
+        Taken::Tables => tables_hint(alloc, setting, value),
+        Taken::Result => word_hint(alloc, &["fail", "pass"], value),
+        Taken::Mode => word_hint(alloc, &["wait", "immediate"], value),
+        Taken::Growth => word_hint(alloc, &["fixed", "exponential"], value),
+        Taken::Skipped => word_hint(alloc, &["none", "ignored", "all"], value),
+        Taken::Status => word_hint(alloc, &["failure", "success"], value),
+        Taken::Level => word_hint(alloc, STATUS_LEVELS, value),
+        Taken::FinalLevel => word_hint(alloc, FINAL_STATUS_LEVELS, value),
+        Taken::Output => word_hint(alloc, OUTPUTS, value),
+    }
+}
+
+// The value with the unit of seconds, if that is a duration.
+fn duration_hint(alloc: Global, value: &Value) -> Result<Option<Hint>, AllocError>
+    ensures { IfOk result (λ hint.
+        IsDurationHint (digits_of (view value.now)) (option_map meant_of hint)) }
+{
+    match digits_of(alloc, value)? {
+        Some(digits) => seconds_hint(alloc, digits.as_str()),
+        None => Ok(None),
+    }
+}
+
+// Where durations are short as a rule: the value with the unit of seconds, and where that is long,
+// with that of milliseconds or of seconds.
+fn short_duration_hint(alloc: Global, value: &Value) -> Result<Option<Hint>, AllocError>
+    ensures { IfOk result (λ hint.
+        IsShortHint (digits_of (view value.now)) (option_map meant_of hint)) }
+{
+    match digits_of(alloc, value)? {
+        Some(digits) => either_hint(alloc, digits.as_str()),
+        None => Ok(None),
+    }
+}
+
+fn either_hint(alloc: Global, digits: &str) -> Result<Option<Hint>, AllocError>
+    ensures { IfOk result (λ hint. IsEitherHint digits.now (option_map meant_of hint)) }
+{
+    if are_long(alloc, digits)? {
+        let text = format!(in alloc; "\"{digits}ms\" or \"{digits}s\"")?;
+        return Ok(Some(Hint::Toml(text)));
+    }
+    seconds_hint(alloc, digits)
+}
+
+// Whether so many seconds are long.
+fn are_long(alloc: Global, digits: &str) -> Result<bool, AllocError>
+    ensures { IfOk result (λ long. IsTrue long ↔ IsLongText (seconds_text digits.now)) }
+{
+    let text = format!(in alloc; "{digits}s")?;
+    Ok(is_long(text.as_str()))
+}
+
+fn is_long(text: &str) -> bool
+    ensures { IsTrue result ↔ IsLongText text.now }
+{
+    match parse_duration(text) {
+        Ok(duration) => duration.as_nanos() >= LONG,
+        Err(_) => false,
+    }
+}
+
+fn seconds_hint(alloc: Global, digits: &str) -> Result<Option<Hint>, AllocError>
+    ensures { IfOk result (λ hint. IsSecondsHint digits.now (option_map meant_of hint)) }
+{
+    let text = format!(in alloc; "{digits}s")?;
+    if is_duration(text.as_str()) {
+        return Ok(Some(Hint::Word(text)));
+    }
+    Ok(None)
+}
+
+fn is_duration(text: &str) -> bool
+    ensures { IsTrue result ↔ IsDurationText text.now }
+{
+    match parse_duration(text) {
+        Ok(_) => true,
+        Err(_) => false,
+    }
+}
+
+// The digits of an integer that isn't negative, or of a text of digits.
+fn digits_of(alloc: Global, value: &Value) -> Result<Option<String>, AllocError>
+    ensures { IfOk result (λ text. option_map string_bytes text ≡ digits_of (view value.now)) }
+{
+    if let Some(number) = value.as_integer() {
+        return digits_of_number(alloc, number);
+    }
+    match value.as_str() {
+        Some(text) => digits_of_text(alloc, text),
+        None => Ok(None),
+    }
+}
+
+fn digits_of_number(alloc: Global, number: i64) -> Result<Option<String>, AllocError>
+    ensures { IfOk result (λ text. option_map string_bytes text ≡ digits_of_number number) }
+{
+    match u64::try_from(number) {
+        Ok(number) => {
+            let text = format!(in alloc; "{number}")?;
+            Ok(Some(text))
+        }
+        Err(_) => Ok(None),
+    }
+}
+
+fn digits_of_text(alloc: Global, text: &str) -> Result<Option<String>, AllocError>
+    ensures { IfOk result (λ digits. option_map string_bytes digits ≡ digits_of_text text.now) }
+{
+    if !are_digits(text) {
+        return Ok(None);
+    }
+    let digits = String::from_str(alloc, text)?;
+    Ok(Some(digits))
+}
+
+fn are_digits(text: &str) -> bool
+    ensures { result ≡ list_all is_ascii_digit text.now }
+{
+    text.bytes().all(|byte| byte.is_ascii_digit())
+}
+
+// The boolean that a text writes.
+fn truth_hint(alloc: Global, value: &Value) -> Result<Option<Hint>, AllocError>
+    ensures { IfOk result (λ hint. option_map meant_of hint
+        ≡ truth_meant (as_str (view value.now))) }
+{
+    match value.as_str() {
+        Some(text) => {
+            if (text == "true") | (text == "false") {
+                let text = String::from_str(alloc, text)?;
+                return Ok(Some(Hint::Toml(text)));
+            }
+            Ok(None)
+        }
+        None => Ok(None),
+    }
+}
+
+// The table with a limit of so many failures, or the boolean that a text writes.
+fn limit_hint(alloc: Global, value: &Value) -> Result<Option<Hint>, AllocError>
+    ensures { IfOk result (λ hint. option_map meant_of hint
+        ≡ limit_by (as_integer (view value.now)) (as_str (view value.now))) }
+{
+    match value.as_integer() {
+        Some(number) => count_hint(alloc, number),
+        None => truth_hint(alloc, value),
+    }
+}
+
+fn count_hint(alloc: Global, number: i64) -> Result<Option<Hint>, AllocError>
+    ensures { IfOk result (λ hint. option_map meant_of hint ≡ limit_of_count number) }
+{
+    if number < 1 {
+        return Ok(None);
+    }
+    let text = format!(in alloc; "{{ max-fail = {number} }}")?;
+    Ok(Some(Hint::Toml(text)))
+}
+
+// The header of an array of tables, for a table.
+fn tables_hint(alloc: Global, setting: &Setting, value: &Value) -> Result<Option<Hint>, AllocError>
+    ensures { IfOk result (λ hint. option_map meant_of hint
+        ≡ tables_meant (setting_view setting.now).path (as_table (view value.now))) }
+{
+    match value.as_table() {
+        Some(_) => {
+            let path = setting.steps(alloc)?;
+            let text = format!(in alloc; "[[{}]]", PathText(path.as_slice()))?;
+            Ok(Some(Hint::Toml(text)))
+        }
+        None => Ok(None),
+    }
+}
+
+// The word that a text comes nearest to.
+fn word_hint(
+    alloc: Global,
+    words: &[&'static str],
+    value: &Value,
+) -> Result<Option<Hint>, AllocError>
+    ensures { IfOk result (λ hint.
+        IsWordHint (words_of words.now) (as_str (view value.now)) (option_map meant_of hint)) }
+{
+    match value.as_str() {
+        Some(text) => nearest_hint(alloc, text, words),
+        None => Ok(None),
+    }
+}
+
+// What is taken where steps lead to in the value that a reader reads.
+fn taken_to(reader: Reader, steps: &[Step]) -> Option<Taken>
+    ensures { result ≡ taken_to reader (map step_of steps.now) }
+{
+    match steps {
+        [] => taken_here(reader),
+        [Step::Key(name)] => taken_at(reader, name.as_str()),
+        [Step::Index(_)] | [_, _, ..] => None,
+    }
+}
+
+// What is taken as the value itself.
+fn taken_here(reader: Reader) -> Option<Taken>
+    ensures { result ≡ taken_here reader }
+{
+    match reader {
+        Reader::SlowTimeout | Reader::GlobalTimeout => Some(Taken::Duration),
+        Reader::LeakTimeout => Some(Taken::ShortDuration),
+        Reader::FailFast => Some(Taken::FailFast),
+        Reader::Retries => Some(Taken::Integer(IntegerRange::U32)),
+        Reader::ThreadsRequired => Some(Taken::Integer(IntegerRange::Count)),
+        Reader::Threads => Some(Taken::Integer(IntegerRange::Threads)),
+        Reader::Priority => Some(Taken::Integer(IntegerRange::Priority)),
+        Reader::Boolean => Some(Taken::Boolean),
+        Reader::Array => Some(Taken::Tables),
+        Reader::FlakyResult => Some(Taken::Result),
+        Reader::FlakyFailStatus => Some(Taken::Status),
+        Reader::StatusLevel => Some(Taken::Level),
+        Reader::FinalStatusLevel => Some(Taken::FinalLevel),
+        Reader::Output => Some(Taken::Output),
+        _ => None,
+    }
+}
+
+// What is taken at a key.
+fn taken_at(reader: Reader, name: &str) -> Option<Taken>
+    ensures { result ≡ taken_at reader name.now }
+{
+    match reader {
+        Reader::SlowTimeout => taken_in_timeout(name),
+        Reader::LeakTimeout => taken_in_leak(name),
+        Reader::Retries => taken_in_retries(name),
+        Reader::FailFast => taken_in_limit(name),
+        Reader::Junit => taken_in_report(name),
+        Reader::Experimental => Some(Taken::Boolean),
+        _ => None,
+    }
+}
+
+fn taken_in_timeout(name: &str) -> Option<Taken>
+    ensures { result ≡ taken_in_timeout name.now }
+{
+    if (name == "period") | (name == "grace-period") {
+        return Some(Taken::Duration);
+    }
+    if name == "on-timeout" {
+        return Some(Taken::Result);
+    }
+    if name == "terminate-after" {
+        return Some(Taken::Integer(IntegerRange::Count));
+    }
+    None
+}
+
+fn taken_in_leak(name: &str) -> Option<Taken>
+    ensures { result ≡ taken_in_leak name.now }
+{
+    if name == "period" {
+        return Some(Taken::ShortDuration);
+    }
+    if name == "result" {
+        return Some(Taken::Result);
+    }
+    None
+}
+
+fn taken_in_limit(name: &str) -> Option<Taken>
+    ensures { result ≡ taken_in_limit name.now }
+{
+    if name == "terminate" {
+        return Some(Taken::Mode);
+    }
+    if name == "max-fail" {
+        return Some(Taken::Integer(IntegerRange::Count));
+    }
+    None
+}
+
+fn taken_in_retries(name: &str) -> Option<Taken>
+    ensures { result ≡ taken_in_retries name.now }
+{
+    if (name == "delay") | (name == "max-delay") {
+        return Some(Taken::Duration);
+    }
+    if name == "jitter" {
+        return Some(Taken::Boolean);
+    }
+    if name == "backoff" {
+        return Some(Taken::Growth);
+    }
+    if name == "count" {
+        return Some(Taken::Integer(IntegerRange::U32));
+    }
+    None
+}
+
+fn taken_in_report(name: &str) -> Option<Taken>
+    ensures { result ≡ taken_in_report name.now }
+{
+    if (name == "store-success-output") | (name == "store-failure-output") {
+        return Some(Taken::Boolean);
+    }
+    if name == "report-skipped" {
+        return Some(Taken::Skipped);
+    }
+    if name == "flaky-fail-status" {
+        return Some(Taken::Status);
+    }
+    None
+}

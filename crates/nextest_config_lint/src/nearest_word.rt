@@ -1,0 +1,93 @@
+//! The word of a list that a name comes nearest to.
+
+ghost use Rattle.std.specs.Prelude.{◌≡◌, IfOk, chars, length, option_map};
+ghost use Rattle.nextest_config_lint.specs.Found.{IsNearestMeant, meant_of, the_word};
+ghost use Rattle.nextest_config_lint.specs.NearestWord.{IsNearest, is_same, plain_byte, words_of};
+
+use crate::finding::Hint;
+use std::alloc::{AllocError, Global};
+use strsim::levenshtein;
+
+/// The word that a name may have been meant for: one that is the same but for ASCII letter case and
+/// `_` in place of `-`, or else the first of those that are the fewest edits of a character away
+/// from it. They are one edit for three characters of the name at most, or one, and fewer than it
+/// has characters.
+pub fn nearest<'w>(
+    alloc: Global,
+    name: &str,
+    words: &[&'w str],
+) -> Result<Option<&'w str>, AllocError>
+    ensures { IfOk result (λ found.
+        IsNearest (words_of words.now) name.now (option_map (λ word. word.now) found)) }
+{
+    let length = characters(name);
+    let mut limit = length.min((length / 3).max(1) + 1);
+    let mut found = None;
+    for &word in words {
+        if is_same(name, word) {
+            return Ok(Some(word));
+        }
+        if length.abs_diff(characters(word)) < limit {
+            let edits = levenshtein(alloc, name, word)?;
+            if edits < limit {
+                limit = edits;
+                found = Some(word);
+            }
+        }
+    }
+    Ok(found)
+}
+
+/// The word that a name may be meant for, of these words.
+pub(crate) fn nearest_hint(
+    alloc: Global,
+    name: &str,
+    words: &[&str],
+) -> Result<Option<Hint>, AllocError>
+    ensures { IfOk result (λ hint.
+        IsNearestMeant (words_of words.now) name.now (option_map meant_of hint)) }
+{
+    let word = nearest(alloc, name, words)?;
+    word_hint(alloc, word)
+}
+
+/// The hint of a word, where there is one.
+pub(crate) fn word_hint(alloc: Global, word: Option<&str>) -> Result<Option<Hint>, AllocError>
+    ensures { IfOk result (λ hint. option_map meant_of hint
+        ≡ option_map the_word (option_map (λ word. word.now) word.entry)) }
+{
+    match word {
+        Some(word) => Ok(Some(Hint::Word(String::from_str(alloc, word)?))),
+        None => Ok(None),
+    }
+}
+
+/// Whether a name is a word but for ASCII letter case and `_` in place of `-`.
+pub(crate) fn is_same(name: &str, word: &str) -> bool
+    ensures { result ≡ is_same name.now word.now }
+{
+    name.len() == word.len()
+        && name
+            .bytes()
+            .zip(word.bytes())
+            .all(|(a, b)| plain_byte(a) == plain_byte(b))
+}
+
+// An ASCII letter in lower case, and `-` for `_`.
+fn plain_byte(byte: u8) -> u8
+    ensures { result ≡ plain_byte byte }
+{
+    if byte == b'_' {
+        b'-'
+    } else {
+        byte.to_ascii_lowercase()
+    }
+}
+
+// How many characters the text has.
+#[tactic(auto, using(std::proofs::lemmas::Str::chars_from_encodes))]
+fn characters(text: &str) -> usize
+    ensures { result ≡ length (chars text.now) }
+{
+    text.chars().count()
+}

@@ -1,0 +1,208 @@
+//! The keys of a document that aren't known where they stand.
+
+ghost use Rattle.std.specs.Prelude.{◌≡◌, ◌++◌, [], IfOk, OnOk, flat_map, map, option_map, Some};
+ghost use Rattle.toml.specs.Data.{table};
+ghost use Rattle.toml.specs.View.{table_view};
+ghost use Rattle.nextest_config_lint.specs.Found.{AddsFound, AddsOne, AreFoundIn, meant_of, TellsSome};
+ghost use Rattle.nextest_config_lint.specs.Settings.{setting_view, mark_step, names_of};
+ghost use Rattle.nextest_config_lint.specs.NearestWord.{words_of};
+ghost use Rattle.nextest_config_lint.specs.Schema.{below_of, file_table, row_words, rows_told};
+ghost use Rattle.nextest_config_lint.specs.Unknown.{home_of, home_words, is_known, IsHintFor, IsKeyFound, key_at, keys_among, keys_below, keys_in, parts_of, slip_of, word_with_part};
+
+use crate::finding::{Finding, FindingKind, Hint, Home};
+use crate::nearest_word::{is_same, nearest, word_hint};
+use crate::schema::{Below, Row, keys_of, override_junit_keys, override_keys, profile_keys, top};
+use crate::settings::{Mark, Setting, steps_of};
+use std::alloc::{AllocError, Global};
+use strsim::levenshtein;
+use toml::Table;
+
+// The tables that know keys, in the order in which a key is looked for.
+const HOMES: &[Home] = &[Home::Top, Home::Profile, Home::Override, Home::Junit];
+
+/// The unknown keys of a document, those of the top first and then those of its judged values.
+pub(crate) fn find_unknown(
+    alloc: Global,
+    document: &Table,
+    settings: &[Setting],
+) -> Result<Vec<Finding>, AllocError>
+    ensures { IfOk result (TellsSome (AreFoundIn IsKeyFound
+        (keys_below file_table [] (table (table_view document.now))
+        ++ flat_map keys_in (map setting_view settings.now)))) }
+{
+    let mut findings = Vec::new(alloc);
+    add_beside_rows(alloc, top(), &[], document, &mut findings)?;
+    for setting in settings {
+        add_keys_in(alloc, setting, &mut findings)?;
+    }
+    Ok(findings)
+}
+
+// Adds the unknown keys of a value, if it is a table whose keys are judged.
+fn add_keys_in(
+    alloc: Global,
+    setting: &Setting,
+    findings: &mut Vec<Finding>,
+) -> Result<(), AllocError>
+    ensures { OnOk result (AddsFound IsKeyFound (keys_in (setting_view setting.now))
+        findings.old.items findings.new.items) }
+{
+    let Some(table) = setting.value.as_table() else {
+        return Ok(());
+    };
+    let path = setting.path.as_slice();
+    match setting.below {
+        Below::Keys(known) => add_unknown(alloc, known, path, table, findings),
+        Below::Rows(rows) => add_beside_rows(alloc, rows, path, table, findings),
+        Below::Nothing | Below::Names(_, _, _) | Below::Elements(_, _, _) => Ok(()),
+    }
+}
+
+// Adds the keys of a table that are in none of these rows.
+fn add_beside_rows(
+    alloc: Global,
+    rows: &[Row],
+    path: &[Mark],
+    table: &Table,
+    findings: &mut Vec<Finding>,
+) -> Result<(), AllocError>
+    ensures { OnOk result (AddsFound IsKeyFound
+        (keys_among (Some (row_words (rows_told rows.now))) (map mark_step path.now)
+        (table_view table.now))
+        findings.old.items findings.new.items) }
+{
+    let known = keys_of(alloc, rows)?;
+    add_unknown(alloc, known.as_slice(), path, table, findings)
+}
+
+// Adds the keys of a table that are none of these.
+fn add_unknown(
+    alloc: Global,
+    known: &[&'static str],
+    path: &[Mark],
+    table: &Table,
+    findings: &mut Vec<Finding>,
+) -> Result<(), AllocError>
+    ensures { OnOk result (AddsFound IsKeyFound
+        (map (key_at (words_of known.now) (map mark_step path.now))
+        (names_of (table_view table.now)))
+        findings.old.items findings.new.items) }
+{
+    for name in table.keys() {
+        add_key(alloc, known, path, name.as_str(), findings)?;
+    }
+    Ok(())
+}
+
+// Adds a key, unless it is one of these.
+fn add_key(
+    alloc: Global,
+    known: &[&'static str],
+    path: &[Mark],
+    name: &str,
+    findings: &mut Vec<Finding>,
+) -> Result<(), AllocError>
+    ensures { OnOk result (AddsOne IsKeyFound
+        (key_at (words_of known.now) (map mark_step path.now) name.now)
+        findings.old.items findings.new.items) }
+{
+    if is_known(known, name) {
+        return Ok(());
+    }
+    let hint = hint_for(alloc, known, name)?;
+    let path = steps_of(alloc, path)?;
+    let key = String::from_str(alloc, name)?;
+    let kind = FindingKind::UnknownKey { key, hint };
+    findings.push(Finding { path, kind })?;
+    Ok(())
+}
+
+// What an unknown key may be meant for.
+fn hint_for(alloc: Global, known: &[&'static str], name: &str) -> Result<Option<Hint>, AllocError>
+    ensures { IfOk result
+        (λ hint. IsHintFor (words_of known.now) name.now (option_map meant_of hint)) }
+{
+    let near = nearest(alloc, name, known)?;
+    let slip = slip_of(alloc, name, near)?;
+    if slip.is_some() {
+        return word_hint(alloc, slip);
+    }
+    if let Some(home) = home_of(name) {
+        return Ok(Some(Hint::Belongs(home)));
+    }
+    word_hint(alloc, near.or(word_with_part(known, name)))
+}
+
+// The word, if the name is the same or one edit away.
+fn slip_of<'w>(
+    alloc: Global,
+    name: &str,
+    near: Option<&'w str>,
+) -> Result<Option<&'w str>, AllocError>
+    ensures { IfOk result (λ slip. option_map (λ word. word.now) slip
+        ≡ slip_of name.now (option_map (λ word. word.now) near.entry)) }
+{
+    let Some(word) = near else {
+        return Ok(None);
+    };
+    if is_same(name, word) || levenshtein(alloc, name, word)? == 1 {
+        Ok(Some(word))
+    } else {
+        Ok(None)
+    }
+}
+
+// The first table that knows the key.
+fn home_of(name: &str) -> Option<Home>
+    ensures { result ≡ home_of name.now }
+{
+    HOMES
+        .iter()
+        .copied()
+        .find(|home| is_among(rows_of(*home), name))
+}
+
+// The rows of the keys that a table of this kind knows.
+fn rows_of(home: Home) -> &'static [Row]
+    ensures { row_words (rows_told result.now) ≡ home_words home }
+{
+    match home {
+        Home::Top => top(),
+        Home::Profile => profile_keys(),
+        Home::Override => override_keys(),
+        Home::Junit => override_junit_keys(),
+    }
+}
+
+// Whether the key is that of one of these rows.
+fn is_among(rows: &[Row], name: &str) -> bool
+    ensures { result ≡ is_known (row_words (rows_told rows.now)) name.now }
+{
+    rows.iter().any(|(key, _, _, _)| *key == name)
+}
+
+// The first word that has the name as one of its parts between dashes.
+fn word_with_part<'w>(words: &[&'w str], name: &str) -> Option<&'w str>
+    ensures { option_map (λ word. word.now) result ≡ word_with_part (words_of words.now) name.now }
+{
+    words.iter().copied().find(|word| has_part(word, name))
+}
+
+// Whether the name is one of the parts of a word between dashes.
+fn has_part(word: &str, name: &str) -> bool
+    ensures { result ≡ is_known (parts_of word.now) name.now }
+{
+    word.split('-').any(|part| part == name)
+}
+
+// Whether the key is one of these.
+fn is_known(known: &[&'static str], name: &str) -> bool
+    ensures { result ≡ is_known (words_of known.now) name.now }
+{
+    for key in known {
+        if *key == name {
+            return true;
+        }
+    }
+    false
+}

@@ -1,2 +1,0 @@
-pub mod JsonValues
-pub mod Literals

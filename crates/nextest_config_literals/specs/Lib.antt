@@ -1,4 +1,0 @@
-pub mod Json
-pub mod Key
-pub mod Text
-pub mod Value

@@ -1,4 +1,0 @@
-pub mod Choices
-pub mod Halves
-pub mod Halvings
-pub mod Lists

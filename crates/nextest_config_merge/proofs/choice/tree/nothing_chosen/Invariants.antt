@@ -1,5 +1,0 @@
-use Rattle.std.proofs.Common.{◌≡◌, replicate}
-use Rattle.nextest_config_merge.proofs.choice.tree.nothing_chosen.Given as goal
-
-abbrev pub invariant-loop-slot : goal.invariant-loop-slot
-invariant-loop-slot g l = l.chosen.items ≡ replicate l._slot g.K.Choose.nothing

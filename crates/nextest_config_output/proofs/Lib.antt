@@ -1,0 +1,4 @@
+pub mod FirstCharacters
+pub mod PlainLines
+pub mod PlainTexts
+pub mod Pushes

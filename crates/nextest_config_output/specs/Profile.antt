@@ -1,0 +1,13 @@
+pub mod AsJson
+pub mod Chain
+pub mod Columns
+pub mod Human
+pub mod Keys
+pub mod Line
+pub mod Lines
+pub mod Object
+pub mod OtherProfiles
+pub mod Overrides
+pub mod Format
+pub mod Source
+pub mod Location

@@ -1,0 +1,89 @@
+-- Lines of settings: a first column, and where it comes from.
+use Rattle.std.specs.Prelude.{ℕ, Bool, List, [], ◌++◌, codes, Option, Some, None, option_map, string_bytes, if◌then◌else◌}
+use Rattle.nextest_config_output.specs.Findings.Escapes.{escaped_text}
+use Rattle.nextest_config_output.specs.declared.findings.escapes.Escapes.TheVariants.{InLine}
+use Rattle.nextest_config_values.specs.Literal.Key.{key_text}
+use Rattle.nextest_config_profiles.specs.declared.report.told.Hidden.{Hidden}
+use Rattle.nextest_config_profiles.specs.declared.report.told.OtherKey.{OtherKey}
+use Rattle.nextest_config_profiles.specs.declared.report.told.Row.{Row}
+use Rattle.nextest_config_profiles.specs.declared.report.told.Told.{Told}
+use Rattle.nextest_config_profiles.specs.declared.report.told.Told.TheVariants as told
+use Rattle.nextest_config_output.specs.Profile.Keys.{key_path}
+use Rattle.nextest_config_output.specs.Profile.Source.{source_text, sources_text}
+use Rattle.nextest_config_output.specs.declared.profile.line.SourcedLine.{SourcedLine}
+
+-- a line: its first column, and where it comes from
+pub record Line : Type 0 where
+  pub first : List ℕ
+  pub source : Option (List ℕ)
+
+-- what a line says, without where it lies in memory
+abbrev pub line_of : SourcedLine → Line
+line_of line = record {
+  first = string_bytes line.first;
+  source = option_map string_bytes line.source;
+}
+
+-- ---- first columns
+
+-- KEY = VALUE
+abbrev pub setting_text : List ℕ → List ℕ → List ℕ
+setting_text key value = key ++ (codes " = " ++ value)
+
+-- # KEY = MESSAGE, what is wrong with a value that its reader refuses, escaped as in a line
+abbrev pub fault_column : List ℕ → List ℕ → List ℕ
+fault_column key message = codes "# " ++ setting_text key (escaped_text InLine message)
+
+-- what is told of a key: KEY = VALUE, or a comment where a file couldn't have that in its place
+abbrev pub first_column : List ℕ → Told → List ℕ
+first_column key (told.Value literal source no_limit) = setting_text key (string_bytes literal.text)
+first_column key (told.NotJudged literal source) = setting_text key (string_bytes literal.text)
+first_column key (told.Default literal) = setting_text key (string_bytes literal.text)
+first_column key (told.Implied literal) =
+    codes "# " ++ setting_text key (string_bytes literal.text)
+first_column key told.Unset = codes "# " ++ (key ++ codes " isn't set")
+first_column key (told.NoValue source) =
+    codes "# " ++ setting_text key (codes "no value: the empty text takes the default away")
+first_column key (told.Fault message sources) = fault_column key (string_bytes message)
+
+-- ---- where they come from, for the profile of this name
+
+-- the mark behind the source of a time that is as long as none at all
+abbrev pub limit_mark : Bool → List ℕ
+limit_mark no_limit = if no_limit then codes " (no limit)" else []
+
+-- where it comes from what is told of a key; nothing of a key that nothing gives
+abbrev pub told_source : List ℕ → Told → Option (List ℕ)
+told_source name (told.Value literal source no_limit) =
+    Some (source_text name source ++ limit_mark no_limit)
+told_source name (told.NotJudged literal source) =
+    Some (source_text name source ++ codes " (not judged)")
+told_source name (told.Default literal) = Some (codes "default of the table")
+told_source name (told.Implied literal) = Some (codes "default of the table")
+told_source name told.Unset = None
+told_source name (told.NoValue source) = Some (source_text name source)
+told_source name (told.Fault message sources) = Some (sources_text name sources.items)
+
+-- ---- the lines
+
+-- the line of a key of a setting
+abbrev pub row_line : List ℕ → Row → Line
+row_line name row = record {
+  first = first_column (key_path row.keys.items) row.told;
+  source = told_source name row.told;
+}
+
+-- the line of a value that doesn't count: # hidden: KEY = VALUE
+abbrev pub hidden_line : List ℕ → Hidden → Line
+hidden_line name hidden = record {
+  first = codes "# hidden: "
+      ++ setting_text (key_path hidden.keys.items) (string_bytes hidden.literal.text);
+  source = Some (source_text name hidden.source);
+}
+
+-- the line of a key that no setting reads
+abbrev pub other_line : List ℕ → OtherKey → Line
+other_line name other = record {
+  first = setting_text (key_text other.key.now) (string_bytes other.literal.text);
+  source = Some (source_text name other.source);
+}

@@ -1,0 +1,5 @@
+//! How findings and what is told of a profile are printed, for people and for programs.
+#![tactic(auto)]
+
+pub mod findings;
+pub mod profile;

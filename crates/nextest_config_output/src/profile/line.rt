@@ -1,0 +1,128 @@
+//! Lines of settings: a first column, and where it comes from.
+
+ghost use Rattle.std.specs.Prelude.{◌≡◌, IfOk, option_map, string_bytes};
+ghost use Rattle.nextest_config_values.specs.Literal.Key.{key_text};
+ghost use Rattle.nextest_config_output.specs.Profile.Keys.{key_path};
+ghost use Rattle.nextest_config_output.specs.Profile.Line.{fault_column, first_column, hidden_line, limit_mark, line_of, other_line, row_line, told_source};
+
+use crate::findings::{Escaped, Escapes};
+use crate::profile::keys::KeyPath;
+use crate::profile::source::{SourceText, SourcesText};
+use nextest_config_profiles::report::{Hidden, OtherKey, Row, Told};
+use nextest_config_values::literal::KeyText;
+use std::alloc::{AllocError, Global};
+
+/// What is told of an empty text that takes away what nextest sets itself.
+pub(crate) const NO_VALUE: &str = "no value: the empty text takes the default away";
+
+/// The source of a value that the reader of the table gives.
+pub(crate) const TABLE_DEFAULT: &str = "default of the table";
+
+/// A line: its first column, and where it comes from.
+#[derive(Drop)]
+pub(crate) struct SourcedLine {
+    pub first: String,
+    pub source: Option<String>,
+}
+
+/// The line of a key of a setting, for the profile with this name.
+pub(crate) fn row_line(alloc: Global, name: &str, row: &Row<'_>) -> Result<SourcedLine, AllocError>
+    ensures { IfOk result (λ line. line_of line ≡ row_line name.now row.now) }
+{
+    let key = KeyPath(row.keys.as_slice()).to_string(alloc)?;
+    let first = first_column(alloc, key.as_str(), &row.told)?;
+    let source = told_source(alloc, name, &row.told)?;
+    Ok(SourcedLine { first, source })
+}
+
+/// The line of a value that doesn't count.
+pub(crate) fn hidden_line(
+    alloc: Global,
+    name: &str,
+    hidden: &Hidden<'_>,
+) -> Result<SourcedLine, AllocError>
+    ensures { IfOk result (λ line. line_of line ≡ hidden_line name.now hidden.now) }
+{
+    let key = KeyPath(hidden.keys.as_slice());
+    let first = format!(in alloc; "# hidden: {key} = {}", hidden.literal.text)?;
+    let source = SourceText(name, hidden.source).to_string(alloc)?;
+    Ok(SourcedLine {
+        first,
+        source: Some(source),
+    })
+}
+
+/// The line of a key that no setting reads.
+pub(crate) fn other_line(
+    alloc: Global,
+    name: &str,
+    other: &OtherKey<'_>,
+) -> Result<SourcedLine, AllocError>
+    ensures { IfOk result (λ line. line_of line ≡ other_line name.now other.now) }
+{
+    let first = format!(in alloc; "{} = {}", KeyText(other.key), other.literal.text)?;
+    let source = SourceText(name, other.source).to_string(alloc)?;
+    Ok(SourcedLine {
+        first,
+        source: Some(source),
+    })
+}
+
+// What is told of a key; a comment, where it isn't what a file could have in its place.
+fn first_column(alloc: Global, key: &str, told: &Told<'_>) -> Result<String, AllocError>
+    ensures { IfOk result (λ text. string_bytes text ≡ first_column key.now told.now) }
+{
+    match told {
+        Told::Value { literal, .. } | Told::NotJudged { literal, .. } | Told::Default(literal) => {
+            format!(in alloc; "{key} = {}", literal.text)
+        }
+        Told::Implied(literal) => format!(in alloc; "# {key} = {}", literal.text),
+        Told::Unset => format!(in alloc; "# {key} isn't set"),
+        Told::NoValue(_) => format!(in alloc; "# {key} = {NO_VALUE}"),
+        Told::Fault { message, .. } => fault_column(alloc, key, message.as_str()),
+    }
+}
+
+// What is told of a key whose value its reader refuses, as a comment.
+fn fault_column(alloc: Global, key: &str, message: &str) -> Result<String, AllocError>
+    ensures { IfOk result (λ text. string_bytes text ≡ fault_column key.now message.now) }
+{
+    let message = Escaped(Escapes::InLine, message);
+    format!(in alloc; "# {key} = {message}")
+}
+
+// Where what a key has comes from, for the profile with this name.
+fn told_source(alloc: Global, name: &str, told: &Told<'_>) -> Result<Option<String>, AllocError>
+    ensures { IfOk result (λ text. option_map string_bytes text ≡ told_source name.now told.now) }
+{
+    match told {
+        Told::Value {
+            source,
+            no_limit,
+            ..
+        } => {
+            let source = SourceText(name, *source);
+            let text = format!(in alloc; "{source}{}", limit_mark(*no_limit))?;
+            Ok(Some(text))
+        }
+        Told::NotJudged { source, .. } => {
+            let source = SourceText(name, *source);
+            let text = format!(in alloc; "{source} (not judged)")?;
+            Ok(Some(text))
+        }
+        Told::Default(_) | Told::Implied(_) => Ok(Some(String::from_str(alloc, TABLE_DEFAULT)?)),
+        Told::Unset => Ok(None),
+        Told::NoValue(source) => Ok(Some(SourceText(name, *source).to_string(alloc)?)),
+        Told::Fault { sources, .. } => {
+            let sources = SourcesText(name, sources.as_slice());
+            Ok(Some(sources.to_string(alloc)?))
+        }
+    }
+}
+
+// What stands behind the source of a time as long as none at all.
+fn limit_mark(no_limit: bool) -> &'static str
+    ensures { result.now ≡ limit_mark no_limit }
+{
+    if no_limit { " (no limit)" } else { "" }
+}

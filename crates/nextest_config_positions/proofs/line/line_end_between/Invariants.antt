@@ -1,6 +1,0 @@
-use Rattle.nextest_config_positions.specs.Search.{NoLineEnds}
-use Rattle.nextest_config_positions.proofs.line.line_end_between.Given as goal
-
--- no line ends before the place
-abbrev pub invariant-loop-place : goal.invariant-loop-place
-invariant-loop-place l = NoLineEnds l.contents l.floor l.place

@@ -1,4 +1,0 @@
-use Rattle.nextest_config_profile_report.proofs.elements.+push_below.Given as goal
-
-abbrev pub decreases-push_below : goal.decreases-push_below
-decreases-push_below l = l.layers

@@ -1,7 +1,0 @@
-use Rattle.nextest_config_profile_report.proofs.rows.found_rows.Goals as goal
-
-pub returns-in_ok-rows-in-None : goal.returns-in_ok-rows-in-None
-returns-in_ok-rows-in-None c =
-    let (keys, told, hidden) = c.in_ok-row-in-None.ensures in
-    rw c.in-None.is
-    (c.in_ok-row-in-None.row, record { keys_are = rw keys c.in_ok-keys-in-None.ensures; told_is = told; hides = hidden }, c.in_ok-rows-in-None.ensures)

@@ -1,5 +1,0 @@
-use Rattle.std.proofs.Common.{length}
-use Rattle.nextest_config_profile_report.proofs.standing.+behind.Given as goal
-
-abbrev pub decreases-behind : goal.decreases-behind
-decreases-behind l = length l.chain.now

@@ -1,0 +1,10 @@
+use Rattle.toml.specs.View.{view}
+use Rattle.nextest_config_profiles.specs.Report.Overrides.{IsSet}
+use Rattle.nextest_config_profiles.proofs.Somes.{some_more}
+use Rattle.nextest_config_profiles.proofs.report.overrides.settings.Goals as goal
+
+pub loop-key-preserved : goal.loop-key-preserved
+loop-key-preserved c =
+    let (setting, is_set, pushed) = c.in_ok-push_setting.ensures in
+    rw pushed
+    (some_more (IsSet (view c.args.value.now)) (λ word. word.now) c.override_keys-keys.result.now c.loop-key.key-index _ _ setting c.loop-key-test.true c.loop-key.invariant is_set)

@@ -1,0 +1,10 @@
+use Rattle.std.proofs.Common.{map, take}
+use Rattle.std.specs.List.{AllZip}
+use Rattle.nextest_config_profiles.specs.Report.Rows.{AreRows}
+use Rattle.nextest_config_profiles.specs.Report.Setting.{rule_of}
+use Rattle.nextest_config_profiles.proofs.report.profile_report.all_rows.Given as goal
+
+-- the settings so far
+abbrev pub invariant-loop-setting : goal.invariant-loop-setting
+invariant-loop-setting l = AllZip (AreRows l.fn.effective l.fn.tells_hidden)
+    (map rule_of (take l.setting-index l.settings)) (map (λ rows. rows.items) l.all.items)

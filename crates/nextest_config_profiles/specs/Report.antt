@@ -1,0 +1,16 @@
+pub mod Setting
+pub mod Converted
+pub mod Given
+pub mod Literal
+pub mod Source
+pub mod NoLimit
+pub mod Somes
+pub mod Standing
+pub mod Hidden
+pub mod Rows
+pub mod Chain
+pub mod Others
+pub mod Elements
+pub mod Overrides
+pub mod OtherProfiles
+pub mod ProfileReport

@@ -1,0 +1,116 @@
+-- Which profile gives a setting, and whether what it gives is a value.
+use Rattle.std.specs.Prelude.{◌≡◌, ◌⊎◌, ℕ, List, [], ◌∷◌, Option, Some, None, string_bytes}
+use Rattle.std.proofs.Common.{Global}
+use Rattle.toml.specs.Data.{Data}
+use Rattle.nextest_config_values.specs.Duration.{duration_reading}
+use Rattle.nextest_config_values.specs.Read.{bool_reading, made_of, Reading, text_reading}
+use Rattle.nextest_config_elements.specs.GlobalTimeout.{global_timeout_of}
+use Rattle.nextest_config_elements.specs.Junit.{flaky_fail_reading}
+use Rattle.nextest_config_elements.specs.LeakTimeout.{leak_timeout_of, leak_timeout_reading}
+use Rattle.nextest_config_elements.specs.MaxFail.{fail_fast_reading}
+use Rattle.nextest_config_elements.specs.ReportSkipPolicy.{report_skip_reading}
+use Rattle.nextest_config_elements.specs.RetryPolicy.{flaky_result_reading, retry_policy_of, retry_policy_reading}
+use Rattle.nextest_config_elements.specs.SlowTimeout.{slow_timeout_of, slow_timeout_reading}
+use Rattle.nextest_config_elements.specs.ThreadsRequired.{threads_reading}
+use Rattle.nextest_config_values.specs.declared.read.value_fault.ValueFault.{ValueFault}
+use Rattle.nextest_config_lint.specs.Conversion.{IsConvertedAt}
+use Rattle.nextest_config_profiles.specs.Effective.{IsEffective}
+use Rattle.nextest_config_profiles.specs.Merged.{HasNoValue, IsMergedOver}
+use Rattle.nextest_config_profiles.specs.Profile.{chain_in, layers_in}
+use Rattle.nextest_config_profiles.specs.Said.{Path}
+use Rattle.nextest_config_profiles.specs.declared.effective.Effective.{Effective}
+use Rattle.nextest_config_profiles.specs.declared.effective.Effective.TheVariants as effective
+use Rattle.nextest_config_profiles.specs.declared.profile.EffectiveProfile.{EffectiveProfile}
+use Rattle.nextest_config_profiles.specs.Report.Converted.{IsRestRead, IsUnconverted}
+use Rattle.nextest_config_profiles.specs.Report.Setting.{SettingRule}
+use Rattle.nextest_config_profiles.specs.declared.report.given.Given.{Given}
+use Rattle.nextest_config_profiles.specs.declared.report.given.Given.TheVariants as given
+use Rattle.nextest_config_profiles.specs.declared.report.setting.Reader.{Reader}
+use Rattle.nextest_config_profiles.specs.declared.report.setting.Reader.TheVariants as readers
+
+-- what is given, without the value
+abbrev pub given_of : {X : Type 0} → Effective X → Given
+given_of (effective.Value profile x) = given.Value profile
+given_of (effective.NotJudged profile) = given.NotJudged profile
+given_of (effective.Fault profile fault) = given.Fault profile fault
+given_of effective.Nothing = given.Nothing
+
+-- the profiles of which the first that has a setting gives it: one alone, or those of the chain
+abbrev pub givers : EffectiveProfile → Option (List ℕ) → List (List ℕ)
+givers profile (Some name) = name ∷ []
+givers profile None = chain_in profile
+
+-- what the chain of a profile, or one profile alone, gives at keys by a reading
+abbrev pub IsGivenBy : {X Y : Type 0} → (X → Y) → Reading Data (Option Y) → EffectiveProfile
+    → Option (List ℕ) → Path → Given → Type 0
+IsGivenBy {X} {Y} seen reading profile alone keys given =
+    (effective : Effective X)
+    × IsEffective seen reading (layers_in profile) keys (givers profile alone) effective
+    × (given ≡ given_of effective)
+
+-- what the chain of a profile, or one profile alone, gives at keys by a reading of which no value
+-- says that there is none
+abbrev pub IsGivenValue : {X Y : Type 0} → (X → Y) → Reading Data Y → EffectiveProfile
+    → Option (List ℕ) → Path → Given → Type 0
+IsGivenValue seen reading = IsGivenBy seen (made_of Some reading)
+
+-- what the chain of a profile, or one profile alone, gives at keys by the reading of a setting
+abbrev pub IsGivenAs : Reader → EffectiveProfile → Option (List ℕ) → Path → Given → Type 0
+IsGivenAs readers.Retries = IsGivenBy retry_policy_of retry_policy_reading
+IsGivenAs readers.FlakyResult = IsGivenValue (λ it. it) flaky_result_reading
+IsGivenAs readers.ThreadsRequired = IsGivenValue (λ it. it) threads_reading
+IsGivenAs readers.FailFast = IsGivenBy (λ it. it) fail_fast_reading
+IsGivenAs readers.SlowTimeout = IsGivenBy slow_timeout_of slow_timeout_reading
+IsGivenAs readers.LeakTimeout = IsGivenBy leak_timeout_of leak_timeout_reading
+IsGivenAs readers.GlobalTimeout = IsGivenValue global_timeout_of duration_reading
+IsGivenAs readers.Text = IsGivenValue (string_bytes {Z = Global}) text_reading
+IsGivenAs readers.Boolean = IsGivenValue (λ it. it) bool_reading
+IsGivenAs readers.ReportSkipped = IsGivenValue (λ it. it) report_skip_reading
+IsGivenAs readers.FlakyFailStatus = IsGivenValue (λ it. it) flaky_fail_reading
+
+-- what the profile gets for a setting, or what another one alone has there, as it stands
+abbrev pub IsReadFor : EffectiveProfile → Option (List ℕ) → SettingRule → Given → Type 0
+IsReadFor profile alone setting = IsGivenAs setting.reader profile alone setting.keys
+
+-- ---- but for what nextest may convert
+
+-- a value of this profile is given
+abbrev pub IsValueOf : List ℕ → Given → Type 0
+IsValueOf name (given.Value profile) = profile.now ≡ name
+IsValueOf name other = ⊥
+
+-- this fault of this profile is given
+abbrev pub IsThatFault : List ℕ → ValueFault → Given → Type 0
+IsThatFault name fault (given.Fault profile refused) = (profile.now ≡ name) × (refused ≡ fault)
+IsThatFault name fault other = ⊥
+
+-- without a part that nextest may convert the rest is read; without such a part the fault stays
+abbrev pub IsPartJudged : List ℕ → ValueFault → Option Data → Given → Type 0
+IsPartJudged name fault (Some rest) given = IsRestRead slow_timeout_reading name rest given
+IsPartJudged name fault None given = IsThatFault name fault given
+
+-- what is told of a value with a fault: nextest may convert the whole, or a part, or nothing
+abbrev pub IsValueJudged : Path → List ℕ → ValueFault → Data → Given → Type 0
+IsValueJudged keys name fault value judged =
+    (IsConvertedAt keys value × IsValueOf name judged)
+    ⊎ ((IsConvertedAt keys value → ⊥) × ((rest : Option Data) × IsUnconverted keys value rest
+    × IsPartJudged name fault rest judged))
+
+-- what is told of a fault of what a profile has for a setting, as the layers are merged
+abbrev pub IsFaultJudged : EffectiveProfile → SettingRule → List ℕ → ValueFault → Given → Type 0
+IsFaultJudged profile setting name fault judged =
+    (HasNoValue (layers_in profile) (name ∷ setting.keys) × IsThatFault name fault judged)
+    ⊎ ((value : Data) × IsMergedOver (layers_in profile) (name ∷ setting.keys) value
+    × IsValueJudged setting.keys name fault value judged)
+
+-- what is given for a setting stays, but for a fault of what nextest may convert
+abbrev pub IsJudged : EffectiveProfile → SettingRule → Given → Given → Type 0
+IsJudged profile setting (given.Fault name fault) judged =
+    IsFaultJudged profile setting name.now fault judged
+IsJudged profile setting given judged = judged ≡ given
+
+-- what the profile gets for a setting, or what another one alone has there, but for what nextest
+-- may convert in it
+abbrev pub IsGivenFor : EffectiveProfile → Option (List ℕ) → SettingRule → Given → Type 0
+IsGivenFor profile alone setting judged = (given : Given) × IsReadFor profile alone setting given
+    × IsJudged profile setting given judged

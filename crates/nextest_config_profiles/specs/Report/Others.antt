@@ -1,0 +1,68 @@
+-- What a profile has beside the settings that are read here.
+use Rattle.std.specs.Prelude.{◌≡◌, ◌⊎◌, ℕ, Bool, not, List, [], ◌∷◌, ◌++◌, codes, filter, nat_eq, Option, Some, None}
+use Rattle.std.specs.Cmp.Lexicographic.{pointwise}
+use Rattle.std.specs.List.{AllByRecursion, list_any}
+use Rattle.toml.specs.Data.{Data}
+use Rattle.nextest_config_lint.specs.Schema.{profile_table, row_words, rows_in}
+use Rattle.nextest_config_profiles.specs.Merged.{HasNoValue, IsMergedOver}
+use Rattle.nextest_config_profiles.specs.Profile.{chain_in, layers_in}
+use Rattle.nextest_config_profiles.specs.declared.last_value.LayerValue.{LayerValue}
+use Rattle.nextest_config_profiles.specs.declared.profile.EffectiveProfile.{EffectiveProfile}
+use Rattle.nextest_config_profiles.specs.Report.Literal.{IsLiteralOf}
+use Rattle.nextest_config_profiles.specs.Report.Rows.{IsLastAt}
+use Rattle.nextest_config_profiles.specs.Report.Somes.{AreSomes}
+use Rattle.nextest_config_profiles.specs.Report.Source.{IsSource}
+use Rattle.nextest_config_profiles.specs.declared.report.told.OtherKey.{OtherKey}
+
+-- the keys that are told elsewhere: those of the settings, what the chain is made by, and overrides
+abbrev pub keys_told : List (List ℕ)
+keys_told = codes "retries" ∷ codes "flaky-result" ∷ codes "threads-required" ∷ codes "fail-fast"
+    ∷ codes "slow-timeout" ∷ codes "leak-timeout" ∷ codes "global-timeout" ∷ codes "junit"
+    ∷ codes "bench" ∷ codes "overrides" ∷ codes "inherits" ∷ []
+
+-- the word is none of these
+abbrev pub is_none_of : List (List ℕ) → List ℕ → Bool
+is_none_of words word = not (list_any (λ other. pointwise nat_eq other word) words)
+
+-- the other keys that are known in a profile
+abbrev pub other_keys : List (List ℕ)
+other_keys = filter (is_none_of keys_told) (row_words (rows_in profile_table))
+
+-- what a profile has at a key, as the layers are merged, and which layer said so last
+pub record IsOtherOf (effective : EffectiveProfile) (key : List ℕ) (profile : List ℕ)
+    (other : OtherKey) : Type 0 where
+  pub found : LayerValue
+  pub is_last : IsLastAt effective profile (key ∷ []) (Some found)
+  pub value : Data
+  pub is_merged : IsMergedOver (layers_in effective) (profile ∷ key ∷ []) value
+  pub key_is : other.key.now ≡ key
+  pub literal_is : IsLiteralOf value other.literal
+  pub source_is : IsSource effective found.layer profile (key ∷ []) other.source
+
+-- a profile has nothing at a key
+abbrev pub PassesOther : EffectiveProfile → List ℕ → List ℕ → Type 0
+PassesOther effective key profile = IsLastAt effective profile (key ∷ []) None
+    ⊎ HasNoValue (layers_in effective) (profile ∷ key ∷ [])
+
+-- the first profile of a chain that has something at a key has this there
+pub record IsFirstOther (effective : EffectiveProfile) (key : List ℕ) (chain : List (List ℕ))
+    (other : OtherKey) : Type 0 where
+  pub before : List (List ℕ)
+  pub profile : List ℕ
+  pub after : List (List ℕ)
+  pub whole : chain ≡ before ++ (profile ∷ after)
+  pub passed : AllByRecursion (PassesOther effective key) before
+  pub is_other : IsOtherOf effective key profile other
+
+-- what the first profile of a chain that has something at a key has there, if one has
+abbrev pub IsOtherIn : EffectiveProfile → List ℕ → List (List ℕ) → Option OtherKey → Type 0
+IsOtherIn effective key chain None = AllByRecursion (PassesOther effective key) chain
+IsOtherIn effective key chain (Some other) = IsFirstOther effective key chain other
+
+-- what the first profile of the whole chain that has something at a key has there, if one has
+abbrev pub IsOther : EffectiveProfile → List ℕ → Option OtherKey → Type 0
+IsOther effective key = IsOtherIn effective key (chain_in effective)
+
+-- what else the profile has, key by key
+abbrev pub AreOthers : EffectiveProfile → List OtherKey → Type 0
+AreOthers effective = AreSomes (IsOther effective) other_keys

@@ -1,0 +1,298 @@
+-- What is told of a setting, key by key.
+use Rattle.std.specs.Prelude.{◌≡◌, ◌↔◌, ◌⊎◌, ℕ, Bool, true, false, List, [], ◌∷◌, ◌++◌, codes, filter, is_some, IsTrue, length, map, Option, Some, None, string_bytes}
+use Rattle.std.specs.List.{AllZip}
+use Rattle.toml.specs.Data.{as_table, Data, integer, string}
+use Rattle.toml.specs.View.{view}
+use Rattle.nextest_config_values.specs.Read.{fault_of, fault_text, told_at}
+use Rattle.nextest_config_values.specs.Read.Fault.{Fault}
+use Rattle.nextest_config_values.specs.declared.read.value_fault.ValueFault.{ValueFault}
+use Rattle.nextest_config_lint.specs.Conversion.{IsConvertedAt}
+use Rattle.nextest_config_profiles.specs.LastValue.{IsLastValue}
+use Rattle.nextest_config_profiles.specs.Profile.{layers_in}
+use Rattle.nextest_config_profiles.specs.Reach.{words_of}
+use Rattle.nextest_config_profiles.specs.Said.{Path, said_at}
+use Rattle.nextest_config_profiles.specs.declared.last_value.LayerValue.{LayerValue}
+use Rattle.nextest_config_profiles.specs.declared.profile.EffectiveProfile.{EffectiveProfile}
+use Rattle.nextest_config_profiles.specs.Report.Given.{IsGivenFor}
+use Rattle.nextest_config_profiles.specs.Report.Hidden.{AreHidden}
+use Rattle.nextest_config_profiles.specs.Report.Literal.{IsLiteralOf}
+use Rattle.nextest_config_profiles.specs.Report.NoLimit.{IsNoLimit}
+use Rattle.nextest_config_profiles.specs.Report.Setting.{IfAbsent, MemberRule, required, rule_of, SettingRule, taken, unset}
+use Rattle.nextest_config_profiles.specs.Report.Somes.{AreSomes}
+use Rattle.nextest_config_profiles.specs.Report.Source.{IsSource}
+use Rattle.nextest_config_profiles.specs.declared.report.given.Given.{Given}
+use Rattle.nextest_config_profiles.specs.declared.report.given.Given.TheVariants as given
+use Rattle.nextest_config_profiles.specs.declared.report.rows.GivenSetting.{GivenSetting}
+use Rattle.nextest_config_profiles.specs.declared.report.told.FaultSource.{FaultSource}
+use Rattle.nextest_config_profiles.specs.declared.report.told.Literal.{Literal}
+use Rattle.nextest_config_profiles.specs.declared.report.told.Row.{Row}
+use Rattle.nextest_config_profiles.specs.declared.report.told.Source.{Source}
+use Rattle.nextest_config_profiles.specs.declared.report.told.Told.{Told}
+use Rattle.nextest_config_profiles.specs.declared.report.told.Told.TheVariants as told
+
+-- a setting, as a profile of the chain gives it, whether its durations are judged, and whether it
+-- is told what a value hides
+pub record At : Type 0 where
+  pub effective : EffectiveProfile
+  pub profile : List ℕ
+  pub setting : SettingRule
+  pub judged : Bool
+  pub hiding : Bool
+
+-- a setting that a profile of the chain gives, as the code has it
+abbrev pub at_of : GivenSetting → At
+at_of given = record {
+  effective = given.effective.now;
+  profile = given.profile.now;
+  setting = rule_of given.setting;
+  judged = given.is_judged;
+  hiding = given.tells_hidden;
+}
+
+-- this is what the last layer that says anything of keys of a profile has there
+abbrev pub IsLastAt : EffectiveProfile → List ℕ → Path → Option LayerValue → Type 0
+IsLastAt effective profile keys =
+    IsLastValue (map (said_at (profile ∷ keys)) (layers_in effective))
+
+-- ---- a value that stands in a layer, which isn't judged where nextest may convert it
+
+-- what is told of a value that stands in a layer: it and its place, and whether it is judged
+abbrev pub IsGivenTold : At → Option (List ℕ) → Path → LayerValue → Told → Type 0
+IsGivenTold at member keys found (told.Value literal source no_limit) =
+    (at.judged ≡ true) × (IsConvertedAt keys (view found.value.now) → ⊥)
+    × IsLiteralOf (view found.value.now) literal
+    × IsSource at.effective found.layer at.profile keys source
+    × (IsTrue no_limit ↔ IsNoLimit at.setting.reader member (view found.value.now))
+IsGivenTold at member keys found (told.NotJudged literal source) =
+    ((at.judged ≡ false) ⊎ IsConvertedAt keys (view found.value.now))
+    × IsLiteralOf (view found.value.now) literal
+    × IsSource at.effective found.layer at.profile keys source
+IsGivenTold at member keys found other = ⊥
+
+-- the row of a value that stands in a layer, with what it hides
+pub record IsGivenRow (at : At) (member : Option (List ℕ)) (keys : Path) (found : LayerValue)
+    (row : Row) : Type 0 where
+  pub keys_are : words_of row.keys.items ≡ keys
+  pub told_is : IsGivenTold at member keys found row.told
+  pub hides : AreHidden at.effective at.hiding at.profile keys found.layer row.hidden.items
+
+-- ---- a key that no layer has
+
+-- what a reader takes for a key that is absent, with a text that writes it
+abbrev pub IsTaken : IfAbsent → Option Literal → Type 0
+IsTaken (taken value) None = ⊥
+IsTaken (taken value) (Some literal) = IsLiteralOf value literal
+IsTaken unset literal = literal ≡ None
+IsTaken required literal = literal ≡ None
+
+-- a value told as one kind of row, or, where there is none, that nothing gives it
+abbrev pub told_as : (Literal → Told) → Option Literal → Told
+told_as kind (Some literal) = kind literal
+told_as kind None = told.Unset
+
+-- what a reader takes for a key that is absent, as one kind of row, or that nothing gives it
+pub record IsTold (kind : Literal → Told) (absent : IfAbsent) (so : Told) : Type 0 where
+  pub literal : Option Literal
+  pub is_taken : IsTaken absent literal
+  pub is_told : so ≡ told_as kind literal
+
+-- the row of a key that no layer has: what its reader takes there, with what that hides
+pub record IsAbsentRow (at : At) (keys : Path) (absent : IfAbsent) (row : Row) : Type 0 where
+  pub keys_are : words_of row.keys.items ≡ keys
+  pub told_is : IsTold told.Default absent row.told
+  pub hides : AreHidden at.effective at.hiding at.profile keys (length (layers_in at.effective))
+      row.hidden.items
+
+-- ---- a table, key by key
+
+-- the row of a key of a table, where this is what the last layer has there, if anything
+abbrev pub IsMemberTold : At → MemberRule → Path → Option LayerValue → Row → Type 0
+IsMemberTold at member keys (Some found) = IsGivenRow at (Some member.key) keys found
+IsMemberTold at member keys None = IsAbsentRow at keys member.absent
+
+-- the path of a key of the table at a path
+abbrev pub keys_of_member : Path → MemberRule → Path
+keys_of_member keys member = keys ++ (member.key ∷ [])
+
+-- the row of a key of the table of a setting
+abbrev pub IsMemberRow : At → MemberRule → Row → Type 0
+IsMemberRow at member row = (found : Option LayerValue)
+    × IsLastAt at.effective at.profile (keys_of_member at.setting.keys member) found
+    × IsMemberTold at member (keys_of_member at.setting.keys member) found row
+
+-- ---- a text or a number in the place of a table
+
+-- a reader takes a table without the key
+abbrev pub may_be_absent : IfAbsent → Bool
+may_be_absent (taken value) = true
+may_be_absent unset = true
+may_be_absent required = false
+
+-- the key may be absent from its table
+abbrev pub is_optional : MemberRule → Bool
+is_optional member = may_be_absent member.absent
+
+-- a row that hides nothing
+pub record IsBareRow (keys : Path) (IsSo : Told → Type 0) (row : Row) : Type 0 where
+  pub keys_are : words_of row.keys.items ≡ keys
+  pub told_is : IsSo row.told
+  pub hides : row.hidden.items ≡ []
+
+-- the row of a key of a table in the place of which a text or a number stands
+abbrev pub IsImpliedRow : Path → MemberRule → Row → Type 0
+IsImpliedRow keys member =
+    IsBareRow (keys_of_member keys member) (IsTold told.Implied member.absent)
+
+-- the value is a text or a number, which stands for the table that a setting may have
+abbrev pub stands_for_table : Data → Bool
+stands_for_table (string text) = true
+stands_for_table (integer number) = true
+stands_for_table other = false
+
+-- the rows of the keys that may be absent, where a text or a number stands for their table
+abbrev pub AreImplied : Bool → SettingRule → List Row → Type 0
+AreImplied true setting rows =
+    AllZip (IsImpliedRow setting.keys) (filter is_optional setting.members) rows
+AreImplied false setting rows = rows ≡ []
+
+-- the row of a value, and those of the other keys of the table for which it stands
+pub record AreWholeRows (at : At) (found : LayerValue) (rows : List Row) : Type 0 where
+  pub first : Row
+  pub rest : List Row
+  pub whole : rows ≡ first ∷ rest
+  pub is_first : IsGivenRow at None at.setting.keys found first
+  pub are_rest : AreImplied (stands_for_table (view found.value.now)) at.setting rest
+
+-- ---- all kinds of values
+
+-- the value is a table
+abbrev pub is_table : Data → Bool
+is_table value = is_some (as_table value)
+
+-- the rows of what a layer has for a setting: of a table key by key, else of the whole value
+abbrev pub AreFoundRows : At → LayerValue → Bool → List Row → Type 0
+AreFoundRows at found true rows = AllZip (IsMemberRow at) at.setting.members rows
+AreFoundRows at found false rows = AreWholeRows at found rows
+
+-- there is one row, which is so
+abbrev pub IsAlone : (Row → Type 0) → List Row → Type 0
+IsAlone IsSo rows = (row : Row) × IsSo row × (rows ≡ row ∷ [])
+
+-- the rows of what the last layer has for a setting, or one that tells that nothing gives it
+abbrev pub AreRowsOf : At → Option LayerValue → List Row → Type 0
+AreRowsOf at (Some found) = AreFoundRows at found (is_table (view found.value.now))
+AreRowsOf at None = IsAlone (IsBareRow at.setting.keys (λ so. so ≡ told.Unset))
+
+-- the rows of a value that a profile gives a setting, by the last layer that says anything of it
+abbrev pub AreValueRows : At → List Row → Type 0
+AreValueRows at rows = (found : Option LayerValue)
+    × IsLastAt at.effective at.profile at.setting.keys found × AreRowsOf at found rows
+
+-- ---- a fault
+
+-- where a layer has what was found at keys of a profile, if something was
+abbrev pub IsSourceOfFound : EffectiveProfile → List ℕ → Path → Option LayerValue → Option Source
+    → Type 0
+IsSourceOfFound effective profile keys None source = source ≡ None
+IsSourceOfFound effective profile keys (Some found) None = ⊥
+IsSourceOfFound effective profile keys (Some found) (Some source) =
+    IsSource effective found.layer profile keys source
+
+-- where the last layer that says anything of these keys has them
+abbrev pub IsSourceOf : EffectiveProfile → List ℕ → Path → Option Source → Type 0
+IsSourceOf effective profile keys source = (found : Option LayerValue)
+    × IsLastAt effective profile keys found × IsSourceOfFound effective profile keys found source
+
+-- keys and where the last layer that says anything of them has them, if they have a value
+abbrev pub IsPlaceOf : EffectiveProfile → List ℕ → Path → Option FaultSource → Type 0
+IsPlaceOf effective profile keys None = IsSourceOf effective profile keys None
+IsPlaceOf effective profile keys (Some place) =
+    (words_of place.keys.items ≡ keys) × IsSourceOf effective profile keys (Some place.source)
+
+-- the paths of the parts of a table: those of the keys that it may have
+abbrev pub parts_if : SettingRule → Bool → List Path
+parts_if setting true = map (keys_of_member setting.keys) setting.members
+parts_if setting false = []
+
+-- the paths of the parts of what was found for a setting: of a table those of its keys, else none
+abbrev pub parts_of : SettingRule → Option LayerValue → List Path
+parts_of setting None = []
+parts_of setting (Some found) = parts_if setting (is_table (view found.value.now))
+
+-- where the values of paths stand that have one
+abbrev pub ArePlacesAt : EffectiveProfile → List ℕ → List Path → List FaultSource → Type 0
+ArePlacesAt effective profile = AreSomes (IsPlaceOf effective profile)
+
+-- the places of parts, or where there is none that of the whole
+abbrev pub AreOrWhole : EffectiveProfile → List ℕ → Path → List FaultSource → List FaultSource
+    → Type 0
+AreOrWhole effective profile keys [] sources = ArePlacesAt effective profile (keys ∷ []) sources
+AreOrWhole effective profile keys (first ∷ rest) sources = sources ≡ first ∷ rest
+
+-- where the parts of what a profile has for a setting stand: the keys of a table that have a value,
+-- or else the whole
+pub record ArePlacesOf (effective : EffectiveProfile) (profile : List ℕ) (setting : SettingRule)
+    (sources : List FaultSource) : Type 0 where
+  pub found : Option LayerValue
+  pub is_last : IsLastAt effective profile setting.keys found
+  pub parts : List FaultSource
+  pub are_parts : ArePlacesAt effective profile (parts_of setting found) parts
+  pub whole : AreOrWhole effective profile setting.keys parts sources
+
+-- the text is what the fault says
+abbrev pub IsMessage : Option Fault → List ℕ → Type 0
+IsMessage None text = ⊥
+IsMessage (Some fault) text = text ≡ fault_text (told_at [] fault)
+
+-- what is told of a fault of a setting: what it says, and where the parts of the value stand
+abbrev pub IsFaultTold : EffectiveProfile → List ℕ → SettingRule → ValueFault → Told → Type 0
+IsFaultTold effective profile setting fault (told.Fault message sources) =
+    IsMessage (fault_of fault) (string_bytes message)
+    × ArePlacesOf effective profile setting sources.items
+IsFaultTold effective profile setting fault other = ⊥
+
+-- ---- nothing
+
+-- what is told of a setting that no profile gives, where the last layer has this for `default`
+abbrev pub IsTakenAway : EffectiveProfile → SettingRule → Option LayerValue → Told → Type 0
+IsTakenAway effective setting None so = so ≡ told.Unset
+IsTakenAway effective setting (Some found) (told.NoValue source) =
+    IsSource effective found.layer (codes "default") setting.keys source
+IsTakenAway effective setting (Some found) other = ⊥
+
+-- nothing gives the setting, or what `default` has takes it away
+abbrev pub IsNothingTold : EffectiveProfile → SettingRule → Told → Type 0
+IsNothingTold effective setting so = (found : Option LayerValue)
+    × IsLastAt effective (codes "default") setting.keys found
+    × IsTakenAway effective setting found so
+
+-- the row of a setting that no profile gives
+abbrev pub IsNothingRow : EffectiveProfile → SettingRule → Row → Type 0
+IsNothingRow effective setting = IsBareRow setting.keys (IsNothingTold effective setting)
+
+-- ---- a setting
+
+-- the setting that this profile gives, judged or not, told with what it hides or without
+abbrev pub at : EffectiveProfile → Bool → SettingRule → List ℕ → Bool → At
+at effective hiding setting profile judged = record {
+  effective = effective;
+  profile = profile;
+  setting = setting;
+  judged = judged;
+  hiding = hiding;
+}
+
+-- the rows of a setting for which this is given
+abbrev pub AreRowsFor : EffectiveProfile → Bool → SettingRule → Given → List Row → Type 0
+AreRowsFor effective hiding setting (given.Value profile) =
+    AreValueRows (at effective hiding setting profile.now true)
+AreRowsFor effective hiding setting (given.NotJudged profile) =
+    AreValueRows (at effective hiding setting profile.now false)
+AreRowsFor effective hiding setting (given.Fault profile fault) =
+    IsAlone (IsBareRow setting.keys (IsFaultTold effective profile.now setting fault))
+AreRowsFor effective hiding setting given.Nothing = IsAlone (IsNothingRow effective setting)
+
+-- what is told of a setting: what the profile gets for it
+abbrev pub AreRows : EffectiveProfile → Bool → SettingRule → List Row → Type 0
+AreRows effective hiding setting rows = (given : Given) × IsGivenFor effective None setting given
+    × AreRowsFor effective hiding setting given rows

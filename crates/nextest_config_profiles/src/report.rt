@@ -1,0 +1,28 @@
+//! What is told of a profile: each setting with the file that says so, what that hides, what else
+//! the profile has, and what overrides may change.
+
+mod chain;
+mod converted;
+mod elements;
+mod faulty;
+mod given;
+mod hidden;
+mod keys;
+mod last;
+mod literal;
+mod no_limit;
+mod other_profiles;
+mod others;
+mod overrides;
+mod profile_report;
+mod rows;
+mod setting;
+mod source;
+mod standing;
+mod told;
+
+pub use profile_report::ProfileReport;
+pub use told::{
+    ChainProfile, FaultSource, FilePlace, Hidden, Literal, OtherKey, OtherProfileFault, Override,
+    OverrideSetting, Row, Source, Told,
+};

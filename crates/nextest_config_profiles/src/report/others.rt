@@ -1,0 +1,125 @@
+//! What a profile has beside the settings that are read here.
+
+ghost use Rattle.std.specs.Prelude.{◌≡◌, ◌∷◌, ◌++◌, [], IfOk, MatchOption, OnOk, Option, Some};
+ghost use Rattle.nextest_config_profiles.specs.Reach.{words_of};
+ghost use Rattle.nextest_config_profiles.specs.Report.Others.{AreOthers, IsOther, IsOtherOf, other_keys, PassesOther};
+ghost use Rattle.nextest_config_profiles.specs.Report.Rows.{IsLastAt};
+ghost use Rattle.nextest_config_profiles.specs.Report.Somes.{some_list};
+ghost use Rattle.nextest_config_profiles.specs.declared.report.told.OtherKey.{OtherKey};
+
+use crate::report::last::last_at;
+use crate::report::source::source_of;
+use crate::report::told::{Literal, OtherKey};
+use crate::{EffectiveProfile, LayerValue};
+use std::alloc::{AllocError, Global};
+
+// The keys that are known in a profile, but for those that are told elsewhere.
+const OTHER_KEYS: &[&str] = &[
+    "default-filter",
+    "test-threads",
+    "run-extra-args",
+    "status-level",
+    "final-status-level",
+    "success-output",
+    "failure-output",
+    "archive",
+    "scripts",
+];
+
+fn other_keys() -> &'static [&'static str]
+    ensures { words_of result.now ≡ other_keys }
+{
+    OTHER_KEYS
+}
+
+/// What else a profile has: of each key what the first profile of the chain has that has it.
+pub(crate) fn others<'p>(
+    alloc: Global,
+    effective: &'p EffectiveProfile<'p>,
+) -> Result<Vec<OtherKey<'p>>, AllocError>
+    ensures { IfOk result (λ others. AreOthers effective.now others.items) }
+{
+    let keys = other_keys();
+    let mut others = Vec::new(alloc);
+    for key in keys {
+        push_other(alloc, effective, key, &mut others)?;
+    }
+    Ok(others)
+}
+
+// Pushes what the profile has at a key, if anything.
+fn push_other<'p>(
+    alloc: Global,
+    effective: &'p EffectiveProfile<'p>,
+    key: &'static str,
+    others: &mut Vec<OtherKey<'p>>,
+) -> Result<(), AllocError>
+    ensures { OnOk result ((other : Option OtherKey) × IsOther effective.now key.now other
+        × (others.new.items ≡ others.old.items ++ some_list other)) }
+{
+    if let Some(other) = other(alloc, effective, key)? {
+        others.push(other)?;
+    }
+    Ok(())
+}
+
+// What the first profile of the chain has at a key that has it.
+fn other<'p>(
+    alloc: Global,
+    effective: &'p EffectiveProfile<'p>,
+    key: &'static str,
+) -> Result<Option<OtherKey<'p>>, AllocError>
+    ensures { IfOk result (IsOther effective.now key.now) }
+{
+    let chain = effective.chain();
+    for profile in chain {
+        if let Some(other) = other_of(alloc, effective, profile.as_str(), key)? {
+            return Ok(Some(other));
+        }
+    }
+    Ok(None)
+}
+
+// What a profile has at a key.
+fn other_of<'p>(
+    alloc: Global,
+    effective: &'p EffectiveProfile<'p>,
+    profile: &'p str,
+    key: &'static str,
+) -> Result<Option<OtherKey<'p>>, AllocError>
+    ensures { IfOk result (λ other. MatchOption other
+        (PassesOther effective.now key.now profile.now)
+        (IsOtherOf effective.now key.now profile.now)) }
+{
+    match last_at(alloc, effective, profile, &[key])? {
+        Some(found) => other_found(alloc, effective, profile, key, found),
+        None => Ok(None),
+    }
+}
+
+// What a profile has at a key, where this layer is the last that says anything of it.
+fn other_found<'p>(
+    alloc: Global,
+    effective: &'p EffectiveProfile<'p>,
+    profile: &'p str,
+    key: &'static str,
+    found: LayerValue<'p>,
+) -> Result<Option<OtherKey<'p>>, AllocError>
+    requires { IsLastAt effective.now profile.now (key.now ∷ []) (Some found) }
+    ensures { IfOk result (λ other. MatchOption other
+        (PassesOther effective.now key.now profile.now)
+        (IsOtherOf effective.now key.now profile.now)) }
+{
+    match effective.value(alloc, &[profile, key])? {
+        Some(value) => {
+            let source = source_of(alloc, effective, found.layer, profile, &[key])?;
+            let literal = Literal::of(alloc, value)?;
+            Ok(Some(OtherKey {
+                key,
+                literal,
+                source,
+            }))
+        }
+        None => Ok(None),
+    }
+}

@@ -1,0 +1,374 @@
+//! What is told of a setting, key by key.
+
+ghost use Rattle.std.specs.Prelude.{◌≡◌, ◌∷◌, [], filter, IfOk, map, MatchOption, None, option_map, Some};
+ghost use Rattle.std.specs.List.{AllZip};
+ghost use Rattle.toml.specs.View.{view};
+ghost use Rattle.nextest_config_profiles.specs.Reach.{words_of};
+ghost use Rattle.nextest_config_profiles.specs.Report.Rows.{AreImplied, AreRows, AreRowsFor, AreRowsOf, AreValueRows, AreWholeRows, at_of, IsAbsentRow, IsGivenRow, IsGivenTold, IsImpliedRow, IsMemberRow, IsMemberTold, is_optional, IsNothingRow, IsNothingTold, IsTaken, IsTakenAway, stands_for_table};
+ghost use Rattle.nextest_config_profiles.specs.Report.Setting.{absent_of, member_of, rule_of};
+
+use crate::report::faulty::fault_row;
+use crate::report::given::{Given, given_for};
+use crate::report::hidden::hidden_rows;
+use crate::report::keys::{copy_of, with_key};
+use crate::report::last::last_at;
+use crate::report::no_limit::is_no_limit;
+use crate::report::setting::{Absent, Member, Setting};
+use crate::report::source::source_of;
+use crate::report::told::{Literal, Row, Told};
+use crate::{EffectiveProfile, LayerValue};
+use nextest_config_lint::is_converted_at;
+use std::alloc::{AllocError, Global};
+use toml::Value;
+
+/// A setting, as a profile of a chain gives it.
+#[derive(Clone, Copy)]
+pub(crate) struct GivenSetting<'p> {
+    pub effective: &'p EffectiveProfile<'p>,
+    pub profile: &'p str,
+    pub setting: Setting,
+    pub is_judged: bool,
+    pub tells_hidden: bool,
+}
+
+/// What is told of a setting.
+pub(crate) fn rows_of<'p>(
+    alloc: Global,
+    effective: &'p EffectiveProfile<'p>,
+    setting: Setting,
+    tells_hidden: bool,
+) -> Result<Vec<Row<'p>>, AllocError>
+    ensures { IfOk result (λ rows.
+        AreRows effective.now tells_hidden (rule_of setting) rows.items) }
+{
+    let given = given_for(alloc, effective, None, setting)?;
+    given_rows(alloc, effective, setting, tells_hidden, given)
+}
+
+// The rows of a setting for which this is given.
+fn given_rows<'p>(
+    alloc: Global,
+    effective: &'p EffectiveProfile<'p>,
+    setting: Setting,
+    tells_hidden: bool,
+    given: Given<'p>,
+) -> Result<Vec<Row<'p>>, AllocError>
+    ensures { IfOk result (λ rows.
+        AreRowsFor effective.now tells_hidden (rule_of setting) given.entry rows.items) }
+{
+    let (profile, is_judged) = match given {
+        Given::Value { profile } => (profile, true),
+        Given::NotJudged { profile } => (profile, false),
+        Given::Fault { profile, fault } => {
+            let row = fault_row(alloc, effective, profile, setting, fault)?;
+            let rows = alone(alloc, row)?;
+            return Ok(rows);
+        }
+        Given::Nothing => {
+            let row = nothing_row(alloc, effective, setting)?;
+            let rows = alone(alloc, row)?;
+            return Ok(rows);
+        }
+    };
+    value_rows(
+        alloc,
+        GivenSetting {
+            effective,
+            profile,
+            setting,
+            is_judged,
+            tells_hidden,
+        },
+    )
+}
+
+// A list of one row.
+fn alone<'p>(alloc: Global, row: Row<'p>) -> Result<Vec<Row<'p>>, AllocError>
+    ensures { IfOk result (λ rows. rows.items ≡ row.entry ∷ []) }
+{
+    let mut rows = Vec::new(alloc);
+    rows.push(row)?;
+    Ok(rows)
+}
+
+// The row of a setting that no profile gives: the empty text in `default` takes it away, or nothing
+// gives it.
+fn nothing_row<'p>(
+    alloc: Global,
+    effective: &'p EffectiveProfile<'p>,
+    setting: Setting,
+) -> Result<Row<'p>, AllocError>
+    ensures { IfOk result (IsNothingRow effective.now (rule_of setting)) }
+{
+    let told = nothing_told(alloc, effective, setting)?;
+    bare_row(alloc, copy_of(alloc, setting.keys)?, told)
+}
+
+fn nothing_told<'p>(
+    alloc: Global,
+    effective: &'p EffectiveProfile<'p>,
+    setting: Setting,
+) -> Result<Told<'p>, AllocError>
+    ensures { IfOk result (IsNothingTold effective.now (rule_of setting)) }
+{
+    let found = last_at(alloc, effective, "default", setting.keys)?;
+    taken_away(alloc, effective, setting, found)
+}
+
+// What is told where this is what the last layer has for `default`.
+fn taken_away<'p>(
+    alloc: Global,
+    effective: &'p EffectiveProfile<'p>,
+    setting: Setting,
+    found: Option<LayerValue<'p>>,
+) -> Result<Told<'p>, AllocError>
+    ensures { IfOk result (IsTakenAway effective.now (rule_of setting) found.entry) }
+{
+    match found {
+        Some(found) => {
+            let source = source_of(alloc, effective, found.layer, "default", setting.keys)?;
+            Ok(Told::NoValue(source))
+        }
+        None => Ok(Told::Unset),
+    }
+}
+
+/// A row that hides nothing.
+pub(crate) fn bare_row<'p>(
+    alloc: Global,
+    keys: Vec<&'p str>,
+    told: Told<'p>,
+) -> Result<Row<'p>, AllocError>
+    ensures { IfOk result (λ row.
+        (row.keys ≡ keys.entry) × (row.told ≡ told.entry) × (row.hidden.items ≡ [])) }
+{
+    let hidden = Vec::new(alloc);
+    Ok(Row { keys, told, hidden })
+}
+
+// The rows of a value: of a table key by key.
+fn value_rows<'p>(alloc: Global, given: GivenSetting<'p>) -> Result<Vec<Row<'p>>, AllocError>
+    ensures { IfOk result (λ rows. AreValueRows (at_of given.entry) rows.items) }
+{
+    let found = last_at(alloc, given.effective, given.profile, given.setting.keys)?;
+    found_rows(alloc, given, found)
+}
+
+// The rows of a setting, where this is what the last layer has for it.
+fn found_rows<'p>(
+    alloc: Global,
+    given: GivenSetting<'p>,
+    found: Option<LayerValue<'p>>,
+) -> Result<Vec<Row<'p>>, AllocError>
+    ensures { IfOk result (λ rows. AreRowsOf (at_of given.entry) found.entry rows.items) }
+{
+    match found {
+        Some(found) if found.value.is_table() => {
+            member_rows(alloc, given, given.setting.members)
+        }
+        Some(found) => whole_rows(alloc, given, found),
+        None => {
+            let keys = copy_of(alloc, given.setting.keys)?;
+            let row = bare_row(alloc, keys, Told::Unset)?;
+            let rows = alone(alloc, row)?;
+            Ok(rows)
+        }
+    }
+}
+
+// The rows of the keys of a table.
+fn member_rows<'p>(
+    alloc: Global,
+    given: GivenSetting<'p>,
+    members: &'static [Member],
+) -> Result<Vec<Row<'p>>, AllocError>
+    ensures { IfOk result (λ rows. AllZip (IsMemberRow (at_of given.entry))
+        (map member_of members.now) rows.items) }
+{
+    let mut rows = Vec::new(alloc);
+    for member in members {
+        rows.push(member_row(alloc, given, member)?)?;
+    }
+    Ok(rows)
+}
+
+// The row of a key of a table.
+fn member_row<'p>(
+    alloc: Global,
+    given: GivenSetting<'p>,
+    member: &'static Member,
+) -> Result<Row<'p>, AllocError>
+    ensures { IfOk result (IsMemberRow (at_of given.entry) (member_of member.now)) }
+{
+    let keys = with_key(alloc, given.setting.keys, member.key)?;
+    let found = last_at(alloc, given.effective, given.profile, keys.as_slice())?;
+    let row = found_member(alloc, given, member, keys, found)?;
+    Ok(row)
+}
+
+// The row of a key of a table, where this is what the last layer has there.
+fn found_member<'p>(
+    alloc: Global,
+    given: GivenSetting<'p>,
+    member: &'static Member,
+    keys: Vec<&'p str>,
+    found: Option<LayerValue<'p>>,
+) -> Result<Row<'p>, AllocError>
+    ensures { IfOk result (IsMemberTold (at_of given.entry) (member_of member.now)
+        (words_of keys.entry.items) found.entry) }
+{
+    match found {
+        Some(found) => given_row(alloc, given, Some(member.key), keys, found),
+        None => absent_row(alloc, given, keys, member.absent),
+    }
+}
+
+// The row of a value that stands in a layer.
+fn given_row<'p>(
+    alloc: Global,
+    given: GivenSetting<'p>,
+    member: Option<&str>,
+    keys: Vec<&'p str>,
+    found: LayerValue<'p>,
+) -> Result<Row<'p>, AllocError>
+    ensures { IfOk result (IsGivenRow (at_of given.entry) (option_map (λ key. key.now) member.entry)
+        (words_of keys.entry.items) found.entry) }
+{
+    let told = given_told(alloc, given, member, keys.as_slice(), found)?;
+    let hidden = hidden_rows(alloc, given, keys.as_slice(), found.layer)?;
+    Ok(Row { keys, told, hidden })
+}
+
+fn given_told<'p>(
+    alloc: Global,
+    given: GivenSetting<'p>,
+    member: Option<&str>,
+    keys: &[&str],
+    found: LayerValue<'p>,
+) -> Result<Told<'p>, AllocError>
+    ensures { IfOk result (IsGivenTold (at_of given.entry)
+        (option_map (λ key. key.now) member.entry) (words_of keys.now) found.entry) }
+{
+    let source = source_of(alloc, given.effective, found.layer, given.profile, keys)?;
+    let no_limit = is_no_limit(given.setting.reader, member, found.value);
+    let literal = Literal::of(alloc, found.value.clone()?)?;
+    if !given.is_judged || is_converted_at(keys, found.value) {
+        return Ok(Told::NotJudged { literal, source });
+    }
+    Ok(Told::Value {
+        literal,
+        source,
+        no_limit,
+    })
+}
+
+// The row of a key that no layer has.
+fn absent_row<'p>(
+    alloc: Global,
+    given: GivenSetting<'p>,
+    keys: Vec<&'p str>,
+    absent: Absent,
+) -> Result<Row<'p>, AllocError>
+    ensures { IfOk result
+        (IsAbsentRow (at_of given.entry) (words_of keys.entry.items) (absent_of absent)) }
+{
+    let told = match taken(alloc, absent)? {
+        Some(literal) => Told::Default(literal),
+        None => Told::Unset,
+    };
+    let layers = given.effective.layer_count();
+    let hidden = hidden_rows(alloc, given, keys.as_slice(), layers)?;
+    Ok(Row { keys, told, hidden })
+}
+
+// What a reader takes for a key that is absent.
+fn taken(alloc: Global, absent: Absent) -> Result<Option<Literal>, AllocError>
+    ensures { IfOk result (IsTaken (absent_of absent)) }
+{
+    let value = match absent {
+        Absent::Text(text) => Value::String(String::from_str(alloc, text)?),
+        Absent::False => Value::Boolean(false),
+        Absent::Nothing | Absent::Required => return Ok(None),
+    };
+    Ok(Some(Literal::of(alloc, value)?))
+}
+
+// The rows of a value that is no table: where a text or a number stands for a table, also those of
+// its other keys.
+fn whole_rows<'p>(
+    alloc: Global,
+    given: GivenSetting<'p>,
+    found: LayerValue<'p>,
+) -> Result<Vec<Row<'p>>, AllocError>
+    ensures { IfOk result (λ rows. AreWholeRows (at_of given.entry) found.entry rows.items) }
+{
+    let keys = copy_of(alloc, given.setting.keys)?;
+    let first = given_row(alloc, given, None, keys, found)?;
+    let mut rest = rest_of_table(alloc, given.setting, found.value)?;
+    let mut rows = alone(alloc, first)?;
+    rows.append(&mut rest)?;
+    Ok(rows)
+}
+
+// What a value says of the other keys of the table for which it stands, if it does.
+fn rest_of_table<'p>(
+    alloc: Global,
+    setting: Setting,
+    value: &Value,
+) -> Result<Vec<Row<'p>>, AllocError>
+    ensures { IfOk result (λ rows.
+        AreImplied (stands_for_table (view value.now)) (rule_of setting) rows.items) }
+{
+    if stands_for_table(value) {
+        return implied_rows(alloc, setting, setting.members);
+    }
+    Ok(Vec::new(alloc))
+}
+
+// Whether the value is a text or a number.
+fn stands_for_table(value: &Value) -> bool
+    ensures { result ≡ stands_for_table (view value.now) }
+{
+    matches!(value, Value::String(_) | Value::Integer(_))
+}
+
+// The rows of the other keys of a table for which a text or a number stands.
+fn implied_rows<'p>(
+    alloc: Global,
+    setting: Setting,
+    members: &'static [Member],
+) -> Result<Vec<Row<'p>>, AllocError>
+    ensures { IfOk result (λ rows. AllZip (IsImpliedRow (rule_of setting).keys)
+        (filter is_optional (map member_of members.now)) rows.items) }
+{
+    let mut rows = Vec::new(alloc);
+    for member in members {
+        if is_optional(member) {
+            rows.push(implied_row(alloc, setting, member)?)?;
+        }
+    }
+    Ok(rows)
+}
+
+// Whether a key may be absent.
+fn is_optional(member: &Member) -> bool
+    ensures { result ≡ is_optional (member_of member.now) }
+{
+    !matches!(member.absent, Absent::Required)
+}
+
+// The row of a key of a table for which a text or a number stands.
+fn implied_row<'p>(
+    alloc: Global,
+    setting: Setting,
+    member: &'static Member,
+) -> Result<Row<'p>, AllocError>
+    ensures { IfOk result (IsImpliedRow (rule_of setting).keys (member_of member.now)) }
+{
+    let keys = with_key(alloc, setting.keys, member.key)?;
+    let told = match taken(alloc, member.absent)? {
+        Some(literal) => Told::Implied(literal),
+        None => Told::Unset,
+    };
+    bare_row(alloc, keys, told)
+}

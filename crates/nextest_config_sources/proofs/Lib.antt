@@ -1,6 +1,0 @@
-pub mod Enough
-pub mod Features
-pub mod Members
-pub mod Naming
-pub mod Orders
-pub mod Refusals

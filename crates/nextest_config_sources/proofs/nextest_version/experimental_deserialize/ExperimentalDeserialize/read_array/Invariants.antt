@@ -1,7 +1,0 @@
-use Rattle.toml.specs.View.{array_view}
-use Rattle.nextest_config_sources.specs.NextestVersion.{features_of}
-use Rattle.nextest_config_sources.proofs.Naming.{NamedSoFar}
-use Rattle.nextest_config_sources.proofs.nextest_version.experimental_deserialize.ExperimentalDeserialize.read_array.Given as goal
-
-abbrev pub invariant-loop-index : goal.invariant-loop-index
-invariant-loop-index l = NamedSoFar (array_view l.array) l.index (features_of l.features)

@@ -1,0 +1,155 @@
+-- Characters that are shown as they are, and that what is shown is printable.
+use Rattle.std.proofs.Common.{◌≡◌, ℕ, ◌<◌, ◌≤◌, ◌+◌, ◌/◌, ◌%◌, ◌==◌, ◌&&◌, ◌||◌, nat_le, nat_lt, zero, suc, Bool, true, false, cond, List, [], ◌∷◌, ◌++◌, codes, flat_map, ap, arith, refl, subst, sym}
+use Rattle.std.proofs.lemmas.Bool.{true≢false}
+use Rattle.std.proofs.lemmas.Bool.Decides.{nat_tests}
+use Rattle.std.proofs.lemmas.List.{append-nil}
+use Rattle.std.proofs.lemmas.List.Concat.{flat_map-append}
+use Rattle.std.proofs.lemmas.Str.{chars-IsAscii, encode_ascii}
+use Rattle.std.specs.Char.{digit_char, is_control}
+use Rattle.std.specs.Char.Escape.{escape_unicode}
+use Rattle.std.specs.List.{AllByRecursion, list_all, slice_index}
+use Rattle.std.specs.Prelude.{chars, encode_utf8}
+use Rattle.nextest_config_values.specs.Literal.Shown.{character_in, IsPrintable, IsPrintableCharacter, is_plain, is_printable, is_unprintable, shown_character, shown_in, shown_lines, shown_text}
+use Rattle.nextest_config_values.specs.declared.literal.shown.LineFeeds.TheVariants.{Kept}
+use Rattle.toml_spans.proofs.Elements.{all_joined}
+
+or_true : (b : Bool) → (b || true) ≡ true
+or_true true = refl
+or_true false = refl
+
+-- ---- printable characters of ASCII
+
+pub both_are : (a b : Bool) → (a && b) ≡ true → (a ≡ true) × (b ≡ true)
+both_are true b is = (refl, is)
+both_are false b is = absurd (true≢false (sym is))
+
+pub bounds : (c : ℕ) → is_printable c ≡ true → (32 ≤ c) × (c ≤ 126)
+bounds c is = let both = both_are (nat_le 32 c) (nat_le c 126) is in (grind (arith, nat_tests), grind (arith, nat_tests))
+
+other_than : (n c : ℕ) → n < 32 → 32 ≤ c → (c == n) ≡ false
+other_than n c below low = grind (arith, nat_tests)
+
+no_control : (c : ℕ) → 32 ≤ c → c ≤ 126 → is_control c ≡ false
+no_control c low high = grind (arith, nat_tests)
+
+below_others : (n c : ℕ) → 126 < n → c ≤ 126 → nat_le n c ≡ false
+below_others n c above high = grind (arith, nat_tests)
+
+not_blank : (c : ℕ) → c ≤ 126 → (c == 8203) ≡ false
+not_blank c high = grind (arith, nat_tests)
+
+is_shown : (c : ℕ) → 32 ≤ c → c ≤ 126 → is_unprintable c ≡ false
+is_shown c low high =
+    rw (no_control c low high, not_blank c high, below_others 8206 c (search arith) high, below_others 8232 c (search arith) high, below_others 8294 c (search arith) high) refl
+
+pub shown_itself : (c : ℕ) → is_printable c ≡ true → shown_character c ≡ c ∷ []
+shown_itself c is =
+    let (low, high) = bounds c is in
+    rw (other_than 9 c (search arith) low, other_than 10 c (search arith) low, other_than 13 c (search arith) low, other_than 0 c (search arith) low, is_shown c low high)
+    (encode_ascii c (omega (arith, high)))
+
+printable : (c : ℕ) → 32 ≤ c → c ≤ 126 → IsPrintableCharacter c
+printable c low high = rw (other_than 10 c (search arith) low, is_shown c low high) refl
+
+-- ---- texts that are shown as they are
+
+ten : (c : ℕ) → (c == 10) ≡ true → c ≡ 10
+ten c is = grind (arith, nat_tests)
+
+plain_by : (c : ℕ) (line_feed : Bool) → (c == 10) ≡ line_feed → (line_feed || is_printable c) ≡ true → (cond line_feed (codes "\n") (shown_character c) ≡ c ∷ []) × (c < 128)
+plain_by c true is plain = let here = ten c is in (ap (λ x. x ∷ []) (sym here), omega (arith, here))
+plain_by c false is plain = let (low, high) = bounds c plain in (shown_itself c plain, omega (arith, high))
+
+-- a text of ASCII whose characters stay as they are
+module _ (shown : ℕ → List ℕ) (stays : ℕ → Bool) (each : (c : ℕ) → stays c ≡ true → (shown c ≡ c ∷ []) × (c < 128)) where
+  all_stay : (cs : List ℕ) → list_all stays cs ≡ true → flat_map shown cs ≡ cs
+  all_stay [] is = refl
+  all_stay (c ∷ cs) is =
+      let (one, rest) = both_are (stays c) (list_all stays cs) is in
+      rw ((each c one).0) (ap (λ more. c ∷ more) (all_stay cs rest))
+
+  all_ascii : (cs : List ℕ) → list_all stays cs ≡ true → (i : ℕ) → slice_index cs i < 128
+  all_ascii [] is i = omega arith
+  all_ascii (c ∷ cs) is zero = (each c (both_are (stays c) (list_all stays cs) is).0).1
+  all_ascii (c ∷ cs) is (suc i) = all_ascii cs (both_are (stays c) (list_all stays cs) is).1 i
+
+  pub ascii_chars : (text : List ℕ) → list_all stays text ≡ true → chars text ≡ text
+  ascii_chars text is = chars-IsAscii text (all_ascii text is)
+
+  pub text_stays : (text : List ℕ) → list_all stays text ≡ true → flat_map shown (chars text) ≡ text
+  text_stays text is = rw (ascii_chars text is) (all_stay text is)
+
+pub plain_lines : (text : List ℕ) → list_all is_plain text ≡ true → text ≡ shown_lines text
+unfolding shown_in
+plain_lines text is = sym (text_stays (character_in Kept) is_plain (λ c plain. plain_by c (c == 10) refl plain) text is)
+
+-- ---- what is shown is printable
+
+digit : (d : ℕ) (below : Bool) → nat_lt d 10 ≡ below → d < 16 → IsPrintableCharacter (cond below (48 + d) (87 + d))
+digit d true is within = printable (48 + d) (omega arith) (omega (arith, within))
+digit d false is within = printable (87 + d) (omega arith) (omega (arith, within))
+
+hexadecimal : (m : ℕ) → IsPrintableCharacter (digit_char (m % 16))
+hexadecimal m = digit (m % 16) (nat_lt (m % 16) 10) refl (omega arith)
+
+either : (b : Bool) (xs ys : List ℕ) → AllByRecursion IsPrintableCharacter xs → AllByRecursion IsPrintableCharacter ys → AllByRecursion IsPrintableCharacter (cond b xs ys)
+either true xs ys x y = x
+either false xs ys x y = y
+
+escaped : (c : ℕ) → AllByRecursion IsPrintableCharacter (escape_unicode c)
+escaped c =
+    either (nat_lt c 0x10) _ _ (refl, (refl, (refl, (hexadecimal (c / 0x1), (refl, tt)))))
+    (either (nat_lt c 0x100) _ _ (refl, (refl, (refl, (hexadecimal (c / 0x10), (hexadecimal (c / 0x1), (refl, tt))))))
+    (either (nat_lt c 0x1000) _ _ (refl, (refl, (refl, (hexadecimal (c / 0x100), (hexadecimal (c / 0x10), (hexadecimal (c / 0x1), (refl, tt)))))))
+    (either (nat_lt c 0x1_0000) _ _ (refl, (refl, (refl, (hexadecimal (c / 0x1000), (hexadecimal (c / 0x100), (hexadecimal (c / 0x10), (hexadecimal (c / 0x1), (refl, tt))))))))
+    (either (nat_lt c 0x10_0000) _ _ (refl, (refl, (refl, (hexadecimal (c / 0x1_0000), (hexadecimal (c / 0x1000), (hexadecimal (c / 0x100), (hexadecimal (c / 0x10), (hexadecimal (c / 0x1), (refl, tt)))))))))
+    (refl, (refl, (refl, (hexadecimal (c / 0x10_0000), (hexadecimal (c / 0x1_0000), (hexadecimal (c / 0x1000), (hexadecimal (c / 0x100), (hexadecimal (c / 0x10), (hexadecimal (c / 0x1), (refl, tt))))))))))))))
+
+by_code : (c : ℕ) (unprintable : Bool) → is_unprintable c ≡ unprintable → IsPrintable (cond unprintable (flat_map encode_utf8 (escape_unicode c)) (encode_utf8 c))
+by_code c true is = record { characters = escape_unicode c; written = refl; printable = escaped c }
+by_code c false is = record { characters = c ∷ []; written = sym (append-nil _); printable = (rw is (or_true (c == 10)), tt) }
+
+ascii : (bytes : List ℕ) → flat_map encode_utf8 bytes ≡ bytes → AllByRecursion IsPrintableCharacter bytes → IsPrintable bytes
+ascii bytes written all = record { characters = bytes; written = sym written; printable = all }
+
+chosen : (b : Bool) (xs ys : List ℕ) → IsPrintable xs → IsPrintable ys → IsPrintable (cond b xs ys)
+chosen true xs ys x y = x
+chosen false xs ys x y = y
+
+character : (c : ℕ) → IsPrintable (shown_character c)
+unfolding lib.Utf8.encode
+character c =
+    chosen (c == 10) _ _ (ascii (codes "\\n") refl (refl, (refl, tt)))
+    (chosen (c == 13) _ _ (ascii (codes "\\r") refl (refl, (refl, tt)))
+    (chosen (c == 9) _ _ (ascii (codes "\\t") refl (refl, (refl, tt)))
+    (chosen (c == 0) _ _ (ascii (codes "\\0") refl (refl, (refl, tt))) (by_code c (is_unprintable c) refl))))
+
+in_lines : (c : ℕ) → IsPrintable (character_in Kept c)
+unfolding lib.Utf8.encode
+in_lines c = chosen (c == 10) _ _ (ascii (codes "\n") refl (refl, tt)) (character c)
+
+pub printable_joined : (xs ys : List ℕ) → IsPrintable xs → IsPrintable ys → IsPrintable (xs ++ ys)
+printable_joined xs ys x y = record {
+  characters = x.characters ++ y.characters;
+  written = rw (x.written, y.written) (sym (flat_map-append encode_utf8 x.characters y.characters));
+  printable = all_joined IsPrintableCharacter x.characters y.characters x.printable y.printable;
+}
+
+all_in_lines : (cs : List ℕ) → IsPrintable (flat_map (character_in Kept) cs)
+all_in_lines [] = ascii [] refl tt
+all_in_lines (c ∷ cs) = printable_joined (character_in Kept c) (flat_map (character_in Kept) cs) (in_lines c) (all_in_lines cs)
+
+pub printable_lines : (text : List ℕ) → IsPrintable (shown_lines text)
+unfolding shown_in
+printable_lines text = all_in_lines (chars text)
+
+all_in_line : (cs : List ℕ) → IsPrintable (flat_map shown_character cs)
+all_in_line [] = ascii [] refl tt
+all_in_line (c ∷ cs) = printable_joined (shown_character c) (flat_map shown_character cs) (character c) (all_in_line cs)
+
+pub printable_text : (text : List ℕ) → IsPrintable (shown_text text)
+unfolding shown_in
+printable_text text = all_in_line (chars text)
+
+pub printable_plain : (text : List ℕ) → list_all is_plain text ≡ true → IsPrintable text
+printable_plain text plain = subst IsPrintable (sym (plain_lines text plain)) (printable_lines text)

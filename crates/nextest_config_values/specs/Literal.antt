@@ -1,0 +1,5 @@
+pub mod Json
+pub mod Key
+pub mod Shown
+pub mod Text
+pub mod Value

@@ -1,0 +1,127 @@
+-- How the pieces of a document stand to one another.
+use Rattle.std.proofs.Common.{◌≡◌, ℕ, ◌≤◌, List, length, drop, Option, Some, sym, ◌∙◌, inl, inr, arith}
+use Rattle.toml_spans.proofs.Elements.{all_always}
+use Rattle.toml.proofs.Blanks.{skip_within}
+use Rattle.toml.specs.Parse.{after_byte}
+use Rattle.toml_parser.specs.Lexical.{skip_blank}
+use Rattle.toml_spans.specs.Document.{begin, go_on, grown, header_parts, Statement, statement, statement_line, Walk, walk_on, Walks}
+use Rattle.toml_spans.specs.Entry.{after_key, Branches, Piece, Tree}
+use Rattle.toml_spans.specs.Key.{Parts}
+use Rattle.toml_spans.specs.Table.{array_table, at_part, Definition, pair, put, std_table}
+use Rattle.toml_spans.specs.Value.{pair_tree, value_tree}
+use Rattle.toml_spans.proofs.Growth.Bounds.{Within, within_wider}
+use Rattle.toml_spans.proofs.Growth.Reads.{statement_line_reads}
+use Rattle.toml_spans.proofs.Growth.Found.{Found, found_any, found_if, found_map, found_none, found_some, found_then, found_weaker}
+use Rattle.toml_spans.proofs.Order.Changes.{at_part_keeps, dots_keep, header_keeps, IsKept}
+use Rattle.toml_spans.proofs.Order.Holds.{holds_nowhere, HoldsBelow, HoldsIn}
+use Rattle.toml_spans.proofs.Order.Settled.{Apart, IsSettled, IsSound, value_lies, ValueBelow, ValueIn}
+use Rattle.toml_spans.proofs.Order.Values.{apart_grown, IsOf, nowhere, of_pair, pair_settled, sound_after, sound_kept, value_of_either, value_settled, values_kept, values_new, values_old}
+
+-- ---- statements
+
+-- headers are no pairs
+header_no_pair : (t : Tree) → std_table ≡ pair t → ⊥
+header_no_pair t is = cc
+
+brackets_no_pair : (t : Tree) → array_table ≡ pair t → ⊥
+brackets_no_pair t is = cc
+
+-- whatever is found
+anything : {A : Type 0} (o : Option A) → Found o (λ x. Unit {0})
+anything o = found_any (λ x is. tt)
+
+-- what holds of a pair holds of the statement that it is
+module _ (Q : Parts → List ℕ → Tree → Type 0) (s : List ℕ) (reads : Found (pair_tree (value_tree 80) s) (λ p. Q p.0.0 p.1 p.0.1)) where
+  statement_pair : Found (statement s) (λ r. (t : Tree) → r.0.1 ≡ pair t → Q r.0.0 r.1 t)
+  unfolding statement
+  statement_pair =
+      found_if _
+      (found_then _ (anything (header_parts (drop 2 s))) (λ k any. found_map _ (anything (after_byte 93 k.1)) (λ rest also t is. absurd (brackets_no_pair t is))))
+      (found_if _
+      (found_map _ (anything (header_parts (drop 1 s))) (λ k any t is. absurd (header_no_pair t is)))
+      (found_map _ reads (λ p holds t is. of_pair (Q p.0.0 p.1) p.0.1 t is holds)))
+
+  -- so it does of one that has its line to itself
+  pub line_pair : Found (statement_line s) (λ r. (t : Tree) → r.0.1 ≡ pair t → Q r.0.0 r.1 t)
+  unfolding statement_line
+  line_pair = found_then _ statement_pair (λ e value. found_if _ (found_some _ value) found_none)
+
+-- the value of a statement, if it has one, was read between its beginning and its end
+line_value : (s : List ℕ) → Found (statement_line s) (λ r. (t : Tree) → r.0.1 ≡ pair t → IsSettled (length s) (length r.1) t)
+line_value s = line_pair (λ k rest t. IsSettled (length s) (length rest) t) s (found_weaker (pair_settled (value_tree 80) (value_settled 80) s) (λ p reads. reads.settled))
+
+-- the last part of a statement's key, and its value, lie where it was read
+pub record ReadsStatement (s : List ℕ) (e : Statement) (rest : List ℕ) : Type 0 where
+  pub last : Within (length s) (length rest) e.0.1.1
+  pub value : (t : Tree) → e.1 ≡ pair t → IsSettled (length s) (length rest) t
+  pub left : length rest ≤ length s
+
+line_settled : (s : List ℕ) (e : Statement) (rest : List ℕ) → statement_line s ≡ Some (e, rest) → ReadsStatement s e rest
+line_settled s e rest is =
+    let reads = (statement_line_reads s).each (e, rest) is in
+    record { last = reads.0.0.1; value = (line_value s).each (e, rest) is; left = reads.1 }
+
+-- ---- walks
+
+module _ (P Q : Tree → Type 0) (N F : Piece → Type 0) (kept : IsKept P Q N F) (always : (k : Piece) → N k) where
+  -- what holds of a walk's trees holds after a statement
+  grown_keeps : (walk : Walk) (k : Parts) (what : Definition) → F k.1.1 → ((t : Tree) → what ≡ pair t → HoldsBelow Q (after_key k.1.1 t)) → HoldsIn P walk.root
+      → Found (grown walk k what) (λ new. HoldsIn Q new.0)
+  grown_keeps walk k (pair t) fresh value holds = found_map _ ((header_keeps P Q N F kept walk.section (put k t) (all_always (λ part. always part.1) walk.section)
+      (dots_keep P Q N F kept k.0 (at_part k.1 (pair t)) (all_always (λ part. always part.1) k.0) (at_part_keeps P Q N F kept k.1 (pair t) (always k.1.1) fresh value))).each walk.root holds) (λ new on. on)
+  grown_keeps walk k std_table fresh value holds = found_map _ ((header_keeps P Q N F kept k.0 (at_part k.1 std_table) (all_always (λ part. always part.1) k.0)
+      (at_part_keeps P Q N F kept k.1 std_table (always k.1.1) fresh value)).each walk.root holds) (λ new on. on)
+  grown_keeps walk k array_table fresh value holds = found_map _ ((header_keeps P Q N F kept k.0 (at_part k.1 array_table) (all_always (λ part. always part.1) k.0)
+      (at_part_keeps P Q N F kept k.1 array_table (always k.1.1) fresh value)).each walk.root holds) (λ new on. on)
+
+  pub walk_on_keeps : (walk : Walk) (start : List ℕ) (s : Statement) → F s.0.1.1 → ((t : Tree) → s.1 ≡ pair t → HoldsBelow Q (after_key s.0.1.1 t)) → HoldsIn P walk.root
+      → Found (walk_on walk start s) (λ next. HoldsIn Q next.root)
+  unfolding walk_on
+  walk_on_keeps walk start s fresh value holds = found_map _ (grown_keeps walk s.0 s.1 fresh value holds) (λ new on. on)
+
+-- all that a walk holds up to this place, counted from the text's end
+pub record RootSettled (n : ℕ) (root : Branches) : Type 0 where
+  pub sound : HoldsIn (IsSound n) root
+  pub ended : (v : Piece) → ValueIn root v → n ≤ v.1
+  pub apart : (v w : Piece) → ValueIn root v → ValueIn root w → Apart v w
+
+-- the value is one of what is defined
+record ValueOf (what : Definition) (v : Piece) : Type 0 where
+  tree : Tree
+  is : what ≡ pair tree
+  below : ValueBelow tree v
+
+-- two such values are of one tree
+values_of_one : (what : Definition) (v w : Piece) → ((t : Tree) → what ≡ pair t → (x y : Piece) → ValueBelow t x → ValueBelow t y → Apart x y) → ValueOf what v → ValueOf what w → Apart v w
+values_of_one what v w apart one other =
+    let same : pair other.tree ≡ pair one.tree = sym other.is ∙ one.is in
+    apart one.tree one.is v w one.below (of_pair (λ t. ValueBelow t w) other.tree one.tree same other.below)
+
+-- a statement that begins after all of a walk
+walk_settled : (walk next : Walk) (n : ℕ) (start rest : List ℕ) (s : Statement) → RootSettled n walk.root → ReadsStatement start s rest → length start ≤ n → walk_on walk start s ≡ Some next → RootSettled (length rest) next.root
+walk_settled walk next n start rest s root reads later on =
+    let a = length start in
+    let b = length rest in
+    let earlier : b ≤ n = omega (arith, reads.left, later) in
+    let New = ValueOf s.1 in
+    let sound : Found (walk_on walk start s) (λ more. HoldsIn (IsSound b) more.root) =
+    walk_on_keeps _ _ _ _ (sound_kept n b earlier) (λ k. tt) walk start s (within_wider (length start) b n b later (omega arith) s.0.1.1 reads.last) (λ t is. sound_after b s.0.1.1 t (reads.value t is).sound) root.sound in
+    let of_either : Found (walk_on walk start s) (λ more. HoldsIn (IsOf (ValueIn walk.root) New) more.root) =
+    walk_on_keeps _ _ _ _ (values_kept (ValueIn walk.root) New) (λ k. tt) walk start s tt
+    (λ t is. values_new (ValueIn walk.root) New s.0.1.1 t (λ v below. record { tree = t; is = is; below = below })) (values_old New walk.root) in
+    let either = value_of_either (ValueIn walk.root) New next.root (of_either.each next on) in
+    record {
+      sound = sound.each next on;
+      ended = λ v at. elim (either v at) [
+        | inl old ↦ omega (arith, root.ended v old, earlier)
+        | inr new ↦ (value_lies a b new.tree v (reads.value new.tree new.is).lie new.below).ends
+      ];
+      apart = apart_grown n a (ValueIn walk.root) New (ValueIn next.root) root.ended root.apart (λ v new. (value_lies a b new.tree v (reads.value new.tree new.is).lie new.below).begins)
+          (λ v w. values_of_one s.1 v w (λ t is. (reads.value t is).apart)) later either;
+    }
+
+-- all walks
+pub walks_settled : (text : List ℕ) (walk : Walk) (rest : List ℕ) → Walks text walk rest → RootSettled (length rest) walk.root
+walks_settled text walk rest begin = record { sound = holds_nowhere; ended = λ v at. absurd (nowhere at.path at.value at.leads); apart = λ v w one. absurd (nowhere one.path one.value one.leads) }
+walks_settled text walk rest (go_on before next behind after s walks read on) =
+    walk_settled before next (length behind) (skip_blank behind) after s (walks_settled text before behind walks) (line_settled (skip_blank behind) s after read) (skip_within behind) on

@@ -1,0 +1,11 @@
+//! Laws over the definitions alone: where everything stands in a document.
+
+ghost use Rattle.std.specs.Prelude.{◌≡◌, ℕ, List};
+ghost use Rattle.toml_spans.specs.Index.{IsIndexOf, ranges_in};
+ghost use Rattle.toml_spans.specs.declared.index.Index.{Index};
+
+/// Of one text, no path has two ranges: two indexes of it tell the same.
+pub fn law_index_once()
+    ensures { (text : List ℕ) (one other : Index) → IsIndexOf text one → IsIndexOf text other
+        → ranges_in one ≡ ranges_in other }
+{}

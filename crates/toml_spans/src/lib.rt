@@ -1,0 +1,29 @@
+//! Where keys and values stand in a document of TOML.
+#![tactic(auto)]
+
+mod begin;
+mod document;
+mod entry;
+mod front;
+mod index;
+mod key;
+pub mod laws;
+mod line;
+mod partial;
+mod place;
+mod quoted_text;
+mod refusal;
+mod skip;
+mod step;
+mod table;
+mod value;
+mod wanted;
+mod wanted_walk;
+
+pub use front::place_after;
+pub use index::Index;
+pub use line::{line_after, line_of};
+pub use partial::PartialIndex;
+pub use place::{Place, Span};
+pub use quoted_text::{QuotedText, quoted, write_quoted};
+pub use step::{NameText, PathText, Step};
