@@ -84,7 +84,7 @@ fn in_list<'f>(
     requires { (list : List ListFile) × IsDefinedBy list defined.now }
     ensures { IfOk result (λ found. (list : List ListFile) → IsDefinedBy list defined.now
         → AllZipFrom (IsFoundIn (judging_of rules.entry) list) 0 files.now
-            (map found_of found.items)) }
+        (map found_of found.items)) }
 {
     let mut found = Vec::new(alloc);
     for (position, file) in files.iter().enumerate() {

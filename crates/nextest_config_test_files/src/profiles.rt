@@ -1,9 +1,9 @@
 //! What profiles get of lists of files.
 
-pub mod locate;
 pub mod blocks;
 pub mod carried;
 pub mod chains;
+pub mod locate;
 pub mod merged;
 pub mod settings;
 

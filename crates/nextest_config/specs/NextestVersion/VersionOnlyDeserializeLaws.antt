@@ -208,8 +208,11 @@ module _ (edition : Edition) (kind : ConfigSourceKind) (table : Members) where
   features_or_error versions of_versions (inr (fault, faulty)) =
       inr (
         setting (told_at [] fault),
-        inr (versions, of_versions,
-            inl (wrong_setting (features_asked edition) table fault faulty)),
+        inr (
+          versions,
+          of_versions,
+          inl (wrong_setting (features_asked edition) table fault faulty),
+        ),
       )
 
   table_by : HasMeaningOrFault (AsksVersions table) (versions_asked.faults table)

@@ -59,7 +59,10 @@ impl Subject for Locate {
     fn answer(rt: &impl Runner, call: &str, input: &str) -> String {
         let documents = documents(rt, input);
         let documents = lent(rt, documents.as_slice());
-        made(rt, profiles_to_locate(rt.call(), documents.as_slice(), call))
+        made(
+            rt,
+            profiles_to_locate(rt.call(), documents.as_slice(), call),
+        )
     }
 }
 
