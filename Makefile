@@ -26,6 +26,7 @@ help:
 
 test: toolchain
 	! command -v shellcheck > /dev/null || shellcheck $(SCRIPT)
+	tests/formatted
 	tests/wrong-itself
 	rt ci | tests/wrong --behind --unkept
 	tests/run $(PROGRAM) $(COMMAND)/out/nextest_config_cli

@@ -20,7 +20,7 @@ const OVERRIDE: &str = "--override";
 const TABLE_ONLY: &str = "--table-only";
 
 /// The check that the words of the command line ask for.
-#[derive(Debug, Drop)]
+#[derive(Drop)]
 pub(crate) struct Check {
     pub current: Version,
     pub override_version_check: bool,
@@ -28,7 +28,7 @@ pub(crate) struct Check {
 }
 
 /// Why the words of the command line ask for no check.
-#[derive(Clone, Copy, Debug)]
+#[derive(Clone, Copy)]
 pub(crate) enum WordsFault<'a> {
     /// They aren't one word and flags in their order, or one of them is no text.
     Usage,

@@ -15,7 +15,7 @@ use toml_spans::line_after;
 const MARK: &str = "=== ";
 
 /// Why the input is no list of sources.
-#[derive(Clone, Copy, Debug, PartialEq, Eq)]
+#[derive(Clone, Copy)]
 pub(crate) enum LayoutFault {
     /// The line with this number, counted from 1, is the first that is no source line where one has
     /// to be.

@@ -49,7 +49,7 @@ impl Outcome {
 }
 
 /// A report, each line ended by a line feed.
-#[derive(Debug, Drop)]
+#[derive(Drop)]
 pub(crate) struct Report {
     pub text: String,
     pub outcome: Outcome,

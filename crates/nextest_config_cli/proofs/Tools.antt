@@ -10,9 +10,9 @@ use Rattle.nextest_config_values.specs.declared.tool_config.ToolConfigFile.{Tool
 use Rattle.nextest_config_values.specs.declared.tool_config.ToolConfigFileParseError.{ToolConfigFileParseError}
 use Rattle.nextest_config_values.specs.declared.tool_config.ToolConfigFileParseError.TheVariants as errors
 use Rattle.nextest_config_cli.specs.Refusal.{IsOfTool}
-use Rattle.nextest_config_cli.specs.Taken.{IsRefused, IsTool, texts}
+use Rattle.nextest_config_cli.specs.Arguments.{IsRefused, IsTool, texts}
 use Rattle.nextest_config_cli.specs.declared.refusal.Refusal.{Refusal}
-use Rattle.nextest_config_cli.specs.declared.taken.Taken.{Taken}
+use Rattle.nextest_config_cli.specs.declared.arguments.Arguments.{Arguments}
 
 pub one_more : (words : List (Bor (List ℕ))) (i : ℕ) (d : Bor (List ℕ)) (files more : List ToolConfigFile) (file : ToolConfigFile) → i < length words
     → AllZip IsTool (texts (take i words)) files → IsTool (get_or words i d).now file → more ≡ files ++ (file ∷ []) → AllZip IsTool (texts (take (i + 1) words)) more
@@ -22,10 +22,10 @@ text_at : (words : List (Bor (List ℕ))) (i : ℕ) (d : Bor (List ℕ)) → i <
 text_at words i d within =
     slice_get-get_or (texts words) i d.now (rw (length-map words (λ word. word.now)) within) ∙ ap Some (get_or-map (λ (word : Bor (List ℕ)). word.now) words i d d.now within)
 
-pub tool_refused : {X : Type 0} (IsAsked : X → Type 0) (taken : Taken) (i : ℕ) (d : Bor (List ℕ)) (error : ToolConfigFileParseError) (refusal : Refusal) → i < length taken.tools.now
-    → RefusesArgument (IsArgumentFault (get_or taken.tools.now i d).now) error → IsOfTool error refusal → IsRefused IsAsked taken refusal
-tool_refused IsAsked taken i d errors.Memory refusal within refuses is = rw is tt
-tool_refused IsAsked taken i d (errors.InvalidFormat input) refusal within refuses is = rw is (i, _, text_at taken.tools.now i d within, refuses)
-tool_refused IsAsked taken i d (errors.InvalidToolName input name) refusal within refuses is = rw is (i, _, text_at taken.tools.now i d within, refuses)
-tool_refused IsAsked taken i d (errors.EmptyConfigFile input) refusal within refuses is = rw is (i, _, text_at taken.tools.now i d within, refuses)
-tool_refused IsAsked taken i d (errors.ConfigFileNotAbsolute path) refusal within refuses is = rw is (i, _, text_at taken.tools.now i d within, refuses)
+pub tool_refused : {X : Type 0} (IsAsked : X → Type 0) (arguments : Arguments) (i : ℕ) (d : Bor (List ℕ)) (error : ToolConfigFileParseError) (refusal : Refusal) → i < length arguments.tools.now
+    → RefusesArgument (IsArgumentFault (get_or arguments.tools.now i d).now) error → IsOfTool error refusal → IsRefused IsAsked arguments refusal
+tool_refused IsAsked arguments i d errors.Memory refusal within refuses is = rw is tt
+tool_refused IsAsked arguments i d (errors.InvalidFormat input) refusal within refuses is = rw is (i, _, text_at arguments.tools.now i d within, refuses)
+tool_refused IsAsked arguments i d (errors.InvalidToolName input name) refusal within refuses is = rw is (i, _, text_at arguments.tools.now i d within, refuses)
+tool_refused IsAsked arguments i d (errors.EmptyConfigFile input) refusal within refuses is = rw is (i, _, text_at arguments.tools.now i d within, refuses)
+tool_refused IsAsked arguments i d (errors.ConfigFileNotAbsolute path) refusal within refuses is = rw is (i, _, text_at arguments.tools.now i d within, refuses)

@@ -1,4 +1,4 @@
 pub mod Matches
 pub mod Refusal
 pub mod Said
-pub mod Taken
+pub mod Arguments

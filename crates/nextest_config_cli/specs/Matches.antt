@@ -5,8 +5,8 @@ use Rattle.clap.specs.declared.parser.matches.Found.{Found}
 use Rattle.clap.specs.declared.parser.matches.MatchedArg.{MatchedArg}
 use Rattle.nextest_config_command.specs.Words.{text}
 use Rattle.nextest_config_command.specs.declared.request.Request.{Request}
-use Rattle.nextest_config_cli.specs.Taken.{Asks, texts}
-use Rattle.nextest_config_cli.specs.declared.taken.Taken.{Taken}
+use Rattle.nextest_config_cli.specs.Arguments.{Asks, texts}
+use Rattle.nextest_config_cli.specs.declared.arguments.Arguments.{Arguments}
 
 -- a flag is set where `clap` has `true` at its name, and isn't where it has `false`, or nothing
 pub record IsFlag (found : Found) (name : List ℕ) (flag : Bool) : Type 0 where
@@ -24,24 +24,24 @@ abbrev pub words_at : Found → List ℕ → List (List ℕ)
 words_at found name = words_of (matched_of found name)
 
 -- the record has what `clap` took at each name
-pub record HasTaken (subcommand : List ℕ) (found : Found) (taken : Taken) : Type 0 where
-  pub named : taken.subcommand.now ≡ subcommand
-  pub current : text taken.current ≡ first_value found (codes "current")
-  pub overridden : IsFlag found (codes "override") taken.overridden
-  pub strict : IsFlag found (codes "strict") taken.strict
-  pub allowed : texts taken.allowed.now ≡ words_at found (codes "allow")
-  pub format : text taken.format ≡ first_value found (codes "format")
-  pub profile : text taken.profile ≡ first_value found (codes "NAME")
-  pub all : IsFlag found (codes "all") taken.all
-  pub table_only : IsFlag found (codes "table-only") taken.table_only
-  pub tools : texts taken.tools.now ≡ words_at found (codes "tool-config-file")
-  pub config_file : text taken.files.config_file ≡ first_value found (codes "config-file")
-  pub paths : texts taken.files.paths.now ≡ words_at found (codes "PATH")
-  pub stdin_path : text taken.files.stdin_path ≡ first_value found (codes "stdin-path")
-  pub default_path : text taken.files.default_path ≡ first_value found (codes "default-path")
+pub record AreArguments (subcommand : List ℕ) (found : Found) (arguments : Arguments) : Type 0 where
+  pub named : arguments.subcommand.now ≡ subcommand
+  pub current : text arguments.current ≡ first_value found (codes "current")
+  pub overridden : IsFlag found (codes "override") arguments.overridden
+  pub strict : IsFlag found (codes "strict") arguments.strict
+  pub allowed : texts arguments.allowed.now ≡ words_at found (codes "allow")
+  pub format : text arguments.format ≡ first_value found (codes "format")
+  pub profile : text arguments.profile ≡ first_value found (codes "NAME")
+  pub all : IsFlag found (codes "all") arguments.all
+  pub table_only : IsFlag found (codes "table-only") arguments.table_only
+  pub tools : texts arguments.tools.now ≡ words_at found (codes "tool-config-file")
+  pub config_file : text arguments.files.config_file ≡ first_value found (codes "config-file")
+  pub paths : texts arguments.files.paths.now ≡ words_at found (codes "PATH")
+  pub stdin_path : text arguments.files.stdin_path ≡ first_value found (codes "stdin-path")
+  pub default_path : text arguments.files.default_path ≡ first_value found (codes "default-path")
 
 -- what `clap` took of the subcommand's words asks for the request
 pub record IsAskedBy (subcommand : List ℕ) (found : Found) (request : Request) : Type 0 where
-  pub taken : Taken
-  pub has : HasTaken subcommand found taken
-  pub asks : Asks taken request
+  pub arguments : Arguments
+  pub has : AreArguments subcommand found arguments
+  pub asks : Asks arguments request

@@ -48,7 +48,7 @@ pub(crate) const PATH: &str = "PATH";
 pub(crate) const CODE: &str = "CODE";
 
 /// The words that some flags take, lent.
-#[derive(Clone, Copy, Debug)]
+#[derive(Clone, Copy)]
 pub(crate) struct Choices<'a> {
     pub formats: &'a [&'a str],
     pub show_formats: &'a [&'a str],
@@ -56,7 +56,7 @@ pub(crate) struct Choices<'a> {
 }
 
 /// All words that some flags take.
-#[derive(Debug, Drop)]
+#[derive(Drop)]
 pub(crate) struct Vocabulary {
     formats: Vec<&'static str>,
     show_formats: Vec<&'static str>,

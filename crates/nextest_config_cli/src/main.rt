@@ -2,12 +2,12 @@
 //! in them, and what profiles get for their settings, and explains the codes of what it finds.
 #![tactic(auto)]
 
+mod arguments;
 mod command_line;
 mod file_system;
 mod refusal;
 mod request;
 mod said;
-mod taken;
 
 use command_line::Vocabulary;
 use file_system::FileSystem;

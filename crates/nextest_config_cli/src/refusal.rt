@@ -6,7 +6,7 @@ use std::alloc::AllocError;
 use std::io::{self, ErrorKind};
 
 /// Why the words ask for nothing.
-#[derive(Debug, Drop)]
+#[derive(Drop)]
 pub(crate) enum Refusal<'a> {
     /// What `clap` says of them: what is wrong, or the help or the version that they ask for.
     Clap(clap::Error),

@@ -2,15 +2,15 @@
 
 ghost use Rattle.std.specs.Prelude.{IfOk};
 ghost use Rattle.clap.specs.Matches.{found_of};
-ghost use Rattle.nextest_config_cli.specs.Matches.{HasTaken, IsAskedBy};
+ghost use Rattle.nextest_config_cli.specs.Matches.{AreArguments, IsAskedBy};
 
+use crate::arguments::{Arguments, request, topic};
 use crate::command_line::{
     ALL, ALLOW, CODE, CONFIG_FILE, CURRENT, Choices, DEFAULT_PATH, EXPLAIN, FORMAT, NAME, OVERRIDE,
     PATH, STDIN_PATH, STRICT, TABLE_ONLY, TOOL_CONFIG_FILE, command,
 };
 use crate::file_system::current_folder;
 use crate::refusal::Refusal;
-use crate::taken::{Taken, request, topic};
 use clap::ArgMatches;
 use nextest_config_command::{Request, Words};
 use nextest_config_lint::explain::Topic;
@@ -19,7 +19,7 @@ use std::alloc::{AllocError, Global};
 use std::io;
 
 /// What the words ask for.
-#[derive(Debug, Drop)]
+#[derive(Drop)]
 pub(crate) enum Asked {
     Request(Request),
     /// An explanation of this, or without it the list of all.
@@ -79,8 +79,11 @@ fn request_of<'a>(
     ensures { IfOk result (IsAskedBy subcommand.now (found_of matches.now)) }
 {
     match start(rt, matches) {
-        Ok(folder) => request(rt.alloc(), &taken(subcommand, matches, folder.as_str())),
-        Err(error) => match request(rt.alloc(), &taken(subcommand, matches, "")) {
+        Ok(folder) => request(
+            rt.alloc(),
+            &arguments_of(subcommand, matches, folder.as_str()),
+        ),
+        Err(error) => match request(rt.alloc(), &arguments_of(subcommand, matches, "")) {
             Ok(_) => Err(Refusal::of_current_folder(error)),
             Err(refusal) => Err(refusal),
         },
@@ -88,14 +91,14 @@ fn request_of<'a>(
 }
 
 // What `clap` took of a subcommand's words.
-fn taken<'m, 'a>(
+fn arguments_of<'m, 'a>(
     subcommand: &'a str,
     matches: &'m ArgMatches<'a>,
     current_folder: &'m str,
-) -> Taken<'m, 'a>
-    ensures { HasTaken subcommand.now (found_of matches.now) result }
+) -> Arguments<'m, 'a>
+    ensures { AreArguments subcommand.now (found_of matches.now) result }
 {
-    Taken {
+    Arguments {
         subcommand,
         current: matches.get_str(CURRENT),
         overridden: matches.get_flag(OVERRIDE),

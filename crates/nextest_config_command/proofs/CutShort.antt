@@ -8,17 +8,17 @@ use Rattle.nextest_config_report.specs.declared.exit_status.ExitStatus.{ExitStat
 use Rattle.nextest_config_report.specs.declared.exit_status.ExitStatus.TheVariants.{NoOutcome}
 use Rattle.nextest_config_command.specs.Files.{PathStates, unanswered_text, UnlessMemory}
 use Rattle.nextest_config_command.specs.Found.{IsFirstUnread}
-use Rattle.nextest_config_command.specs.Streams.{cut_off, IsEnded, IsReply, IsSaidOfWrite, IsTold, IsUnwritten, line_of, no_memory, unread}
+use Rattle.nextest_config_command.specs.Streams.{cut_off, IsEnded, IsOutput, IsSaidOfWrite, IsWritten, IsUnwritten, line_of, no_memory, unread}
 use Rattle.nextest_config_command.specs.declared.files.Unanswered.{Unanswered}
 use Rattle.nextest_config_command.specs.declared.files.Unanswered.TheVariants as fails
 use Rattle.nextest_config_command.specs.declared.request.Request.{Request}
-use Rattle.nextest_config_command.specs.declared.streams.Reply.{Reply}
+use Rattle.nextest_config_command.specs.declared.streams.Output.{Output}
 
--- a reply that was told serves what is asked for, or its answer couldn't be written
-pub told_ended : (holds : PathStates) (request : Request) (reply : Reply) (status : ExitStatus) (number : ℕ) (unwritten gone unsaid : Type 0) (old new said says : Option (List ℕ)) → IsReply holds request reply
-    → number ≡ exit_code status → IsTold reply status old new unsaid said says ⊎ IsUnwritten reply status unwritten gone old new unsaid said says
+-- a output that was told serves what is asked for, or its answer couldn't be written
+pub written_ended : (holds : PathStates) (request : Request) (output : Output) (status : ExitStatus) (number : ℕ) (unwritten gone unsaid : Type 0) (old new said says : Option (List ℕ)) → IsOutput holds request output
+    → number ≡ exit_code status → IsWritten output status old new unsaid said says ⊎ IsUnwritten output status unwritten gone old new unsaid said says
     → IsEnded holds request number unwritten gone old new unsaid said says
-told_ended holds request reply status number unwritten gone unsaid old new said says (files, read, about) is (inl told) = inl (record {
+written_ended holds request output status number unwritten gone unsaid old new said says (files, read, about) is (inl told) = inl (record {
   files = files;
   read = read;
   answer = about.answer;
@@ -27,7 +27,7 @@ told_ended holds request reply status number unwritten gone unsaid old new said 
   written = subst (Appends old new) about.text told.written;
   noticed = subst (AddsOrFails unsaid said says) about.notices told.noticed;
 })
-told_ended holds request reply status number unwritten gone unsaid old new said says (files, read, about) is (inr failed) = inr (
+written_ended holds request output status number unwritten gone unsaid old new said says (files, read, about) is (inr failed) = inr (
   is ∙ ap exit_code failed.status_is,
   cut_off files about.answer failed.between read about.done failed.failed (subst (AddsFront old new) about.text failed.front)
       (subst (AddsOrFails unsaid said failed.between) about.notices failed.noticed) failed.told,

@@ -18,11 +18,11 @@ use Rattle.nextest_config_command.specs.Found.{FilesRead, IsFirstUnread, IsUnrea
 use Rattle.nextest_config_command.specs.Printed.{as_json, for_people, in_format, in_show_format, printed, Text}
 use Rattle.nextest_config_command.specs.Profile.{faulty, reported, sound, without}
 use Rattle.nextest_config_command.specs.Request.{at_path, in_folder, input, named, nearest, Wanted}
-use Rattle.nextest_config_command.specs.Streams.{AddsPrintable, AddTwoPrintable, is_for_people, IsReply, IsReplyAbout, IsSaidOfWrite, is_told_to_people, IsTold, IsUnwritten, line_of}
+use Rattle.nextest_config_command.specs.Streams.{AddsPrintable, AddTwoPrintable, is_for_people, IsOutput, IsOutputAbout, IsSaidOfWrite, is_told_to_people, IsWritten, IsUnwritten, line_of}
 use Rattle.nextest_config_command.specs.declared.files.Unanswered.{Unanswered}
 use Rattle.nextest_config_command.specs.declared.files.Unanswered.TheVariants as fails
 use Rattle.nextest_config_command.specs.declared.request.Request.{Request}
-use Rattle.nextest_config_command.specs.declared.streams.Reply.{Reply}
+use Rattle.nextest_config_command.specs.declared.streams.Output.{Output}
 use Rattle.nextest_config_report.specs.declared.exit_status.ExitStatus.{ExitStatus}
 use Rattle.nextest_config_command.specs.declared.request.Task.{Task}
 use Rattle.nextest_config_command.specs.declared.request.Task.TheVariants as tasks
@@ -78,27 +78,27 @@ front_added unsaid old new text (inr (failed, front)) = front
 pub nothing_added : (old new : Option (List ℕ)) → Keeps old new → AddsPrintable old new
 nothing_added old new kept = ([], printable_plain [] refl, whole_front old new [] (Appends-kept old old new [] (Appends-nil old) kept))
 
-module _ (holds : PathStates) (request : Request) (reply : Reply) (status : ExitStatus) (unwritten gone unsaid : Type 0) (old new said says : Option (List ℕ)) (people : IsTrue (is_told_to_people request.task)) where
-  both_seen : (files : FilesRead) (about : IsReplyAbout request files reply) → IsPrintable (string_bytes reply.text) × IsPrintable (string_bytes reply.notices)
+module _ (holds : PathStates) (request : Request) (output : Output) (status : ExitStatus) (unwritten gone unsaid : Type 0) (old new said says : Option (List ℕ)) (people : IsTrue (is_told_to_people request.task)) where
+  both_seen : (files : FilesRead) (about : IsOutputAbout request files output) → IsPrintable (string_bytes output.text) × IsPrintable (string_bytes output.notices)
   both_seen files about =
       let seen = people_see request.edition request.task files about.answer people about.done in (
         subst IsPrintable (sym about.text) seen.0,
         subst IsPrintable (sym about.notices) (printable_joined (shown_lines files.notices) (printed about.answer.said) (printable_lines files.notices) seen.1),
       )
 
-  pub told_writes : IsReply holds request reply → IsTold reply status old new unsaid said says ⊎ IsUnwritten reply status unwritten gone old new unsaid said says → AddsPrintable old new
-  told_writes (files, read, about) (inl told) = (string_bytes reply.text, (both_seen files about).0, whole_front old new (string_bytes reply.text) told.written)
-  told_writes (files, read, about) (inr failed) = (string_bytes reply.text, (both_seen files about).0, failed.front)
+  pub written_writes : IsOutput holds request output → IsWritten output status old new unsaid said says ⊎ IsUnwritten output status unwritten gone old new unsaid said says → AddsPrintable old new
+  written_writes (files, read, about) (inl told) = (string_bytes output.text, (both_seen files about).0, whole_front old new (string_bytes output.text) told.written)
+  written_writes (files, read, about) (inr failed) = (string_bytes output.text, (both_seen files about).0, failed.front)
 
-  pub told_says : IsReply holds request reply → IsTold reply status old new unsaid said says ⊎ IsUnwritten reply status unwritten gone old new unsaid said says → AddTwoPrintable said says
-  told_says (files, read, about) (inl told) = (
+  pub written_says : IsOutput holds request output → IsWritten output status old new unsaid said says ⊎ IsUnwritten output status unwritten gone old new unsaid said says → AddTwoPrintable said says
+  written_says (files, read, about) (inl told) = (
     says,
-    (string_bytes reply.notices, (both_seen files about).1, front_added unsaid said says (string_bytes reply.notices) told.noticed),
+    (string_bytes output.notices, (both_seen files about).1, front_added unsaid said says (string_bytes output.notices) told.noticed),
     nothing_added says says (Keeps-refl says),
   )
-  told_says (files, read, about) (inr failed) = (
+  written_says (files, read, about) (inr failed) = (
     failed.between,
-    (string_bytes reply.notices, (both_seen files about).1, front_added unsaid said failed.between (string_bytes reply.notices) failed.noticed),
+    (string_bytes output.notices, (both_seen files about).1, front_added unsaid said failed.between (string_bytes output.notices) failed.noticed),
     said_of_write failed.between failed.told,
   )
     where

@@ -14,7 +14,7 @@ use Rattle.nextest_config_command.specs.Printed.{as_json, for_people, in_format,
 use Rattle.nextest_config_command.specs.declared.request.Request.{Request}
 use Rattle.nextest_config_command.specs.declared.request.Task.{Task}
 use Rattle.nextest_config_command.specs.declared.request.Task.TheVariants as tasks
-use Rattle.nextest_config_command.specs.declared.streams.Reply.{Reply}
+use Rattle.nextest_config_command.specs.declared.streams.Output.{Output}
 
 -- a text as a line
 abbrev pub line_of : List ℕ → List ℕ
@@ -91,32 +91,32 @@ AddTwoPrintable old new = (between : Option (List ℕ)) × AddsPrintable old bet
 
 -- ---- one step
 
--- the reply is the answer about these files, and what is said before it
-pub record IsReplyAbout (request : Request) (files : FilesRead) (reply : Reply) : Type 0 where
+-- the output is the answer about these files, and what is said before it
+pub record IsOutputAbout (request : Request) (files : FilesRead) (output : Output) : Type 0 where
   pub answer : AnswerView
   pub done : IsDone request.edition request.task files answer
-  pub notices : string_bytes reply.notices ≡ said_first files answer
-  pub text : string_bytes reply.text ≡ printed answer.text
-  pub status : reply.status ≡ answer.status
+  pub notices : string_bytes output.notices ≡ said_first files answer
+  pub text : string_bytes output.text ≡ printed answer.text
+  pub status : output.status ≡ answer.status
 
--- the reply is the answer about the files that are read for the request, and what is said before it
-abbrev pub IsReply : PathStates → Request → Reply → Type 0
-IsReply holds request reply = (files : FilesRead) × IsReadFor holds request files
-    × IsReplyAbout request files reply
+-- the output is the answer about the files that are read for the request, and what is said before it
+abbrev pub IsOutput : PathStates → Request → Output → Type 0
+IsOutput holds request output = (files : FilesRead) × IsReadFor holds request files
+    × IsOutputAbout request files output
 
--- the answer of the reply was written, and what is said before it was said, or that failed
-pub record IsTold (reply : Reply) (status : ExitStatus) (old new : Option (List ℕ))
+-- the answer of the output was written, and what is said before it was said, or that failed
+pub record IsWritten (output : Output) (status : ExitStatus) (old new : Option (List ℕ))
     (unsaid : Type 0) (said says : Option (List ℕ)) : Type 0 where
-  pub status_is : status ≡ reply.status
-  pub written : Appends old new (string_bytes reply.text)
-  pub noticed : AddsOrFails unsaid said says (string_bytes reply.notices)
+  pub status_is : status ≡ output.status
+  pub written : Appends old new (string_bytes output.text)
+  pub noticed : AddsOrFails unsaid said says (string_bytes output.notices)
 
--- the answer of the reply couldn't be written beyond a front, and the command has no outcome
-pub record IsUnwritten (reply : Reply) (status : ExitStatus) (unwritten gone : Type 0)
+-- the answer of the output couldn't be written beyond a front, and the command has no outcome
+pub record IsUnwritten (output : Output) (status : ExitStatus) (unwritten gone : Type 0)
     (old new : Option (List ℕ)) (unsaid : Type 0) (said says : Option (List ℕ)) : Type 0 where
   pub status_is : status ≡ NoOutcome
   pub failed : unwritten
-  pub front : AddsFront old new (string_bytes reply.text)
+  pub front : AddsFront old new (string_bytes output.text)
   pub between : Option (List ℕ)
-  pub noticed : AddsOrFails unsaid said between (string_bytes reply.notices)
+  pub noticed : AddsOrFails unsaid said between (string_bytes output.notices)
   pub told : IsSaidOfWrite gone unsaid between says

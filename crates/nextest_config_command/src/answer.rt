@@ -28,7 +28,7 @@ use std::collections::BTreeSet;
 
 /// What the command answers: what it writes, what it says on the second stream, and the status that
 /// it ends with.
-#[derive(Debug, PartialEq, Eq, Drop)]
+#[derive(Drop)]
 pub(crate) struct Answer {
     pub text: Printed,
     pub said: Printed,

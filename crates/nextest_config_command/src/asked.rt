@@ -24,7 +24,7 @@ const REQUIRED_KEY: &str = "required";
 const RECOMMENDED_KEY: &str = "recommended";
 
 /// Where a file asks a version: the path of the version, and the range of what stands there.
-#[derive(Debug, PartialEq, Eq, Drop)]
+#[derive(Drop)]
 pub(crate) struct Asked {
     pub path: Vec<Step>,
     pub span: Span,

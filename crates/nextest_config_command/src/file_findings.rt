@@ -18,7 +18,7 @@ use nextest_config_values::read::Word;
 use std::alloc::{AllocError, Global};
 
 /// How files are judged, and which of their findings are told.
-#[derive(Clone, Copy, Debug)]
+#[derive(Clone, Copy)]
 pub(crate) struct Rules<'a> {
     pub edition: Edition,
     /// The codes of findings that are left out.
@@ -28,7 +28,7 @@ pub(crate) struct Rules<'a> {
 }
 
 /// What is found and told of a file.
-#[derive(Debug, PartialEq, Eq, Drop)]
+#[derive(Drop)]
 pub(crate) struct FileFindings<'f> {
     /// The path of the file, as it prints.
     pub path: &'f str,
@@ -61,14 +61,14 @@ fn in_tools<'f>(
     ensures { IfOk result (λ found.
         AreFoundInTools (judging_of rules.entry) (files_of files.now) (map found_of found.items)) }
 {
-    let unread = ConfigSourceKind::DiscoveredRepository;
-    let mut list = list_files(alloc, files.tools.as_slice())?;
-    let mut rest = list_files(alloc, files.repository.as_slice())?;
-    list.append(&mut rest)?;
     if files.tools.is_empty() {
         // Then it doesn't matter what the list defines.
         return Ok(Vec::new(alloc));
     }
+    let unread = ConfigSourceKind::DiscoveredRepository;
+    let mut list = list_files(alloc, files.tools.as_slice())?;
+    let mut rest = list_files(alloc, files.repository.as_slice())?;
+    list.append(&mut rest)?;
     push_unread(&mut list, files.is_partial, &unread)?;
     let defined = Defined::of(alloc, list.as_slice())?;
     in_list(alloc, rules, &defined, files.tools.as_slice())

@@ -37,14 +37,14 @@ pub trait Files {
 }
 
 /// A file that was read: where it comes from, and its bytes.
-#[derive(Debug, PartialEq, Eq, Drop)]
+#[derive(Drop)]
 pub(crate) struct SourceFile {
     pub source: ConfigSource,
     pub contents: Vec<u8>,
 }
 
 /// Why there is no answer.
-#[derive(Debug, PartialEq, Eq, Drop)]
+#[derive(Drop)]
 pub(crate) enum Unanswered {
     /// A file that has to be read can't be, as this says.
     Unread(String),

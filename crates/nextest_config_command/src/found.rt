@@ -17,7 +17,7 @@ use std::alloc::{AllocError, Global};
 const USUAL_PATH: &str = ".config/nextest.toml";
 
 /// What is read of a file that is asked for.
-#[derive(Debug, PartialEq, Eq, Drop)]
+#[derive(Drop)]
 pub(crate) enum Found {
     File(SourceFile),
     /// There is no file at this path, where one is looked for.

@@ -18,7 +18,7 @@ use std::alloc::{AllocError, Global};
 use std::fmt::Write;
 
 /// What is told of files: their findings, and how many there are.
-#[derive(Debug, PartialEq, Eq, Drop)]
+#[derive(Drop)]
 pub(crate) struct Lint {
     pub text: String,
     pub summary: Summary,
@@ -261,7 +261,7 @@ fn push_located(
 }
 
 // What is told of a finding in texts that are written anew for each, and so keep their memory.
-#[derive(Debug, Drop)]
+#[derive(Drop)]
 struct FindingTexts {
     key: String,
     message: String,

@@ -9,7 +9,7 @@ use nextest_config_values::literal::shown_lines;
 use std::alloc::{AllocError, Global};
 
 /// A text that is printed.
-#[derive(Debug, PartialEq, Eq, Drop)]
+#[derive(Drop)]
 pub(crate) enum Printed {
     /// Lines for people, who see no control characters.
     ForPeople(String),

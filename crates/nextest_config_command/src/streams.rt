@@ -5,7 +5,7 @@ ghost use Rattle.nextest_config_report.specs.declared.exit_status.ExitStatus.The
 ghost use Rattle.nextest_config_report.specs.Streams.{AddsOrFails};
 ghost use Rattle.nextest_config_command.specs.Files.{unanswered_text, UnlessMemory};
 ghost use Rattle.nextest_config_command.specs.Found.{files_of, IsFirstUnread};
-ghost use Rattle.nextest_config_command.specs.Streams.{AddsPrintable, AddTwoPrintable, IsEnded, IsReply, IsReplyAbout, is_told_to_people, IsTold, IsUnwritten, line_of};
+ghost use Rattle.nextest_config_command.specs.Streams.{AddsPrintable, AddTwoPrintable, IsEnded, IsOutput, IsOutputAbout, is_told_to_people, IsWritten, IsUnwritten, line_of};
 
 use crate::answer::{Answer, answer_to};
 use crate::files::{Files, Unanswered};
@@ -21,8 +21,8 @@ use std::alloc::{AllocError, Global};
 
 /// An answer as it is printed, and what is said before it: a line for each file that is missing,
 /// and what the answer says beside what it writes.
-#[derive(Debug, PartialEq, Eq, Drop)]
-pub(crate) struct Reply {
+#[derive(Drop)]
+pub(crate) struct Output {
     notices: String,
     text: String,
     status: ExitStatus,
@@ -46,31 +46,31 @@ pub fn serve<F: Files, W: Stream, E: Stream>(
     ensures says_printable { IsTrue (is_told_to_people request.now.task)
         → AddTwoPrintable (E.contents faults.old) (E.contents faults.new) }
 {
-    match reply_to(alloc, request, files) {
-        Ok(reply) => tell(&reply, writer, faults).code(),
+    match output_of(alloc, request, files) {
+        Ok(output) => print(&output, writer, faults).code(),
         Err(unanswered) => give_up(&unanswered, faults).code(),
     }
 }
 
-// The reply to a request, whose files are read.
-fn reply_to<F: Files>(alloc: Global, request: &Request, files: &F) -> Result<Reply, Unanswered>
-    ensures reply { IfOk result (IsReply (F.holds files.now) request.now) }
+// The output for a request, whose files are read.
+fn output_of<F: Files>(alloc: Global, request: &Request, files: &F) -> Result<Output, Unanswered>
+    ensures output { IfOk result (IsOutput (F.holds files.now) request.now) }
     ensures unread { IfErr result (UnlessMemory (IsFirstUnread (F.holds files.now) request.now)) }
 {
     let tools = read_tools(alloc, files, request)?;
     let found = find_all(alloc, files, request)?;
     let parsed = ParsedFiles::of(alloc, tools.as_slice(), found.as_slice())?;
-    let reply = reply_about(alloc, request, &parsed)?;
-    Ok(reply)
+    let output = output_about(alloc, request, &parsed)?;
+    Ok(output)
 }
 
-// The reply to a request of which these are the files.
-fn reply_about(
+// The output for a request of which these are the files.
+fn output_about(
     alloc: Global,
     request: &Request,
     files: &ParsedFiles<'_>,
-) -> Result<Reply, AllocError>
-    ensures { IfOk result (IsReplyAbout request.now (files_of files.now)) }
+) -> Result<Output, AllocError>
+    ensures { IfOk result (IsOutputAbout request.now (files_of files.now)) }
 {
     let notices = String::from_str(alloc, files.notices.as_str())?;
     let mut notices = shown_lines(alloc, notices)?;
@@ -78,7 +78,7 @@ fn reply_about(
     let said = said.text(alloc)?;
     notices.push_str(said.as_str())?;
     let text = text.text(alloc)?;
-    Ok(Reply {
+    Ok(Output {
         notices,
         text,
         status,
@@ -86,16 +86,16 @@ fn reply_about(
 }
 
 // Says the notices, writes the answer, and tells how the command ends.
-fn tell<W: Stream, E: Stream>(reply: &Reply, writer: &mut W, faults: &mut E) -> ExitStatus
-    ensures { IsTold reply.now result (W.contents writer.old) (W.contents writer.new)
+fn print<W: Stream, E: Stream>(output: &Output, writer: &mut W, faults: &mut E) -> ExitStatus
+    ensures { IsWritten output.now result (W.contents writer.old) (W.contents writer.new)
         (E.may_have_failed faults.new) (E.contents faults.old) (E.contents faults.new)
-        ⊎ IsUnwritten reply.now result (W.may_have_failed writer.new)
+        ⊎ IsUnwritten output.now result (W.may_have_failed writer.new)
         (W.reader_may_be_gone writer.new) (W.contents writer.old) (W.contents writer.new)
         (E.may_have_failed faults.new) (E.contents faults.old) (E.contents faults.new) }
 {
-    say(reply.notices.as_str(), faults);
-    match write_report(writer, reply.text.as_bytes()) {
-        Ok(()) => reply.status,
+    say(output.notices.as_str(), faults);
+    match write_report(writer, output.text.as_bytes()) {
+        Ok(()) => output.status,
         Err(error) => {
             if !is_reader_gone(&error) {
                 let _ = complain(faults, CANNOT_WRITE, "");

@@ -8,6 +8,7 @@ pub mod laws;
 pub mod leak_timeout;
 pub mod max_fail;
 pub mod priority;
+pub mod profile_setting;
 pub mod report_skip_policy;
 pub mod retry_policy;
 pub mod slow_timeout;

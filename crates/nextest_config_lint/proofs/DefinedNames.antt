@@ -78,6 +78,13 @@ names_added Holds names adds = record {
   each = λ name. (λ h. ⊎_elim (λ there. absurd (contains_none there)) (λ holds. holds) ((adds.each name).0 h), λ holds. (adds.each name).1 (inr holds));
 }
 
+-- and the other way round
+pub added_names : (Holds : List ℕ → Type 0) (names : List (List ℕ)) → AreNamesOf Holds names → AddsNames Holds [] names
+added_names Holds names are = record {
+  in_order = λ _. are.in_order;
+  each = λ name. (λ there. inr ((are.each name).0 there), ⊎_elim (λ there. absurd (contains_none there)) (are.each name).1);
+}
+
 -- ---- those of all files
 
 pub names_all : (P : ListFile → List ℕ → Type 0) (files : List ListedFile) (n : ℕ) (names : List (List ℕ)) → n ≡ length files

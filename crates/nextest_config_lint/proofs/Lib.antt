@@ -23,7 +23,6 @@ pub mod NameSets
 pub mod RingProfiles
 pub mod Rings
 pub mod ReferencesFound
-pub mod SeenSorted
 pub mod Severities
 pub mod ToldReferences
 pub mod NoErrorFiles

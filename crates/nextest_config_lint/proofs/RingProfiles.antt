@@ -18,9 +18,9 @@ use Rattle.toml.specs.Data.{as_str, as_table, Data, get_member, member, Members,
 use Rattle.toml.specs.View.{members_view, table_view, view}
 use Rattle.toml.specs.declared.value.Value.{Value}
 use Rattle.nextest_config_lint.specs.Defined.{ComesBackAt, default_profile, inherits_in, inherits_key, IsCounting, IsWay, ListFile, profiles_key, table_in, table_of}
-use Rattle.nextest_config_lint.specs.Heirs.{heir_of, heirs_among, heirs_from, heirs_in, heirs_of, HeirView, inherits_among, IsLastHeir, IsLastOf, IsMarkedAt, IsMarkOf, heir_view, number_in}
+use Rattle.nextest_config_lint.specs.RingProfiles.{child_of, children_among, children_from, children_in, children_of, ChildView, inherits_among, IsLastChild, IsLastOf, IsMarkedAt, IsMarkOf, child_view, number_in}
 use Rattle.nextest_config_lint.specs.Settings.{names_of}
-use Rattle.nextest_config_lint.specs.declared.heirs.Heir.{Heir}
+use Rattle.nextest_config_lint.specs.declared.ring_profiles.Child.{Child}
 use Rattle.nextest_config_lint.specs.Inheritance.{after_steps, ComesBack, next_of}
 use Rattle.toml_spans.proofs.Elements.{all_joined, all_left, all_middle, all_right}
 
@@ -32,36 +32,36 @@ same_bytes x y same = (bytes_eq-Decides x y).0 same
 itself : (x : List ℕ) → pointwise nat_eq x x ≡ true
 itself x = (bytes_eq-Decides x x).1 refl
 
--- ---- the heirs of a table
+-- ---- the children of a table
 
 -- those of its entries
-abbrev pub heirs_at : ℕ → List Entry → List HeirView
-heirs_at position [] = []
-heirs_at position (entry ∷ rest) =
-    heir_of position (string_bytes entry.0) (option_and_then (get_member inherits_key) (as_table (view entry.1))) ++ heirs_at position rest
+abbrev pub children_at : ℕ → List Entry → List ChildView
+children_at position [] = []
+children_at position (entry ∷ rest) =
+    child_of position (string_bytes entry.0) (option_and_then (get_member inherits_key) (as_table (view entry.1))) ++ children_at position rest
 
 -- where the table has each entry at its key, that is what comes of its names
-pub heirs_are : (position : ℕ) (held : BTreeMap (String Global) Value) (entries : List Entry)
+pub children_are : (position : ℕ) (held : BTreeMap (String Global) Value) (entries : List Entry)
     → AllByRecursion (λ entry. get string_cmp held entry.0 ≡ Some entry.1) entries
-    → flat_map (λ name. heir_of position name (inherits_among name (table_view held))) (names_of (members_view entries)) ≡ heirs_at position entries
-heirs_are position held [] at = refl
-heirs_are position held (entry ∷ rest) at =
+    → flat_map (λ name. child_of position name (inherits_among name (table_view held))) (names_of (members_view entries)) ≡ children_at position entries
+children_are position held [] at = refl
+children_are position held (entry ∷ rest) at =
     let here : get_member (string_bytes entry.0) (table_view held) ≡ Some (view entry.1) = sym (view-lookup (string_bytes entry.0) held.entries) ∙ ap (option_map view) at.0 in
-    rw here (ap (λ (all : List HeirView). heir_of position (string_bytes entry.0) (option_and_then (get_member inherits_key) (as_table (view entry.1))) ++ all) (heirs_are position held rest at.1))
+    rw here (ap (λ (all : List ChildView). child_of position (string_bytes entry.0) (option_and_then (get_member inherits_key) (as_table (view entry.1))) ++ all) (children_are position held rest at.1))
 
--- an heir of a file at this position
-record IsHeirOf (position : ℕ) (file : ListFile) (heir : HeirView) : Type 0 where
-  named : heir.name ≢ default_profile
-  placed : heir.position ≡ position
+-- an child of a file at this position
+record IsHeirOf (position : ℕ) (file : ListFile) (child : ChildView) : Type 0 where
+  named : child.name ≢ default_profile
+  placed : child.position ≡ position
   value : Data
-  here : inherits_in heir.name file ≡ Some value
-  parent : heir.parent ≡ as_str value
+  here : inherits_in child.name file ≡ Some value
+  parent : child.parent ≡ as_str value
 
-heir_stands : (position : ℕ) (file : ListFile) (name : List ℕ) (value : Option Data) (is_default : Bool) → pointwise nat_eq name default_profile ≡ is_default → inherits_in name file ≡ value
-    → AllByRecursion (IsHeirOf position file) (heir_of position name value)
-heir_stands position file name value true e there = rw e tt
-heir_stands position file name None false e there = rw e tt
-heir_stands position file name (Some value) false e there = rw e (
+child_stands : (position : ℕ) (file : ListFile) (name : List ℕ) (value : Option Data) (is_default : Bool) → pointwise nat_eq name default_profile ≡ is_default → inherits_in name file ≡ value
+    → AllByRecursion (IsHeirOf position file) (child_of position name value)
+child_stands position file name value true e there = rw e tt
+child_stands position file name None false e there = rw e tt
+child_stands position file name (Some value) false e there = rw e (
   record {
     named = λ same. absurd (true≢false (sym (itself default_profile) ∙ rw same at e));
     placed = refl;
@@ -80,17 +80,17 @@ each_flat : {A B : Type 0} (P : B → Type 0) (f : A → List B) (xs : List A) �
 each_flat P f [] h = tt
 each_flat P f (x ∷ xs) h = (all_left P (f x) (flat_map f xs) h, each_flat P f xs (all_right P (f x) (flat_map f xs) h))
 
--- each heir of a file is one
-heirs_stand_by : (position : ℕ) (file : ListFile) (profiles : Option Members) → table_of profiles_key file ≡ profiles → AllByRecursion (IsHeirOf position file) (heirs_of position profiles)
-heirs_stand_by position file None is = tt
-heirs_stand_by position file (Some profiles) is =
-    all_flat (IsHeirOf position file) (λ name. heir_of position name (inherits_among name profiles)) (names_of profiles)
-    (λ name. heir_stands position file name (inherits_among name profiles) (pointwise nat_eq name default_profile) refl (rw is refl))
+-- each child of a file is one
+children_stand_by : (position : ℕ) (file : ListFile) (profiles : Option Members) → table_of profiles_key file ≡ profiles → AllByRecursion (IsHeirOf position file) (children_of position profiles)
+children_stand_by position file None is = tt
+children_stand_by position file (Some profiles) is =
+    all_flat (IsHeirOf position file) (λ name. child_of position name (inherits_among name profiles)) (names_of profiles)
+    (λ name. child_stands position file name (inherits_among name profiles) (pointwise nat_eq name default_profile) refl (rw is refl))
 
-heirs_stand : (position : ℕ) (file : ListFile) → AllByRecursion (IsHeirOf position file) (heirs_in position file)
-heirs_stand position file = heirs_stand_by position file (table_of profiles_key file) refl
+children_stand : (position : ℕ) (file : ListFile) → AllByRecursion (IsHeirOf position file) (children_in position file)
+children_stand position file = children_stand_by position file (table_of profiles_key file) refl
 
--- ---- each profile with the key has an heir
+-- ---- each profile with the key has an child
 
 -- what holds of all keys holds of one that the table has
 held_by : (Q : List ℕ → Type 0) (wanted name : List ℕ) (value : Data) (rest : Option Data) (order : Ordering) → slice_cmp nat_cmp wanted name ≡ order
@@ -104,8 +104,8 @@ of_name Q no_members wanted all has = absurd (true≢false (sym has))
 of_name Q (member name value rest) wanted all has =
     held_by Q wanted name value (get_member wanted rest) (slice_cmp nat_cmp wanted name) refl all.0 (of_name Q rest wanted all.1) has
 
--- no heir of a name, so no value
-none_by : (position : ℕ) (wanted : List ℕ) (value : Option Data) → wanted ≢ default_profile → AllByRecursion (λ heir. heir.name ≢ wanted) (heir_of position wanted value) → value ≡ None
+-- no child of a name, so no value
+none_by : (position : ℕ) (wanted : List ℕ) (value : Option Data) → wanted ≢ default_profile → AllByRecursion (λ child. child.name ≢ wanted) (child_of position wanted value) → value ≡ None
 none_by position wanted None other none = refl
 none_by position wanted (Some value) other none = elim (cases_Bool (pointwise nat_eq wanted default_profile)) [
   | inl same ↦ absurd (other (same_bytes wanted default_profile same))
@@ -113,27 +113,27 @@ none_by position wanted (Some value) other none = elim (cases_Bool (pointwise na
 ]
 
 none_among : (position : ℕ) (wanted : List ℕ) (profiles : Members) (found : Option Data) → get_member wanted profiles ≡ found → wanted ≢ default_profile
-    → AllByRecursion (λ heir. heir.name ≢ wanted) (heirs_among position profiles) → inherits_among wanted profiles ≡ None
+    → AllByRecursion (λ child. child.name ≢ wanted) (children_among position profiles) → inherits_among wanted profiles ≡ None
 none_among position wanted profiles None e other none = rw e refl
 none_among position wanted profiles (Some value) e other none =
     none_by position wanted (inherits_among wanted profiles) other
-    (of_name (λ name. AllByRecursion (λ heir. heir.name ≢ wanted) (heir_of position name (inherits_among name profiles))) profiles wanted
-    (each_flat (λ heir. heir.name ≢ wanted) (λ name. heir_of position name (inherits_among name profiles)) (names_of profiles) none) (rw e refl))
+    (of_name (λ name. AllByRecursion (λ child. child.name ≢ wanted) (child_of position name (inherits_among name profiles))) profiles wanted
+    (each_flat (λ child. child.name ≢ wanted) (λ name. child_of position name (inherits_among name profiles)) (names_of profiles) none) (rw e refl))
 
 none_of : (position : ℕ) (wanted : List ℕ) (profiles : Option Members) → wanted ≢ default_profile
-    → AllByRecursion (λ heir. heir.name ≢ wanted) (heirs_of position profiles) → option_and_then (get_member inherits_key) (option_and_then (table_in wanted) profiles) ≡ None
+    → AllByRecursion (λ child. child.name ≢ wanted) (children_of position profiles) → option_and_then (get_member inherits_key) (option_and_then (table_in wanted) profiles) ≡ None
 none_of position wanted None other none = refl
 none_of position wanted (Some profiles) other none = none_among position wanted profiles (get_member wanted profiles) refl other none
 
-none_from : (position : ℕ) (wanted : List ℕ) (files : List ListFile) → wanted ≢ default_profile → AllByRecursion (λ heir. heir.name ≢ wanted) (heirs_from position files)
+none_from : (position : ℕ) (wanted : List ℕ) (files : List ListFile) → wanted ≢ default_profile → AllByRecursion (λ child. child.name ≢ wanted) (children_from position files)
     → AllByRecursion (λ file. inherits_in wanted file ≡ None) files
 none_from position wanted [] other none = tt
 none_from position wanted (file ∷ files) other none = (
-  none_of position wanted (table_of profiles_key file) other (all_left _ (heirs_in position file) (heirs_from (suc position) files) none),
-  none_from (suc position) wanted files other (all_right _ (heirs_in position file) (heirs_from (suc position) files) none),
+  none_of position wanted (table_of profiles_key file) other (all_left _ (children_in position file) (children_from (suc position) files) none),
+  none_from (suc position) wanted files other (all_right _ (children_in position file) (children_from (suc position) files) none),
 )
 
--- ---- the last heir of a name counts
+-- ---- the last child of a name counts
 
 at_the_seam : {X : Type 0} (xs ys before : List X) (x : X) (after : List X) → xs ++ ys ≡ before ++ (x ∷ after)
     → ((rest : List X) × (xs ≡ before ++ (x ∷ rest)) × (after ≡ rest ++ ys)) ⊎ ((rest : List X) × (before ≡ xs ++ rest) × (ys ≡ rest ++ (x ∷ after)))
@@ -149,23 +149,23 @@ at_the_seam {X} (z ∷ xs) ys (y ∷ before) x after whole =
       | inr (more, is, behind) ↦ inr (more, rw (head, is) refl, behind)
     ]
 
--- an heir, and the file that it is of
-record IsOfFile (first : ℕ) (files : List ListFile) (heir : HeirView) (after : List HeirView) : Type 0 where
+-- an child, and the file that it is of
+record IsOfFile (first : ℕ) (files : List ListFile) (child : ChildView) (after : List ChildView) : Type 0 where
   earlier : List ListFile
   file : ListFile
   later : List ListFile
   whole : files ≡ earlier ++ (file ∷ later)
-  place : first + length earlier ≡ heir.position
-  stands : (position : ℕ) × IsHeirOf position file heir
-  none_later : AllByRecursion (λ other. other.name ≢ heir.name) after → AllByRecursion (λ other. inherits_in heir.name other ≡ None) later
+  place : first + length earlier ≡ child.position
+  stands : (position : ℕ) × IsHeirOf position file child
+  none_later : AllByRecursion (λ other. other.name ≢ child.name) after → AllByRecursion (λ other. inherits_in child.name other ≡ None) later
 
-of_file : (first : ℕ) (files : List ListFile) (before : List HeirView) (heir : HeirView) (after : List HeirView) → heirs_from first files ≡ before ++ (heir ∷ after) → IsOfFile first files heir after
-of_file first [] [] heir after whole = absurd (cc whole)
-of_file first [] (other ∷ before) heir after whole = absurd (cc whole)
-of_file first (file ∷ files) before heir after whole =
-    elim (at_the_seam (heirs_in first file) (heirs_from (suc first) files) before heir after whole) [
+of_file : (first : ℕ) (files : List ListFile) (before : List ChildView) (child : ChildView) (after : List ChildView) → children_from first files ≡ before ++ (child ∷ after) → IsOfFile first files child after
+of_file first [] [] child after whole = absurd (cc whole)
+of_file first [] (other ∷ before) child after whole = absurd (cc whole)
+of_file first (file ∷ files) before child after whole =
+    elim (at_the_seam (children_in first file) (children_from (suc first) files) before child after whole) [
       | inl (rest, is, behind) ↦
-          let stands : IsHeirOf first file heir = all_middle (IsHeirOf first file) before heir rest (subst (AllByRecursion (IsHeirOf first file)) is (heirs_stand first file)) in
+          let stands : IsHeirOf first file child = all_middle (IsHeirOf first file) before child rest (subst (AllByRecursion (IsHeirOf first file)) is (children_stand first file)) in
           record {
             earlier = [];
             file = file;
@@ -173,10 +173,10 @@ of_file first (file ∷ files) before heir after whole =
             whole = refl;
             place = omega (arith, stands.placed);
             stands = (first, stands);
-            none_later = λ none. none_from (suc first) heir.name files stands.named (all_right (λ other. other.name ≢ heir.name) rest (heirs_from (suc first) files) (rw behind at none));
+            none_later = λ none. none_from (suc first) child.name files stands.named (all_right (λ other. other.name ≢ child.name) rest (children_from (suc first) files) (rw behind at none));
           }
       | inr (rest, is, behind) ↦
-          let further = of_file (suc first) files rest heir after behind in
+          let further = of_file (suc first) files rest child after behind in
           record {
             earlier = file ∷ further.earlier;
             file = further.file;
@@ -188,17 +188,17 @@ of_file first (file ∷ files) before heir after whole =
           }
     ]
 
--- the last heir of a name is the value that counts
-record Counts (files : List ListFile) (heir : HeirView) : Type 0 where
-  named : heir.name ≢ default_profile
+-- the last child of a name is the value that counts
+record Counts (files : List ListFile) (child : ChildView) : Type 0 where
+  named : child.name ≢ default_profile
   value : Data
-  counting : IsCounting files heir.name heir.position value
-  parent : heir.parent ≡ as_str value
+  counting : IsCounting files child.name child.position value
+  parent : child.parent ≡ as_str value
 
-last_counts : (files : List ListFile) (before : List HeirView) (heir : HeirView) (after : List HeirView) → heirs_from 0 files ≡ before ++ (heir ∷ after)
-    → AllByRecursion (λ other. other.name ≢ heir.name) after → Counts files heir
-last_counts files before heir after whole none =
-    let at = of_file 0 files before heir after whole in
+last_counts : (files : List ListFile) (before : List ChildView) (child : ChildView) (after : List ChildView) → children_from 0 files ≡ before ++ (child ∷ after)
+    → AllByRecursion (λ other. other.name ≢ child.name) after → Counts files child
+last_counts files before child after whole none =
+    let at = of_file 0 files before child after whole in
     let stands = at.stands.1 in
     record {
       named = stands.named;
@@ -235,76 +235,76 @@ one_counting files wanted i j v w h k =
     let values : Some v ≡ Some w = sym h.here ∙ ap (inherits_in wanted) is ∙ k.here in
     (sym h.place ∙ sizes ∙ k.place, cc values)
 
--- ---- numbers of heirs, and ways
+-- ---- numbers of children, and ways
 
--- heirs of files, the last of each name, and where each leads on to
-pub record AreLinked (files : List ListFile) (heirs : List HeirView) (number : List ℕ → Option ℕ) (nexts : List (Option ℕ)) : Type 0 where
-  pub of_files : heirs ≡ heirs_from 0 files
-  pub last : (name : List ℕ) → IsLastOf heirs name (number name)
-  pub links : nexts ≡ map (λ heir. option_and_then number heir.parent) heirs
+-- children of files, the last of each name, and where each leads on to
+pub record AreLinked (files : List ListFile) (children : List ChildView) (number : List ℕ → Option ℕ) (nexts : List (Option ℕ)) : Type 0 where
+  pub of_files : children ≡ children_from 0 files
+  pub last : (name : List ℕ) → IsLastOf children name (number name)
+  pub links : nexts ≡ map (λ child. option_and_then number child.parent) children
 
 get_middle : {X : Type 0} (before : List X) (x : X) (after : List X) → slice_get (before ++ (x ∷ after)) (length before) ≡ Some x
 get_middle [] x after = refl
 get_middle (y ∷ before) x after = get_middle before x after
 
--- the last heir of a name
-record IsNumbered (files : List ListFile) (heirs : List HeirView) (wanted : List ℕ) (k : ℕ) : Type 0 where
-  heir : HeirView
-  at : slice_get heirs k ≡ Some heir
-  named : heir.name ≡ wanted
-  counts : Counts files heir
+-- the last child of a name
+record IsNumbered (files : List ListFile) (children : List ChildView) (wanted : List ℕ) (k : ℕ) : Type 0 where
+  child : ChildView
+  at : slice_get children k ≡ Some child
+  named : child.name ≡ wanted
+  counts : Counts files child
 
-numbered : (files : List ListFile) (heirs : List HeirView) (number : List ℕ → Option ℕ) (nexts : List (Option ℕ)) → AreLinked files heirs number nexts
-    → (wanted : List ℕ) (k : ℕ) → number wanted ≡ Some k → IsNumbered files heirs wanted k
-numbered files heirs number nexts linked wanted k is =
-    let last : IsLastHeir heirs wanted k = rw is at (linked.last wanted) in
+numbered : (files : List ListFile) (children : List ChildView) (number : List ℕ → Option ℕ) (nexts : List (Option ℕ)) → AreLinked files children number nexts
+    → (wanted : List ℕ) (k : ℕ) → number wanted ≡ Some k → IsNumbered files children wanted k
+numbered files children number nexts linked wanted k is =
+    let last : IsLastChild children wanted k = rw is at (linked.last wanted) in
     record {
-      heir = last.heir;
-      at = ap (λ (l : List HeirView). slice_get l k) last.whole ∙ ap (slice_get (last.before ++ (last.heir ∷ last.after))) (sym last.place) ∙ get_middle last.before last.heir last.after;
+      child = last.child;
+      at = ap (λ (l : List ChildView). slice_get l k) last.whole ∙ ap (slice_get (last.before ++ (last.child ∷ last.after))) (sym last.place) ∙ get_middle last.before last.child last.after;
       named = last.named;
-      counts = last_counts files last.before last.heir last.after (sym linked.of_files ∙ last.whole) (subst (λ (n : List ℕ). AllByRecursion (λ other. other.name ≢ n) last.after) (sym last.named) last.none_after);
+      counts = last_counts files last.before last.child last.after (sym linked.of_files ∙ last.whole) (subst (λ (n : List ℕ). AllByRecursion (λ other. other.name ≢ n) last.after) (sym last.named) last.none_after);
     }
 
 -- a profile whose value counts has a number
-has_number_by : (files : List ListFile) (heirs : List HeirView) (wanted : List ℕ) (position : ℕ) (value : Data) (found : Option ℕ) → heirs ≡ heirs_from 0 files → IsLastOf heirs wanted found
+has_number_by : (files : List ListFile) (children : List ChildView) (wanted : List ℕ) (position : ℕ) (value : Data) (found : Option ℕ) → children ≡ children_from 0 files → IsLastOf children wanted found
     → wanted ≢ default_profile → IsCounting files wanted position value → (k : ℕ) × (found ≡ Some k)
-has_number_by files heirs wanted position value (Some k) of_files last other counting = (k, refl)
-has_number_by files heirs wanted position value None of_files last other counting =
+has_number_by files children wanted position value (Some k) of_files last other counting = (k, refl)
+has_number_by files children wanted position value None of_files last other counting =
     let none : AllByRecursion (λ file. inherits_in wanted file ≡ None) files = none_from 0 wanted files other (rw of_files at last) in
     let gone : inherits_in wanted counting.file ≡ None = all_middle (λ file. inherits_in wanted file ≡ None) counting.before counting.file counting.after (rw counting.whole at none) in
     absurd (cc (gone, counting.here))
 
-has_number : (files : List ListFile) (heirs : List HeirView) (number : List ℕ → Option ℕ) (nexts : List (Option ℕ)) → AreLinked files heirs number nexts
+has_number : (files : List ListFile) (children : List ChildView) (number : List ℕ → Option ℕ) (nexts : List (Option ℕ)) → AreLinked files children number nexts
     → (wanted : List ℕ) (position : ℕ) (value : Data) → wanted ≢ default_profile → IsCounting files wanted position value → (k : ℕ) × (number wanted ≡ Some k)
-has_number files heirs number nexts linked wanted position value other counting =
-    has_number_by files heirs wanted position value (number wanted) linked.of_files (linked.last wanted) other counting
+has_number files children number nexts linked wanted position value other counting =
+    has_number_by files children wanted position value (number wanted) linked.of_files (linked.last wanted) other counting
 
--- where an heir leads on to
-leads_on : (files : List ListFile) (heirs : List HeirView) (number : List ℕ → Option ℕ) (nexts : List (Option ℕ)) → AreLinked files heirs number nexts
-    → (k : ℕ) (heir : HeirView) → slice_get heirs k ≡ Some heir → next_of nexts k ≡ option_and_then number heir.parent
-leads_on files heirs number nexts linked k heir at =
-    let f : HeirView → Option ℕ = λ (h : HeirView). option_and_then number h.parent in
-    let found : slice_get nexts k ≡ Some (f heir) = ap (λ (l : List (Option ℕ)). slice_get l k) linked.links ∙ slice_get-map f heirs k ∙ ap (option_map f) at in
+-- where an child leads on to
+leads_on : (files : List ListFile) (children : List ChildView) (number : List ℕ → Option ℕ) (nexts : List (Option ℕ)) → AreLinked files children number nexts
+    → (k : ℕ) (child : ChildView) → slice_get children k ≡ Some child → next_of nexts k ≡ option_and_then number child.parent
+leads_on files children number nexts linked k child at =
+    let f : ChildView → Option ℕ = λ (h : ChildView). option_and_then number h.parent in
+    let found : slice_get nexts k ≡ Some (f child) = ap (λ (l : List (Option ℕ)). slice_get l k) linked.links ∙ slice_get-map f children k ∙ ap (option_map f) at in
     rw found refl
 
-begins_by : (files : List ListFile) (heirs : List HeirView) (number : List ℕ → Option ℕ) (nexts : List (Option ℕ)) → AreLinked files heirs number nexts
+begins_by : (files : List ListFile) (children : List ChildView) (number : List ℕ → Option ℕ) (nexts : List (Option ℕ)) → AreLinked files children number nexts
     → (steps : ℕ) (from to : List ℕ) (j : ℕ) → IsWay files steps from to → number to ≡ Some j → (k : ℕ) × (number from ≡ Some k)
-begins_by files heirs number nexts linked zero from to j same is = (j, ap number same ∙ is)
-begins_by files heirs number nexts linked (suc steps) from to j (parent, (other, (position, value, counting, _)), _) is = has_number files heirs number nexts linked from position value other counting
+begins_by files children number nexts linked zero from to j same is = (j, ap number same ∙ is)
+begins_by files children number nexts linked (suc steps) from to j (parent, (other, (position, value, counting, _)), _) is = has_number files children number nexts linked from position value other counting
 
--- a way of profiles is one of heirs
-way_steps : (files : List ListFile) (heirs : List HeirView) (number : List ℕ → Option ℕ) (nexts : List (Option ℕ)) → AreLinked files heirs number nexts
+-- a way of profiles is one of children
+way_steps : (files : List ListFile) (children : List ChildView) (number : List ℕ → Option ℕ) (nexts : List (Option ℕ)) → AreLinked files children number nexts
     → (steps : ℕ) (from to : List ℕ) (k j : ℕ) → IsWay files steps from to → number from ≡ Some k → number to ≡ Some j → after_steps nexts steps k ≡ Some j
-way_steps files heirs number nexts linked zero from to k j same is there = sym is ∙ ap number same ∙ there
-way_steps files heirs number nexts linked (suc steps) from to k j (parent, (other, (position, value, counting, names)), way) is there =
-    let (x, on) = begins_by files heirs number nexts linked steps parent to j way there in
-    let at = numbered files heirs number nexts linked from k is in
-    let same = (one_counting files from at.heir.position position at.counts.value value (subst (λ (n : List ℕ). IsCounting files n at.heir.position at.counts.value) at.named at.counts.counting) counting).1 in
-    let parent_is : at.heir.parent ≡ Some parent = at.counts.parent ∙ ap as_str same ∙ names in
-    let next : next_of nexts k ≡ Some x = leads_on files heirs number nexts linked k at.heir at.at ∙ ap (option_and_then number) parent_is ∙ on in
-    ap (option_and_then (after_steps nexts steps)) next ∙ way_steps files heirs number nexts linked steps parent to x j way on there
+way_steps files children number nexts linked zero from to k j same is there = sym is ∙ ap number same ∙ there
+way_steps files children number nexts linked (suc steps) from to k j (parent, (other, (position, value, counting, names)), way) is there =
+    let (x, on) = begins_by files children number nexts linked steps parent to j way there in
+    let at = numbered files children number nexts linked from k is in
+    let same = (one_counting files from at.child.position position at.counts.value value (subst (λ (n : List ℕ). IsCounting files n at.child.position at.counts.value) at.named at.counts.counting) counting).1 in
+    let parent_is : at.child.parent ≡ Some parent = at.counts.parent ∙ ap as_str same ∙ names in
+    let next : next_of nexts k ≡ Some x = leads_on files children number nexts linked k at.child at.at ∙ ap (option_and_then number) parent_is ∙ on in
+    ap (option_and_then (after_steps nexts steps)) next ∙ way_steps files children number nexts linked steps parent to x j way on there
 
--- what an heir leads on to has a name
+-- what an child leads on to has a name
 next_named_by : (number : List ℕ → Option ℕ) (parent : Option (List ℕ)) (x : ℕ) → option_and_then number parent ≡ Some x → (name : List ℕ) × (parent ≡ Some name) × (number name ≡ Some x)
 next_named_by number None x is = absurd (cc is)
 next_named_by number (Some name) x is = (name, refl, is)
@@ -313,105 +313,105 @@ first_step_by : (nexts : List (Option ℕ)) (steps j : ℕ) (next : Option ℕ) 
 first_step_by nexts steps j None is = absurd (cc is)
 first_step_by nexts steps j (Some x) is = (x, refl, is)
 
--- a way of heirs from the last of a name is one of profiles
-steps_way : (files : List ListFile) (heirs : List HeirView) (number : List ℕ → Option ℕ) (nexts : List (Option ℕ)) → AreLinked files heirs number nexts
+-- a way of children from the last of a name is one of profiles
+steps_way : (files : List ListFile) (children : List ChildView) (number : List ℕ → Option ℕ) (nexts : List (Option ℕ)) → AreLinked files children number nexts
     → (steps : ℕ) (from : List ℕ) (k j : ℕ) → number from ≡ Some k → after_steps nexts steps k ≡ Some j → (to : List ℕ) × (number to ≡ Some j) × IsWay files steps from to
-steps_way files heirs number nexts linked zero from k j is ends = (from, is ∙ ends, refl)
-steps_way files heirs number nexts linked (suc steps) from k j is ends =
+steps_way files children number nexts linked zero from k j is ends = (from, is ∙ ends, refl)
+steps_way files children number nexts linked (suc steps) from k j is ends =
     let (x, next, rest) = first_step_by nexts steps j (next_of nexts k) ends in
-    let at = numbered files heirs number nexts linked from k is in
-    let (parent, parent_is, on) = next_named_by number at.heir.parent x (sym (leads_on files heirs number nexts linked k at.heir at.at) ∙ next) in
-    let (to, there, way) = steps_way files heirs number nexts linked steps parent x j on rest in (
+    let at = numbered files children number nexts linked from k is in
+    let (parent, parent_is, on) = next_named_by number at.child.parent x (sym (leads_on files children number nexts linked k at.child at.at) ∙ next) in
+    let (to, there, way) = steps_way files children number nexts linked steps parent x j on rest in (
       to,
       there,
       (
         parent,
         (
           λ same. at.counts.named (at.named ∙ same),
-          (at.heir.position, at.counts.value, subst (λ (n : List ℕ). IsCounting files n at.heir.position at.counts.value) at.named at.counts.counting, sym at.counts.parent ∙ parent_is),
+          (at.child.position, at.counts.value, subst (λ (n : List ℕ). IsCounting files n at.child.position at.counts.value) at.named at.counts.counting, sym at.counts.parent ∙ parent_is),
         ),
         way,
       ),
     )
 
--- an heir that comes back is the last of its name
-last_of_ring : (files : List ListFile) (heirs : List HeirView) (number : List ℕ → Option ℕ) (nexts : List (Option ℕ)) → AreLinked files heirs number nexts
-    → (k : ℕ) (heir : HeirView) → slice_get heirs k ≡ Some heir → ComesBack nexts k → number heir.name ≡ Some k
-last_of_ring files heirs number nexts linked k heir at (steps, back) =
+-- an child that comes back is the last of its name
+last_of_ring : (files : List ListFile) (children : List ChildView) (number : List ℕ → Option ℕ) (nexts : List (Option ℕ)) → AreLinked files children number nexts
+    → (k : ℕ) (child : ChildView) → slice_get children k ≡ Some child → ComesBack nexts k → number child.name ≡ Some k
+last_of_ring files children number nexts linked k child at (steps, back) =
     let (x, next, rest) = first_step_by nexts steps k (next_of nexts k) back in
-    let (parent, parent_is, on) = next_named_by number heir.parent x (sym (leads_on files heirs number nexts linked k heir at) ∙ next) in
-    let (name, is, way) = steps_way files heirs number nexts linked steps parent x k on rest in
-    let here = numbered files heirs number nexts linked name k is in
-    let one : Some here.heir ≡ Some heir = sym here.at ∙ at in
-    let same : here.heir ≡ heir = cc one in
-    ap number (ap (λ (h : HeirView). h.name) (sym same) ∙ here.named) ∙ is
+    let (parent, parent_is, on) = next_named_by number child.parent x (sym (leads_on files children number nexts linked k child at) ∙ next) in
+    let (name, is, way) = steps_way files children number nexts linked steps parent x k on rest in
+    let here = numbered files children number nexts linked name k is in
+    let one : Some here.child ≡ Some child = sym here.at ∙ at in
+    let same : here.child ≡ child = cc one in
+    ap number (ap (λ (h : ChildView). h.name) (sym same) ∙ here.named) ∙ is
 
 -- ---- the profiles that come back
 
-pub ring_profiles : (files : List ListFile) (heirs : List HeirView) (number : List ℕ → Option ℕ) (nexts : List (Option ℕ)) (back : List Bool) → AreLinked files heirs number nexts
+pub ring_profiles : (files : List ListFile) (children : List ChildView) (number : List ℕ → Option ℕ) (nexts : List (Option ℕ)) (back : List Bool) → AreLinked files children number nexts
     → ((k : ℕ) → (get_or back k false ≡ true) ↔ ComesBack nexts k)
-    → (profile : List ℕ) (position : ℕ) (mark : Option ℕ) → IsMarkOf heirs back profile mark → (mark ≡ Some position) ↔ ComesBackAt files profile position
-ring_profiles files heirs number nexts back linked marked profile position mark kept = (λ is. forth (rw is at kept), λ came. once mark kept (back_again came))
+    → (profile : List ℕ) (position : ℕ) (mark : Option ℕ) → IsMarkOf children back profile mark → (mark ≡ Some position) ↔ ComesBackAt files profile position
+ring_profiles files children number nexts back linked marked profile position mark kept = (λ is. forth (rw is at kept), λ came. once mark kept (back_again came))
   where
-    -- a marked heir is the last of its profile
-    last_marked : (k : ℕ) (heir : HeirView) → slice_get heirs k ≡ Some heir → heir.name ≡ profile → get_or back k false ≡ true → number profile ≡ Some k
-    last_marked k heir at named set = sym (ap number named) ∙ last_of_ring files heirs number nexts linked k heir at ((marked k).0 set)
+    -- a marked child is the last of its profile
+    last_marked : (k : ℕ) (child : ChildView) → slice_get children k ≡ Some child → child.name ≡ profile → get_or back k false ≡ true → number profile ≡ Some k
+    last_marked k child at named set = sym (ap number named) ∙ last_of_ring files children number nexts linked k child at ((marked k).0 set)
 
-    forth : IsMarkedAt heirs back profile position → ComesBackAt files profile position
-    forth (k, heir, at, named, placed, set) =
-        let is : number profile ≡ Some k = last_marked k heir at named set in
+    forth : IsMarkedAt children back profile position → ComesBackAt files profile position
+    forth (k, child, at, named, placed, set) =
+        let is : number profile ≡ Some k = last_marked k child at named set in
         let (steps, ring) = (marked k).0 set in
-        let (to, there, way) = steps_way files heirs number nexts linked (suc steps) profile k k is ring in
-        let here = numbered files heirs number nexts linked profile k is in
-        let end = numbered files heirs number nexts linked to k there in
-        let one : Some here.heir ≡ Some end.heir = sym here.at ∙ end.at in
-        let both : here.heir ≡ end.heir = cc one in
-        let back_to : to ≡ profile = sym end.named ∙ ap (λ (h : HeirView). h.name) (sym both) ∙ here.named in
-        let found : Some here.heir ≡ Some heir = sym here.at ∙ at in
-        let same : here.heir ≡ heir = cc found in
-        let at_position : here.heir.position ≡ position = ap (λ (h : HeirView). h.position) same ∙ placed in (
+        let (to, there, way) = steps_way files children number nexts linked (suc steps) profile k k is ring in
+        let here = numbered files children number nexts linked profile k is in
+        let end = numbered files children number nexts linked to k there in
+        let one : Some here.child ≡ Some end.child = sym here.at ∙ end.at in
+        let both : here.child ≡ end.child = cc one in
+        let back_to : to ≡ profile = sym end.named ∙ ap (λ (h : ChildView). h.name) (sym both) ∙ here.named in
+        let found : Some here.child ≡ Some child = sym here.at ∙ at in
+        let same : here.child ≡ child = cc found in
+        let at_position : here.child.position ≡ position = ap (λ (h : ChildView). h.position) same ∙ placed in (
           (steps, subst (λ (n : List ℕ). IsWay files (suc steps) profile n) back_to way),
-          (here.counts.value, subst (λ (i : ℕ). IsCounting files profile i here.counts.value) at_position (subst (λ (n : List ℕ). IsCounting files n here.heir.position here.counts.value) here.named here.counts.counting)),
+          (here.counts.value, subst (λ (i : ℕ). IsCounting files profile i here.counts.value) at_position (subst (λ (n : List ℕ). IsCounting files n here.child.position here.counts.value) here.named here.counts.counting)),
         )
 
-    back_again : ComesBackAt files profile position → IsMarkedAt heirs back profile position
+    back_again : ComesBackAt files profile position → IsMarkedAt children back profile position
     back_again ((steps, (parent, (other, counted), way)), (value, counting)) =
-        let (k, is) = has_number files heirs number nexts linked profile position value other counting in
-        let here = numbered files heirs number nexts linked profile k is in
-        let ring : after_steps nexts (suc steps) k ≡ Some k = way_steps files heirs number nexts linked (suc steps) profile profile k k (parent, (other, counted), way) is is in
-        let placed : here.heir.position ≡ position = (one_counting files profile here.heir.position position here.counts.value value (subst (λ (n : List ℕ). IsCounting files n here.heir.position here.counts.value) here.named here.counts.counting) counting).0 in
-        (k, here.heir, here.at, here.named, placed, (marked k).1 (steps, ring))
+        let (k, is) = has_number files children number nexts linked profile position value other counting in
+        let here = numbered files children number nexts linked profile k is in
+        let ring : after_steps nexts (suc steps) k ≡ Some k = way_steps files children number nexts linked (suc steps) profile profile k k (parent, (other, counted), way) is is in
+        let placed : here.child.position ≡ position = (one_counting files profile here.child.position position here.counts.value value (subst (λ (n : List ℕ). IsCounting files n here.child.position here.counts.value) here.named here.counts.counting) counting).0 in
+        (k, here.child, here.at, here.named, placed, (marked k).1 (steps, ring))
 
-    -- a profile has one marked heir
-    once : (mark : Option ℕ) → IsMarkOf heirs back profile mark → IsMarkedAt heirs back profile position → mark ≡ Some position
+    -- a profile has one marked child
+    once : (mark : Option ℕ) → IsMarkOf children back profile mark → IsMarkedAt children back profile position → mark ≡ Some position
     once None none is = absurd (none position is)
-    once (Some other) (k, heir, at, named, placed, set) (j, twin, twin_at, twin_named, twin_placed, twin_set) =
-        let numbers : Some k ≡ Some j = sym (last_marked k heir at named set) ∙ last_marked j twin twin_at twin_named twin_set in
+    once (Some other) (k, child, at, named, placed, set) (j, twin, twin_at, twin_named, twin_placed, twin_set) =
+        let numbers : Some k ≡ Some j = sym (last_marked k child at named set) ∙ last_marked j twin twin_at twin_named twin_set in
         let number_is : k ≡ j = cc numbers in
-        let heirs_are : Some heir ≡ Some twin = sym at ∙ ap (slice_get heirs) number_is ∙ twin_at in
-        let same : heir ≡ twin = cc heirs_are in
-        ap Some (sym placed ∙ ap (λ (h : HeirView). h.position) same ∙ twin_placed)
+        let children_are : Some child ≡ Some twin = sym at ∙ ap (slice_get children) number_is ∙ twin_at in
+        let same : child ≡ twin = cc children_are in
+        ap Some (sym placed ∙ ap (λ (h : ChildView). h.position) same ∙ twin_placed)
 
 -- ---- loops
 
--- one heir more
-pub last_more : (xs : List HeirView) (number : ℕ) (heir : HeirView) (name : List ℕ) (found : Option ℕ) → length xs ≡ number → IsLastOf xs name found
-    → IsLastOf (xs ++ (heir ∷ [])) name (cond (bytes_eq heir.name name) (Some number) found)
-last_more xs number heir name found size last = elim (cases_Bool (bytes_eq heir.name name)) [
-  | inl same ↦ rw same (record { before = xs; heir = heir; after = []; whole = refl; place = size; named = same_bytes heir.name name same; none_after = tt })
-  | inr other ↦ rw other (still (λ same. true≢false (sym ((bytes_eq-Decides heir.name name).1 same) ∙ other)) found last)
+-- one child more
+pub last_more : (xs : List ChildView) (number : ℕ) (child : ChildView) (name : List ℕ) (found : Option ℕ) → length xs ≡ number → IsLastOf xs name found
+    → IsLastOf (xs ++ (child ∷ [])) name (cond (bytes_eq child.name name) (Some number) found)
+last_more xs number child name found size last = elim (cases_Bool (bytes_eq child.name name)) [
+  | inl same ↦ rw same (record { before = xs; child = child; after = []; whole = refl; place = size; named = same_bytes child.name name same; none_after = tt })
+  | inr other ↦ rw other (still (λ same. true≢false (sym ((bytes_eq-Decides child.name name).1 same) ∙ other)) found last)
 ]
   where
-    still : heir.name ≢ name → (found : Option ℕ) → IsLastOf xs name found → IsLastOf (xs ++ (heir ∷ [])) name found
-    still differs None none = all_joined (λ h. h.name ≢ name) xs (heir ∷ []) none (differs, tt)
+    still : child.name ≢ name → (found : Option ℕ) → IsLastOf xs name found → IsLastOf (xs ++ (child ∷ [])) name found
+    still differs None none = all_joined (λ h. h.name ≢ name) xs (child ∷ []) none (differs, tt)
     still differs (Some k) last = record {
       before = last.before;
-      heir = last.heir;
-      after = last.after ++ (heir ∷ []);
-      whole = ap (λ (l : List HeirView). l ++ (heir ∷ [])) last.whole ∙ append_assoc last.before (last.heir ∷ last.after) (heir ∷ []);
+      child = last.child;
+      after = last.after ++ (child ∷ []);
+      whole = ap (λ (l : List ChildView). l ++ (child ∷ [])) last.whole ∙ append_assoc last.before (last.child ∷ last.after) (child ∷ []);
       place = last.place;
       named = last.named;
-      none_after = all_joined (λ h. h.name ≢ name) last.after (heir ∷ []) last.none_after (differs, tt);
+      none_after = all_joined (λ h. h.name ≢ name) last.after (child ∷ []) last.none_after (differs, tt);
     }
 
 get_left : {X : Type 0} (xs ys : List X) (k : ℕ) (x : X) → slice_get xs k ≡ Some x → slice_get (xs ++ ys) k ≡ Some x
@@ -428,69 +428,69 @@ get_pushed (y ∷ xs) last (suc k) x is = elim (get_pushed xs last k x is) [
   | inr (size, same) ↦ inr (ap suc size, same)
 ]
 
-marked_left : (xs : List HeirView) (heir : HeirView) (back : List Bool) (profile : List ℕ) (position : ℕ) → IsMarkedAt xs back profile position → IsMarkedAt (xs ++ (heir ∷ [])) back profile position
-marked_left xs heir back profile position (k, other, at, named, placed, set) = (k, other, get_left xs (heir ∷ []) k other at, named, placed, set)
+marked_left : (xs : List ChildView) (child : ChildView) (back : List Bool) (profile : List ℕ) (position : ℕ) → IsMarkedAt xs back profile position → IsMarkedAt (xs ++ (child ∷ [])) back profile position
+marked_left xs child back profile position (k, other, at, named, placed, set) = (k, other, get_left xs (child ∷ []) k other at, named, placed, set)
 
--- one heir more, which doesn't count for the name
-marked_on : (xs : List HeirView) (heir : HeirView) (back : List Bool) (profile : List ℕ) → ((get_or back (length xs) false ≡ true) → heir.name ≢ profile)
-    → (mark : Option ℕ) → IsMarkOf xs back profile mark → IsMarkOf (xs ++ (heir ∷ [])) back profile mark
-marked_on xs heir back profile other (Some position) marked = marked_left xs heir back profile position marked
-marked_on xs heir back profile other None none = λ position (k, one, at, named, placed, set). elim (get_pushed xs heir k one at) [
+-- one child more, which doesn't count for the name
+marked_on : (xs : List ChildView) (child : ChildView) (back : List Bool) (profile : List ℕ) → ((get_or back (length xs) false ≡ true) → child.name ≢ profile)
+    → (mark : Option ℕ) → IsMarkOf xs back profile mark → IsMarkOf (xs ++ (child ∷ [])) back profile mark
+marked_on xs child back profile other (Some position) marked = marked_left xs child back profile position marked
+marked_on xs child back profile other None none = λ position (k, one, at, named, placed, set). elim (get_pushed xs child k one at) [
   | inl earlier ↦ none position (k, one, earlier, named, placed, set)
-  | inr (size, same) ↦ other (subst (λ (i : ℕ). get_or back i false ≡ true) size set) (ap (λ (h : HeirView). h.name) same ∙ named)
+  | inr (size, same) ↦ other (subst (λ (i : ℕ). get_or back i false ≡ true) size set) (ap (λ (h : ChildView). h.name) same ∙ named)
 ]
 
--- one heir more, which doesn't come back
-pub mark_still : (xs : List HeirView) (number : ℕ) (heir : HeirView) (back : List Bool) (profile : List ℕ) (mark : Option ℕ) → length xs ≡ number → get_or back number false ≡ false
-    → IsMarkOf xs back profile mark → IsMarkOf (xs ++ (heir ∷ [])) back profile mark
-mark_still xs number heir back profile mark size unset marked =
-    marked_on xs heir back profile (λ set. absurd (true≢false (sym set ∙ subst (λ (i : ℕ). get_or back i false ≡ false) (sym size) unset))) mark marked
+-- one child more, which doesn't come back
+pub mark_still : (xs : List ChildView) (number : ℕ) (child : ChildView) (back : List Bool) (profile : List ℕ) (mark : Option ℕ) → length xs ≡ number → get_or back number false ≡ false
+    → IsMarkOf xs back profile mark → IsMarkOf (xs ++ (child ∷ [])) back profile mark
+mark_still xs number child back profile mark size unset marked =
+    marked_on xs child back profile (λ set. absurd (true≢false (sym set ∙ subst (λ (i : ℕ). get_or back i false ≡ false) (sym size) unset))) mark marked
 
--- one heir more, which does
-pub mark_more : (xs : List HeirView) (number : ℕ) (heir : HeirView) (back : List Bool) (profile : List ℕ) (mark : Option ℕ) → length xs ≡ number → get_or back number false ≡ true
-    → IsMarkOf xs back profile mark → IsMarkOf (xs ++ (heir ∷ [])) back profile (cond (bytes_eq heir.name profile) (Some heir.position) mark)
-mark_more xs number heir back profile mark size set marked = elim (cases_Bool (bytes_eq heir.name profile)) [
-  | inl same ↦ rw same (length xs, heir, get_middle xs heir [], same_bytes heir.name profile same, refl, subst (λ (i : ℕ). get_or back i false ≡ true) (sym size) set)
-  | inr other ↦ rw other (marked_on xs heir back profile (λ _ same. true≢false (sym ((bytes_eq-Decides heir.name profile).1 same) ∙ other)) mark marked)
+-- one child more, which does
+pub mark_more : (xs : List ChildView) (number : ℕ) (child : ChildView) (back : List Bool) (profile : List ℕ) (mark : Option ℕ) → length xs ≡ number → get_or back number false ≡ true
+    → IsMarkOf xs back profile mark → IsMarkOf (xs ++ (child ∷ [])) back profile (cond (bytes_eq child.name profile) (Some child.position) mark)
+mark_more xs number child back profile mark size set marked = elim (cases_Bool (bytes_eq child.name profile)) [
+  | inl same ↦ rw same (length xs, child, get_middle xs child [], same_bytes child.name profile same, refl, subst (λ (i : ℕ). get_or back i false ≡ true) (sym size) set)
+  | inr other ↦ rw other (marked_on xs child back profile (λ _ same. true≢false (sym ((bytes_eq-Decides child.name profile).1 same) ∙ other)) mark marked)
 ]
 
 -- ---- the same, as loops go over them
 
-upto : (heirs : List Heir) (n : ℕ) → n < length heirs → length (map heir_view (take n heirs)) ≡ n
-upto heirs n within = length-map (take n heirs) heir_view ∙ length-take-le n heirs (omega (arith, within))
+upto : (children : List Child) (n : ℕ) → n < length children → length (map child_view (take n children)) ≡ n
+upto children n within = length-map (take n children) child_view ∙ length-take-le n children (omega (arith, within))
 
--- a number that is kept for one heir more
-pub last_on : (heirs : List Heir) (n : ℕ) (d : Heir) (name : List ℕ) (old new : Option ℕ) → n < length heirs → new ≡ cond (bytes_eq (get_or heirs n d).name.now name) (Some n) old
-    → IsLastOf (map heir_view (take n heirs)) name old → IsLastOf (map heir_view (take (n + 1) heirs)) name new
-last_on heirs n d name old new within is last =
-    rw (map_more heir_view heirs n d within, is) (last_more (map heir_view (take n heirs)) n (heir_view (get_or heirs n d)) name old (upto heirs n within) last)
+-- a number that is kept for one child more
+pub last_on : (children : List Child) (n : ℕ) (d : Child) (name : List ℕ) (old new : Option ℕ) → n < length children → new ≡ cond (bytes_eq (get_or children n d).name.now name) (Some n) old
+    → IsLastOf (map child_view (take n children)) name old → IsLastOf (map child_view (take (n + 1) children)) name new
+last_on children n d name old new within is last =
+    rw (map_more child_view children n d within, is) (last_more (map child_view (take n children)) n (child_view (get_or children n d)) name old (upto children n within) last)
 
--- a position that is kept for one heir more
-pub mark_on : (heirs : List Heir) (n : ℕ) (d : Heir) (back : List Bool) (profile kept : List ℕ) (old new : Option ℕ) → n < length heirs → get_or back n false ≡ true
-    → kept ≡ (get_or heirs n d).name.now → new ≡ cond (bytes_eq kept profile) (Some (get_or heirs n d).position) old
-    → IsMarkOf (map heir_view (take n heirs)) back profile old → IsMarkOf (map heir_view (take (n + 1) heirs)) back profile new
-mark_on heirs n d back profile kept old new within set same is mark =
-    rw (map_more heir_view heirs n d within, is, same) (mark_more (map heir_view (take n heirs)) n (heir_view (get_or heirs n d)) back profile old (upto heirs n within) set mark)
+-- a position that is kept for one child more
+pub mark_on : (children : List Child) (n : ℕ) (d : Child) (back : List Bool) (profile kept : List ℕ) (old new : Option ℕ) → n < length children → get_or back n false ≡ true
+    → kept ≡ (get_or children n d).name.now → new ≡ cond (bytes_eq kept profile) (Some (get_or children n d).position) old
+    → IsMarkOf (map child_view (take n children)) back profile old → IsMarkOf (map child_view (take (n + 1) children)) back profile new
+mark_on children n d back profile kept old new within set same is mark =
+    rw (map_more child_view children n d within, is, same) (mark_more (map child_view (take n children)) n (child_view (get_or children n d)) back profile old (upto children n within) set mark)
 
 -- none is kept for one that doesn't come back
-pub mark_off : (heirs : List Heir) (n : ℕ) (back : List Bool) (profile : List ℕ) (mark : Option ℕ) → n < length heirs → get_or back n false ≡ false
-    → IsMarkOf (map heir_view (take n heirs)) back profile mark → IsMarkOf (map heir_view (take (n + 1) heirs)) back profile mark
+pub mark_off : (children : List Child) (n : ℕ) (back : List Bool) (profile : List ℕ) (mark : Option ℕ) → n < length children → get_or back n false ≡ false
+    → IsMarkOf (map child_view (take n children)) back profile mark → IsMarkOf (map child_view (take (n + 1) children)) back profile mark
 mark_off [] n back profile mark within unset marked = absurd (omega (arith, within))
 mark_off (d ∷ rest) n back profile mark within unset marked =
-    let heirs : List Heir = d ∷ rest in
-    rw (map_more heir_view heirs n d within) (mark_still (map heir_view (take n heirs)) n (heir_view (get_or heirs n d)) back profile mark (upto heirs n within) unset marked)
+    let children : List Child = d ∷ rest in
+    rw (map_more child_view children n d within) (mark_still (map child_view (take n children)) n (child_view (get_or children n d)) back profile mark (upto children n within) unset marked)
 
--- those of all heirs, once the loop has ended
-pub mark_all : (heirs : List Heir) (n : ℕ) (back : List Bool) (profile : List ℕ) (mark : Option ℕ) → n ≡ length heirs
-    → IsMarkOf (map heir_view (take n heirs)) back profile mark → IsMarkOf (map heir_view heirs) back profile mark
-mark_all heirs n back profile mark last marked = subst (λ (l : List Heir). IsMarkOf (map heir_view l) back profile mark) (ap (λ (i : ℕ). take i heirs) last ∙ take-length heirs) marked
+-- those of all children, once the loop has ended
+pub mark_all : (children : List Child) (n : ℕ) (back : List Bool) (profile : List ℕ) (mark : Option ℕ) → n ≡ length children
+    → IsMarkOf (map child_view (take n children)) back profile mark → IsMarkOf (map child_view children) back profile mark
+mark_all children n back profile mark last marked = subst (λ (l : List Child). IsMarkOf (map child_view l) back profile mark) (ap (λ (i : ℕ). take i children) last ∙ take-length children) marked
 
--- the links of heirs
-pub linked : (files : List ListFile) (heirs : List Heir) (numbers : BTreeMap (Bor (List ℕ)) ℕ) (nexts : List (Option ℕ)) → map heir_view heirs ≡ heirs_from 0 files
-    → ((name : List ℕ) → IsLastOf (map heir_view heirs) name (number_in numbers name)) → nexts ≡ map (λ heir. option_and_then (number_in numbers) (heir_view heir).parent) heirs
-    → AreLinked files (map heir_view heirs) (number_in numbers) nexts
-linked files heirs numbers nexts of_files last links = record {
+-- the links of children
+pub linked : (files : List ListFile) (children : List Child) (numbers : BTreeMap (Bor (List ℕ)) ℕ) (nexts : List (Option ℕ)) → map child_view children ≡ children_from 0 files
+    → ((name : List ℕ) → IsLastOf (map child_view children) name (number_in numbers name)) → nexts ≡ map (λ child. option_and_then (number_in numbers) (child_view child).parent) children
+    → AreLinked files (map child_view children) (number_in numbers) nexts
+linked files children numbers nexts of_files last links = record {
   of_files = of_files;
   last = last;
-  links = links ∙ sym (map-map (λ (heir : HeirView). option_and_then (number_in numbers) heir.parent) heir_view heirs);
+  links = links ∙ sym (map-map (λ (child : ChildView). option_and_then (number_in numbers) child.parent) child_view children);
 }

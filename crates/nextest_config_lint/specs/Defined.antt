@@ -11,6 +11,8 @@ use Rattle.nextest_config.specs.declared.nextest_version.source.ConfigSourceKind
 use Rattle.nextest_config_lint.specs.Settings.{names_of}
 use Rattle.nextest_config_lint.specs.declared.defined.Defined.{Defined}
 use Rattle.nextest_config_lint.specs.declared.defined.ListedFile.{ListedFile}
+use Rattle.nextest_config_lint.specs.declared.defined.NameKind.{NameKind}
+use Rattle.nextest_config_lint.specs.declared.defined.NameKind.TheVariants as kinds
 
 -- ---- the files of a list
 
@@ -79,6 +81,16 @@ HasProfile file name = SomeOf (λ key. key ≡ name) (keys_of (table_of profiles
 -- the file is this tool's
 abbrev pub IsOfTool : ListFile → List ℕ → Type 0
 IsOfTool file tool = file.kind ≡ Tool tool
+
+-- the file has this name of a kind
+abbrev pub HasName : NameKind → ListFile → List ℕ → Type 0
+HasName kinds.Group = HasGroup
+HasName kinds.Profile = HasProfile
+HasName kinds.Tool = IsOfTool
+
+-- some file has this name of a kind
+abbrev pub IsNameIn : NameKind → List ListFile → List ℕ → Type 0
+IsNameIn kind files name = SomeOf (λ file. HasName kind file name) files
 
 -- some file defines the test group
 abbrev pub DefinesGroup : List ListFile → List ℕ → Type 0

@@ -14,10 +14,10 @@ use Rattle.nextest_config_lint.specs.declared.finding.FindingKind.{FindingKind}
 use Rattle.nextest_config_lint.specs.declared.finding.FindingKind.TheVariants as kinds
 use Rattle.nextest_config_lint.specs.declared.finding.Hint.{Hint}
 use Rattle.nextest_config_lint.specs.declared.finding.Hint.TheVariants.{Belongs, Toml, Word}
-use Rattle.nextest_config_lint.specs.declared.finding.Home.{Home}
+use Rattle.nextest_config_lint.specs.declared.finding.Scope.{Scope}
 use Rattle.nextest_config_lint.specs.declared.finding.Mistake.{Mistake}
 use Rattle.nextest_config_lint.specs.declared.finding.Mistake.TheVariants as mistakes
-use Rattle.nextest_config_lint.specs.declared.finding.Home.TheVariants as homes
+use Rattle.nextest_config_lint.specs.declared.finding.Scope.TheVariants as scopes
 use Rattle.nextest_config_lint.specs.declared.finding.FindingSeverity.{FindingSeverity}
 use Rattle.nextest_config_lint.specs.declared.finding.FindingSeverity.TheVariants.{Error, Note, Warning}
 
@@ -48,17 +48,17 @@ fault_code fault = reason_told_code (reason_of fault)
 -- ---- how they print
 
 -- where a key belongs, in words
-abbrev pub home_text : Home → List ℕ
-home_text homes.Top = codes "at the top of the file"
-home_text homes.Profile = codes "in a profile"
-home_text homes.Override = codes "in an override"
-home_text homes.Junit = codes "in junit"
+abbrev pub scope_text : Scope → List ℕ
+scope_text scopes.Top = codes "at the top of the file"
+scope_text scopes.Profile = codes "in a profile"
+scope_text scopes.Override = codes "in an override"
+scope_text scopes.Junit = codes "in junit"
 
 -- what may be meant, as it is printed behind what is said
 abbrev pub hint_text : Option Hint → List ℕ
 hint_text (Some (Word word)) = codes ", did you mean " ++ quoted_text (string_bytes word)
 hint_text (Some (Toml text)) = codes ", did you mean " ++ string_bytes text
-hint_text (Some (Belongs home)) = codes ", which belongs " ++ home_text home
+hint_text (Some (Belongs scope)) = codes ", which belongs " ++ scope_text scope
 hint_text None = []
 
 -- what is wrong in a text that is no document, as it is printed behind what `toml` says

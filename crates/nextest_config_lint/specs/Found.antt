@@ -10,7 +10,7 @@ use Rattle.nextest_config_lint.specs.declared.finding.FindingKind.{FindingKind}
 use Rattle.nextest_config_lint.specs.declared.finding.FindingKind.TheVariants as kinds
 use Rattle.nextest_config_lint.specs.declared.finding.Hint.{Hint}
 use Rattle.nextest_config_lint.specs.declared.finding.Hint.TheVariants.{Belongs, Toml, Word}
-use Rattle.nextest_config_lint.specs.declared.finding.Home.{Home}
+use Rattle.nextest_config_lint.specs.declared.finding.Scope.{Scope}
 use Rattle.nextest_config_lint.specs.declared.finding.Mistake.{Mistake}
 use Rattle.nextest_config_lint.specs.declared.finding.Mistake.TheVariants as mistakes
 use Rattle.nextest_config_lint.specs.declared.finding.FindingSeverity.{FindingSeverity}
@@ -20,13 +20,13 @@ use Rattle.nextest_config_lint.specs.declared.finding.FindingSeverity.TheVariant
 pub data Meant : Type 0 where
   the_word : List ℕ → Meant
   the_toml : List ℕ → Meant
-  the_key : Home → Meant
+  the_key : Scope → Meant
 
 -- what a hint says is meant, without where it lies in memory
 abbrev pub meant_of : Hint → Meant
 meant_of (Word word) = the_word (string_bytes word)
 meant_of (Toml text) = the_toml (string_bytes text)
-meant_of (Belongs home) = the_key home
+meant_of (Belongs scope) = the_key scope
 
 -- a name may be meant for the word that it comes nearest to, if there is one
 abbrev pub IsNearestMeant : List (List ℕ) → List ℕ → Option Meant → Type 0

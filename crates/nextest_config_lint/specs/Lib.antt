@@ -9,7 +9,7 @@ pub mod Finding
 pub mod FindingsLaws
 pub mod Forms
 pub mod Found
-pub mod Heirs
+pub mod RingProfiles
 pub mod Inheritance
 pub mod Integers
 pub mod Items

@@ -16,7 +16,7 @@ use Rattle.toml_spans.specs.declared.place.Span.{Span}
 use Rattle.nextest_config_lint.specs.Conversion.{is_word}
 use Rattle.nextest_config_lint.specs.Found.{Mistaken, misspelt, repeated, unquoted}
 use Rattle.nextest_config_lint.specs.NearestWord.{IsNearest}
-use Rattle.nextest_config_lint.specs.declared.mistake.Scope.{Scope}
+use Rattle.nextest_config_lint.specs.declared.mistake.Section.{Section}
 
 -- ---- a value without quotes
 
@@ -99,24 +99,24 @@ last_header (byte ∷ rest) =
 abbrev pub SoughtIn : Type 0
 SoughtIn = List ℕ × List PathStep
 
--- a scope, without where it lies in memory
-abbrev pub scope_view : Scope → SoughtIn
-scope_view scope = (scope.part.now, map step.step_of scope.table.items)
+-- a section, without where it lies in memory
+abbrev pub section_view : Section → SoughtIn
+section_view section = (section.part.now, map step.step_of section.table.items)
 
 -- the table of the header that a part begins with
-abbrev pub scope_behind : List ℕ → Option SoughtIn
-scope_behind part = option_map (λ it. (part, table_steps (skip_ws part) it))
+abbrev pub section_behind : List ℕ → Option SoughtIn
+section_behind part = option_map (λ it. (part, table_steps (skip_ws part) it))
     (statement_key (skip_ws part))
 
 -- where the key of a pair is sought: behind the last header, or in all of the front without one
-abbrev pub scope_from : List ℕ → Option (List ℕ) → Option SoughtIn
-scope_from front None = Some (front, [])
-scope_from front (Some part) = scope_behind part
+abbrev pub section_from : List ℕ → Option (List ℕ) → Option SoughtIn
+section_from front None = Some (front, [])
+section_from front (Some part) = section_behind part
 
 -- the key of a header is sought in all of the text before, that of a pair behind the last header
-abbrev pub scope_of : List ℕ → List ℕ → Option SoughtIn
-scope_of front statement = if first statement == left_bracket then Some (front, [])
-    else scope_from front (last_header (line_feed ∷ front))
+abbrev pub section_of : List ℕ → List ℕ → Option SoughtIn
+section_of front statement = if first statement == left_bracket then Some (front, [])
+    else section_from front (last_header (line_feed ∷ front))
 
 -- where the key of a path stands in a part of the text, if that is a document
 abbrev pub IsKeySpan : List ℕ → List PathStep → Option Span → Type 0
@@ -132,22 +132,22 @@ line_in line span = (line - 1) + span.begin.line
 abbrev pub before_part : List ℕ → List ℕ → List ℕ
 before_part front part = take (length front - length part) front
 
--- the key stands in its scope already, at its place there
+-- the key stands in its section already, at its place there
 abbrev pub IsRepeatedIn : List ℕ → SoughtIn → Key → Option Mistaken → Type 0
-IsRepeatedIn front scope it mistake = (span : Option Span)
-    × IsKeySpan scope.0 (scope.1 ++ key_steps it) span
+IsRepeatedIn front section it mistake = (span : Option Span)
+    × IsKeySpan section.0 (section.1 ++ key_steps it) span
     × (mistake ≡ option_map (λ span. repeated it.1
-    (line_in (line_after (before_part front scope.0)) span)) span)
+    (line_in (line_after (before_part front section.0)) span)) span)
 
--- the mistake of a key, if it stands in its scope already; none where key or scope isn't known
+-- the mistake of a key, if it stands in its section already; none where key or section isn't known
 abbrev pub IsRepeatedBy : List ℕ → Option Key → Option SoughtIn → Option Mistaken → Type 0
-IsRepeatedBy front (Some it) (Some scope) mistake = IsRepeatedIn front scope it mistake
-IsRepeatedBy front it scope mistake = mistake ≡ None
+IsRepeatedBy front (Some it) (Some section) mistake = IsRepeatedIn front section it mistake
+IsRepeatedBy front it section mistake = mistake ≡ None
 
--- the mistake of a statement, if its key stands in its scope already (TOML 1.1, "Keys" and "Table")
+-- the mistake of a statement, if its key stands in its section already (TOML 1.1, "Keys" and "Table")
 abbrev pub IsRepeated : List ℕ → List ℕ → Option Mistaken → Type 0
 IsRepeated front statement =
-    IsRepeatedBy front (statement_key statement) (scope_of front statement)
+    IsRepeatedBy front (statement_key statement) (section_of front statement)
 
 -- ---- the mistake
 

@@ -8,8 +8,8 @@ use Rattle.toml_spans.specs.Step.{PathStep}
 use Rattle.nextest_config_lint.specs.Found.{Found, found_at, Meant, the_key, the_word, unknown_key}
 use Rattle.nextest_config_lint.specs.NearestWord.{dash, distance, IsNearest, is_same}
 use Rattle.nextest_config_lint.specs.Settings.{SettingView, names_of}
-use Rattle.nextest_config_lint.specs.declared.finding.Home.{Home}
-use Rattle.nextest_config_lint.specs.declared.finding.Home.TheVariants.{Junit, Override, Profile, Top}
+use Rattle.nextest_config_lint.specs.declared.finding.Scope.{Scope}
+use Rattle.nextest_config_lint.specs.declared.finding.Scope.TheVariants.{Junit, Override, Profile, Top}
 use Rattle.nextest_config_lint.specs.Schema.{Below, file_rows, known_words, override_junit_table, override_table, profile_table, row_words, rows_in}
 
 -- a key of a table: the keys that are known there, and the path to the table
@@ -45,19 +45,19 @@ abbrev pub is_known : List (List ℕ) → List ℕ → Bool
 is_known known name = is_some (value_of (λ word. word) known name)
 
 -- the tables that know keys, in the order in which a key is looked for
-abbrev pub homes : List Home
-homes = Top ∷ Profile ∷ Override ∷ Junit ∷ []
+abbrev pub scopes : List Scope
+scopes = Top ∷ Profile ∷ Override ∷ Junit ∷ []
 
 -- the keys that a table of this kind knows
-abbrev pub home_words : Home → List (List ℕ)
-home_words Top = row_words file_rows
-home_words Profile = row_words (rows_in profile_table)
-home_words Override = row_words (rows_in override_table)
-home_words Junit = row_words (rows_in override_junit_table)
+abbrev pub scope_words : Scope → List (List ℕ)
+scope_words Top = row_words file_rows
+scope_words Profile = row_words (rows_in profile_table)
+scope_words Override = row_words (rows_in override_table)
+scope_words Junit = row_words (rows_in override_junit_table)
 
 -- the first table that knows a key of this name
-abbrev pub home_of : List ℕ → Option Home
-home_of name = find (λ home. is_known (home_words home) name) homes
+abbrev pub scope_of : List ℕ → Option Scope
+scope_of name = find (λ scope. is_known (scope_words scope) name) scopes
 
 -- what stands between the dashes of a word
 abbrev pub parts_of : List ℕ → List (List ℕ)
@@ -84,7 +84,7 @@ first_some (first ∷ rest) = option_or first (first_some rest)
 abbrev pub meant_beside : List (List ℕ) → List ℕ → Option (List ℕ) → Option Meant
 meant_beside known name near = first_some
     (option_map the_word (slip_of name near)
-    ∷ option_map the_key (home_of name)
+    ∷ option_map the_key (scope_of name)
     ∷ option_map the_word near
     ∷ option_map the_word (word_with_part known name) ∷ [])
 

@@ -3,11 +3,11 @@
 ghost use Rattle.std.specs.Prelude.{◌≡◌, ◌↔◌, ◌∷◌, [], ℕ, Contains, IfOk, IsSome, IsTrue, List, MatchOption, None, OnOk, map, option_map, string_bytes};
 ghost use Rattle.toml.specs.View.{table_view};
 ghost use Rattle.nextest_config_values.specs.Identifier.{IsIdentifier, identifier_fault};
-ghost use Rattle.nextest_config_lint.specs.Defined.{AddsNames, AreDocuments, AreNamesOf, DefinesGroup, DefinesProfile, HasGroup, HasProfile, ComesBackAt, HasTool, IsDefinedBy, IsOfTool, ListFile, SomeOf, file_of, file_with, table_of};
+ghost use Rattle.nextest_config_lint.specs.Defined.{AddsNames, AreDocuments, AreNamesOf, DefinesProfile, HasGroup, HasName, HasProfile, ComesBackAt, IsDefinedBy, IsNameIn, IsOfTool, ListFile, SomeOf, file_of, file_with, table_of};
 ghost use Rattle.nextest_config_lint.specs.Settings.{names_of};
 ghost use Rattle.nextest_config_lint.specs.References.{IsUndefinedGroup, IsUndefinedProfile};
 
-use crate::heirs::find_ring_profiles;
+use crate::ring_profiles::find_ring_profiles;
 use nextest_config::nextest_version::ConfigSourceKind;
 use nextest_config_values::identifier::{ConfigIdentifier, InvalidIdentifier};
 use nextest_config_values::read::value_at;
@@ -48,15 +48,26 @@ pub struct Defined {
     pub(crate) rings: BTreeMap<String, usize>,
 }
 
+// A kind of names that a file has.
+#[derive(Clone, Copy)]
+enum NameKind {
+    /// Those that its test groups are kept as.
+    Group,
+    /// Those of its profiles.
+    Profile,
+    /// That of the tool whose file it is.
+    Tool,
+}
+
 impl Defined {
     /// What the files of a list define, in reading order.
     pub fn of(alloc: Global, files: &[ListedFile]) -> Result<Defined, AllocError>
         ensures { IfOk result (IsDefinedBy (map file_of files.now)) }
     {
         Ok(Defined {
-            groups: group_names(alloc, files)?,
+            groups: names_in(alloc, NameKind::Group, files)?,
             profiles: profile_names(alloc, files)?,
-            tools: tool_names(alloc, files)?,
+            tools: names_in(alloc, NameKind::Tool, files)?,
             all_read: are_documents(files),
             rings: find_ring_profiles(alloc, files)?,
         })
@@ -91,14 +102,18 @@ impl<'a> ListedFile<'a> {
     }
 }
 
-// The test groups that the files define, as their names are kept.
-fn group_names(alloc: Global, files: &[ListedFile]) -> Result<BTreeSet<String>, AllocError>
+// The names of a kind that the files have.
+fn names_in(
+    alloc: Global,
+    kind: NameKind,
+    files: &[ListedFile],
+) -> Result<BTreeSet<String>, AllocError>
     ensures { IfOk result (λ names.
-        AreNamesOf (DefinesGroup (map file_of files.now)) (map string_bytes names.keys)) }
+        AreNamesOf (IsNameIn kind (map file_of files.now)) (map string_bytes names.keys)) }
 {
     let mut names = BTreeSet::new(alloc);
     for file in files {
-        add_groups(alloc, file, &mut names)?;
+        add_names(alloc, kind, file, &mut names)?;
     }
     Ok(names)
 }
@@ -108,24 +123,9 @@ fn profile_names(alloc: Global, files: &[ListedFile]) -> Result<BTreeSet<String>
     ensures { IfOk result (λ names.
         AreNamesOf (DefinesProfile (map file_of files.now)) (map string_bytes names.keys)) }
 {
-    let mut names = BTreeSet::new(alloc);
-    for file in files {
-        add_profiles(alloc, file, &mut names)?;
-    }
+    let mut names = names_in(alloc, NameKind::Profile, files)?;
     add_name(alloc, DEFAULT_MIRI, &mut names)?;
     add_name(alloc, DEFAULT_PROFILE, &mut names)?;
-    Ok(names)
-}
-
-// The tools whose files these are.
-fn tool_names(alloc: Global, files: &[ListedFile]) -> Result<BTreeSet<String>, AllocError>
-    ensures { IfOk result (λ names.
-        AreNamesOf (HasTool (map file_of files.now)) (map string_bytes names.keys)) }
-{
-    let mut names = BTreeSet::new(alloc);
-    for file in files {
-        add_tool(alloc, file, &mut names)?;
-    }
     Ok(names)
 }
 
@@ -139,6 +139,23 @@ fn are_documents(files: &[ListedFile]) -> bool
         }
     }
     true
+}
+
+// Adds the names of a kind that a file has.
+fn add_names(
+    alloc: Global,
+    kind: NameKind,
+    file: &ListedFile,
+    names: &mut BTreeSet<String>,
+) -> Result<(), AllocError>
+    ensures { OnOk result (AddsNames (HasName kind (file_of file.now))
+        (map string_bytes names.old.keys) (map string_bytes names.new.keys)) }
+{
+    match kind {
+        NameKind::Group => add_groups(alloc, file, names),
+        NameKind::Profile => add_profiles(alloc, file, names),
+        NameKind::Tool => add_tool(alloc, file, names),
+    }
 }
 
 // Adds the test groups of a file, as their names are kept.

@@ -8,10 +8,9 @@ ghost use Rattle.toml.specs.View.{table_view};
 ghost use Rattle.toml_spans.specs.Index.{IsIndexOf, IsSpanOf, ranges_in};
 ghost use Rattle.toml_spans.specs.Step.{key, step_of};
 ghost use Rattle.nextest_config_lint.specs.Defined.{IsDefinedBy, ListFile};
-ghost use Rattle.nextest_config_lint.specs.File.{AreIn, AreLocated, AreLocatedIn, HasRange, IsAlone, IsDocument, IsLocated, IsLocatedBy, IsReadOf, IsToldBy, is_group, is_of_key, located_told, range_at, range_of, whole_path};
+ghost use Rattle.nextest_config_lint.specs.File.{AreIn, AreLocated, AreLocatedIn, AreSorted, HasRange, IsAlone, IsDocument, IsLocated, IsLocatedBy, IsReadOf, IsToldBy, is_group, is_of_key, located_told, range_at, range_of, whole_path};
 ghost use Rattle.nextest_config_lint.specs.Found.{Found, found_at, found_of, kind_told, not_utf8};
 
-use crate::by_place::sorted_by_place;
 use crate::defined::Defined;
 use crate::document::findings;
 use crate::finding::{Finding, FindingKind};
@@ -182,8 +181,17 @@ fn located_in_document(
         located.items) }
 {
     let findings = findings(alloc, source, edition, document, defined, position)?;
-    let located = locate_all(alloc, text, findings)?;
-    sorted_by_place(alloc, located)
+    let mut located = locate_all(alloc, text, findings)?;
+    sort_by_place(&mut located)?;
+    Ok(located)
+}
+
+// Sorts findings by where they begin; those that begin at one place stay as they were.
+fn sort_by_place(located: &mut Vec<LocatedFinding>) -> Result<(), AllocError>
+    ensures { OnOk result (AreSorted located.old.items located.new.items) }
+{
+    located.sort_by_key(|one| one.span.begin)?;
+    Ok(())
 }
 
 // Where each finding stands in the document. Where nothing was found, no index is made.

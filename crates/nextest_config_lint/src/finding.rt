@@ -4,7 +4,7 @@ ghost use Rattle.std.specs.Prelude.{◌≡◌, Some};
 ghost use Rattle.std.specs.Fmt.{WritesOnOk};
 ghost use Rattle.nextest_config_lint.specs.Code.{rule_code, told_code};
 ghost use Rattle.nextest_config_lint.specs.Found.{kind_told};
-ghost use Rattle.nextest_config_lint.specs.Finding.{fault_code, finding_kind_text, finding_severity, finding_text, hint_text, home_text, mistake_text, name_text};
+ghost use Rattle.nextest_config_lint.specs.Finding.{fault_code, finding_kind_text, finding_severity, finding_text, hint_text, scope_text, mistake_text, name_text};
 ghost use Rattle.nextest_config_values.specs.Read.{broken_rule};
 
 use crate::code::FindingCode;
@@ -95,7 +95,7 @@ pub enum Hint {
     /// A text that prints as TOML writes it.
     Toml(String),
     /// The key of the same name in another table.
-    Belongs(Home),
+    Belongs(Scope),
 }
 
 /// A mistake in a text that isn't a TOML document.
@@ -111,7 +111,7 @@ pub enum Mistake {
 
 /// A table of a configuration file that knows keys.
 #[derive(Clone, Copy, Debug, PartialEq, Eq)]
-pub enum Home {
+pub enum Scope {
     /// The whole file.
     Top,
     Profile,
@@ -321,7 +321,7 @@ fn write_hint<W: fmt::Write>(f: &mut fmt::Formatter<W>, hint: &Option<Hint>) -> 
     match hint {
         Some(Hint::Word(word)) => write!(f, ", did you mean {}", QuotedText(word.as_str())),
         Some(Hint::Toml(text)) => write!(f, ", did you mean {text}"),
-        Some(Hint::Belongs(home)) => write!(f, ", which belongs {}", home.as_words()),
+        Some(Hint::Belongs(scope)) => write!(f, ", which belongs {}", scope.as_words()),
         None => Ok(()),
     }
 }
@@ -342,16 +342,16 @@ fn write_mistake<W: fmt::Write>(f: &mut fmt::Formatter<W>, mistake: &Option<Mist
     }
 }
 
-impl Home {
+impl Scope {
     // Where that is, in words.
     fn as_words(self) -> &'static str
-        ensures { result.now ≡ home_text self }
+        ensures { result.now ≡ scope_text self }
     {
         match self {
-            Home::Top => "at the top of the file",
-            Home::Profile => "in a profile",
-            Home::Override => "in an override",
-            Home::Junit => "in junit",
+            Scope::Top => "at the top of the file",
+            Scope::Profile => "in a profile",
+            Scope::Override => "in an override",
+            Scope::Junit => "in junit",
         }
     }
 }

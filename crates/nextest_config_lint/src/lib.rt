@@ -1,7 +1,6 @@
 //! What is wrong in a whole configuration file, and where; and what the codes of findings mean.
 #![tactic(auto)]
 
-mod by_place;
 mod code;
 mod conversion;
 mod defined;
@@ -12,7 +11,6 @@ mod features;
 mod file;
 mod finding;
 mod forms;
-mod heirs;
 mod inheritance;
 mod integers;
 pub mod laws;
@@ -21,6 +19,7 @@ mod mistake;
 mod nearest_word;
 mod reader;
 mod references;
+mod ring_profiles;
 mod schema;
 mod settings;
 mod severity;
@@ -34,6 +33,6 @@ pub use defined::{Defined, ListedFile};
 pub use document::findings;
 pub use faults::is_unjudged;
 pub use file::{FileContents, LocatedFinding, located, value_or_key};
-pub use finding::{Finding, FindingKind, FindingSeverity, Hint, Home, Mistake};
+pub use finding::{Finding, FindingKind, FindingSeverity, Hint, Mistake, Scope};
 pub use nearest_word::nearest;
 pub use toml_spans::{PathText, Place, Span, Step};

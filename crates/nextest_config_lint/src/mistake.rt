@@ -7,7 +7,7 @@ ghost use Rattle.toml_parser.specs.Reading.{key_view};
 ghost use Rattle.toml_spans.specs.Line.{line_after};
 ghost use Rattle.toml_spans.specs.Step.{step_of};
 ghost use Rattle.nextest_config_lint.specs.Found.{mistaken_of};
-ghost use Rattle.nextest_config_lint.specs.Mistake.{IsKeySpan, IsMistake, IsMistakeIn, IsOfWord, IsRepeated, IsRepeatedIn, before_part, has_no_equals, header_at, inside, is_double, is_unquoted, key_steps, last_header, line_in, scope_behind, scope_of, scope_view, statement_key, swapped};
+ghost use Rattle.nextest_config_lint.specs.Mistake.{IsKeySpan, IsMistake, IsMistakeIn, IsOfWord, IsRepeated, IsRepeatedIn, before_part, has_no_equals, header_at, inside, is_double, is_unquoted, key_steps, last_header, line_in, section_behind, section_of, section_view, statement_key, swapped};
 
 use crate::finding::Mistake;
 use crate::nearest_word::nearest;
@@ -19,7 +19,7 @@ use toml_spans::{Index, Span, Step, line_after};
 // Where the key of a statement is sought: a part of the text that goes on up to the statement, and
 // the steps of its table there.
 #[derive(Drop)]
-struct Scope<'t> {
+struct Section<'t> {
     part: &'t str,
     table: Vec<Step>,
 }
@@ -107,10 +107,10 @@ fn repeated(alloc: Global, front: &str, statement: &str) -> Result<Option<Mistak
     let Some(key) = statement_key(alloc, statement)? else {
         return Ok(None);
     };
-    let Some(scope) = scope_of(alloc, front, statement)? else {
+    let Some(section) = section_of(alloc, front, statement)? else {
         return Ok(None);
     };
-    repeated_in(alloc, front, scope, key)
+    repeated_in(alloc, front, section, key)
 }
 
 // The key of a statement.
@@ -144,15 +144,15 @@ fn is_double(header: &str) -> bool
 }
 
 // Where the key of a statement is sought.
-fn scope_of<'t>(
+fn section_of<'t>(
     alloc: Global,
     front: &'t str,
     statement: &str,
-) -> Result<Option<Scope<'t>>, AllocError>
-    ensures scope { IfOk result
-        (λ scope. option_map scope_view scope ≡ scope_of front.now statement.now) }
+) -> Result<Option<Section<'t>>, AllocError>
+    ensures section { IfOk result
+        (λ section. option_map section_view section ≡ section_of front.now statement.now) }
     ensures within { IfOk result
-        (λ scope. IfSome scope (λ scope. length scope.part.now ≤ length front.now)) }
+        (λ section. IfSome section (λ section. length section.part.now ≤ length front.now)) }
 {
     if first(statement) == b'[' {
         return Ok(Some(whole(alloc, front)));
@@ -164,20 +164,20 @@ fn scope_of<'t>(
 }
 
 // All of a text.
-fn whole(alloc: Global, front: &str) -> Scope<'_>
-    ensures { scope_view result ≡ (front.now, []) }
+fn whole(alloc: Global, front: &str) -> Section<'_>
+    ensures { section_view result ≡ (front.now, []) }
 {
-    Scope {
+    Section {
         part: front,
         table: Vec::new(alloc),
     }
 }
 
 // The table of the header that a part of a text begins with.
-fn behind(alloc: Global, part: &str) -> Result<Option<Scope<'_>>, AllocError>
-    ensures scope { IfOk result
-        (λ scope. option_map scope_view scope ≡ scope_behind part.now) }
-    ensures same { IfOk result (λ scope. IfSome scope (λ scope. scope.part.now ≡ part.now)) }
+fn behind(alloc: Global, part: &str) -> Result<Option<Section<'_>>, AllocError>
+    ensures section { IfOk result
+        (λ section. option_map section_view section ≡ section_behind part.now) }
+    ensures same { IfOk result (λ section. IfSome section (λ section. section.part.now ≡ part.now)) }
 {
     let header = skip_ws(part);
     let Some(key) = statement_key(alloc, header)? else {
@@ -188,7 +188,7 @@ fn behind(alloc: Global, part: &str) -> Result<Option<Scope<'_>>, AllocError>
     if is_double(header) {
         table.push(Step::Index(0))?;
     }
-    Ok(Some(Scope { part, table }))
+    Ok(Some(Section { part, table }))
 }
 
 // Adds the steps of a key to a path.
@@ -235,21 +235,21 @@ fn header_or<'t>(text: &'t str, other: Option<&'t str>) -> Option<&'t str>
     }
 }
 
-// Whether the key stands in its scope already.
+// Whether the key stands in its section already.
 fn repeated_in(
     alloc: Global,
     front: &str,
-    scope: Scope<'_>,
+    section: Section<'_>,
     key: Key,
 ) -> Result<Option<Mistake>, AllocError>
-    requires { length scope.part.now ≤ length front.now }
-    ensures { IfOk result (λ mistake. IsRepeatedIn front.now (scope_view scope.entry) (key_view key)
+    requires { length section.part.now ≤ length front.now }
+    ensures { IfOk result (λ mistake. IsRepeatedIn front.now (section_view section.entry) (key_view key)
         (option_map mistaken_of mistake)) }
 {
-    let Scope {
+    let Section {
         part,
         table: mut path,
-    } = scope;
+    } = section;
     let name = key.last.clone()?;
     add_steps(&mut path, key)?;
     match key_in(alloc, part, path.as_slice())? {

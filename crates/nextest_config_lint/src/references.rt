@@ -419,17 +419,17 @@ fn nearest_group(
 fn nearest_profile(
     alloc: Global,
     profiles: &BTreeSet<String>,
-    heir: &str,
+    child: &str,
     name: &str,
 ) -> Result<Option<Hint>, AllocError>
     ensures { let names = map string_bytes profiles.now.keys in
-        IfOk result (λ hint. IsSought names (filter (is_other heir.now) names) name.now
+        IfOk result (λ hint. IsSought names (filter (is_other child.now) names) name.now
         (option_map meant_of hint)) }
 {
     if profiles.len() > MOST_NAMES {
         return Ok(None);
     }
-    let words = words_but(alloc, profiles, heir)?;
+    let words = words_but(alloc, profiles, child)?;
     nearest_hint(alloc, name, words.as_slice())
 }
 

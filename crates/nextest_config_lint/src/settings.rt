@@ -17,7 +17,7 @@ use toml::{Table, Value};
 use toml_spans::Step;
 
 /// A step of the path to a value, as it lies in the document.
-#[derive(Clone, Copy, Debug)]
+#[derive(Clone, Copy)]
 pub(crate) enum Mark<'a> {
     Key(&'a str),
     Index(usize),

@@ -7,9 +7,9 @@ ghost use Rattle.nextest_config_lint.specs.Found.{AddsFound, AddsOne, AreFoundIn
 ghost use Rattle.nextest_config_lint.specs.Settings.{setting_view, mark_step, names_of};
 ghost use Rattle.nextest_config_lint.specs.NearestWord.{words_of};
 ghost use Rattle.nextest_config_lint.specs.Schema.{below_of, file_table, row_words, rows_told};
-ghost use Rattle.nextest_config_lint.specs.Unknown.{home_of, home_words, is_known, IsHintFor, IsKeyFound, key_at, keys_among, keys_below, keys_in, parts_of, slip_of, word_with_part};
+ghost use Rattle.nextest_config_lint.specs.Unknown.{scope_of, scope_words, is_known, IsHintFor, IsKeyFound, key_at, keys_among, keys_below, keys_in, parts_of, slip_of, word_with_part};
 
-use crate::finding::{Finding, FindingKind, Hint, Home};
+use crate::finding::{Finding, FindingKind, Hint, Scope};
 use crate::nearest_word::{is_same, nearest, word_hint};
 use crate::schema::{Below, Row, keys_of, override_junit_keys, override_keys, profile_keys, top};
 use crate::settings::{Mark, Setting, steps_of};
@@ -18,7 +18,7 @@ use strsim::levenshtein;
 use toml::Table;
 
 // The tables that know keys, in the order in which a key is looked for.
-const HOMES: &[Home] = &[Home::Top, Home::Profile, Home::Override, Home::Junit];
+const SCOPES: &[Scope] = &[Scope::Top, Scope::Profile, Scope::Override, Scope::Junit];
 
 /// The unknown keys of a document, those of the top first and then those of its judged values.
 pub(crate) fn find_unknown(
@@ -127,8 +127,8 @@ fn hint_for(alloc: Global, known: &[&'static str], name: &str) -> Result<Option<
     if slip.is_some() {
         return word_hint(alloc, slip);
     }
-    if let Some(home) = home_of(name) {
-        return Ok(Some(Hint::Belongs(home)));
+    if let Some(scope) = scope_of(name) {
+        return Ok(Some(Hint::Belongs(scope)));
     }
     word_hint(alloc, near.or(word_with_part(known, name)))
 }
@@ -153,24 +153,24 @@ fn slip_of<'w>(
 }
 
 // The first table that knows the key.
-fn home_of(name: &str) -> Option<Home>
-    ensures { result ≡ home_of name.now }
+fn scope_of(name: &str) -> Option<Scope>
+    ensures { result ≡ scope_of name.now }
 {
-    HOMES
+    SCOPES
         .iter()
         .copied()
-        .find(|home| is_among(rows_of(*home), name))
+        .find(|scope| is_among(rows_of(*scope), name))
 }
 
 // The rows of the keys that a table of this kind knows.
-fn rows_of(home: Home) -> &'static [Row]
-    ensures { row_words (rows_told result.now) ≡ home_words home }
+fn rows_of(scope: Scope) -> &'static [Row]
+    ensures { row_words (rows_told result.now) ≡ scope_words scope }
 {
-    match home {
-        Home::Top => top(),
-        Home::Profile => profile_keys(),
-        Home::Override => override_keys(),
-        Home::Junit => override_junit_keys(),
+    match scope {
+        Scope::Top => top(),
+        Scope::Profile => profile_keys(),
+        Scope::Override => override_keys(),
+        Scope::Junit => override_junit_keys(),
     }
 }
 

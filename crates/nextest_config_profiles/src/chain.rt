@@ -12,7 +12,7 @@ use toml::Value;
 pub(crate) const INHERITS: &str = "inherits";
 
 /// Why a profile has no chain.
-#[derive(Clone, Copy, Debug)]
+#[derive(Clone, Copy)]
 pub(crate) enum ChainFault<'a> {
     /// There is no profile of the name.
     NoProfile,

@@ -7,7 +7,7 @@ ghost use Rattle.nextest_config_profiles.specs.Effective.{IsEffective, IsGiven, 
 ghost use Rattle.nextest_config_profiles.specs.Reach.{layers_of, words_of};
 
 use crate::merged::merged_over;
-use crate::setting::Setting;
+use nextest_config_elements::profile_setting::ProfileSetting;
 use nextest_config_lint::is_unjudged;
 use nextest_config_values::read::ValueFault;
 use std::alloc::{AllocError, Global};
@@ -27,7 +27,7 @@ pub enum Effective<'p, T: Drop> {
 }
 
 /// What the chain gives the setting at these keys.
-pub(crate) fn first_given<'p, T: Setting>(
+pub(crate) fn first_given<'p, T: ProfileSetting>(
     alloc: Global,
     layers: &[Option<&Value>],
     chain: &'p [String],
@@ -45,7 +45,7 @@ pub(crate) fn first_given<'p, T: Setting>(
 }
 
 /// What a profile alone gives the setting at these keys.
-pub(crate) fn given_alone<'p, T: Setting>(
+pub(crate) fn given_alone<'p, T: ProfileSetting>(
     alloc: Global,
     layers: &[Option<&Value>],
     profile: &'p str,
@@ -61,7 +61,7 @@ pub(crate) fn given_alone<'p, T: Setting>(
 }
 
 // What a profile gives the setting, if it counts.
-fn given_by<'p, T: Setting>(
+fn given_by<'p, T: ProfileSetting>(
     alloc: Global,
     layers: &[Option<&Value>],
     profile: &'p str,
@@ -96,7 +96,7 @@ fn path_of<'a>(
 }
 
 // What a profile's value of the setting is read as.
-fn read_value<'p, T: Setting>(
+fn read_value<'p, T: ProfileSetting>(
     alloc: Global,
     profile: &'p str,
     value: &Value,
@@ -113,7 +113,7 @@ fn read_value<'p, T: Setting>(
 }
 
 // What is given where the value is refused.
-fn refused<'p, T: Setting>(
+fn refused<'p, T: ProfileSetting>(
     alloc: Global,
     profile: &'p str,
     value: &Value,

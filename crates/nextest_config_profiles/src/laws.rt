@@ -16,9 +16,9 @@ ghost use Rattle.nextest_config_profiles.specs.OneLeaf.{AreApart, HasLeafAlone};
 ghost use Rattle.nextest_config_profiles.specs.Said.{leaf, Path, said_at, silent};
 ghost use Rattle.nextest_config_profiles.specs.declared.effective.Effective.{Effective};
 
-use crate::setting::Setting;
 use nextest_config_elements::global_timeout::GlobalTimeout;
 use nextest_config_elements::junit::JunitFlakyFailStatus;
+use nextest_config_elements::profile_setting::ProfileSetting;
 use nextest_config_elements::report_skip_policy::ReportSkipPolicy;
 use nextest_config_elements::retry_policy::FlakyResult;
 use nextest_config_elements::threads_required::ThreadsRequired;
@@ -44,7 +44,7 @@ pub fn law_chain_or_wrong()
 
 /// A chain gives a setting at most one value, of one profile, where its reader takes tables alike
 /// whose keys stand in another order.
-pub fn law_effective_once<T: Setting>()
+pub fn law_effective_once<T: ProfileSetting>()
     ensures value { (layers : Layers) (keys : Path) (chain : List (List ℕ)) (a b : Effective T)
         → TakesAlike T.reading → IsEffective T.seen T.reading layers keys chain a
         → IsEffective T.seen T.reading layers keys chain b

@@ -18,7 +18,6 @@ mod profile;
 mod profiles;
 mod reach;
 pub mod report;
-mod setting;
 mod setting_key;
 
 pub use defaults::DEFAULTS;
@@ -31,7 +30,6 @@ pub use leaves::Leaf;
 pub use locate::profiles_to_locate;
 pub use name_list::profile_names;
 pub use profile::{EffectiveProfile, ProfileFault};
-pub use setting::Setting;
 pub use setting_key::{
     BENCH_GLOBAL_TIMEOUT, BENCH_SLOW_TIMEOUT, FAIL_FAST, FLAKY_RESULT, GLOBAL_TIMEOUT,
     JUNIT_FLAKY_FAIL_STATUS, JUNIT_PATH, JUNIT_REPORT_NAME, JUNIT_REPORT_SKIPPED,

@@ -24,8 +24,8 @@ use crate::layer::{Layer, profiles_at, profiles_in};
 use crate::leaves::{Leaf, leaves_below};
 use crate::merged::merged_over;
 use crate::owned_chain::{OwnedFault, owned_chain};
-use crate::setting::Setting;
 use crate::setting_key::SettingKey;
+use nextest_config_elements::profile_setting::ProfileSetting;
 use std::alloc::{AllocError, Global};
 use toml::{Table, Value};
 use toml_spans::{Span, Step};
@@ -93,7 +93,7 @@ impl<'a> EffectiveProfile<'a> {
     }
 
     /// What the profile gets for the setting at these keys.
-    pub fn setting<T: Setting>(
+    pub fn setting<T: ProfileSetting>(
         &self,
         alloc: Global,
         keys: &[&str],
@@ -107,7 +107,7 @@ impl<'a> EffectiveProfile<'a> {
     }
 
     /// What the profile gets for the setting of this key.
-    pub fn get<T: Setting>(
+    pub fn get<T: ProfileSetting>(
         &self,
         alloc: Global,
         key: &SettingKey<T>,
@@ -120,7 +120,7 @@ impl<'a> EffectiveProfile<'a> {
 
     /// What a profile of this name alone gives the setting at these keys, whatever it falls back
     /// on.
-    pub fn setting_of<'n, T: Setting>(
+    pub fn setting_of<'n, T: ProfileSetting>(
         &self,
         alloc: Global,
         name: &'n str,

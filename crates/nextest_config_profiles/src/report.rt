@@ -14,15 +14,15 @@ mod no_limit;
 mod other_profiles;
 mod others;
 mod overrides;
+mod parts;
 mod profile_report;
 mod rows;
 mod setting;
 mod source;
 mod standing;
-mod told;
 
-pub use profile_report::ProfileReport;
-pub use told::{
-    ChainProfile, FaultSource, FilePlace, Hidden, Literal, OtherKey, OtherProfileFault, Override,
-    OverrideSetting, Row, Source, Told,
+pub use parts::{
+    ChainProfile, FaultSource, FilePlace, Hidden, KeyState, Literal, OtherKey, OtherProfileFault,
+    Override, OverrideSetting, Row, Source,
 };
+pub use profile_report::ProfileReport;

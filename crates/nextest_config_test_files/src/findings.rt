@@ -2,7 +2,7 @@
 
 use crate::ThisCrate;
 use crate::lines::steps;
-use nextest_config_lint::{Finding, FindingKind, FindingSeverity, Hint, Home, Mistake};
+use nextest_config_lint::{Finding, FindingKind, FindingSeverity, Hint, Mistake, Scope};
 use nextest_config_test_rows::compared::ordered;
 use nextest_config_test_rows::rows::{Subject, copied, done, shown, unknown};
 use nextest_config_test_rows::runner::Runner;
@@ -202,17 +202,17 @@ fn hint(rt: &impl Runner, text: &str) -> Option<Hint> {
         "" => None,
         "~" => Some(Hint::Word(copied(rt, rest))),
         "=" => Some(Hint::Toml(copied(rt, rest))),
-        ">" => Some(Hint::Belongs(home(rt, rest))),
+        ">" => Some(Hint::Belongs(scope(rt, rest))),
         _ => unknown(rt, text),
     }
 }
 
-fn home(rt: &impl Runner, text: &str) -> Home {
+fn scope(rt: &impl Runner, text: &str) -> Scope {
     match text {
-        "top" => Home::Top,
-        "profile" => Home::Profile,
-        "override" => Home::Override,
-        "junit" => Home::Junit,
+        "top" => Scope::Top,
+        "profile" => Scope::Profile,
+        "override" => Scope::Override,
+        "junit" => Scope::Junit,
         _ => unknown(rt, text),
     }
 }

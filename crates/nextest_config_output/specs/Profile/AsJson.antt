@@ -9,11 +9,11 @@ use Rattle.serde_json.specs.View.{items_of}
 use Rattle.serde_json.specs.Written.{compact_text, has_float, IsInOrder}
 use Rattle.nextest_config_report.specs.Show.{array_of}
 use Rattle.nextest_config_profiles.specs.declared.report.profile_report.ProfileReport.{ProfileReport}
-use Rattle.nextest_config_profiles.specs.declared.report.told.ChainProfile.{ChainProfile}
-use Rattle.nextest_config_profiles.specs.declared.report.told.Literal.{Literal}
-use Rattle.nextest_config_profiles.specs.declared.report.told.Override.{Override}
-use Rattle.nextest_config_profiles.specs.declared.report.told.OverrideSetting.{OverrideSetting}
-use Rattle.nextest_config_profiles.specs.declared.report.told.Row.{Row}
+use Rattle.nextest_config_profiles.specs.declared.report.parts.ChainProfile.{ChainProfile}
+use Rattle.nextest_config_profiles.specs.declared.report.parts.Literal.{Literal}
+use Rattle.nextest_config_profiles.specs.declared.report.parts.Override.{Override}
+use Rattle.nextest_config_profiles.specs.declared.report.parts.OverrideSetting.{OverrideSetting}
+use Rattle.nextest_config_profiles.specs.declared.report.parts.Row.{Row}
 use Rattle.nextest_config_output.specs.Profile.Chain.{name_of}
 use Rattle.nextest_config_output.specs.Profile.Object.{hidden_data, literal_data, other_data, row_data}
 use Rattle.nextest_config_output.specs.Profile.Location.{column_data, line_data, path_data, profile_data, location_if, location_of}

@@ -2,8 +2,8 @@
 use Rattle.std.specs.Prelude.{ℕ, List, [], ◌∷◌, ◌++◌, codes, Option, Some, None}
 use Rattle.std.specs.List.{join_by}
 use Rattle.toml_spans.specs.Step.{key_text}
-use Rattle.nextest_config_profiles.specs.declared.report.told.ChainProfile.{ChainProfile}
-use Rattle.nextest_config_profiles.specs.declared.report.told.Source.{Source}
+use Rattle.nextest_config_profiles.specs.declared.report.parts.ChainProfile.{ChainProfile}
+use Rattle.nextest_config_profiles.specs.declared.report.parts.Source.{Source}
 use Rattle.nextest_config_output.specs.Profile.Source.{file_text}
 
 -- the name of the profile that is asked for, the first of a chain

@@ -3,11 +3,11 @@ use Rattle.std.specs.Prelude.{ℕ, Bool, List, [], ◌++◌, codes, Option, Some
 use Rattle.nextest_config_output.specs.Findings.Escapes.{escaped_text}
 use Rattle.nextest_config_output.specs.declared.findings.escapes.Escapes.TheVariants.{InLine}
 use Rattle.nextest_config_values.specs.Literal.Key.{key_text}
-use Rattle.nextest_config_profiles.specs.declared.report.told.Hidden.{Hidden}
-use Rattle.nextest_config_profiles.specs.declared.report.told.OtherKey.{OtherKey}
-use Rattle.nextest_config_profiles.specs.declared.report.told.Row.{Row}
-use Rattle.nextest_config_profiles.specs.declared.report.told.Told.{Told}
-use Rattle.nextest_config_profiles.specs.declared.report.told.Told.TheVariants as told
+use Rattle.nextest_config_profiles.specs.declared.report.parts.Hidden.{Hidden}
+use Rattle.nextest_config_profiles.specs.declared.report.parts.OtherKey.{OtherKey}
+use Rattle.nextest_config_profiles.specs.declared.report.parts.Row.{Row}
+use Rattle.nextest_config_profiles.specs.declared.report.parts.KeyState.{KeyState}
+use Rattle.nextest_config_profiles.specs.declared.report.parts.KeyState.TheVariants as states
 use Rattle.nextest_config_output.specs.Profile.Keys.{key_path}
 use Rattle.nextest_config_output.specs.Profile.Source.{source_text, sources_text}
 use Rattle.nextest_config_output.specs.declared.profile.line.SourcedLine.{SourcedLine}
@@ -35,16 +35,16 @@ abbrev pub fault_column : List ℕ → List ℕ → List ℕ
 fault_column key message = codes "# " ++ setting_text key (escaped_text InLine message)
 
 -- what is told of a key: KEY = VALUE, or a comment where a file couldn't have that in its place
-abbrev pub first_column : List ℕ → Told → List ℕ
-first_column key (told.Value literal source no_limit) = setting_text key (string_bytes literal.text)
-first_column key (told.NotJudged literal source) = setting_text key (string_bytes literal.text)
-first_column key (told.Default literal) = setting_text key (string_bytes literal.text)
-first_column key (told.Implied literal) =
+abbrev pub first_column : List ℕ → KeyState → List ℕ
+first_column key (states.Value literal source no_limit) = setting_text key (string_bytes literal.text)
+first_column key (states.NotJudged literal source) = setting_text key (string_bytes literal.text)
+first_column key (states.Default literal) = setting_text key (string_bytes literal.text)
+first_column key (states.Implied literal) =
     codes "# " ++ setting_text key (string_bytes literal.text)
-first_column key told.Unset = codes "# " ++ (key ++ codes " isn't set")
-first_column key (told.NoValue source) =
+first_column key states.Unset = codes "# " ++ (key ++ codes " isn't set")
+first_column key (states.NoValue source) =
     codes "# " ++ setting_text key (codes "no value: the empty text takes the default away")
-first_column key (told.Fault message sources) = fault_column key (string_bytes message)
+first_column key (states.Fault message sources) = fault_column key (string_bytes message)
 
 -- ---- where they come from, for the profile of this name
 
@@ -53,24 +53,24 @@ abbrev pub limit_mark : Bool → List ℕ
 limit_mark no_limit = if no_limit then codes " (no limit)" else []
 
 -- where it comes from what is told of a key; nothing of a key that nothing gives
-abbrev pub told_source : List ℕ → Told → Option (List ℕ)
-told_source name (told.Value literal source no_limit) =
+abbrev pub state_source : List ℕ → KeyState → Option (List ℕ)
+state_source name (states.Value literal source no_limit) =
     Some (source_text name source ++ limit_mark no_limit)
-told_source name (told.NotJudged literal source) =
+state_source name (states.NotJudged literal source) =
     Some (source_text name source ++ codes " (not judged)")
-told_source name (told.Default literal) = Some (codes "default of the table")
-told_source name (told.Implied literal) = Some (codes "default of the table")
-told_source name told.Unset = None
-told_source name (told.NoValue source) = Some (source_text name source)
-told_source name (told.Fault message sources) = Some (sources_text name sources.items)
+state_source name (states.Default literal) = Some (codes "default of the table")
+state_source name (states.Implied literal) = Some (codes "default of the table")
+state_source name states.Unset = None
+state_source name (states.NoValue source) = Some (source_text name source)
+state_source name (states.Fault message sources) = Some (sources_text name sources.items)
 
 -- ---- the lines
 
 -- the line of a key of a setting
 abbrev pub row_line : List ℕ → Row → Line
 row_line name row = record {
-  first = first_column (key_path row.keys.items) row.told;
-  source = told_source name row.told;
+  first = first_column (key_path row.keys.items) row.state;
+  source = state_source name row.state;
 }
 
 -- the line of a value that doesn't count: # hidden: KEY = VALUE

@@ -1,7 +1,7 @@
 -- The lines of a report's settings.
 use Rattle.std.specs.Prelude.{ℕ, List, ◌∷◌, flat_map, map}
 use Rattle.std.proofs.Common.{Global, Vec}
-use Rattle.nextest_config_profiles.specs.declared.report.told.Row.{Row}
+use Rattle.nextest_config_profiles.specs.declared.report.parts.Row.{Row}
 use Rattle.nextest_config_output.specs.Profile.Line.{hidden_line, Line, row_line}
 
 -- the line of a key, and below it those of what it hides

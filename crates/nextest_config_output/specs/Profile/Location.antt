@@ -2,8 +2,8 @@
 use Rattle.std.specs.Prelude.{ℕ, List, Option, Some, None, option_and_then, option_map}
 use Rattle.serde_json.specs.Data.{Data, null, number, string, unsigned}
 use Rattle.toml_spans.specs.declared.place.Place.{Place}
-use Rattle.nextest_config_profiles.specs.declared.report.told.FilePlace.{FilePlace}
-use Rattle.nextest_config_profiles.specs.declared.report.told.Source.{Source}
+use Rattle.nextest_config_profiles.specs.declared.report.parts.FilePlace.{FilePlace}
+use Rattle.nextest_config_profiles.specs.declared.report.parts.Source.{Source}
 use Rattle.nextest_config_output.specs.declared.profile.location.Location.{Location}
 
 -- a place in a file, and the profile that has something there

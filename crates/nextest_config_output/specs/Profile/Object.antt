@@ -5,15 +5,15 @@ use Rattle.toml.specs.View.{view}
 use Rattle.nextest_config_values.specs.Literal.Json.{json_data}
 use Rattle.nextest_config_values.specs.Literal.Key.{key_text}
 use Rattle.nextest_config_report.specs.Show.{array_of}
-use Rattle.nextest_config_profiles.specs.declared.report.told.FaultSource.{FaultSource}
-use Rattle.nextest_config_profiles.specs.declared.report.told.FilePlace.{FilePlace}
-use Rattle.nextest_config_profiles.specs.declared.report.told.Hidden.{Hidden}
-use Rattle.nextest_config_profiles.specs.declared.report.told.Literal.{Literal}
-use Rattle.nextest_config_profiles.specs.declared.report.told.OtherKey.{OtherKey}
-use Rattle.nextest_config_profiles.specs.declared.report.told.Row.{Row}
-use Rattle.nextest_config_profiles.specs.declared.report.told.Source.{Source}
-use Rattle.nextest_config_profiles.specs.declared.report.told.Told.{Told}
-use Rattle.nextest_config_profiles.specs.declared.report.told.Told.TheVariants as told
+use Rattle.nextest_config_profiles.specs.declared.report.parts.FaultSource.{FaultSource}
+use Rattle.nextest_config_profiles.specs.declared.report.parts.FilePlace.{FilePlace}
+use Rattle.nextest_config_profiles.specs.declared.report.parts.Hidden.{Hidden}
+use Rattle.nextest_config_profiles.specs.declared.report.parts.Literal.{Literal}
+use Rattle.nextest_config_profiles.specs.declared.report.parts.OtherKey.{OtherKey}
+use Rattle.nextest_config_profiles.specs.declared.report.parts.Row.{Row}
+use Rattle.nextest_config_profiles.specs.declared.report.parts.Source.{Source}
+use Rattle.nextest_config_profiles.specs.declared.report.parts.KeyState.{KeyState}
+use Rattle.nextest_config_profiles.specs.declared.report.parts.KeyState.TheVariants as states
 use Rattle.nextest_config_output.specs.Profile.Keys.{key_path}
 use Rattle.nextest_config_output.specs.Profile.Location.{column_data, line_data, path_data, profile_data, SeenLocation, location_of}
 
@@ -58,14 +58,14 @@ fault_data key location message sources = object
 -- ---- what is told of a key of a setting
 
 -- the value that a key has, or null
-abbrev pub told_data : Told → Data
-told_data (told.Value literal source no_limit) = literal_data literal
-told_data (told.NotJudged literal source) = literal_data literal
-told_data (told.Default literal) = literal_data literal
-told_data (told.Implied literal) = literal_data literal
-told_data told.Unset = null
-told_data (told.NoValue source) = null
-told_data (told.Fault message sources) = null
+abbrev pub state_data : KeyState → Data
+state_data (states.Value literal source no_limit) = literal_data literal
+state_data (states.NotJudged literal source) = literal_data literal
+state_data (states.Default literal) = literal_data literal
+state_data (states.Implied literal) = literal_data literal
+state_data states.Unset = null
+state_data (states.NoValue source) = null
+state_data (states.Fault message sources) = null
 
 -- where the first of the parts of a value stands
 abbrev pub first_location : List FaultSource → Option SeenLocation
@@ -73,14 +73,14 @@ first_location [] = None
 first_location (first ∷ rest) = location_of first.source
 
 -- where it stands what a key has; of a value that is refused, where the first of its parts stands
-abbrev pub told_location : Told → Option SeenLocation
-told_location (told.Value literal source no_limit) = location_of source
-told_location (told.NotJudged literal source) = location_of source
-told_location (told.Default literal) = None
-told_location (told.Implied literal) = None
-told_location told.Unset = None
-told_location (told.NoValue source) = location_of source
-told_location (told.Fault message sources) = first_location sources.items
+abbrev pub state_location : KeyState → Option SeenLocation
+state_location (states.Value literal source no_limit) = location_of source
+state_location (states.NotJudged literal source) = location_of source
+state_location (states.Default literal) = None
+state_location (states.Implied literal) = None
+state_location states.Unset = None
+state_location (states.NoValue source) = location_of source
+state_location (states.Fault message sources) = first_location sources.items
 
 -- the word of a value that a file has, or of one that nextest sets itself, which is a default
 abbrev pub state_in : Option FilePlace → List ℕ
@@ -92,14 +92,14 @@ abbrev pub value_state : Source → List ℕ
 value_state source = state_in source.file
 
 -- the word of what a key has: `value`, `not-judged`, `default`, `unset` or `fault`
-abbrev pub told_state : Told → List ℕ
-told_state (told.Value literal source no_limit) = value_state source
-told_state (told.NotJudged literal source) = codes "not-judged"
-told_state (told.Default literal) = codes "default"
-told_state (told.Implied literal) = codes "default"
-told_state told.Unset = codes "unset"
-told_state (told.NoValue source) = codes "fault"
-told_state (told.Fault message sources) = codes "fault"
+abbrev pub state_word : KeyState → List ℕ
+state_word (states.Value literal source no_limit) = value_state source
+state_word (states.NotJudged literal source) = codes "not-judged"
+state_word (states.Default literal) = codes "default"
+state_word (states.Implied literal) = codes "default"
+state_word states.Unset = codes "unset"
+state_word (states.NoValue source) = codes "fault"
+state_word (states.Fault message sources) = codes "fault"
 
 -- what is said of a value: null where a file has it, else that nextest sets it itself
 abbrev pub message_in : Option FilePlace → Data
@@ -111,28 +111,28 @@ abbrev pub value_message : Source → Data
 value_message source = message_in source.file
 
 -- what is said of what a key has, or null
-abbrev pub message_data : Told → Data
-message_data (told.Value literal source no_limit) = value_message source
-message_data (told.NotJudged literal source) = null
-message_data (told.Default literal) = string (codes "default of the table")
-message_data (told.Implied literal) = string (codes "default of the table")
-message_data told.Unset = null
-message_data (told.NoValue source) =
+abbrev pub message_data : KeyState → Data
+message_data (states.Value literal source no_limit) = value_message source
+message_data (states.NotJudged literal source) = null
+message_data (states.Default literal) = string (codes "default of the table")
+message_data (states.Implied literal) = string (codes "default of the table")
+message_data states.Unset = null
+message_data (states.NoValue source) =
     string (codes "no value: the empty text takes the default away")
-message_data (told.Fault message sources) = string (string_bytes message)
+message_data (states.Fault message sources) = string (string_bytes message)
 
 -- ---- the objects
 
 -- the object of a key of a setting, by what is told of it
-abbrev pub told_object : List ℕ → Told → Data
-told_object key (told.Fault message sources) =
+abbrev pub state_object : List ℕ → KeyState → Data
+state_object key (states.Fault message sources) =
     fault_data key (first_location sources.items) (string (string_bytes message)) sources.items
-told_object key so =
-    setting_data key (told_data so) (told_location so) (told_state so) (message_data so)
+state_object key so =
+    setting_data key (state_data so) (state_location so) (state_word so) (message_data so)
 
 -- the object of a row: of its key, by the path, and what is told of it
 abbrev pub row_data : Row → Data
-row_data row = told_object (key_path row.keys.items) row.told
+row_data row = state_object (key_path row.keys.items) row.state
 
 -- the object of a value that doesn't count, whose state is `hidden`
 abbrev pub hidden_data : Hidden → Data

@@ -3,10 +3,10 @@ use Rattle.std.specs.Prelude.{ℕ, nat_eq, ◌==◌, List, [], ◌∷◌, ◌++�
 use Rattle.std.specs.Cmp.Lexicographic.{pointwise}
 use Rattle.std.specs.List.{join_by}
 use Rattle.nextest_config_values.specs.Literal.Key.{key_text}
-use Rattle.nextest_config_profiles.specs.declared.report.told.Literal.{Literal}
-use Rattle.nextest_config_profiles.specs.declared.report.told.Override.{Override}
-use Rattle.nextest_config_profiles.specs.declared.report.told.OverrideSetting.{OverrideSetting}
-use Rattle.nextest_config_profiles.specs.declared.report.told.Source.{Source}
+use Rattle.nextest_config_profiles.specs.declared.report.parts.Literal.{Literal}
+use Rattle.nextest_config_profiles.specs.declared.report.parts.Override.{Override}
+use Rattle.nextest_config_profiles.specs.declared.report.parts.OverrideSetting.{OverrideSetting}
+use Rattle.nextest_config_profiles.specs.declared.report.parts.Source.{Source}
 use Rattle.nextest_config_output.specs.Profile.Line.{setting_text}
 use Rattle.nextest_config_output.specs.Profile.Source.{file_text, in_brackets}
 

@@ -6,9 +6,9 @@ use Rattle.toml_spans.specs.Step.{key_text}
 use Rattle.toml_spans.specs.declared.place.Place.{Place}
 use Rattle.nextest_config_output.specs.Findings.Escapes.{escaped_text}
 use Rattle.nextest_config_output.specs.declared.findings.escapes.Escapes.TheVariants.{InLine}
-use Rattle.nextest_config_profiles.specs.declared.report.told.FaultSource.{FaultSource}
-use Rattle.nextest_config_profiles.specs.declared.report.told.FilePlace.{FilePlace}
-use Rattle.nextest_config_profiles.specs.declared.report.told.Source.{Source}
+use Rattle.nextest_config_profiles.specs.declared.report.parts.FaultSource.{FaultSource}
+use Rattle.nextest_config_profiles.specs.declared.report.parts.FilePlace.{FilePlace}
+use Rattle.nextest_config_profiles.specs.declared.report.parts.Source.{Source}
 
 -- what stands for a file where nextest sets a value itself
 abbrev pub own_default : List ℕ

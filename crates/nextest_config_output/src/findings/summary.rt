@@ -27,7 +27,7 @@ impl fmt::Display for Summary {
 }
 
 /// So many of what a noun names.
-#[derive(Clone, Copy, Debug, PartialEq, Eq)]
+#[derive(Clone, Copy)]
 struct Counted<'a>(usize, &'a str);
 
 impl fmt::Display for Counted<'_> {

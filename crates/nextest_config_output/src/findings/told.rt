@@ -55,7 +55,7 @@ pub fn push_finding(
 }
 
 /// What is found, after its key, as it prints with what is escaped.
-#[derive(Clone, Copy, Debug)]
+#[derive(Clone, Copy)]
 pub(crate) struct Found<'a, 'b>(pub Escapes, pub &'a ToldFinding<'b>);
 
 impl fmt::Display for Found<'_, '_> {

@@ -3,12 +3,12 @@
 ghost use Rattle.std.specs.Prelude.{◌≡◌, IfOk, option_map, string_bytes};
 ghost use Rattle.nextest_config_values.specs.Literal.Key.{key_text};
 ghost use Rattle.nextest_config_output.specs.Profile.Keys.{key_path};
-ghost use Rattle.nextest_config_output.specs.Profile.Line.{fault_column, first_column, hidden_line, limit_mark, line_of, other_line, row_line, told_source};
+ghost use Rattle.nextest_config_output.specs.Profile.Line.{fault_column, first_column, hidden_line, limit_mark, line_of, other_line, row_line, state_source};
 
 use crate::findings::{Escaped, Escapes};
 use crate::profile::keys::KeyPath;
 use crate::profile::source::{SourceText, SourcesText};
-use nextest_config_profiles::report::{Hidden, OtherKey, Row, Told};
+use nextest_config_profiles::report::{Hidden, KeyState, OtherKey, Row};
 use nextest_config_values::literal::KeyText;
 use std::alloc::{AllocError, Global};
 
@@ -30,8 +30,8 @@ pub(crate) fn row_line(alloc: Global, name: &str, row: &Row<'_>) -> Result<Sourc
     ensures { IfOk result (λ line. line_of line ≡ row_line name.now row.now) }
 {
     let key = KeyPath(row.keys.as_slice()).to_string(alloc)?;
-    let first = first_column(alloc, key.as_str(), &row.told)?;
-    let source = told_source(alloc, name, &row.told)?;
+    let first = first_column(alloc, key.as_str(), &row.state)?;
+    let source = state_source(alloc, name, &row.state)?;
     Ok(SourcedLine { first, source })
 }
 
@@ -69,17 +69,17 @@ pub(crate) fn other_line(
 }
 
 // What is told of a key; a comment, where it isn't what a file could have in its place.
-fn first_column(alloc: Global, key: &str, told: &Told<'_>) -> Result<String, AllocError>
-    ensures { IfOk result (λ text. string_bytes text ≡ first_column key.now told.now) }
+fn first_column(alloc: Global, key: &str, state: &KeyState<'_>) -> Result<String, AllocError>
+    ensures { IfOk result (λ text. string_bytes text ≡ first_column key.now state.now) }
 {
-    match told {
-        Told::Value { literal, .. } | Told::NotJudged { literal, .. } | Told::Default(literal) => {
-            format!(in alloc; "{key} = {}", literal.text)
-        }
-        Told::Implied(literal) => format!(in alloc; "# {key} = {}", literal.text),
-        Told::Unset => format!(in alloc; "# {key} isn't set"),
-        Told::NoValue(_) => format!(in alloc; "# {key} = {NO_VALUE}"),
-        Told::Fault { message, .. } => fault_column(alloc, key, message.as_str()),
+    match state {
+        KeyState::Value { literal, .. }
+        | KeyState::NotJudged { literal, .. }
+        | KeyState::Default(literal) => { format!(in alloc; "{key} = {}", literal.text) }
+        KeyState::Implied(literal) => format!(in alloc; "# {key} = {}", literal.text),
+        KeyState::Unset => format!(in alloc; "# {key} isn't set"),
+        KeyState::NoValue(_) => format!(in alloc; "# {key} = {NO_VALUE}"),
+        KeyState::Fault { message, .. } => fault_column(alloc, key, message.as_str()),
     }
 }
 
@@ -92,11 +92,15 @@ fn fault_column(alloc: Global, key: &str, message: &str) -> Result<String, Alloc
 }
 
 // Where what a key has comes from, for the profile with this name.
-fn told_source(alloc: Global, name: &str, told: &Told<'_>) -> Result<Option<String>, AllocError>
-    ensures { IfOk result (λ text. option_map string_bytes text ≡ told_source name.now told.now) }
+fn state_source(
+    alloc: Global,
+    name: &str,
+    state: &KeyState<'_>,
+) -> Result<Option<String>, AllocError>
+    ensures { IfOk result (λ text. option_map string_bytes text ≡ state_source name.now state.now) }
 {
-    match told {
-        Told::Value {
+    match state {
+        KeyState::Value {
             source,
             no_limit,
             ..
@@ -105,15 +109,18 @@ fn told_source(alloc: Global, name: &str, told: &Told<'_>) -> Result<Option<Stri
             let text = format!(in alloc; "{source}{}", limit_mark(*no_limit))?;
             Ok(Some(text))
         }
-        Told::NotJudged { source, .. } => {
+        KeyState::NotJudged { source, .. } => {
             let source = SourceText(name, *source);
             let text = format!(in alloc; "{source} (not judged)")?;
             Ok(Some(text))
         }
-        Told::Default(_) | Told::Implied(_) => Ok(Some(String::from_str(alloc, TABLE_DEFAULT)?)),
-        Told::Unset => Ok(None),
-        Told::NoValue(source) => Ok(Some(SourceText(name, *source).to_string(alloc)?)),
-        Told::Fault { sources, .. } => {
+        KeyState::Default(_) | KeyState::Implied(_) => Ok(Some(String::from_str(
+            alloc,
+            TABLE_DEFAULT,
+        )?)),
+        KeyState::Unset => Ok(None),
+        KeyState::NoValue(source) => Ok(Some(SourceText(name, *source).to_string(alloc)?)),
+        KeyState::Fault { sources, .. } => {
             let sources = SourcesText(name, sources.as_slice());
             Ok(Some(sources.to_string(alloc)?))
         }

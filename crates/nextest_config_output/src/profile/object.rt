@@ -3,7 +3,7 @@
 ghost use Rattle.std.specs.Prelude.{◌≡◌, IfOk, option_map};
 ghost use Rattle.serde_json.specs.View.{view};
 ghost use Rattle.nextest_config_output.specs.Profile.Keys.{key_path};
-ghost use Rattle.nextest_config_output.specs.Profile.Object.{first_location, hidden_data, message_data, other_data, row_data, setting_data, told_data, told_location, told_state, value_message, value_state};
+ghost use Rattle.nextest_config_output.specs.Profile.Object.{first_location, hidden_data, message_data, other_data, row_data, setting_data, state_data, state_location, state_word, value_message, value_state};
 ghost use Rattle.nextest_config_output.specs.Profile.Location.{seen_location};
 
 use crate::profile::fault::fault_value;
@@ -13,7 +13,7 @@ use crate::profile::location::{
     Location, column_value, line_value, location_of, path_value, profile_value,
 };
 use crate::profile::source::OWN_DEFAULT;
-use nextest_config_profiles::report::{FaultSource, Hidden, OtherKey, Row, Source, Told};
+use nextest_config_profiles::report::{FaultSource, Hidden, KeyState, OtherKey, Row, Source};
 use nextest_config_values::literal::{KeyText, json_value};
 use serde_json::{Value, json};
 use std::alloc::{AllocError, Global};
@@ -22,13 +22,13 @@ use std::alloc::{AllocError, Global};
 pub(crate) fn row_value(alloc: Global, row: &Row<'_>) -> Result<Value, AllocError>
     ensures { IfOk result (λ object. view object ≡ row_data row.now) }
 {
-    let value = told_value(alloc, &row.told)?;
-    let message = message_value(alloc, &row.told)?;
-    let location = told_location(&row.told);
-    let state = told_state(&row.told);
+    let value = state_value(alloc, &row.state)?;
+    let message = message_value(alloc, &row.state)?;
+    let location = state_location(&row.state);
+    let state = state_word(&row.state);
     let keys = row.keys.as_slice();
-    match &row.told {
-        Told::Fault { sources, .. } => {
+    match &row.state {
+        KeyState::Fault { sources, .. } => {
             fault_value(alloc, keys, &location, message, sources.as_slice())
         }
         _ => setting_value(alloc, keys, value, &location, state, message),
@@ -91,28 +91,28 @@ pub(crate) fn other_value(alloc: Global, other: &OtherKey<'_>) -> Result<Value, 
 }
 
 // The value that a key has, or null.
-fn told_value(alloc: Global, told: &Told<'_>) -> Result<Value, AllocError>
-    ensures { IfOk result (λ value. view value ≡ told_data told.now) }
+fn state_value(alloc: Global, state: &KeyState<'_>) -> Result<Value, AllocError>
+    ensures { IfOk result (λ value. view value ≡ state_data state.now) }
 {
-    match told {
-        Told::Value { literal, .. }
-        | Told::NotJudged { literal, .. }
-        | Told::Default(literal)
-        | Told::Implied(literal) => json_value(alloc, &literal.value),
-        Told::Unset | Told::NoValue(_) | Told::Fault { .. } => Ok(Value::Null),
+    match state {
+        KeyState::Value { literal, .. }
+        | KeyState::NotJudged { literal, .. }
+        | KeyState::Default(literal)
+        | KeyState::Implied(literal) => json_value(alloc, &literal.value),
+        KeyState::Unset | KeyState::NoValue(_) | KeyState::Fault { .. } => Ok(Value::Null),
     }
 }
 
 // Where what a key has stands; of a value that is refused, where the first of its parts stands.
-fn told_location<'a>(told: &Told<'a>) -> Option<Location<'a>>
-    ensures { option_map seen_location result ≡ told_location told.now }
+fn state_location<'a>(state: &KeyState<'a>) -> Option<Location<'a>>
+    ensures { option_map seen_location result ≡ state_location state.now }
 {
-    match told {
-        Told::Value { source, .. } | Told::NotJudged { source, .. } | Told::NoValue(source) => {
-            location_of(*source)
-        }
-        Told::Default(_) | Told::Implied(_) | Told::Unset => None,
-        Told::Fault { sources, .. } => first_location(sources.as_slice()),
+    match state {
+        KeyState::Value { source, .. }
+        | KeyState::NotJudged { source, .. }
+        | KeyState::NoValue(source) => { location_of(*source) }
+        KeyState::Default(_) | KeyState::Implied(_) | KeyState::Unset => None,
+        KeyState::Fault { sources, .. } => first_location(sources.as_slice()),
     }
 }
 
@@ -127,15 +127,15 @@ fn first_location<'a>(sources: &[FaultSource<'a>]) -> Option<Location<'a>>
 }
 
 // The word of what a key has.
-fn told_state(told: &Told<'_>) -> &'static str
-    ensures { result.now ≡ told_state told.now }
+fn state_word(state: &KeyState<'_>) -> &'static str
+    ensures { result.now ≡ state_word state.now }
 {
-    match told {
-        Told::Value { source, .. } => value_state(source),
-        Told::Default(_) | Told::Implied(_) => "default",
-        Told::Unset => "unset",
-        Told::NotJudged { .. } => "not-judged",
-        Told::NoValue(_) | Told::Fault { .. } => "fault",
+    match state {
+        KeyState::Value { source, .. } => value_state(source),
+        KeyState::Default(_) | KeyState::Implied(_) => "default",
+        KeyState::Unset => "unset",
+        KeyState::NotJudged { .. } => "not-judged",
+        KeyState::NoValue(_) | KeyState::Fault { .. } => "fault",
     }
 }
 
@@ -150,15 +150,15 @@ fn value_state(source: &Source<'_>) -> &'static str
 }
 
 // What is said of what a key has, or null.
-fn message_value(alloc: Global, told: &Told<'_>) -> Result<Value, AllocError>
-    ensures { IfOk result (λ message. view message ≡ message_data told.now) }
+fn message_value(alloc: Global, state: &KeyState<'_>) -> Result<Value, AllocError>
+    ensures { IfOk result (λ message. view message ≡ message_data state.now) }
 {
-    match told {
-        Told::Value { source, .. } => value_message(alloc, source),
-        Told::Default(_) | Told::Implied(_) => Value::try_from_str(alloc, TABLE_DEFAULT),
-        Told::NoValue(_) => Value::try_from_str(alloc, NO_VALUE),
-        Told::Fault { message, .. } => Value::try_from_str(alloc, message.as_str()),
-        Told::Unset | Told::NotJudged { .. } => Ok(Value::Null),
+    match state {
+        KeyState::Value { source, .. } => value_message(alloc, source),
+        KeyState::Default(_) | KeyState::Implied(_) => Value::try_from_str(alloc, TABLE_DEFAULT),
+        KeyState::NoValue(_) => Value::try_from_str(alloc, NO_VALUE),
+        KeyState::Fault { message, .. } => Value::try_from_str(alloc, message.as_str()),
+        KeyState::Unset | KeyState::NotJudged { .. } => Ok(Value::Null),
     }
 }
 

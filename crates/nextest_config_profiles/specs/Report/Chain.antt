@@ -3,8 +3,8 @@ use Rattle.std.specs.Prelude.{◌≡◌, ◌⊎◌, ◌≢◌, ℕ, codes, List,
 use Rattle.nextest_config_profiles.specs.Profiles.{default_profile}
 use Rattle.nextest_config_profiles.specs.declared.profile.EffectiveProfile.{EffectiveProfile}
 use Rattle.nextest_config_profiles.specs.Report.Rows.{IsSourceOf}
-use Rattle.nextest_config_profiles.specs.declared.report.told.ChainProfile.{ChainProfile}
-use Rattle.nextest_config_profiles.specs.declared.report.told.Source.{Source}
+use Rattle.nextest_config_profiles.specs.declared.report.parts.ChainProfile.{ChainProfile}
+use Rattle.nextest_config_profiles.specs.declared.report.parts.Source.{Source}
 
 -- where it stands what a profile inherits from; `default` inherits from nothing
 abbrev pub IsInheritsSource : EffectiveProfile → List ℕ → Option Source → Type 0

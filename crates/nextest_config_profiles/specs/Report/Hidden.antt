@@ -8,7 +8,7 @@ use Rattle.nextest_config_profiles.specs.declared.profile.EffectiveProfile.{Effe
 use Rattle.nextest_config_profiles.specs.Report.Literal.{IsLiteralOf}
 use Rattle.nextest_config_profiles.specs.Report.Source.{IsSource}
 use Rattle.nextest_config_profiles.specs.Report.Standing.{hidden_of, StandingValue}
-use Rattle.nextest_config_profiles.specs.declared.report.told.Hidden.{Hidden}
+use Rattle.nextest_config_profiles.specs.declared.report.parts.Hidden.{Hidden}
 
 -- what a layer has at keys, or at the first of them, as it is told
 pub record IsHidden (effective : EffectiveProfile) (keys : Path) (standing : StandingValue)

@@ -3,7 +3,7 @@ use Rattle.std.specs.Prelude.{◌≡◌, string_bytes}
 use Rattle.toml.specs.Data.{Data}
 use Rattle.toml.specs.View.{view}
 use Rattle.nextest_config_values.specs.Literal.Value.{IsLiteral}
-use Rattle.nextest_config_profiles.specs.declared.report.told.Literal.{Literal}
+use Rattle.nextest_config_profiles.specs.declared.report.parts.Literal.{Literal}
 
 -- this value, and a text that writes it in TOML
 pub record IsLiteralOf (value : Data) (literal : Literal) : Type 0 where

@@ -13,7 +13,7 @@ use Rattle.nextest_config_profiles.specs.Report.Setting.{all_settings, SettingRu
 use Rattle.nextest_config_profiles.specs.Report.Somes.{AreLists, AreSomes}
 use Rattle.nextest_config_profiles.specs.declared.report.given.Given.{Given}
 use Rattle.nextest_config_profiles.specs.declared.report.given.Given.TheVariants as given
-use Rattle.nextest_config_profiles.specs.declared.report.told.OtherProfileFault.{OtherProfileFault}
+use Rattle.nextest_config_profiles.specs.declared.report.parts.OtherProfileFault.{OtherProfileFault}
 
 -- the profile by which this is given, if anything is
 abbrev pub giver_of : Given → Option (List ℕ)

@@ -12,7 +12,7 @@ use Rattle.nextest_config_profiles.specs.Report.Literal.{IsLiteralOf}
 use Rattle.nextest_config_profiles.specs.Report.Rows.{IsLastAt}
 use Rattle.nextest_config_profiles.specs.Report.Somes.{AreSomes}
 use Rattle.nextest_config_profiles.specs.Report.Source.{IsSource}
-use Rattle.nextest_config_profiles.specs.declared.report.told.OtherKey.{OtherKey}
+use Rattle.nextest_config_profiles.specs.declared.report.parts.OtherKey.{OtherKey}
 
 -- the keys that are told elsewhere: those of the settings, what the chain is made by, and overrides
 abbrev pub keys_told : List (List ℕ)

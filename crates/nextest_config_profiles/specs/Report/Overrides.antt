@@ -14,10 +14,10 @@ use Rattle.nextest_config_profiles.specs.Report.Literal.{IsLiteralOf}
 use Rattle.nextest_config_profiles.specs.Report.Others.{is_none_of}
 use Rattle.nextest_config_profiles.specs.Report.Somes.{AreSomes}
 use Rattle.nextest_config_profiles.specs.Report.Source.{IsPlaceIn}
-use Rattle.nextest_config_profiles.specs.declared.report.told.Literal.{Literal}
-use Rattle.nextest_config_profiles.specs.declared.report.told.Override.{Override}
-use Rattle.nextest_config_profiles.specs.declared.report.told.OverrideSetting.{OverrideSetting}
-use Rattle.nextest_config_profiles.specs.declared.report.told.Source.{Source}
+use Rattle.nextest_config_profiles.specs.declared.report.parts.Literal.{Literal}
+use Rattle.nextest_config_profiles.specs.declared.report.parts.Override.{Override}
+use Rattle.nextest_config_profiles.specs.declared.report.parts.OverrideSetting.{OverrideSetting}
+use Rattle.nextest_config_profiles.specs.declared.report.parts.Source.{Source}
 
 -- the keys that are known in an override, but for those by which it selects tests
 abbrev pub override_keys : List (List ℕ)

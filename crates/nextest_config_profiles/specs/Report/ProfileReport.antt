@@ -11,10 +11,10 @@ use Rattle.nextest_config_profiles.specs.Report.Overrides.{AreOverrides}
 use Rattle.nextest_config_profiles.specs.Report.Rows.{AreRows}
 use Rattle.nextest_config_profiles.specs.Report.Setting.{all_settings}
 use Rattle.nextest_config_profiles.specs.declared.report.profile_report.ProfileReport.{ProfileReport}
-use Rattle.nextest_config_profiles.specs.declared.report.told.OtherProfileFault.{OtherProfileFault}
-use Rattle.nextest_config_profiles.specs.declared.report.told.Row.{Row}
-use Rattle.nextest_config_profiles.specs.declared.report.told.Told.{Told}
-use Rattle.nextest_config_profiles.specs.declared.report.told.Told.TheVariants as told
+use Rattle.nextest_config_profiles.specs.declared.report.parts.OtherProfileFault.{OtherProfileFault}
+use Rattle.nextest_config_profiles.specs.declared.report.parts.Row.{Row}
+use Rattle.nextest_config_profiles.specs.declared.report.parts.KeyState.{KeyState}
+use Rattle.nextest_config_profiles.specs.declared.report.parts.KeyState.TheVariants as states
 
 -- the rows of each setting
 abbrev pub settings_in : ProfileReport → List (List Row)
@@ -32,14 +32,14 @@ pub record IsReport (effective : EffectiveProfile) (hiding : Bool) (report : Pro
 -- ---- faults
 
 -- a row tells of a fault, or that there is no value
-abbrev pub is_fault : Told → Bool
-is_fault (told.Fault message sources) = true
-is_fault (told.NoValue source) = true
+abbrev pub is_fault : KeyState → Bool
+is_fault (states.Fault message sources) = true
+is_fault (states.NoValue source) = true
 is_fault other = false
 
 -- some row of a list tells of a fault, or that there is no value
 abbrev pub rows_have_fault : List Row → Bool
-rows_have_fault rows = list_any (λ row. is_fault row.told) rows
+rows_have_fault rows = list_any (λ row. is_fault row.state) rows
 
 -- some row of a setting tells of a fault, or that there is no value
 abbrev pub have_fault : Vec Row Global → Bool

@@ -23,12 +23,12 @@ use Rattle.nextest_config_profiles.specs.Report.Source.{IsSource}
 use Rattle.nextest_config_profiles.specs.declared.report.given.Given.{Given}
 use Rattle.nextest_config_profiles.specs.declared.report.given.Given.TheVariants as given
 use Rattle.nextest_config_profiles.specs.declared.report.rows.GivenSetting.{GivenSetting}
-use Rattle.nextest_config_profiles.specs.declared.report.told.FaultSource.{FaultSource}
-use Rattle.nextest_config_profiles.specs.declared.report.told.Literal.{Literal}
-use Rattle.nextest_config_profiles.specs.declared.report.told.Row.{Row}
-use Rattle.nextest_config_profiles.specs.declared.report.told.Source.{Source}
-use Rattle.nextest_config_profiles.specs.declared.report.told.Told.{Told}
-use Rattle.nextest_config_profiles.specs.declared.report.told.Told.TheVariants as told
+use Rattle.nextest_config_profiles.specs.declared.report.parts.FaultSource.{FaultSource}
+use Rattle.nextest_config_profiles.specs.declared.report.parts.Literal.{Literal}
+use Rattle.nextest_config_profiles.specs.declared.report.parts.Row.{Row}
+use Rattle.nextest_config_profiles.specs.declared.report.parts.Source.{Source}
+use Rattle.nextest_config_profiles.specs.declared.report.parts.KeyState.{KeyState}
+use Rattle.nextest_config_profiles.specs.declared.report.parts.KeyState.TheVariants as states
 
 -- a setting, as a profile of the chain gives it, whether its durations are judged, and whether it
 -- is told what a value hides
@@ -57,23 +57,23 @@ IsLastAt effective profile keys =
 -- ---- a value that stands in a layer, which isn't judged where nextest may convert it
 
 -- what is told of a value that stands in a layer: it and its place, and whether it is judged
-abbrev pub IsGivenTold : At → Option (List ℕ) → Path → LayerValue → Told → Type 0
-IsGivenTold at member keys found (told.Value literal source no_limit) =
+abbrev pub IsGivenState : At → Option (List ℕ) → Path → LayerValue → KeyState → Type 0
+IsGivenState at member keys found (states.Value literal source no_limit) =
     (at.judged ≡ true) × (IsConvertedAt keys (view found.value.now) → ⊥)
     × IsLiteralOf (view found.value.now) literal
     × IsSource at.effective found.layer at.profile keys source
     × (IsTrue no_limit ↔ IsNoLimit at.setting.reader member (view found.value.now))
-IsGivenTold at member keys found (told.NotJudged literal source) =
+IsGivenState at member keys found (states.NotJudged literal source) =
     ((at.judged ≡ false) ⊎ IsConvertedAt keys (view found.value.now))
     × IsLiteralOf (view found.value.now) literal
     × IsSource at.effective found.layer at.profile keys source
-IsGivenTold at member keys found other = ⊥
+IsGivenState at member keys found other = ⊥
 
 -- the row of a value that stands in a layer, with what it hides
 pub record IsGivenRow (at : At) (member : Option (List ℕ)) (keys : Path) (found : LayerValue)
     (row : Row) : Type 0 where
   pub keys_are : words_of row.keys.items ≡ keys
-  pub told_is : IsGivenTold at member keys found row.told
+  pub state_is : IsGivenState at member keys found row.state
   pub hides : AreHidden at.effective at.hiding at.profile keys found.layer row.hidden.items
 
 -- ---- a key that no layer has
@@ -86,29 +86,29 @@ IsTaken unset literal = literal ≡ None
 IsTaken required literal = literal ≡ None
 
 -- a value told as one kind of row, or, where there is none, that nothing gives it
-abbrev pub told_as : (Literal → Told) → Option Literal → Told
-told_as kind (Some literal) = kind literal
-told_as kind None = told.Unset
+abbrev pub state_as : (Literal → KeyState) → Option Literal → KeyState
+state_as kind (Some literal) = kind literal
+state_as kind None = states.Unset
 
 -- what a reader takes for a key that is absent, as one kind of row, or that nothing gives it
-pub record IsTold (kind : Literal → Told) (absent : IfAbsent) (so : Told) : Type 0 where
+pub record IsAbsentState (kind : Literal → KeyState) (absent : IfAbsent) (so : KeyState) : Type 0 where
   pub literal : Option Literal
   pub is_taken : IsTaken absent literal
-  pub is_told : so ≡ told_as kind literal
+  pub is_state : so ≡ state_as kind literal
 
 -- the row of a key that no layer has: what its reader takes there, with what that hides
 pub record IsAbsentRow (at : At) (keys : Path) (absent : IfAbsent) (row : Row) : Type 0 where
   pub keys_are : words_of row.keys.items ≡ keys
-  pub told_is : IsTold told.Default absent row.told
+  pub state_is : IsAbsentState states.Default absent row.state
   pub hides : AreHidden at.effective at.hiding at.profile keys (length (layers_in at.effective))
       row.hidden.items
 
 -- ---- a table, key by key
 
 -- the row of a key of a table, where this is what the last layer has there, if anything
-abbrev pub IsMemberTold : At → MemberRule → Path → Option LayerValue → Row → Type 0
-IsMemberTold at member keys (Some found) = IsGivenRow at (Some member.key) keys found
-IsMemberTold at member keys None = IsAbsentRow at keys member.absent
+abbrev pub IsFoundMember : At → MemberRule → Path → Option LayerValue → Row → Type 0
+IsFoundMember at member keys (Some found) = IsGivenRow at (Some member.key) keys found
+IsFoundMember at member keys None = IsAbsentRow at keys member.absent
 
 -- the path of a key of the table at a path
 abbrev pub keys_of_member : Path → MemberRule → Path
@@ -118,7 +118,7 @@ keys_of_member keys member = keys ++ (member.key ∷ [])
 abbrev pub IsMemberRow : At → MemberRule → Row → Type 0
 IsMemberRow at member row = (found : Option LayerValue)
     × IsLastAt at.effective at.profile (keys_of_member at.setting.keys member) found
-    × IsMemberTold at member (keys_of_member at.setting.keys member) found row
+    × IsFoundMember at member (keys_of_member at.setting.keys member) found row
 
 -- ---- a text or a number in the place of a table
 
@@ -133,15 +133,15 @@ abbrev pub is_optional : MemberRule → Bool
 is_optional member = may_be_absent member.absent
 
 -- a row that hides nothing
-pub record IsBareRow (keys : Path) (IsSo : Told → Type 0) (row : Row) : Type 0 where
+pub record IsBareRow (keys : Path) (IsSo : KeyState → Type 0) (row : Row) : Type 0 where
   pub keys_are : words_of row.keys.items ≡ keys
-  pub told_is : IsSo row.told
+  pub state_is : IsSo row.state
   pub hides : row.hidden.items ≡ []
 
 -- the row of a key of a table in the place of which a text or a number stands
 abbrev pub IsImpliedRow : Path → MemberRule → Row → Type 0
 IsImpliedRow keys member =
-    IsBareRow (keys_of_member keys member) (IsTold told.Implied member.absent)
+    IsBareRow (keys_of_member keys member) (IsAbsentState states.Implied member.absent)
 
 -- the value is a text or a number, which stands for the table that a setting may have
 abbrev pub stands_for_table : Data → Bool
@@ -181,7 +181,7 @@ IsAlone IsSo rows = (row : Row) × IsSo row × (rows ≡ row ∷ [])
 -- the rows of what the last layer has for a setting, or one that tells that nothing gives it
 abbrev pub AreRowsOf : At → Option LayerValue → List Row → Type 0
 AreRowsOf at (Some found) = AreFoundRows at found (is_table (view found.value.now))
-AreRowsOf at None = IsAlone (IsBareRow at.setting.keys (λ so. so ≡ told.Unset))
+AreRowsOf at None = IsAlone (IsBareRow at.setting.keys (λ so. so ≡ states.Unset))
 
 -- the rows of a value that a profile gives a setting, by the last layer that says anything of it
 abbrev pub AreValueRows : At → List Row → Type 0
@@ -245,30 +245,30 @@ IsMessage None text = ⊥
 IsMessage (Some fault) text = text ≡ fault_text (told_at [] fault)
 
 -- what is told of a fault of a setting: what it says, and where the parts of the value stand
-abbrev pub IsFaultTold : EffectiveProfile → List ℕ → SettingRule → ValueFault → Told → Type 0
-IsFaultTold effective profile setting fault (told.Fault message sources) =
+abbrev pub IsFaultState : EffectiveProfile → List ℕ → SettingRule → ValueFault → KeyState → Type 0
+IsFaultState effective profile setting fault (states.Fault message sources) =
     IsMessage (fault_of fault) (string_bytes message)
     × ArePlacesOf effective profile setting sources.items
-IsFaultTold effective profile setting fault other = ⊥
+IsFaultState effective profile setting fault other = ⊥
 
 -- ---- nothing
 
 -- what is told of a setting that no profile gives, where the last layer has this for `default`
-abbrev pub IsTakenAway : EffectiveProfile → SettingRule → Option LayerValue → Told → Type 0
-IsTakenAway effective setting None so = so ≡ told.Unset
-IsTakenAway effective setting (Some found) (told.NoValue source) =
+abbrev pub IsTakenAway : EffectiveProfile → SettingRule → Option LayerValue → KeyState → Type 0
+IsTakenAway effective setting None so = so ≡ states.Unset
+IsTakenAway effective setting (Some found) (states.NoValue source) =
     IsSource effective found.layer (codes "default") setting.keys source
 IsTakenAway effective setting (Some found) other = ⊥
 
 -- nothing gives the setting, or what `default` has takes it away
-abbrev pub IsNothingTold : EffectiveProfile → SettingRule → Told → Type 0
-IsNothingTold effective setting so = (found : Option LayerValue)
+abbrev pub IsNothingState : EffectiveProfile → SettingRule → KeyState → Type 0
+IsNothingState effective setting so = (found : Option LayerValue)
     × IsLastAt effective (codes "default") setting.keys found
     × IsTakenAway effective setting found so
 
 -- the row of a setting that no profile gives
 abbrev pub IsNothingRow : EffectiveProfile → SettingRule → Row → Type 0
-IsNothingRow effective setting = IsBareRow setting.keys (IsNothingTold effective setting)
+IsNothingRow effective setting = IsBareRow setting.keys (IsNothingState effective setting)
 
 -- ---- a setting
 
@@ -289,7 +289,7 @@ AreRowsFor effective hiding setting (given.Value profile) =
 AreRowsFor effective hiding setting (given.NotJudged profile) =
     AreValueRows (at effective hiding setting profile.now false)
 AreRowsFor effective hiding setting (given.Fault profile fault) =
-    IsAlone (IsBareRow setting.keys (IsFaultTold effective profile.now setting fault))
+    IsAlone (IsBareRow setting.keys (IsFaultState effective profile.now setting fault))
 AreRowsFor effective hiding setting given.Nothing = IsAlone (IsNothingRow effective setting)
 
 -- what is told of a setting: what the profile gets for it

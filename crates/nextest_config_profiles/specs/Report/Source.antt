@@ -5,8 +5,8 @@ use Rattle.nextest_config_profiles.specs.Profile.{file_in, IsSpanIn}
 use Rattle.nextest_config_profiles.specs.Said.{Path}
 use Rattle.nextest_config_profiles.specs.declared.layer.Layer.{Layer}
 use Rattle.nextest_config_profiles.specs.declared.profile.EffectiveProfile.{EffectiveProfile}
-use Rattle.nextest_config_profiles.specs.declared.report.told.FilePlace.{FilePlace}
-use Rattle.nextest_config_profiles.specs.declared.report.told.Source.{Source}
+use Rattle.nextest_config_profiles.specs.declared.report.parts.FilePlace.{FilePlace}
+use Rattle.nextest_config_profiles.specs.declared.report.parts.Source.{Source}
 
 -- the path of the file, and where a range of it begins
 pub record IsFilePlace (file : Layer) (span : Option Span) (told : FilePlace) : Type 0 where

@@ -7,7 +7,7 @@ ghost use Rattle.nextest_config_profiles.specs.Report.Chain.{IsChainProfile, IsI
 
 use crate::EffectiveProfile;
 use crate::report::last::last_source;
-use crate::report::told::{ChainProfile, Source};
+use crate::report::parts::{ChainProfile, Source};
 use std::alloc::{AllocError, Global};
 
 /// The profile and those that it falls back on.

@@ -8,9 +8,9 @@ ghost use Rattle.nextest_config_elements.specs.SlowTimeout.{terminate_after_key}
 ghost use Rattle.nextest_config_profiles.specs.Reach.{words_of};
 ghost use Rattle.nextest_config_profiles.specs.Report.Converted.{HasConverted, IsRestRead, IsUnconverted, without};
 
-use crate::Setting as ProfileSetting;
 use crate::report::given::Given;
 use crate::report::keys::with_key;
+use nextest_config_elements::profile_setting::ProfileSetting;
 use nextest_config_lint::{is_converted_at, is_unjudged};
 use nextest_config_values::read::{ValueFault, value_at};
 use std::alloc::{AllocError, Global};

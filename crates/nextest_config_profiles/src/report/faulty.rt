@@ -2,17 +2,17 @@
 
 ghost use Rattle.std.specs.Prelude.{◌≡◌, ◌∷◌, ◌++◌, [], IfOk, map, OnOk, Option, string_bytes};
 ghost use Rattle.nextest_config_values.specs.Read.{fault_of};
-ghost use Rattle.nextest_config_profiles.specs.declared.report.told.FaultSource.{FaultSource};
+ghost use Rattle.nextest_config_profiles.specs.declared.report.parts.FaultSource.{FaultSource};
 ghost use Rattle.nextest_config_profiles.specs.Reach.{words_of};
-ghost use Rattle.nextest_config_profiles.specs.Report.Rows.{AreOrWhole, ArePlacesAt, ArePlacesOf, IsBareRow, IsFaultTold, IsMessage, IsPlaceOf, keys_of_member, parts_of};
+ghost use Rattle.nextest_config_profiles.specs.Report.Rows.{AreOrWhole, ArePlacesAt, ArePlacesOf, IsBareRow, IsFaultState, IsMessage, IsPlaceOf, keys_of_member, parts_of};
 ghost use Rattle.nextest_config_profiles.specs.Report.Setting.{member_of, rule_of};
 ghost use Rattle.nextest_config_profiles.specs.Report.Somes.{some_list};
 
 use crate::report::keys::{copy_of, with_key};
 use crate::report::last::{last_at, last_source};
+use crate::report::parts::{FaultSource, KeyState, Row};
 use crate::report::rows::bare_row;
 use crate::report::setting::{Member, Setting};
-use crate::report::told::{FaultSource, Row, Told};
 use crate::{EffectiveProfile, LayerValue};
 use nextest_config_values::read::ValueFault;
 use std::alloc::{AllocError, Global};
@@ -26,12 +26,12 @@ pub(crate) fn fault_row<'p>(
     fault: ValueFault,
 ) -> Result<Row<'p>, AllocError>
     ensures { IfOk result (IsBareRow (rule_of setting).keys
-        (IsFaultTold effective.now profile.now (rule_of setting) fault)) }
+        (IsFaultState effective.now profile.now (rule_of setting) fault)) }
 {
     let sources = places(alloc, effective, profile, setting)?;
     let message = message(alloc, fault)?;
-    let told = Told::Fault { message, sources };
-    bare_row(alloc, copy_of(alloc, setting.keys)?, told)
+    let state = KeyState::Fault { message, sources };
+    bare_row(alloc, copy_of(alloc, setting.keys)?, state)
 }
 
 /// What is wrong with a value.

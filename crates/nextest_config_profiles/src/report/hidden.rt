@@ -8,10 +8,10 @@ ghost use Rattle.nextest_config_profiles.specs.Report.Standing.{standing_of};
 
 use crate::EffectiveProfile;
 use crate::report::keys::copy_of;
+use crate::report::parts::{Hidden, Literal};
 use crate::report::rows::GivenSetting;
 use crate::report::source::source_of;
 use crate::report::standing::{Standing, hidden};
-use crate::report::told::{Hidden, Literal};
 use std::alloc::{AllocError, Global};
 
 /// What lies below a layer at keys of the profile that gives a setting, and what later profiles of
@@ -29,11 +29,11 @@ pub(crate) fn hidden_rows<'p>(
         return Ok(Vec::new(alloc));
     }
     let standings = hidden(alloc, given.effective, given.profile, keys, layer)?;
-    told(alloc, given.effective, keys, standings.as_slice())
+    hidden_each(alloc, given.effective, keys, standings.as_slice())
 }
 
 // What is told of each value that is hidden.
-fn told<'p>(
+fn hidden_each<'p>(
     alloc: Global,
     effective: &'p EffectiveProfile<'p>,
     keys: &[&'p str],

@@ -5,8 +5,8 @@ ghost use Rattle.nextest_config_profiles.specs.Reach.{words_of};
 ghost use Rattle.nextest_config_profiles.specs.Report.Rows.{IsLastAt, IsSourceOf, IsSourceOfFound};
 
 use crate::report::keys::path_in;
+use crate::report::parts::Source;
 use crate::report::source::source_of;
-use crate::report::told::Source;
 use crate::{EffectiveProfile, LayerValue};
 use std::alloc::{AllocError, Global};
 

@@ -4,7 +4,7 @@ ghost use Rattle.std.specs.Prelude.{◌≡◌, IfOk};
 ghost use Rattle.toml.specs.View.{view};
 ghost use Rattle.nextest_config_profiles.specs.Report.Literal.{IsLiteralOf};
 
-use crate::report::told::Literal;
+use crate::report::parts::Literal;
 use nextest_config_values::literal::value_text;
 use std::alloc::{AllocError, Global};
 use toml::Value;

@@ -5,13 +5,13 @@ ghost use Rattle.nextest_config_profiles.specs.Reach.{words_of};
 ghost use Rattle.nextest_config_profiles.specs.Report.OtherProfiles.{AreOtherProfileFaults, AreFaultsOf, giver_of, IsFaultIf, IsGiver, IsFaultOf, IsOtherProfileFault, IsGivenFault};
 ghost use Rattle.nextest_config_profiles.specs.Report.Setting.{rule_of};
 ghost use Rattle.nextest_config_profiles.specs.Report.Somes.{some_list};
-ghost use Rattle.nextest_config_profiles.specs.declared.report.told.OtherProfileFault.{OtherProfileFault};
+ghost use Rattle.nextest_config_profiles.specs.declared.report.parts.OtherProfileFault.{OtherProfileFault};
 
 use crate::report::faulty::{message, places};
 use crate::report::given::{Given, given_for};
 use crate::report::keys::copy_of;
+use crate::report::parts::OtherProfileFault;
 use crate::report::setting::{Setting, all_settings};
-use crate::report::told::OtherProfileFault;
 use crate::{EffectiveProfile, profile_names};
 use nextest_config_values::read::ValueFault;
 use std::alloc::{AllocError, Global};
@@ -123,12 +123,12 @@ fn fault_if<'p>(
     ensures { IfOk result (IsFaultIf effective.now (rule_of setting) profile.now) }
 {
     let given = given_for(alloc, effective, Some(profile), setting)?;
-    let fault = told_of_others(alloc, effective, setting, profile, given)?;
+    let fault = fault_of_given(alloc, effective, setting, profile, given)?;
     Ok(fault)
 }
 
 // What is told where a profile alone has this for a setting.
-fn told_of_others<'p>(
+fn fault_of_given<'p>(
     alloc: Global,
     effective: &'p EffectiveProfile<'p>,
     setting: Setting,

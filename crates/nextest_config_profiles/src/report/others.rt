@@ -5,11 +5,11 @@ ghost use Rattle.nextest_config_profiles.specs.Reach.{words_of};
 ghost use Rattle.nextest_config_profiles.specs.Report.Others.{AreOthers, IsOther, IsOtherOf, other_keys, PassesOther};
 ghost use Rattle.nextest_config_profiles.specs.Report.Rows.{IsLastAt};
 ghost use Rattle.nextest_config_profiles.specs.Report.Somes.{some_list};
-ghost use Rattle.nextest_config_profiles.specs.declared.report.told.OtherKey.{OtherKey};
+ghost use Rattle.nextest_config_profiles.specs.declared.report.parts.OtherKey.{OtherKey};
 
 use crate::report::last::last_at;
+use crate::report::parts::{Literal, OtherKey};
 use crate::report::source::source_of;
-use crate::report::told::{Literal, OtherKey};
 use crate::{EffectiveProfile, LayerValue};
 use std::alloc::{AllocError, Global};
 

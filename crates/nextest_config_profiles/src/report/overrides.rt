@@ -9,12 +9,12 @@ ghost use Rattle.nextest_config_profiles.specs.Reach.{words_of};
 ghost use Rattle.nextest_config_profiles.specs.Report.Elements.{element_of};
 ghost use Rattle.nextest_config_profiles.specs.Report.Overrides.{AreOverrides, AreSettings, IsElementSource, IsOverride, IsSet, IsSetIf, IsSpanOfElement, member_at, override_keys, steps_to_element};
 ghost use Rattle.nextest_config_profiles.specs.Report.Somes.{some_list};
-ghost use Rattle.nextest_config_profiles.specs.declared.report.told.OverrideSetting.{OverrideSetting};
+ghost use Rattle.nextest_config_profiles.specs.declared.report.parts.OverrideSetting.{OverrideSetting};
 
 use crate::EffectiveProfile;
 use crate::report::elements::{Element, all_elements};
+use crate::report::parts::{Literal, Override, OverrideSetting, Source};
 use crate::report::source::file_place;
-use crate::report::told::{Literal, Override, OverrideSetting, Source};
 use nextest_config_values::read::value_at;
 use std::alloc::{AllocError, Global};
 use toml::Value;
@@ -52,11 +52,11 @@ pub(crate) fn overrides<'p>(
     ensures { IfOk result (λ overrides. AreOverrides effective.now overrides.items) }
 {
     let elements = all_elements(alloc, effective)?;
-    told(alloc, effective, elements.as_slice())
+    overrides_of(alloc, effective, elements.as_slice())
 }
 
 // What is told of each override.
-fn told<'p>(
+fn overrides_of<'p>(
     alloc: Global,
     effective: &'p EffectiveProfile<'p>,
     elements: &[Element<'p>],
@@ -66,12 +66,12 @@ fn told<'p>(
 {
     let mut overrides = Vec::new(alloc);
     for element in elements {
-        overrides.push(told_of(alloc, effective, element)?)?;
+        overrides.push(override_of(alloc, effective, element)?)?;
     }
     Ok(overrides)
 }
 
-fn told_of<'p>(
+fn override_of<'p>(
     alloc: Global,
     effective: &'p EffectiveProfile<'p>,
     element: &Element<'p>,

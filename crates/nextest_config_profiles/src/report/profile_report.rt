@@ -11,9 +11,9 @@ use crate::report::chain::chain;
 use crate::report::other_profiles::other_profile_faults;
 use crate::report::others::others;
 use crate::report::overrides::overrides;
+use crate::report::parts::{ChainProfile, KeyState, OtherKey, OtherProfileFault, Override, Row};
 use crate::report::rows::rows_of;
 use crate::report::setting::all_settings;
-use crate::report::told::{ChainProfile, OtherKey, OtherProfileFault, Override, Row, Told};
 use std::alloc::{AllocError, Global};
 
 /// What is told of a profile.
@@ -86,11 +86,11 @@ fn settings_have_fault(settings: &[Vec<Row<'_>>]) -> bool
 fn have_fault(rows: &[Row<'_>]) -> bool
     ensures { result ≡ rows_have_fault rows.now }
 {
-    rows.iter().any(|row| is_fault(&row.told))
+    rows.iter().any(|row| is_fault(&row.state))
 }
 
-fn is_fault(told: &Told<'_>) -> bool
-    ensures { result ≡ is_fault told.now }
+fn is_fault(state: &KeyState<'_>) -> bool
+    ensures { result ≡ is_fault state.now }
 {
-    matches!(told, Told::Fault { .. } | Told::NoValue(_))
+    matches!(state, KeyState::Fault { .. } | KeyState::NoValue(_))
 }

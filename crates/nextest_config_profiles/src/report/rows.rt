@@ -4,7 +4,7 @@ ghost use Rattle.std.specs.Prelude.{◌≡◌, ◌∷◌, [], filter, IfOk, map,
 ghost use Rattle.std.specs.List.{AllZip};
 ghost use Rattle.toml.specs.View.{view};
 ghost use Rattle.nextest_config_profiles.specs.Reach.{words_of};
-ghost use Rattle.nextest_config_profiles.specs.Report.Rows.{AreImplied, AreRows, AreRowsFor, AreRowsOf, AreValueRows, AreWholeRows, at_of, IsAbsentRow, IsGivenRow, IsGivenTold, IsImpliedRow, IsMemberRow, IsMemberTold, is_optional, IsNothingRow, IsNothingTold, IsTaken, IsTakenAway, stands_for_table};
+ghost use Rattle.nextest_config_profiles.specs.Report.Rows.{AreImplied, AreRows, AreRowsFor, AreRowsOf, AreValueRows, AreWholeRows, at_of, IsAbsentRow, IsGivenRow, IsGivenState, IsImpliedRow, IsMemberRow, IsFoundMember, is_optional, IsNothingRow, IsNothingState, IsTaken, IsTakenAway, stands_for_table};
 ghost use Rattle.nextest_config_profiles.specs.Report.Setting.{absent_of, member_of, rule_of};
 
 use crate::report::faulty::fault_row;
@@ -13,9 +13,9 @@ use crate::report::hidden::hidden_rows;
 use crate::report::keys::{copy_of, with_key};
 use crate::report::last::last_at;
 use crate::report::no_limit::is_no_limit;
+use crate::report::parts::{KeyState, Literal, Row};
 use crate::report::setting::{Absent, Member, Setting};
 use crate::report::source::source_of;
-use crate::report::told::{Literal, Row, Told};
 use crate::{EffectiveProfile, LayerValue};
 use nextest_config_lint::is_converted_at;
 use std::alloc::{AllocError, Global};
@@ -100,16 +100,16 @@ fn nothing_row<'p>(
 ) -> Result<Row<'p>, AllocError>
     ensures { IfOk result (IsNothingRow effective.now (rule_of setting)) }
 {
-    let told = nothing_told(alloc, effective, setting)?;
-    bare_row(alloc, copy_of(alloc, setting.keys)?, told)
+    let state = nothing_state(alloc, effective, setting)?;
+    bare_row(alloc, copy_of(alloc, setting.keys)?, state)
 }
 
-fn nothing_told<'p>(
+fn nothing_state<'p>(
     alloc: Global,
     effective: &'p EffectiveProfile<'p>,
     setting: Setting,
-) -> Result<Told<'p>, AllocError>
-    ensures { IfOk result (IsNothingTold effective.now (rule_of setting)) }
+) -> Result<KeyState<'p>, AllocError>
+    ensures { IfOk result (IsNothingState effective.now (rule_of setting)) }
 {
     let found = last_at(alloc, effective, "default", setting.keys)?;
     taken_away(alloc, effective, setting, found)
@@ -121,15 +121,15 @@ fn taken_away<'p>(
     effective: &'p EffectiveProfile<'p>,
     setting: Setting,
     found: Option<LayerValue<'p>>,
-) -> Result<Told<'p>, AllocError>
+) -> Result<KeyState<'p>, AllocError>
     ensures { IfOk result (IsTakenAway effective.now (rule_of setting) found.entry) }
 {
     match found {
         Some(found) => {
             let source = source_of(alloc, effective, found.layer, "default", setting.keys)?;
-            Ok(Told::NoValue(source))
+            Ok(KeyState::NoValue(source))
         }
-        None => Ok(Told::Unset),
+        None => Ok(KeyState::Unset),
     }
 }
 
@@ -137,13 +137,17 @@ fn taken_away<'p>(
 pub(crate) fn bare_row<'p>(
     alloc: Global,
     keys: Vec<&'p str>,
-    told: Told<'p>,
+    state: KeyState<'p>,
 ) -> Result<Row<'p>, AllocError>
     ensures { IfOk result (λ row.
-        (row.keys ≡ keys.entry) × (row.told ≡ told.entry) × (row.hidden.items ≡ [])) }
+        (row.keys ≡ keys.entry) × (row.state ≡ state.entry) × (row.hidden.items ≡ [])) }
 {
     let hidden = Vec::new(alloc);
-    Ok(Row { keys, told, hidden })
+    Ok(Row {
+        keys,
+        state,
+        hidden,
+    })
 }
 
 // The rows of a value: of a table key by key.
@@ -169,7 +173,7 @@ fn found_rows<'p>(
         Some(found) => whole_rows(alloc, given, found),
         None => {
             let keys = copy_of(alloc, given.setting.keys)?;
-            let row = bare_row(alloc, keys, Told::Unset)?;
+            let row = bare_row(alloc, keys, KeyState::Unset)?;
             let rows = alone(alloc, row)?;
             Ok(rows)
         }
@@ -214,7 +218,7 @@ fn found_member<'p>(
     keys: Vec<&'p str>,
     found: Option<LayerValue<'p>>,
 ) -> Result<Row<'p>, AllocError>
-    ensures { IfOk result (IsMemberTold (at_of given.entry) (member_of member.now)
+    ensures { IfOk result (IsFoundMember (at_of given.entry) (member_of member.now)
         (words_of keys.entry.items) found.entry) }
 {
     match found {
@@ -234,28 +238,32 @@ fn given_row<'p>(
     ensures { IfOk result (IsGivenRow (at_of given.entry) (option_map (λ key. key.now) member.entry)
         (words_of keys.entry.items) found.entry) }
 {
-    let told = given_told(alloc, given, member, keys.as_slice(), found)?;
+    let state = given_state(alloc, given, member, keys.as_slice(), found)?;
     let hidden = hidden_rows(alloc, given, keys.as_slice(), found.layer)?;
-    Ok(Row { keys, told, hidden })
+    Ok(Row {
+        keys,
+        state,
+        hidden,
+    })
 }
 
-fn given_told<'p>(
+fn given_state<'p>(
     alloc: Global,
     given: GivenSetting<'p>,
     member: Option<&str>,
     keys: &[&str],
     found: LayerValue<'p>,
-) -> Result<Told<'p>, AllocError>
-    ensures { IfOk result (IsGivenTold (at_of given.entry)
+) -> Result<KeyState<'p>, AllocError>
+    ensures { IfOk result (IsGivenState (at_of given.entry)
         (option_map (λ key. key.now) member.entry) (words_of keys.now) found.entry) }
 {
     let source = source_of(alloc, given.effective, found.layer, given.profile, keys)?;
     let no_limit = is_no_limit(given.setting.reader, member, found.value);
     let literal = Literal::of(alloc, found.value.clone()?)?;
     if !given.is_judged || is_converted_at(keys, found.value) {
-        return Ok(Told::NotJudged { literal, source });
+        return Ok(KeyState::NotJudged { literal, source });
     }
-    Ok(Told::Value {
+    Ok(KeyState::Value {
         literal,
         source,
         no_limit,
@@ -272,13 +280,17 @@ fn absent_row<'p>(
     ensures { IfOk result
         (IsAbsentRow (at_of given.entry) (words_of keys.entry.items) (absent_of absent)) }
 {
-    let told = match taken(alloc, absent)? {
-        Some(literal) => Told::Default(literal),
-        None => Told::Unset,
+    let state = match taken(alloc, absent)? {
+        Some(literal) => KeyState::Default(literal),
+        None => KeyState::Unset,
     };
     let layers = given.effective.layer_count();
     let hidden = hidden_rows(alloc, given, keys.as_slice(), layers)?;
-    Ok(Row { keys, told, hidden })
+    Ok(Row {
+        keys,
+        state,
+        hidden,
+    })
 }
 
 // What a reader takes for a key that is absent.
@@ -366,9 +378,9 @@ fn implied_row<'p>(
     ensures { IfOk result (IsImpliedRow (rule_of setting).keys (member_of member.now)) }
 {
     let keys = with_key(alloc, setting.keys, member.key)?;
-    let told = match taken(alloc, member.absent)? {
-        Some(literal) => Told::Implied(literal),
-        None => Told::Unset,
+    let state = match taken(alloc, member.absent)? {
+        Some(literal) => KeyState::Implied(literal),
+        None => KeyState::Unset,
     };
-    bare_row(alloc, keys, told)
+    bare_row(alloc, keys, state)
 }

@@ -7,7 +7,7 @@ ghost use Rattle.nextest_config_profiles.specs.Report.Source.{IsPlaceIn, IsSourc
 
 use crate::EffectiveProfile;
 use crate::report::keys::path_in;
-use crate::report::told::{FilePlace, Source};
+use crate::report::parts::{FilePlace, Source};
 use std::alloc::{AllocError, Global};
 use toml_spans::{Place, Span};
 

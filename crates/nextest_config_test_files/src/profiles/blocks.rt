@@ -21,12 +21,13 @@ use nextest_config_elements::global_timeout::GlobalTimeout;
 use nextest_config_elements::junit::JunitFlakyFailStatus;
 use nextest_config_elements::leak_timeout::LeakTimeout;
 use nextest_config_elements::max_fail::MaxFail;
+use nextest_config_elements::profile_setting::ProfileSetting;
 use nextest_config_elements::report_skip_policy::ReportSkipPolicy;
 use nextest_config_elements::retry_policy::{FlakyResult, RetryPolicy};
 use nextest_config_elements::slow_timeout::SlowTimeout;
 use nextest_config_elements::threads_required::ThreadsRequired;
 use nextest_config_profiles::{
-    Effective, EffectiveProfile, InheritsPlace, Layer, Leaf, ProfileFault, Setting,
+    Effective, EffectiveProfile, InheritsPlace, Layer, Leaf, ProfileFault,
 };
 use nextest_config_test_rows::rows::{compare, copied, done, push, shown, unknown, written};
 use nextest_config_test_rows::runner::Runner;
@@ -245,7 +246,7 @@ fn setting(rt: &impl Runner, profile: &EffectiveProfile<'_>, path: &str) -> Stri
     }
 }
 
-fn given<T: Setting + Debug>(
+fn given<T: ProfileSetting + Debug>(
     rt: &impl Runner,
     profile: &EffectiveProfile<'_>,
     path: &str,
@@ -254,7 +255,10 @@ fn given<T: Setting + Debug>(
     effective_text(rt, done(rt, effective))
 }
 
-fn effective_text<T: Setting + Debug>(rt: &impl Runner, effective: Effective<'_, T>) -> String {
+fn effective_text<T: ProfileSetting + Debug>(
+    rt: &impl Runner,
+    effective: Effective<'_, T>,
+) -> String {
     match effective {
         Effective::Value { profile, value } => of_profile(rt, written(rt, value), profile),
         Effective::NotJudged { profile } => of_profile(rt, copied(rt, "not judged"), profile),

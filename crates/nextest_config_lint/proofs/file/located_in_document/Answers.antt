@@ -1,4 +1,3 @@
-use Rattle.std.proofs.lemmas.Result.{IfOk-weaker}
 use Rattle.toml.specs.View.{table_view}
 use Rattle.nextest_config_lint.proofs.Leading.{findings_lead}
 use Rattle.nextest_config_lint.proofs.Places.{all_at_ranges, all_in}
@@ -13,12 +12,12 @@ locate_all-requires c =
     (top, c.requires.read, all_in top _ found.0 found.2 leads)
 
 pub returns : goal.returns
-returns c = IfOk-weaker c.sorted_by_place.result _ _ (λ located sorted files by.
+returns c = λ files by.
     let found = c.in_ok-findings.ensures files by in
     record {
       all_found = found.0;
       are_findings = found.1;
       before = c.in_ok-located.located.items;
       at_ranges = all_at_ranges c.args.text.now _ _ c.in_ok-located.ensures found.0 found.2;
-      sorted = sorted;
-    }) c.sorted_by_place.ensures
+      sorted = c.in_ok-sort_by_place.ensures;
+    }

@@ -10,7 +10,7 @@ use std::fmt;
 use unicode_width::UnicodeWidthChar;
 
 /// Characters that print as they are shown.
-#[derive(Clone, Copy, Debug)]
+#[derive(Clone, Copy)]
 pub(crate) struct Shown<'a>(pub &'a [char]);
 
 impl fmt::Display for Shown<'_> {

@@ -24,7 +24,7 @@ pub loop-profile-preserved : goal.loop-profile-preserved
 loop-profile-preserved g c =
     let chain = c.args.chain.now in
     let i = c.loop-profile.profile-index in
-    let P = Passes g.T.Setting.seen g.T.Setting.reading (layers_of c.args.layers.now) (words_of c.args.keys.now) in
+    let P = Passes g.T.ProfileSetting.seen g.T.ProfileSetting.reading (layers_of c.args.layers.now) (words_of c.args.keys.now) in
     let passes : P (string_bytes c.profile-item.result) = rw c.as_str.ensures.value at (rw c.in_default.is at c.in_ok-given.ensures) in
     rw (take_more chain i c.profile-item.result c.loop-profile-test.true, ← c.profile-item.is, map_push string_bytes (take i chain) c.profile-item.result)
     (all_joined P (map string_bytes (take i chain)) (string_bytes c.profile-item.result ∷ []) c.loop-profile.invariant (passes, tt))

@@ -6,4 +6,4 @@ use Rattle.nextest_config_profiles.proofs.effective.first_given.Given as goal
 
 -- none of the profiles so far counts
 abbrev pub invariant-loop-profile : goal.invariant-loop-profile
-invariant-loop-profile g l = AllByRecursion (Passes g.T.Setting.seen g.T.Setting.reading (layers_of l.layers) (words_of l.keys)) (map string_bytes (take l.profile-index l.chain))
+invariant-loop-profile g l = AllByRecursion (Passes g.T.ProfileSetting.seen g.T.ProfileSetting.reading (layers_of l.layers) (words_of l.keys)) (map string_bytes (take l.profile-index l.chain))

@@ -9,7 +9,7 @@ pub returns-in-Some : goal.returns-in-Some
 returns-in-Some g c =
     let layers = layers_of c.args.layers.now in
     let path : words_of c.as_slice.result.now ≡ c.args.profile.now ∷ words_of c.args.keys.now = ap words_of c.as_slice.ensures.value ∙ c.in_ok-path.ensures in
-    given_result g.T.Setting.seen g.T.Setting.reading layers (words_of c.args.keys.now) c.args.profile.now (view c.in-Some.value)
+    given_result g.T.ProfileSetting.seen g.T.ProfileSetting.reading layers (words_of c.args.keys.now) c.args.profile.now (view c.in-Some.value)
     (subst (λ path. IsMergedOver layers path (view c.in-Some.value)) path (rw c.in-Some.is at c.in_ok-value.ensures))
     c.in_ok-given-in-Some.given c.in_ok-given-in-Some.ensures
 

@@ -4,7 +4,7 @@ use Rattle.std.proofs.lemmas.List.Sums.{fold_more}
 use Rattle.serde_json.proofs.Views.{members_view-insert_entry, view-Object}
 use Rattle.serde_json.specs.Data.{Members, no_members, object, put}
 use Rattle.serde_json.specs.View.{members_view}
-use Rattle.nextest_config_profiles.specs.declared.report.told.OverrideSetting.{OverrideSetting}
+use Rattle.nextest_config_profiles.specs.declared.report.parts.OverrideSetting.{OverrideSetting}
 use Rattle.nextest_config_output.specs.Profile.Object.{literal_data}
 use Rattle.nextest_config_output.proofs.profile.as_json.pairs_value.Goals as goal
 

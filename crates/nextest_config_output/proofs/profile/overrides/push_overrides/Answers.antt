@@ -1,5 +1,5 @@
 use Rattle.std.proofs.Common.{◌≡◌, ℕ, ◌≤◌, List, [], ◌∷◌, ◌++◌, append_assoc, codes, flat_map, length, refl, arith}
-use Rattle.nextest_config_profiles.specs.declared.report.told.Override.{Override}
+use Rattle.nextest_config_profiles.specs.declared.report.parts.Override.{Override}
 use Rattle.nextest_config_output.specs.Profile.Overrides.{override_line, overrides_text}
 use Rattle.nextest_config_output.proofs.profile.overrides.push_overrides.Goals as goal
 

@@ -7,4 +7,4 @@ use Rattle.nextest_config_profiles.proofs.profile.EffectiveProfile.setting_of.Go
 pub returns : goal.returns
 returns g c =
     let layers : layers_of c.as_slice.result.now ≡ layers_in c.args.self.now = ap layers_of c.as_slice.ensures.value ∙ c.in_ok-profiles.ensures in
-    subst (λ layers. IsEffective g.T.Setting.seen g.T.Setting.reading layers (words_of c.args.keys.now) (c.args.name.now ∷ []) c.in_ok-given.given) layers c.in_ok-given.ensures
+    subst (λ layers. IsEffective g.T.ProfileSetting.seen g.T.ProfileSetting.reading layers (words_of c.args.keys.now) (c.args.name.now ∷ []) c.in_ok-given.given) layers c.in_ok-given.ensures

@@ -1,8 +1,0 @@
-use Rattle.std.proofs.Common.{◌≡◌, map, take}
-use Rattle.nextest_config_lint.specs.Code.{code_word}
-use Rattle.nextest_config_cli.specs.Taken.{texts}
-use Rattle.nextest_config_cli.proofs.taken.codes.Given as goal
-
--- those of the words so far
-abbrev pub invariant-loop-word : goal.invariant-loop-word
-invariant-loop-word l = map code_word l.codes.items ≡ texts (take l.word-index l.taken.allowed.now)

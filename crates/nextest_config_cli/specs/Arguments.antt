@@ -1,0 +1,124 @@
+-- What is asked for by the words of a command line, once `clap` has taken them.
+use Rattle.std.specs.Prelude.{◌≡◌, ◌≢◌, ℕ, Bool, true, false, List, map, codes, Err, Ok, Option, Some, None, option_map, MatchOption, slice_get, string_bytes}
+use denote.Ref.{Bor}
+use Rattle.std.specs.List.{AllZip}
+use Rattle.semver.specs.Identifiers.{parts_of}
+use Rattle.semver.specs.Parse.{version_parts}
+use Rattle.semver.specs.declared.error.Error.{Error}
+use Rattle.nextest_config_values.specs.ToolConfig.{argument_of, IsArgumentFault, IsToolArgument, RefusesArgument}
+use Rattle.nextest_config_values.specs.declared.tool_config.ToolConfigFile.{ToolConfigFile}
+use Rattle.nextest_config_lint.specs.Code.{code_word}
+use Rattle.nextest_config_lint.specs.NearestWord.{IsNearest}
+use Rattle.nextest_config_lint.specs.declared.code.FindingCode.{FindingCode}
+use Rattle.nextest_config_output.specs.Findings.Format.{format_word}
+use Rattle.nextest_config_report.specs.Show as show
+use Rattle.nextest_config.specs.declared.nextest_version.edition.Edition.{Edition}
+use Rattle.nextest_config.specs.declared.nextest_version.edition.Edition.TheVariants.{ArrayAllowed, TableOnly}
+use Rattle.nextest_config_command.specs.Request.{all_wanted}
+use Rattle.nextest_config_command.specs.Words.{misuse_in, text, wanted_in}
+use Rattle.nextest_config_command.specs.declared.request.Check.{Check}
+use Rattle.nextest_config_command.specs.declared.request.LintOptions.{LintOptions}
+use Rattle.nextest_config_command.specs.declared.request.ProfileTask.{ProfileTask}
+use Rattle.nextest_config_command.specs.declared.request.Request.{Request}
+use Rattle.nextest_config_command.specs.declared.request.Task.{Task}
+use Rattle.nextest_config_command.specs.declared.request.Task.TheVariants as task
+use Rattle.nextest_config_lint.specs.Explain.Topic.{topic_word, topics}
+use Rattle.nextest_config_lint.specs.declared.explain.topic.Topic.{Topic}
+use Rattle.nextest_config_cli.specs.declared.refusal.Refusal.{Refusal}
+use Rattle.nextest_config_cli.specs.declared.refusal.Refusal.TheVariants as refusal
+use Rattle.nextest_config_cli.specs.declared.arguments.Arguments.{Arguments}
+
+-- the texts of words, without where they lie in memory
+abbrev pub texts : List (Bor (List ℕ)) → List (List ℕ)
+texts words = map (λ word. word.now) words
+
+-- ---- what the words ask for
+
+-- the edition: `experimental` has to be a table, or may be an array, too
+abbrev pub edition_of : Bool → Edition
+edition_of true = TableOnly
+edition_of false = ArrayAllowed
+
+-- how findings are told, and which count
+pub record AsksLint (arguments : Arguments) (options : LintOptions) : Type 0 where
+  pub format : text arguments.format ≡ Some (format_word options.format)
+  pub strict : options.strict ≡ arguments.strict
+  pub allowed : map code_word options.allowed.items ≡ texts arguments.allowed.now
+
+-- the current version of a check is the one that a word spells (SemVer 2.0.0)
+abbrev pub IsVersion : Option (List ℕ) → Check → Type 0
+IsVersion word check = MatchOption word ⊥ (λ word. version_parts word ≡ Ok (parts_of check.current))
+
+-- the check: the current version, whether its check is overridden, and how findings are told
+pub record AsksCheck (arguments : Arguments) (check : Check) : Type 0 where
+  pub current : IsVersion (text arguments.current) check
+  pub overridden : check.override_version_check ≡ arguments.overridden
+  pub lint : AsksLint arguments check.lint
+
+-- the profile that is told: its name, whether with what values hide, and the format
+pub record AsksProfile (arguments : Arguments) (profile : ProfileTask) : Type 0 where
+  pub name : text arguments.profile ≡ Some (string_bytes profile.name)
+  pub all : profile.all ≡ arguments.all
+  pub format : text arguments.format ≡ Some (show.format_word profile.format)
+
+-- the subcommand, with what it takes
+abbrev pub AsksTask : Arguments → Task → Type 0
+AsksTask arguments (task.Check check) = (arguments.subcommand.now ≡ codes "check") × AsksCheck arguments check
+AsksTask arguments (task.Lint options) = (arguments.subcommand.now ≡ codes "lint") × AsksLint arguments options
+AsksTask arguments (task.Profile profile) =
+    (arguments.subcommand.now ≡ codes "profile") × AsksProfile arguments profile
+AsksTask arguments (task.Show format) = (arguments.subcommand.now ≡ codes "show")
+    × (text arguments.format ≡ Some (show.format_word format))
+
+-- the file of a tool that a word names
+abbrev pub IsTool : List ℕ → ToolConfigFile → Type 0
+IsTool word file = IsToolArgument word (argument_of file)
+
+-- the request, of words that ask for one repository's file at least
+pub record Asks (arguments : Arguments) (request : Request) : Type 0 where
+  pub tools : AllZip IsTool (texts arguments.tools.now) request.tools.items
+  pub misuse : misuse_in arguments.files ≡ None
+  pub repository : all_wanted request ≡ wanted_in arguments.files
+  pub edition : request.edition ≡ edition_of arguments.table_only
+  pub task : AsksTask arguments request.task
+
+-- ---- words that are refused
+
+-- one of the words, of which this holds
+abbrev pub IsOneOf : List (List ℕ) → (List ℕ → Type 0) → Type 0
+IsOneOf words IsSo =
+    (position : ℕ) × (word : List ℕ) × (slice_get words position ≡ Some word) × IsSo word
+
+-- the word spells no version (SemVer 2.0.0)
+abbrev pub IsNoVersion : List ℕ → Type 0
+IsNoVersion word = (error : Error) × (version_parts word ≡ Err error)
+
+-- the word is that of no code of findings
+abbrev pub IsNoCode : List ℕ → Type 0
+IsNoCode word = (code : FindingCode) → code_word code ≢ word
+
+-- why nothing is asked for of which this holds: a word is wrong, or no such thing fits the words
+abbrev pub IsRefused : {X : Type 0} → (X → Type 0) → Arguments → Refusal → Type 0
+IsRefused IsAsked arguments (refusal.NotVersion word) =
+    (text arguments.current ≡ Some word.now) × IsNoVersion word.now
+IsRefused IsAsked arguments (refusal.NotCode word) =
+    IsOneOf (texts arguments.allowed.now) (λ code. (code ≡ word.now) × IsNoCode code)
+IsRefused IsAsked arguments (refusal.Tool error) =
+    IsOneOf (texts arguments.tools.now) (λ tool. RefusesArgument (IsArgumentFault tool) error)
+IsRefused {X} IsAsked arguments (refusal.Words said) = (asked : X) → IsAsked asked → ⊥
+IsRefused IsAsked arguments refusal.Memory = Unit {0}
+IsRefused IsAsked arguments other = ⊥
+
+-- ---- an explanation
+
+-- what an explanation is asked of; without a word the list of all is asked for
+abbrev pub AsksTopic : Option (List ℕ) → Option Topic → Type 0
+AsksTopic word topic = word ≡ option_map topic_word topic
+
+-- why no explanation is asked for: the word is no topic, with the nearest one, or memory ran out
+abbrev pub IsTopicRefused : Option (List ℕ) → Refusal → Type 0
+IsTopicRefused word (refusal.NotTopic other near) = (word ≡ Some other.now)
+    × ((topic : Topic) → topic_word topic ≢ other.now)
+    × IsNearest (map topic_word topics) other.now (option_map (λ near. near.now) near)
+IsTopicRefused word refusal.Memory = Unit {0}
+IsTopicRefused word other = ⊥

@@ -1,7 +1,0 @@
-use Rattle.std.proofs.Common.{[], map, string_bytes, take}
-use Rattle.nextest_config_lint.specs.Defined.{AddsNames, file_of, IsOfTool, SomeOf}
-use Rattle.nextest_config_lint.proofs.defined.tool_names.Given as goal
-
--- those of the files so far
-abbrev pub invariant-loop-file : goal.invariant-loop-file
-invariant-loop-file l = AddsNames (λ name. SomeOf (λ file. IsOfTool file name) (map file_of (take l.file-index l.files))) [] (map string_bytes l.names.keys)
