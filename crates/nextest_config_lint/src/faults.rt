@@ -17,7 +17,7 @@ use crate::settings::Setting;
 use crate::severity::severity_of;
 use crate::values::ValueFindings;
 use nextest_config_values::duration::may_be_duration;
-use nextest_config_values::read::{FaultCause, FaultKind, ReadFault, ValueFault};
+use nextest_config_values::read::{FaultCause, FaultKind, ValueFault};
 use std::alloc::{AllocError, Global};
 use toml::Value;
 use toml_spans::{PathText, Step};
@@ -76,25 +76,24 @@ fn refused_at(alloc: Global, setting: &Setting, fault: ValueFault) -> Result<Fin
     Ok(Finding { path, kind })
 }
 
-// The cause, as it is told at the path. What is told already is told so at any path.
+// The cause, as it is told at the path. A path is written only for what names one.
 fn kind_at(alloc: Global, path: &[Step], cause: FaultCause) -> Result<FaultKind, AllocError>
     ensures { IfOk result (λ kind. IfSome (cause_of cause) (λ told.
         reason_of kind ≡ Some (reason_at (printed_path (map step_of path.now)) told))) }
 {
     match cause {
         FaultCause::Told(kind) => Ok(kind),
-        cause => kind_told_at(alloc, path, cause),
+        cause => written_kind(alloc, path, cause),
     }
 }
 
-// A cause that waits for the path, as it is told there.
-fn kind_told_at(alloc: Global, path: &[Step], cause: FaultCause) -> Result<FaultKind, AllocError>
+// The cause, as it is told at the path, which is written.
+fn written_kind(alloc: Global, path: &[Step], cause: FaultCause) -> Result<FaultKind, AllocError>
     ensures { IfOk result (λ kind. IfSome (cause_of cause) (λ told.
         reason_of kind ≡ Some (reason_at (printed_path (map step_of path.now)) told))) }
 {
     let at = PathText(path).to_string(alloc)?;
-    let steps = Vec::new(alloc);
-    let ReadFault { path: _, kind } = ValueFault { steps, cause }.at(alloc, at.as_str());
+    let kind = cause.kind_at(alloc, at.as_str());
     if kind.is_memory() {
         return Err(AllocError);
     }

@@ -91,7 +91,8 @@ Follows wanted section (Some own) = own ≡ section
 Follows wanted section None = IsLeftOut (IsMemberOf wanted) wanted.table.now section
 
 -- a walk that leaves members out stands for the walk over all statements
-pub record StandsFor (wanted : Wanted) (walk : spec.Walk) (root : BTreeMap (String Global) Entry) (section : Option (Vec Part Global)) : Type 0 where
+pub record StandsFor (wanted : Wanted) (walk : spec.Walk) (root : BTreeMap (String Global) Entry)
+    (section : Option (Vec Part Global)) : Type 0 where
   pub follows : Follows wanted walk.section (option_map (λ parts. path_of parts.items) section)
   pub alike : RootsAlike (IsMemberOf wanted) wanted.table.now walk.root (branches_of root)
 

@@ -94,7 +94,8 @@ pub(crate) fn define_pair(
     value: Entry,
 ) -> Result<(), Refusal>
     ensures { Grows root.old root.new result
-        (tables.along_header (path_of section.now.items) (tables.put (parts_of key) (tree_of value))) }
+        (tables.along_header (path_of section.now.items)
+        (tables.put (parts_of key) (tree_of value))) }
 {
     let KeyParts { path, last } = key;
     along_header(alloc, root, section, &path, last, Definition::Pair(value))

@@ -134,7 +134,8 @@ fn first_of(pieces: Pieces) -> usize
 /// The pieces of what a path leads to.
 pub(crate) fn pieces_at(members: &Members, path: &[Step]) -> Option<Pieces>
     ensures { option_map pieces_from result
-        ≡ option_map trees.pieces_of (trees.tree_at (branches_of members.now) (map step_of path.now)) }
+        ≡ option_map trees.pieces_of
+        (trees.tree_at (branches_of members.now) (map step_of path.now)) }
 {
     match path {
         [Step::Key(key), rest @ ..] => pieces_at_key(members, key.as_str(), rest),
@@ -146,7 +147,8 @@ pub(crate) fn pieces_at(members: &Members, path: &[Step]) -> Option<Pieces>
 #[cycle(pieces_below)]
 fn pieces_at_key(members: &Members, key: &str, rest: &[Step]) -> Option<Pieces>
     ensures { option_map pieces_from result ≡ option_map trees.pieces_of
-        (option_and_then (trees.tree_below (map step_of rest.now)) (trees.get_branch key.now (branches_of members.now))) }
+        (option_and_then (trees.tree_below (map step_of rest.now))
+        (trees.get_branch key.now (branches_of members.now))) }
 {
     match members.get(key) {
         Some(entry) => pieces_below(entry, rest),
@@ -188,7 +190,8 @@ fn pieces_below(entry: &Entry, steps: &[Step]) -> Option<Pieces>
 #[cycle(pieces_below)]
 fn pieces_at_index(elements: &[Entry], index: usize, rest: &[Step]) -> Option<Pieces>
     ensures { option_map pieces_from result ≡ option_map trees.pieces_of
-        (option_and_then (trees.tree_below (map step_of rest.now)) (trees.get_tree index (trees_from (map tree_of elements.now)))) }
+        (option_and_then (trees.tree_below (map step_of rest.now))
+        (trees.get_tree index (trees_from (map tree_of elements.now)))) }
 {
     if index < elements.len() {
         pieces_below(&elements[index], rest)
@@ -200,7 +203,8 @@ fn pieces_at_index(elements: &[Entry], index: usize, rest: &[Step]) -> Option<Pi
 // The pieces of what steps lead to from a table that a header made.
 #[cycle(pieces_below)]
 fn pieces_of_table(key: Piece, members: &Members, steps: &[Step]) -> Option<Pieces>
-    ensures { option_map pieces_from result ≡ option_map trees.pieces_of (trees.tree_below (map step_of steps.now)
+    ensures { option_map pieces_from result ≡ option_map trees.pieces_of
+        (trees.tree_below (map step_of steps.now)
         (trees.table (piece_of key) header (branches_of members.now))) }
 {
     match steps {

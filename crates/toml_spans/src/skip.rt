@@ -186,7 +186,8 @@ fn skip_elements(text: &str, depth: usize) -> Option<&str>
 #[cycle(value)]
 fn skip_members(text: &str, depth: usize) -> Option<&str>
     ensures rest { (n : ℕ)
-        → StepsOver (spec.member_trees (spec.value_tree depth) n trees.no_branches text.now) result }
+        → StepsOver (spec.member_trees (spec.value_tree depth) n trees.no_branches text.now)
+        result }
     ensures shorter { IfSome result (λ rest. length rest.now < length text.now) }
 {
     let mut rest = text;

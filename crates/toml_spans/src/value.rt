@@ -62,7 +62,8 @@ fn scalar(alloc: Global, text: &str) -> Result<(Entry, &str), Refusal>
 #[cycle(value)]
 fn elements(alloc: Global, text: &str, depth: usize) -> Result<(Vec<Entry>, &str), Refusal>
     ensures value { (n : ℕ) → length text.now < n
-        → Reads trees_of result (spec.element_trees (spec.value_tree depth) n trees.no_trees text.now) }
+        → Reads trees_of result
+        (spec.element_trees (spec.value_tree depth) n trees.no_trees text.now) }
     ensures shorter { Shortens text.now result }
 {
     let mut found = Vec::new(alloc);

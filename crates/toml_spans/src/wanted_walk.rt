@@ -26,7 +26,8 @@ use toml_parser::text::skip_blank;
 /// What stands where after all statements of a text, but for those of members that aren't wanted.
 pub(crate) fn wanted_walk(alloc: Global, text: &str, wanted: Wanted<'_>) -> Result<Members, Refusal>
     ensures { IfOk result (λ root. (walk : Walk) → IsWalked text.now walk
-        → RootsAlike (IsMemberOf wanted.entry) wanted.entry.table.now walk.root (branches_of root)) }
+        → RootsAlike (IsMemberOf wanted.entry) wanted.entry.table.now walk.root
+        (branches_of root)) }
 {
     let mut root = BTreeMap::new(alloc);
     let mut section = Some(Vec::new(alloc));
@@ -51,7 +52,8 @@ fn past_statement<'t>(
 ) -> Result<&'t str, Refusal>
     ensures step { IfOk result (λ rest. (walk next : Walk) (s : Statement) (after : List ℕ)
         → StandsFor wanted.entry walk root.old section.old
-        → spec.statement_line start.now ≡ Some (s, after) → spec.walk_on walk start.now s ≡ Some next
+        → spec.statement_line start.now ≡ Some (s, after)
+        → spec.walk_on walk start.now s ≡ Some next
         → (rest.now ≡ after) × StandsFor wanted.entry next root.new section.new) }
     ensures shorter { IfOk result (λ rest. length rest.now < length start.now) }
 {
@@ -117,8 +119,8 @@ fn add_header(
 ) -> Result<(), Refusal>
     ensures { OnOk result ((walk next : Walk) → StandsFor wanted.entry walk root.old section.old
         → next.section ≡ (parts_of key).0 ++ (parts_of key).1 ∷ []
-        → tables.along_header (parts_of key).0 (tables.at_part (parts_of key).1 (definition_of what))
-        walk.root ≡ Some next.root
+        → tables.along_header (parts_of key).0
+        (tables.at_part (parts_of key).1 (definition_of what)) walk.root ≡ Some next.root
         → StandsFor wanted.entry next root.new section.new) }
 {
     if wanted.leaves_out(&key) {

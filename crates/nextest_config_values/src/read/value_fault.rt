@@ -2,7 +2,7 @@
 
 ghost use Rattle.std.specs.Prelude.{◌≡◌, ◌++◌, [], IfOk, IfSome, is_none, map, OnOk, string_bytes};
 ghost use Rattle.toml.specs.View.{view};
-ghost use Rattle.nextest_config_values.specs.Read.{cause_of, fault_below, fault_here, fault_of, found_text, index, IsMemory, key, missing, no_duration, path_along, path_by, path_of, reason_at, RefusesAs, RefusesKind, step_of, TellsAs, TellsMemory, told_at, told_with, unknown_key, unknown_word, wrong_type, wrong_value};
+ghost use Rattle.nextest_config_values.specs.Read.{cause_of, fault_below, fault_here, fault_of, FaultOrMemory, found_text, index, IsMemory, key, missing, no_duration, path_along, path_by, path_of, reason_at, reason_of, RefusesAs, RefusesKind, step_of, TellsAs, TellsMemory, told_at, told_with, unknown_key, unknown_word, wrong_type, wrong_value};
 ghost use Rattle.nextest_config_values.specs.declared.read.fault.FaultKind.TheVariants.{Memory};
 ghost use Rattle.nextest_config_values.specs.declared.read.value_fault.FaultCause.TheVariants as causes;
 
@@ -173,36 +173,45 @@ impl ValueFault {
             (λ fault. TellsAs (told_at at.now fault) result) }
     {
         match path_along(alloc, at, self.steps.as_slice()) {
-            Ok(path) => self.cause.told_at(alloc, path),
+            Ok(path) => {
+                let kind = self.cause.kind_at(alloc, path.as_str());
+                fault_with(alloc, path, kind)
+            }
             Err(AllocError) => ReadFault::memory(alloc),
         }
     }
 }
 
 impl FaultCause {
-    // What is told of the cause at this path.
-    fn told_at(self, alloc: Global, path: String) -> ReadFault
-        ensures memory { self ≡ causes.Told Memory → TellsMemory result }
-        ensures told { IfSome (cause_of self) (λ cause. TellsAs
-            (told_with (string_bytes path) (reason_at (string_bytes path) cause)) result) }
+    /// What is told of the cause at this path.
+    pub fn kind_at(self, alloc: Global, path: &str) -> FaultKind
+        ensures memory { self ≡ causes.Told Memory → result ≡ Memory }
+        ensures kind { IfSome (cause_of self) (λ cause. FaultOrMemory (reason_of result)
+            (result ≡ Memory) (λ reason. reason ≡ reason_at path.now cause)) }
     {
         match self {
-            FaultCause::NoDuration { found } => {
-                let expected = "a duration";
-                let kind = FaultKind::InvalidValue { found, expected };
-                ReadFault { path, kind }
-            }
-            FaultCause::Missing { key } => match path_of(alloc, path.as_str(), key.as_str()) {
-                Ok(key) => {
-                    let kind = FaultKind::MissingField { key };
-                    ReadFault { path, kind }
-                }
-                Err(AllocError) => ReadFault::memory(alloc),
+            FaultCause::NoDuration { found } => FaultKind::InvalidValue {
+                found,
+                expected: "a duration",
             },
-            FaultCause::Told(kind) if kind.is_memory() => ReadFault::memory(alloc),
-            FaultCause::Told(kind) => ReadFault { path, kind },
+            FaultCause::Missing { key } => match path_of(alloc, path, key.as_str()) {
+                Ok(key) => FaultKind::MissingField { key },
+                Err(AllocError) => FaultKind::Memory,
+            },
+            FaultCause::Told(kind) => kind,
         }
     }
+}
+
+// A fault of this kind at a path; a refusal of memory has none.
+fn fault_with(alloc: Global, path: String, kind: FaultKind) -> ReadFault
+    ensures { FaultOrMemory (reason_of kind) (TellsMemory result)
+        (λ reason. TellsAs (told_with (string_bytes path) reason) result) }
+{
+    if kind.is_memory() {
+        return ReadFault::memory(alloc);
+    }
+    ReadFault { path, kind }
 }
 
 // The path of what these steps lead to from the value at a path.
