@@ -8,7 +8,7 @@ use Rattle.semver.specs.declared.error.Error.{Error}
 use Rattle.nextest_config_values.specs.ToolConfig.{argument_of, IsArgumentFault, IsToolArgument, RefusesArgument}
 use Rattle.nextest_config_values.specs.declared.tool_config.ToolConfigFile.{ToolConfigFile}
 use Rattle.nextest_config_lint.specs.Code.{code_word}
-use Rattle.nextest_config_lint.specs.NearestWord.{IsNearest}
+use Rattle.nextest_config_values.specs.NearestWord.{IsNearest}
 use Rattle.nextest_config_lint.specs.declared.code.FindingCode.{FindingCode}
 use Rattle.nextest_config_output.specs.Findings.Format.{format_word}
 use Rattle.nextest_config_report.specs.Show as show

@@ -12,7 +12,7 @@ use Rattle.nextest_config.specs.NextestVersion.{all_features, Features, FeatureS
 use Rattle.nextest_config.specs.declared.nextest_version.edition.Edition.{Edition}
 use Rattle.nextest_config.specs.declared.nextest_version.source.ConfigSourceKind.{ConfigSourceKind}
 use Rattle.nextest_config.specs.declared.nextest_version.source.ConfigSourceKind.TheVariants.{Tool}
-use Rattle.nextest_config_lint.specs.NearestWord.{nearest_once}
+use Rattle.nextest_config_values.specs.NearestWord.{nearest_once}
 use Rattle.toml_spans.specs.Line.{found_below}
 use Rattle.toml_spans.specs.Step.{index, key, PathStep}
 use Rattle.nextest_config_lint.proofs.ReferencesFound.{IsAtPath, meant_once, reference_at, reference_once}

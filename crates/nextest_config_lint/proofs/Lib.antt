@@ -1,4 +1,3 @@
-pub mod Distances
 pub mod FaultsOf
 pub mod FaultSteps
 pub mod FindingsOnce
@@ -13,7 +12,6 @@ pub mod Leading
 pub mod Levels
 pub mod MildFaults
 pub mod Mistakes
-pub mod NearestWords
 pub mod NoDuration
 pub mod OtherNames
 pub mod Places

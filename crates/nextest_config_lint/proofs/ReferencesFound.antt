@@ -14,7 +14,7 @@ use Rattle.nextest_config_lint.specs.Defined.{AreNamesOf, DefinesGroup, DefinesP
 use Rattle.nextest_config_lint.specs.File.{path_after}
 use Rattle.nextest_config_lint.specs.FindingsLaws.{is_reference}
 use Rattle.nextest_config_lint.specs.Found.{Found, found_at, FoundKind, found_severity, group_of_tool, group_outside_tool, IsNearestMeant, Meant, no_group_name, override_of_all, reserved_profile, the_word, undefined_group, undefined_profile}
-use Rattle.nextest_config_lint.specs.NearestWord.{nearest_once}
+use Rattle.nextest_config_values.specs.NearestWord.{nearest_once}
 use Rattle.nextest_config_lint.specs.References.{another, an_override, a_group, a_group_of, a_parent, a_profile, IsGroupTextTold, IsGroupTold, IsKeptTold, IsNameTold, IsOtherProfile, IsParentNameTold, IsParentTold, IsPlaceTold, IsReferenceFound, IsSought, IsTextTold, IsToldIf, IsUndefinedTold, Place, place_of, tool_mark_of}
 use Rattle.nextest_config_lint.specs.Settings.{SettingView}
 use Rattle.nextest_config_lint.specs.declared.finding.FindingSeverity.TheVariants.{Warning}

@@ -3,7 +3,7 @@ use Rattle.std.specs.Prelude.{◌≡◌, ℕ, List, [], ◌∷◌, ◌++◌, map
 use Rattle.std.specs.declared.alloc.Global.{Global}
 use Rattle.nextest_config_values.specs.Identifier.Error.{identifier_fault}
 use Rattle.nextest_config_values.specs.Read.{identifier, Reason, reason_of}
-use Rattle.nextest_config_lint.specs.NearestWord.{IsNearest}
+use Rattle.nextest_config_values.specs.NearestWord.{IsNearest}
 use Rattle.toml_spans.specs.Step.{PathStep, step_of}
 use Rattle.nextest_config_lint.specs.declared.finding.Finding.{Finding}
 use Rattle.nextest_config_lint.specs.declared.finding.FindingKind.{FindingKind}

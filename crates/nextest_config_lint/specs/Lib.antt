@@ -15,7 +15,6 @@ pub mod Integers
 pub mod Items
 pub mod Meant
 pub mod Mistake
-pub mod NearestWord
 pub mod Reader
 pub mod References
 pub mod Schema

@@ -15,7 +15,7 @@ use Rattle.toml_spans.specs.declared.index.Index.{Index}
 use Rattle.toml_spans.specs.declared.place.Span.{Span}
 use Rattle.nextest_config_lint.specs.Conversion.{is_word}
 use Rattle.nextest_config_lint.specs.Found.{Mistaken, misspelt, repeated, unquoted}
-use Rattle.nextest_config_lint.specs.NearestWord.{IsNearest}
+use Rattle.nextest_config_values.specs.NearestWord.{IsNearest}
 use Rattle.nextest_config_lint.specs.declared.mistake.Section.{Section}
 
 -- ---- a value without quotes

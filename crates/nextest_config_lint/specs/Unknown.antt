@@ -6,7 +6,7 @@ use Rattle.toml.specs.Data.{Data, Members, table}
 use Rattle.nextest_config_values.specs.Read.{value_of}
 use Rattle.toml_spans.specs.Step.{PathStep}
 use Rattle.nextest_config_lint.specs.Found.{Found, found_at, Meant, the_key, the_word, unknown_key}
-use Rattle.nextest_config_lint.specs.NearestWord.{dash, distance, IsNearest, is_same}
+use Rattle.nextest_config_values.specs.NearestWord.{dash, distance, IsNearest, is_same}
 use Rattle.nextest_config_lint.specs.Settings.{SettingView, names_of}
 use Rattle.nextest_config_lint.specs.declared.finding.Scope.{Scope}
 use Rattle.nextest_config_lint.specs.declared.finding.Scope.TheVariants.{Junit, Override, Profile, Top}

@@ -12,7 +12,7 @@ ghost use Rattle.nextest_config_lint.specs.Settings.{setting_view};
 ghost use Rattle.nextest_config_lint.specs.Values.{names_features, TellsOutcome};
 
 use crate::finding::{Finding, FindingKind};
-use crate::nearest_word::nearest_hint;
+use crate::hints::nearest_hint;
 use crate::settings::Setting;
 use crate::values::ValueFindings;
 use nextest_config::nextest_version::{

@@ -15,7 +15,6 @@ ghost use Rattle.nextest_config_lint.specs.File.{AreLocated};
 ghost use Rattle.nextest_config_lint.specs.Finding.{rank};
 ghost use Rattle.nextest_config_lint.specs.FindingsLaws.{IsFileWithoutError, IsNoLocatedError, IsNoError, IsWithoutError, LeadsToValue, own_findings};
 ghost use Rattle.nextest_config_lint.specs.Found.{Found};
-ghost use Rattle.nextest_config_lint.specs.NearestWord.{IsNearest};
 ghost use Rattle.nextest_config_lint.specs.declared.file.LocatedFinding.{LocatedFinding};
 ghost use Rattle.nextest_config_lint.specs.declared.finding.FindingSeverity.{FindingSeverity};
 
@@ -72,13 +71,6 @@ pub fn law_findings_lead()
         (position : ℕ) (members : Members)
         (all_found : List Found) → AreFindings edition kind files position members all_found
         → AllByRecursion (LeadsToValue members) all_found }
-{}
-
-/// A name has one nearest word, or none.
-#[tactic(auto, using(crate::specs::NearestWord::nearest_once))]
-pub fn law_nearest_once()
-    ensures { (words : List (List ℕ)) (name : List ℕ) (a b : Option (List ℕ))
-        → IsNearest words name a → IsNearest words name b → a ≡ b }
 {}
 
 /// A text that is a document, of which no error is found, is read as a source: it asks something.

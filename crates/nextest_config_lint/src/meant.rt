@@ -10,13 +10,13 @@ ghost use Rattle.toml_spans.specs.Line.{found_below};
 ghost use Rattle.toml_spans.specs.Step.{step_of};
 ghost use Rattle.nextest_config_lint.specs.Found.{IsNearestMeant, meant_of};
 ghost use Rattle.nextest_config_lint.specs.Meant.{digits_of, digits_of_number, digits_of_text, IsDurationHint, IsDurationText, IsFaultHint, IsEitherHint, IsHintAt, IsLongText, IsSecondsHint, IsShortHint, IsWordHint, keys_by, keys_taken, limit_by, limit_of_count, refused_key, seconds_text, tables_meant, taken_at, taken_here, taken_in_leak, taken_in_limit, taken_in_report, taken_in_retries, taken_in_timeout, taken_to, truth_meant};
-ghost use Rattle.nextest_config_lint.specs.NearestWord.{words_of};
+ghost use Rattle.nextest_config_values.specs.NearestWord.{words_of};
 ghost use Rattle.nextest_config_lint.specs.Settings.{setting_view};
 
 use crate::faults::value_along;
 use crate::finding::Hint;
+use crate::hints::nearest_hint;
 use crate::integers::{IntegerRange, integer_hint};
-use crate::nearest_word::nearest_hint;
 use crate::reader::Reader;
 use crate::settings::Setting;
 use nextest_config_values::duration::parse_duration;

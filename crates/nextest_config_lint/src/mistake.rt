@@ -10,7 +10,7 @@ ghost use Rattle.nextest_config_lint.specs.Found.{mistaken_of};
 ghost use Rattle.nextest_config_lint.specs.Mistake.{IsKeySpan, IsMistake, IsMistakeIn, IsOfWord, IsRepeated, IsRepeatedIn, before_part, has_no_equals, header_at, inside, is_double, is_unquoted, key_steps, last_header, line_in, section_behind, section_of, section_view, statement_key, swapped};
 
 use crate::finding::Mistake;
-use crate::nearest_word::nearest;
+use nextest_config_values::nearest_word::nearest;
 use std::alloc::{AllocError, Global};
 use toml_parser::text::{byte_at, first, skip, skip_ws};
 use toml_parser::{Key, ParseError, dotted_key};

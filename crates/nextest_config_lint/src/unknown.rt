@@ -5,14 +5,15 @@ ghost use Rattle.toml.specs.Data.{table};
 ghost use Rattle.toml.specs.View.{table_view};
 ghost use Rattle.nextest_config_lint.specs.Found.{AddsFound, AddsOne, AreFoundIn, meant_of, TellsSome};
 ghost use Rattle.nextest_config_lint.specs.Settings.{setting_view, mark_step, names_of};
-ghost use Rattle.nextest_config_lint.specs.NearestWord.{words_of};
+ghost use Rattle.nextest_config_values.specs.NearestWord.{words_of};
 ghost use Rattle.nextest_config_lint.specs.Schema.{below_of, file_table, row_words, rows_told};
 ghost use Rattle.nextest_config_lint.specs.Unknown.{scope_of, scope_words, is_known, IsHintFor, IsKeyFound, key_at, keys_among, keys_below, keys_in, parts_of, slip_of, word_with_part};
 
 use crate::finding::{Finding, FindingKind, Hint, Scope};
-use crate::nearest_word::{is_same, nearest, word_hint};
+use crate::hints::word_hint;
 use crate::schema::{Below, Row, keys_of, override_junit_keys, override_keys, profile_keys, top};
 use crate::settings::{Mark, Setting, steps_of};
+use nextest_config_values::nearest_word::{is_same, nearest};
 use std::alloc::{AllocError, Global};
 use strsim::levenshtein;
 use toml::Table;

@@ -13,3 +13,5 @@ pub mod Words
 pub mod JsonValues
 pub mod Literals
 pub mod Printable
+pub mod NearestWords
+pub mod Distances

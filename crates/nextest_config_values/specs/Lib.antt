@@ -7,3 +7,4 @@ pub mod Once
 pub mod Read
 pub mod ToolConfig
 pub mod Literal
+pub mod NearestWord

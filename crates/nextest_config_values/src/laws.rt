@@ -1,6 +1,6 @@
 //! Laws of the definitions, for every value. They call nothing.
 
-ghost use Rattle.std.specs.Prelude.{◌≡◌, ◌↔◌, ℕ, codes, IsTrue, List};
+ghost use Rattle.std.specs.Prelude.{◌≡◌, ◌↔◌, ℕ, codes, IsTrue, List, Option};
 ghost use Rattle.std.specs.Cmp.Lexicographic.{slice_cmp};
 ghost use Rattle.std.specs.Hash as fed;
 ghost use Rattle.std.specs.Ordering.{nat_cmp};
@@ -9,6 +9,7 @@ ghost use Rattle.nextest_config_values.specs.Duration.{IsDuration, IsDurationFau
 ghost use Rattle.nextest_config_values.specs.declared.duration.DurationFault.{DurationFault};
 ghost use Rattle.nextest_config_values.specs.Equality.{IsCopy, IsEquality, IsEqualityBy, IsEqualityOfTold};
 ghost use Rattle.nextest_config_values.specs.Identifier.{identifier_fault, IdentifierFlaw, IsIdentifier, IsIdentifierFault, IsToolName, IsToolNameFault, NameFault, normal_chars, SameAnswers, tool_name_fault, ToolNameFlaw};
+ghost use Rattle.nextest_config_values.specs.NearestWord.{IsNearest};
 ghost use Rattle.nextest_config_values.specs.Once.{HasOneMeaningOrFault};
 ghost use Rattle.nextest_config_values.specs.Read.{broken_rule, cause_of, fault_of, faults_at, IsReading, reason_of, step_of, told_of, ToldFault};
 ghost use Rattle.nextest_config_values.specs.ToolConfig.{Argument, argument_fault, argument_of, ArgumentFault, IsArgumentFault, IsToolArgument};
@@ -92,6 +93,13 @@ pub fn law_left_out()
     ensures gap { without_gaps (codes "1 2s") ≡ codes "12s" }
     ensures space_between_items { without_gaps (codes "1h 2m") ≡ codes "1h 2m" }
     ensures space_around_a_number { without_gaps (codes " 5 s") ≡ codes " 5 s" }
+{}
+
+/// A name has one nearest word, or none.
+#[tactic(auto, using(crate::specs::NearestWord::nearest_once))]
+pub fn law_nearest_once()
+    ensures { (words : List (List ℕ)) (name : List ℕ) (a b : Option (List ℕ))
+        → IsNearest words name a → IsNearest words name b → a ≡ b }
 {}
 
 /// Values are equal exactly where they say the same. Of refusals that may hold one of a name this

@@ -7,6 +7,7 @@ pub mod helpers;
 pub mod identifier;
 pub mod laws;
 pub mod literal;
+pub mod nearest_word;
 pub mod read;
 pub mod tool_config;
 pub mod track_default;

@@ -1,10 +1,11 @@
 //! What has an explanation.
 
 ghost use Rattle.std.specs.Prelude.{◌≡◌, ◌≢◌, IfOk, map, MatchOption, option_map};
-ghost use Rattle.nextest_config_lint.specs.NearestWord.{IsNearest};
+ghost use Rattle.nextest_config_values.specs.NearestWord.{IsNearest};
 ghost use Rattle.nextest_config_lint.specs.Explain.Topic.{topic_word, topics};
 
-use crate::{FindingCode, nearest};
+use crate::FindingCode;
+use nextest_config_values::nearest_word::nearest;
 use nextest_config_values::read::Word;
 use std::alloc::{AllocError, Global};
 

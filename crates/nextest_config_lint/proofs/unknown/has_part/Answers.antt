@@ -4,7 +4,7 @@ use Rattle.std.proofs.lemmas.Iterator.{cases_from_any}
 use Rattle.std.proofs.lemmas.Iterator.Splits.{YieldsList-from_str_split}
 use Rattle.std.specs.Cmp.Lexicographic.{pointwise}
 use Rattle.nextest_config_lint.proofs.Keys.{any_known}
-use Rattle.nextest_config_lint.specs.NearestWord.{dash}
+use Rattle.nextest_config_values.specs.NearestWord.{dash}
 use Rattle.nextest_config_lint.specs.Unknown.{is_known, parts_of}
 use Rattle.nextest_config_lint.proofs.unknown.has_part.Goals as goal
 

@@ -3,7 +3,7 @@ use Rattle.std.proofs.Common.{ℕ, zero, suc, ◌+◌, ◌≤◌, Bool, List, []
 use Rattle.std.specs.Prelude.{chars}
 use Rattle.std.proofs.lemmas.Int.{clamps}
 use Rattle.strsim.specs.Edits.{cost_at, next_row, rows}
-use Rattle.nextest_config_lint.specs.NearestWord.{distance}
+use Rattle.nextest_config_values.specs.NearestWord.{distance}
 
 -- one more row of the table of edits: no cell is less than what its places differ by
 next_row_apart : (c before : ℕ → ℕ) (n k : ℕ) → ((j : ℕ) → n ≤ before j + j) → ((j : ℕ) → j ≤ before j + n)

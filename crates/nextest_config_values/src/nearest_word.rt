@@ -1,10 +1,8 @@
 //! The word of a list that a name comes nearest to.
 
 ghost use Rattle.std.specs.Prelude.{◌≡◌, IfOk, chars, length, option_map};
-ghost use Rattle.nextest_config_lint.specs.Found.{IsNearestMeant, meant_of, the_word};
-ghost use Rattle.nextest_config_lint.specs.NearestWord.{IsNearest, is_same, plain_byte, words_of};
+ghost use Rattle.nextest_config_values.specs.NearestWord.{IsNearest, is_same, plain_byte, words_of};
 
-use crate::finding::Hint;
 use std::alloc::{AllocError, Global};
 use strsim::levenshtein;
 
@@ -38,32 +36,8 @@ pub fn nearest<'w>(
     Ok(found)
 }
 
-/// The word that a name may be meant for, of these words.
-pub(crate) fn nearest_hint(
-    alloc: Global,
-    name: &str,
-    words: &[&str],
-) -> Result<Option<Hint>, AllocError>
-    ensures { IfOk result (λ hint.
-        IsNearestMeant (words_of words.now) name.now (option_map meant_of hint)) }
-{
-    let word = nearest(alloc, name, words)?;
-    word_hint(alloc, word)
-}
-
-/// The hint of a word, where there is one.
-pub(crate) fn word_hint(alloc: Global, word: Option<&str>) -> Result<Option<Hint>, AllocError>
-    ensures { IfOk result (λ hint. option_map meant_of hint
-        ≡ option_map the_word (option_map (λ word. word.now) word.entry)) }
-{
-    match word {
-        Some(word) => Ok(Some(Hint::Word(String::from_str(alloc, word)?))),
-        None => Ok(None),
-    }
-}
-
 /// Whether a name is a word but for ASCII letter case and `_` in place of `-`.
-pub(crate) fn is_same(name: &str, word: &str) -> bool
+pub fn is_same(name: &str, word: &str) -> bool
     ensures { result ≡ is_same name.now word.now }
 {
     name.len() == word.len()

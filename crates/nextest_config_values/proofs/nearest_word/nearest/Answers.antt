@@ -1,8 +1,8 @@
 use Rattle.std.proofs.Common.{arith, sym, ◌∙◌}
 use Rattle.std.proofs.lemmas.Int.{clamps}
-use Rattle.nextest_config_lint.proofs.NearestWords.{apart_on, nearer_on, not_nearer_on, same_at}
-use Rattle.nextest_config_lint.proofs.nearest_word.nearest.Goals.{then-abs_diff-limit+in_ok-edits+then-edits-limit, then-abs_diff-limit+in_ok-edits+else-edits-limit, else-abs_diff-limit}
-use Rattle.nextest_config_lint.proofs.nearest_word.nearest.Goals as goal
+use Rattle.nextest_config_values.proofs.NearestWords.{apart_on, nearer_on, not_nearer_on, same_at}
+use Rattle.nextest_config_values.proofs.nearest_word.nearest.Goals.{then-abs_diff-limit+in_ok-edits+then-edits-limit, then-abs_diff-limit+in_ok-edits+else-edits-limit, else-abs_diff-limit}
+use Rattle.nextest_config_values.proofs.nearest_word.nearest.Goals as goal
 
 pub loop-word-preserved : goal.loop-word-preserved
 loop-word-preserved c =

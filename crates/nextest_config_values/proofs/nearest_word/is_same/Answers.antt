@@ -2,9 +2,9 @@ use Rattle.std.proofs.Common.{◌≡◌, arith, false, nat_eq, rules, subst, tes
 use Rattle.std.proofs.lemmas.Iterator.{cases_from_all, YieldsList, YieldsList-from_zip}
 use Rattle.std.proofs.lemmas.Iterator.Consumers.{YieldsList-at}
 use Rattle.std.proofs.lemmas.Str.{Bytes-gives, reads_byte}
-use Rattle.nextest_config_lint.proofs.NearestWords.{alike_by_pairs}
-use Rattle.nextest_config_lint.specs.NearestWord.{plain_byte}
-use Rattle.nextest_config_lint.proofs.nearest_word.is_same.Goals as goal
+use Rattle.nextest_config_values.proofs.NearestWords.{alike_by_pairs}
+use Rattle.nextest_config_values.specs.NearestWord.{plain_byte}
+use Rattle.nextest_config_values.proofs.nearest_word.is_same.Goals as goal
 
 pub returns-then-name-word : goal.returns-then-name-word
 returns-then-name-word c =
