@@ -1,8 +1,8 @@
-//! Findings as they are told.
+//! Findings as they are printed.
 
 ghost use Rattle.std.specs.Prelude.{◌≡◌, ◌++◌, map, OnOk, Some, string_bytes};
 ghost use Rattle.std.specs.Fmt.{WritesOnOk};
-ghost use Rattle.nextest_config_output.specs.Findings.Told.{found_text, key_text, severity_text, told_of, told_text};
+ghost use Rattle.nextest_config_output.specs.Findings.Diagnostic.{found_text, key_text, severity_text, diagnostic_view, diagnostic_text};
 
 use crate::findings::escapes::{Escaped, Escapes};
 use crate::findings::excerpt::push_excerpt;
@@ -15,9 +15,9 @@ use std::alloc::{AllocError, Global};
 use std::fmt;
 use toml_spans::Span;
 
-/// A finding as it is told.
+/// A finding, by the texts that formats print of it.
 #[derive(Clone, Copy, Debug)]
-pub struct ToldFinding<'a> {
+pub struct Diagnostic<'a> {
     /// The printed path of its file.
     pub file: &'a str,
     /// Where it stands in its file.
@@ -37,34 +37,34 @@ pub fn push_finding(
     alloc: Global,
     text: &mut String,
     format: Format,
-    told: &ToldFinding<'_>,
+    told: &Diagnostic<'_>,
     lines: &[&str],
 ) -> Result<(), AllocError>
     ensures { OnOk result (string_bytes text.new ≡ string_bytes text.old
-        ++ told_text format (told_of told.now) (map (λ line. line.now) lines.now)) }
+        ++ diagnostic_text format (diagnostic_view diagnostic.now) (map (λ line. line.now) lines.now)) }
 {
     match format {
-        Format::Human => push_human(text, told),
+        Format::Human => push_human(text, diagnostic),
         Format::Full => {
-            push_human(text, told)?;
-            push_excerpt(alloc, text, told.span, lines)
+            push_human(text, diagnostic)?;
+            push_excerpt(alloc, text, diagnostic.span, lines)
         }
-        Format::Github => push_github(text, told),
-        Format::Json => push_json(alloc, text, told),
+        Format::Github => push_github(text, diagnostic),
+        Format::Json => push_json(alloc, text, diagnostic),
     }
 }
 
 /// What is found, after its key, as it prints with what is escaped.
 #[derive(Clone, Copy)]
-pub(crate) struct Found<'a, 'b>(pub Escapes, pub &'a ToldFinding<'b>);
+pub(crate) struct Found<'a, 'b>(pub Escapes, pub &'a Diagnostic<'b>);
 
 impl fmt::Display for Found<'_, '_> {
-    ghost output = { λ found. Some (found_text found.0 (told_of found.1.now)) };
+    ghost output = { λ found. Some (found_text found.0 (diagnostic_view found.1.now)) };
 
     fn fmt<W: fmt::Write>(&self, f: &mut fmt::Formatter<W>) -> fmt::Result {
-        let Found(escapes, told) = *self;
-        write_key(f, escapes, told.key)?;
-        write!(f, "{}", Escaped(escapes, told.message))
+        let Found(escapes, diagnostic) = *self;
+        write_key(f, escapes, diagnostic.key)?;
+        write!(f, "{}", Escaped(escapes, diagnostic.message))
     }
 }
 
