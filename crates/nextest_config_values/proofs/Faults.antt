@@ -4,7 +4,7 @@ use Rattle.std.proofs.Math.Logic.{⊎_elim, ⊎_map}
 use Rattle.std.proofs.lemmas.Result.{err_from_is_err_and}
 use Rattle.std.specs.Result.{IfErr, IsErrAnd}
 use Rattle.std.specs.Prelude.{IfSome}
-use Rattle.nextest_config_values.specs.Identifier.{IsNormalFault, NameFault}
+use Rattle.nextest_config_values.specs.Identifier.{Grammar, IsNormalFault, NameFault}
 use Rattle.nextest_config_values.specs.Read.Fault.{Fault}
 use Rattle.nextest_config_values.specs.Read.{Always, as_told, fault_below, fault_here, fault_of, FaultOrMemory, inner_at, IsMemory, IsNameKind, IsRefusal, no_data, PathStep, Reading, Reason, Refuses, RefusesAs, RefusesAt, RefusesBy, RefusesKind, RefusesOne, TellsAs, TellsMemory, told_at, told_of}
 use Rattle.nextest_config_values.specs.declared.read.fault.FaultKind.{FaultKind}
@@ -110,10 +110,10 @@ in_later first value {x} {later_means} meant refused = in_whole refused (λ take
 
 -- ---- of a name
 
-pub refused_name : {Flaw : Type 0} (IsFlaw : List ℕ → Flaw → Type 0) (reason : NameFault Flaw → Reason) {X : Type 0} {means : X → Type 0} (text : List ℕ) (told : Option (NameFault Flaw)) (of_memory : Type 0) (kind : FaultKind) (fault : ValueFault)
-    → FaultOrMemory told of_memory (IsNormalFault IsFlaw text) → IsNameKind reason told kind → RefusesKind kind fault
-    → IsRefusal means (λ f. (name : NameFault Flaw) × IsNormalFault IsFlaw text name × (f ≡ fault_here (as_told (reason name)))) Always fault
-refused_name IsFlaw reason text (Some name) of_memory kind fault flawed_so kind_is refused =
-    record { told = refused_as _ (fault_here (as_told (reason name))) fault (inl no_data) (name, flawed_so, refl) (rw kind_is at refused) }
-refused_name IsFlaw reason text None of_memory kind fault flawed_so kind_is refused =
+pub refused_name : {Flaw : Type 0} (grammar : Grammar Flaw) {X : Type 0} {means : X → Type 0} (text : List ℕ) (told : Option (NameFault Flaw)) (of_memory : Type 0) (kind : FaultKind) (fault : ValueFault)
+    → FaultOrMemory told of_memory (IsNormalFault grammar.IsFlaw text) → IsNameKind grammar.reason told kind → RefusesKind kind fault
+    → IsRefusal means (λ f. (name : NameFault Flaw) × IsNormalFault grammar.IsFlaw text name × (f ≡ fault_here (as_told (grammar.reason name)))) Always fault
+refused_name grammar text (Some name) of_memory kind fault flawed_so kind_is refused =
+    record { told = refused_as _ (fault_here (as_told (grammar.reason name))) fault (inl no_data) (name, flawed_so, refl) (rw kind_is at refused) }
+refused_name grammar text None of_memory kind fault flawed_so kind_is refused =
     record { told = refused_memory _ fault (rw kind_is at refused) (inl no_data) }
