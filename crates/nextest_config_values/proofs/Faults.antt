@@ -3,7 +3,7 @@ use Rattle.std.proofs.Common.{◌≡◌, ◌⊎◌, ℕ, List, Option, Some, Non
 use Rattle.std.proofs.Math.Logic.{⊎_elim, ⊎_map}
 use Rattle.std.proofs.lemmas.Result.{err_from_is_err_and}
 use Rattle.std.specs.Result.{IfErr, IsErrAnd}
-use Rattle.std.specs.Prelude.{IfSome}
+use Rattle.std.specs.Prelude.{IfSome, MatchResult}
 use Rattle.nextest_config_values.specs.Identifier.{Grammar, IsNormalFault, NameFault}
 use Rattle.nextest_config_values.specs.Read.Fault.{Fault}
 use Rattle.nextest_config_values.specs.Read.{Always, as_told, fault_below, fault_here, fault_of, FaultOrMemory, inner_at, IsMemory, IsNameKind, IsRefusal, no_data, PathStep, Reading, Reason, Refuses, RefusesAs, RefusesAt, RefusesBy, RefusesKind, RefusesOne, TellsAs, TellsMemory, told_at, told_of}
@@ -72,6 +72,15 @@ module _ {D X : Type 0} (reading : Reading D X) (value : D) where
         fault_mapped (told_of told) tells (λ no_memory. (no_memory, inr (λ x meant. reading.law.never_both value x f meant faulty)))
         (λ t same. (f, faulty, same))
     by_fault None without tells = let no_memory = memory without.0 in rw no_memory.1 ((no_memory.0, refl), without.1)
+
+  -- what is told of the refusal at a path, where `map_err` tells it
+  pub refused_where : {Y : Type 0} {tells : ValueFault → ReadFault → Type 0} (at : List ℕ) (read : Result Y ValueFault) (told : Result Y ReadFault) → IfErr read (RefusesBy reading value)
+      → MatchResult read (λ x. told ≡ Ok x) (λ fault. IsErrAnd told (tells fault))
+      → ((fault : ValueFault) (t : ReadFault) → tells fault t → (IsMemory fault → TellsMemory t) × IfSome (fault_of fault) (λ f. TellsAs (told_at at f) t))
+      → IfErr told (RefusesAt reading value at)
+  refused_where at (Ok x) told refused is_told tells = rw is_told tt
+  refused_where at (Err fault) (Ok x) refused is_told tells = absurd is_told
+  refused_where at (Err fault) (Err t) refused is_told tells = let told = tells fault t is_told in refused_at at fault t refused told.0 told.1
 
 -- ---- of readings that are put together
 
