@@ -181,6 +181,11 @@ impl fmt::Display for ReadFault {
     }
 }
 
+// What stands between what was found and what was expected, and behind a word in backquotes.
+const BETWEEN: &str = ", expected ";
+
+const BEHIND: &str = "`, expected ";
+
 impl fmt::Display for FaultKind {
     ghost output = { λ kind. Some (kind_text kind) };
 
@@ -189,34 +194,16 @@ impl fmt::Display for FaultKind {
     fn fmt<W: fmt::Write>(&self, f: &mut fmt::Formatter<W>) -> fmt::Result {
         match self {
             FaultKind::InvalidType { found, expected } => {
-                write_found(f, "invalid type: ", found.as_str(), ", expected ", expected)
+                write_found(f, "invalid type: ", found.as_str(), BETWEEN, expected)
             }
             FaultKind::InvalidValue { found, expected } => {
-                write_found(
-                    f,
-                    "invalid value: ",
-                    found.as_str(),
-                    ", expected ",
-                    expected,
-                )
+                write_found(f, "invalid value: ", found.as_str(), BETWEEN, expected)
             }
             FaultKind::UnknownVariant { found, expected } => {
-                write_found(
-                    f,
-                    "unknown variant `",
-                    found.as_str(),
-                    "`, expected ",
-                    expected,
-                )
+                write_found(f, "unknown variant `", found.as_str(), BEHIND, expected)
             }
             FaultKind::UnknownField { found, expected } => {
-                write_found(
-                    f,
-                    "unknown field `",
-                    found.as_str(),
-                    "`, expected ",
-                    expected,
-                )
+                write_found(f, "unknown field `", found.as_str(), BEHIND, expected)
             }
             FaultKind::MissingField { key } => {
                 f.write_str("missing configuration field \"")?;

@@ -2,7 +2,7 @@ use Rattle.std.proofs.Common.{◌≡◌, ◌∙◌, ℕ, refl, List, [], ◌∷�
 use Rattle.std.proofs.lemmas.List.{flat_map_more}
 use Rattle.std.specs.Char.{encode_utf8}
 use Rattle.toml_spans.proofs.Styled.{styled_more}
-use Rattle.toml_spans.proofs.quoted_text.write_unnamed.Goals as goal
+use Rattle.toml_spans.proofs.quoted_text.write_by_code.Goals as goal
 
 -- one more of the characters that come
 one_more : (all yielded rest left : List ℕ) (c : ℕ) → all ≡ yielded ++ rest → rest ≡ c ∷ left → all ≡ (yielded ++ (c ∷ [])) ++ left

@@ -1,6 +1,6 @@
 use Rattle.std.proofs.Common.{true, false, codes, chars}
 use Rattle.nextest_config_values.proofs.Texts.{chars_after, not_after, starts_text_or_not, tool_plain}
-use Rattle.nextest_config_values.proofs.identifier.tool_name.judge.Goals as goal
+use Rattle.nextest_config_values.proofs.identifier.tool_name.ToolFormNameForm.judge.Goals as goal
 
 pub returns-then-starts_with-clause-refused : goal.returns-then-starts_with-clause-refused
 returns-then-starts_with-clause-refused c =

@@ -1,7 +1,7 @@
 use Rattle.std.proofs.Common.{Some, None}
 use Rattle.nextest_config_values.proofs.Texts.{chars_after, mark_plain, not_after, strip_text}
 use Rattle.nextest_config_values.specs.Identifier.{tool_mark}
-use Rattle.nextest_config_values.proofs.identifier.config_identifier.judge.Goals as goal
+use Rattle.nextest_config_values.proofs.identifier.config_identifier.IdentifierFormNameForm.judge.Goals as goal
 
 pub returns-in-Some-clause-accepted : goal.returns-in-Some-clause-accepted
 returns-in-Some-clause-accepted c =
