@@ -90,23 +90,24 @@ module _ (profile : List ℕ) where
     λ (_, (value, counting, text)). counts files link.position value counting ∙ ap (option_map (link_at link.position)) text,
   )
 
--- a profile has one link, and one parent
-pub one_link : (files : List ListFile) (profile : List ℕ) (link other : LinkView) → IsLink files profile link → IsLink files profile other → link ≡ other
-one_link files profile link other first second =
-    let same : Some link ≡ Some other = sym ((is_link profile files link first.0).1 first) ∙ (is_link profile files other first.0).1 second in
-    cc same
+module _ {files : List ListFile} {profile : List ℕ} where
+  pub is_parent : {link : LinkView} → IsLink files profile link → IsParent files profile link.parent
+  is_parent {link} (other, (value, counting, text)) = (other, (link.position, value, counting, text))
 
-pub one_place : (files : List ListFile) (profile : List ℕ) (link : LinkView) (position : ℕ) (value : Data) → IsLink files profile link → IsCounting files profile position value → link.position ≡ position
-one_place files profile link position value is counting =
-    sym (told profile position (as_str value) link (sym (counts profile files position value counting) ∙ (is_link profile files link is.0).1 is)).0
+  pub link_to : {parent : List ℕ} → IsParent files profile parent → (position : ℕ) × IsLink files profile (link_at position parent)
+  link_to (other, (position, value, counting, text)) = (position, (other, (value, counting, text)))
 
-pub link_to : (files : List ListFile) (profile parent : List ℕ) → IsParent files profile parent → (position : ℕ) × IsLink files profile (link_at position parent)
-link_to files profile parent (other, (position, value, counting, text)) = (position, (other, (value, counting, text)))
+  -- a profile has one parent, at one position
+  pub one_parent : {parent other : List ℕ} → IsParent files profile parent → IsParent files profile other → parent ≡ other
+  one_parent {parent} {other} first second =
+      let (i, one) = link_to first in
+      let (j, another) = link_to second in
+      let same : Some (link_at i parent) ≡ Some (link_at j other) = sym ((is_link profile files _ one.0).1 one) ∙ (is_link profile files _ one.0).1 another in
+      cc same
 
-pub one_parent : (files : List ListFile) (profile parent : List ℕ) (link : LinkView) → IsLink files profile link → IsParent files profile parent → link.parent ≡ parent
-one_parent files profile parent link is leads =
-    let (position, other) = link_to files profile parent leads in
-    ap (λ (l : LinkView). l.parent) (one_link files profile link (link_at position parent) is other)
+  pub one_place : {link : LinkView} {position : ℕ} {value : Data} → IsLink files profile link → IsCounting files profile position value → link.position ≡ position
+  one_place {link} {position} {value} is counting =
+      sym (told profile position (as_str value) link (sym (counts profile files position value counting) ∙ (is_link profile files link is.0).1 is)).0
 
 -- without the link of `default`
 pub all_links : (files : List ListFile) (links : List ℕ → Option LinkView) → ((profile : List ℕ) → links profile ≡ cond (bytes_eq default_profile profile) None (link_after profile 0 files None)) → AreLinksOf files links

@@ -1,7 +1,7 @@
 -- Walks from a profile to what it inherits from, and so on.
 use Rattle.std.specs.Prelude.{◌≡◌, ◌⊎◌, ℕ, suc, List, Option, Some, None}
-use Rattle.nextest_config_lint.specs.Defined.{ComesBackAt, IsParent, IsWay, ListFile}
-use Rattle.nextest_config_lint.specs.Inheritance.{AreLinks, LinkView}
+use Rattle.nextest_config_lint.specs.Defined.{IsWay, ListFile}
+use Rattle.nextest_config_lint.specs.Inheritance.{LinkView}
 
 -- what is kept of a link on the trail
 abbrev pub same_link : LinkView → LinkView
@@ -32,15 +32,3 @@ pub record IsWalk {Kept : Type 0} (files : List ListFile) (keep : LinkView → K
   pub from_gone : (from ≡ to) ⊎ (left from ≡ None)
   pub each : (profile : List ℕ) → IsPassed files keep from to before left kept profile
       ⊎ ((left profile ≡ before profile) × (kept profile ≡ kept_before profile))
-
--- of the profiles that aren't left, none leads to one that is, and those that come back are the
--- rings so far
-pub record AreSettled (files : List ListFile) (left : List ℕ → Option LinkView)
-    (rings : List ℕ → Option ℕ) : Type 0 where
-  pub links : AreLinks files left
-  pub closed : (profile parent : List ℕ)
-      → left profile ≡ None → IsParent files profile parent → left parent ≡ None
-  pub come_back : (profile : List ℕ) (position : ℕ)
-      → rings profile ≡ Some position → ComesBackAt files profile position
-  pub all : (profile : List ℕ) (position : ℕ)
-      → left profile ≡ None → ComesBackAt files profile position → rings profile ≡ Some position

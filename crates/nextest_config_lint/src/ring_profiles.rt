@@ -4,7 +4,7 @@ ghost use Rattle.std.specs.Prelude.{◌≡◌, ◌↔◌, ◌<◌, ◌≤◌, �
 ghost use Rattle.std.specs.BTreeMap.{btree_map_len, get_by_text};
 ghost use Rattle.nextest_config_lint.specs.Defined.{ComesBackAt, ListFile, file_of};
 ghost use Rattle.nextest_config_lint.specs.Inheritance.{AreLinks, link_in};
-ghost use Rattle.nextest_config_lint.specs.RingProfiles.{AreSettled, IsWalk, position_of, same_link};
+ghost use Rattle.nextest_config_lint.specs.RingProfiles.{IsWalk, position_of, same_link};
 
 use crate::defined::ListedFile;
 use crate::inheritance::{Link, links_of};
@@ -25,29 +25,12 @@ pub(crate) fn find_ring_profiles(
     let mut rings = BTreeMap::new(alloc);
     while let Some((profile, _)) = left.first_key_value() {
         let profile = *profile;
-        settle(alloc, profile, &mut left, &mut rings)?;
+        let mut trail = BTreeMap::new(alloc);
+        let end = walk(profile, &mut left, &mut trail)?;
+        // Where the walk has ended on its own trail, the ring is what it passes from there on.
+        add_ring(alloc, end, &mut trail, &mut rings)?;
     }
     Ok(rings)
-}
-
-// Walks from a profile as far as profiles are left. Where that ends on the walk itself, it goes
-// around from there once more: what it passes then is the ring.
-fn settle<'a>(
-    alloc: Global,
-    from: &'a str,
-    left: &mut BTreeMap<&'a str, Link<'a>>,
-    rings: &mut BTreeMap<String, usize>,
-) -> Result<(), AllocError>
-    ensures settled { OnOk result ((files : List ListFile)
-        → AreSettled files (link_in left.old) (get_by_text rings.old)
-        → AreSettled files (link_in left.new) (get_by_text rings.new)) }
-    ensures fewer { OnOk result (IsSome (link_in left.old from.now)
-        → btree_map_len left.new < btree_map_len left.old) }
-{
-    let mut trail = BTreeMap::new(alloc);
-    let end = walk(from, left, &mut trail)?;
-    add_ring(alloc, end, &mut trail, rings)?;
-    Ok(())
 }
 
 // Walks from a profile as far as profiles are left, and keeps what it passes. Where it ends.

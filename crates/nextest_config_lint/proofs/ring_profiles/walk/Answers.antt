@@ -2,7 +2,6 @@ use Rattle.std.proofs.Common.{◌≡◌, None, Some, ap, arith, inl, option_map,
 use Rattle.std.proofs.lemmas.Bool.{true≢false}
 use Rattle.std.specs.BTreeMap.{btree_map_len}
 use Rattle.nextest_config_lint.specs.Inheritance.{link_in, link_view}
-use Rattle.nextest_config_lint.specs.RingProfiles.{same_link}
 use Rattle.nextest_config_lint.proofs.Links.{link_updates}
 use Rattle.nextest_config_lint.proofs.Walks.{walk_on}
 use Rattle.nextest_config_lint.proofs.ring_profiles.walk.Goals as goal
@@ -16,7 +15,7 @@ loop-link-preserved c =
     let link = c.in-Some.link in
     let at = ap (option_map link_view) (sym c.remove.ensures.value ∙ c.in-Some.is) in
     let one_gone = rw c.in-Some.is at c.remove.ensures.len in (
-      λ files links. walk_on files same_link c.args.from.now current (link_in c.args.left.now) (link_in left) (link_in c.args.trail.now) (link_in trail) links (walk files links)
+      λ files links. walk_on links (walk files links)
           (link_in c.remove.new.self) (link_in c.insert.new.self) (link_view link) at
           (link_updates current left c.remove.new.self None c.remove.ensures.updates) (link_updates current trail c.insert.new.self (Some link) c.in_ok-insert.ensures.updates),
       inl (⊎_elim (λ fewer. omega (arith, one_gone, fewer)) (λ (at_first, all). omega (arith, one_gone, ap btree_map_len all)) some_gone),
