@@ -64,15 +64,12 @@ impl Word for TerminateMode {
         &[TerminateMode::Wait, TerminateMode::Immediate]
     }
 
-    fn as_word(self) -> &'static str {
-        match self {
-            TerminateMode::Wait => "wait",
-            TerminateMode::Immediate => "immediate",
-        }
+    fn words() -> &'static [&'static str] {
+        &["wait", "immediate"]
     }
 
-    fn expected() -> &'static str {
-        "`wait` or `immediate`"
+    fn position(self) -> usize {
+        self as usize
     }
 }
 

@@ -1,5 +1,5 @@
 -- What `==` of refusals says.
-use Rattle.std.proofs.Common.{◌≡◌, ◌↔◌, ◌&&◌, ℕ, IsTrue, List, [], ◌∷◌, Option, Some, None, map, String, Global, option_map, string_bytes, refl, sym, ap, ap₂, ◌∙◌, rules}
+use Rattle.std.proofs.Common.{◌≡◌, ◌↔◌, ◌&&◌, ℕ, nat_eq, Bool, Bor, IsTrue, List, [], ◌∷◌, Option, Some, None, map, String, Global, option_map, string_bytes, refl, sym, ap, ap₂, ◌∙◌, rules}
 use Rattle.std.proofs.lemmas.Bool.{and_from, and_parts}
 use Rattle.std.specs.Cmp.Lexicographic.{pointwise}
 use Rattle.std.specs.String.{string_eq}
@@ -7,8 +7,8 @@ use Rattle.semver.specs.Identifiers.{parts_of}
 use Rattle.semver.specs.contracts.VersionPartialEq.TheImpl as version_eq
 use Rattle.semver.specs.declared.Version.{Version}
 use Rattle.nextest_config_values.specs.Equality.{IsEqualityBy, IsEqualityOfTold}
-use Rattle.nextest_config_values.specs.Read.{as_told, broken_rule, BrokenRule, Cause, cause_of, custom, fault_of, fault_with, identifier, key, missing_key, no_duration, PathStep, Reason, reason_of, required_above_recommended, step_of, told_of, told_with, ToldFault, tool_name}
-use Rattle.nextest_config_values.specs.Read.Fault.{Fault}
+use Rattle.nextest_config_values.specs.Read.{as_told, broken_rule, BrokenRule, Cause, cause_of, custom, fault_of, fault_with, identifier, key, missing_key, no_duration, PathStep, Reason, reason_of, required_above_recommended, step_of, told_of, told_with, ToldFault, tool_name, words_of}
+use Rattle.nextest_config_values.specs.Read.Fault.{Fault, unknown_field, unknown_variant}
 use Rattle.nextest_config_values.specs.Identifier.{identifier_fault, tool_name_fault}
 use Rattle.nextest_config_values.specs.contracts.read.fault.FaultKindPartialEq.TheImpl as kind_eq
 use Rattle.nextest_config_values.specs.contracts.read.fault.ReadFaultPartialEq.TheImpl as fault_eq
@@ -16,7 +16,6 @@ use Rattle.nextest_config_values.specs.contracts.read.fault.RulePartialEq.TheImp
 use Rattle.toml_spans.specs.contracts.step.StepPartialEq.TheImpl as step_eq
 use Rattle.nextest_config_values.specs.contracts.read.value_fault.FaultCausePartialEq.TheImpl as cause_eq
 use Rattle.nextest_config_values.specs.contracts.read.value_fault.ValueFaultPartialEq.TheImpl as value_eq
-use Rattle.toml_spans.specs.declared.step.Step.{Step}
 use Rattle.toml_spans.specs.declared.step.Step.TheVariants as steps
 use Rattle.nextest_config_values.specs.declared.read.value_fault.FaultCause.TheVariants as causes
 use Rattle.nextest_config_values.specs.declared.read.fault.FaultKind.TheVariants as kinds
@@ -49,20 +48,54 @@ told_alike make one told other IsSame alike reason is = (
   λ e. alike.1 (one_told make one told other (is ∙ sym e)),
 )
 
+same_text : IsEqualityBy {X = String Global} string_bytes string_eq
+same_text a b = search rules
+
+same_word : IsEqualityBy {X = Bor (List ℕ)} (λ word. word.now) (λ a b. pointwise nat_eq a.now b.now)
+same_word a b = search rules
+
+-- of each in turn
+same_each : {X Y : Type 0} (seen : X → Y) (eq : X → X → Bool) → IsEqualityBy seen eq → (xs ys : List X) → IsTrue (pointwise eq xs ys) ↔ (map seen xs ≡ map seen ys)
+same_each seen eq one [] [] = (λ same. refl, λ e. refl)
+same_each seen eq one [] (y ∷ ys) = (λ same. cc same, λ e. cc e)
+same_each seen eq one (x ∷ xs) [] = (λ same. cc same, λ e. cc e)
+same_each seen eq one (x ∷ xs) (y ∷ ys) = (
+  λ same.
+      let (first, rest) = and_parts _ _ same in
+      ap₂ (λ s more. s ∷ more) ((one x y).0 first) ((same_each seen eq one xs ys).0 rest),
+  λ e. and_from _ _ ((one x y).1 (cc e)) ((same_each seen eq one xs ys).1 (cc e)),
+)
+
+-- of an unknown name and the known ones
+names_alike : (make : List ℕ → List (List ℕ) → Reason) → ((a b : List ℕ) (xs ys : List (List ℕ)) → make a xs ≡ make b ys → (a ≡ b) × (xs ≡ ys))
+    → (found other : String Global) (words more : List (Bor (List ℕ))) (reason : Reason) → Some (make (string_bytes found) (words_of words)) ≡ Some reason
+    → IsTrue (string_eq found other && pointwise (λ a b. pointwise nat_eq a.now b.now) words more) ↔ (Some (make (string_bytes other) (words_of more)) ≡ Some reason)
+names_alike make one found other words more reason is =
+    let texts = same_text found other in
+    let lists = same_each (λ (word : Bor (List ℕ)). word.now) (λ a b. pointwise nat_eq a.now b.now) same_word words more in (
+      λ same.
+          let (t, w) = and_parts _ _ same in
+          ap₂ (λ (text : List ℕ) (all : List (List ℕ)). Some (make text all)) (sym (texts.0 t)) (sym (lists.0 w)) ∙ is,
+      λ told.
+          let (t, w) = one _ _ _ _ (cc (is, told)) in
+          and_from _ _ (texts.1 t) (lists.1 w),
+    )
+
 pub same_kind : IsEqualityOfTold reason_of (kind_eq.ghosts).eq
 same_kind (kinds.Custom rule) (kinds.Custom other) reason is = (
   λ same. ap (λ (r : BrokenRule). Some (custom r)) (sym ((same_rule rule other).0 same)) ∙ is,
   λ told. (same_rule rule other).1 (cc (is, told)),
 )
+same_kind (kinds.UnknownVariant found words) (kinds.UnknownVariant other more) reason is =
+    names_alike unknown_variant (λ a b xs ys e. (cc e, cc e)) found other words.now more.now reason is
+same_kind (kinds.UnknownField found words) (kinds.UnknownField other more) reason is =
+    names_alike unknown_field (λ a b xs ys e. (cc e, cc e)) found other words.now more.now reason is
 same_kind (kinds.Identifier error) (kinds.Identifier other) reason is =
     told_alike identifier (λ a b e. cc e) (identifier_fault error) (identifier_fault other) _ (search rules) reason is
 same_kind (kinds.ToolName error) (kinds.ToolName other) reason is =
     told_alike tool_name (λ a b e. cc e) (tool_name_fault error) (tool_name_fault other) _ (search rules) reason is
 same_kind kinds.Memory b reason is = cc is
 same_kind a b reason is = search rules
-
-same_text : IsEqualityBy {X = String Global} string_bytes string_eq
-same_text a b = search rules
 
 fault_parts : (path : List ℕ) (told : Option Reason) (fault : ToldFault) → option_map (told_with path) told ≡ Some fault → (told ≡ Some fault.reason) × (path ≡ fault.path)
 fault_parts path None fault e = cc e
@@ -90,17 +123,6 @@ same_step (steps.Key text) (steps.Key other) =
     let texts = same_text text other in
     (λ same. ap key (texts.0 same), λ e. texts.1 (cc e))
 same_step a b = search rules
-
-same_steps : (xs ys : List Step) → IsTrue (pointwise (step_eq.ghosts).eq xs ys) ↔ (map step_of xs ≡ map step_of ys)
-same_steps [] [] = (λ same. refl, λ e. refl)
-same_steps [] (y ∷ ys) = (λ same. cc same, λ e. cc e)
-same_steps (x ∷ xs) [] = (λ same. cc same, λ e. cc e)
-same_steps (x ∷ xs) (y ∷ ys) = (
-  λ same.
-      let (first, rest) = and_parts _ _ same in
-      ap₂ (λ (s : PathStep) (more : List PathStep). s ∷ more) ((same_step x y).0 first) ((same_steps xs ys).0 rest),
-  λ e. and_from _ _ ((same_step x y).1 (cc e)) ((same_steps xs ys).1 (cc e)),
-)
 
 -- of what a told fault is told in
 alike_within : {F G : Type 0} (make : F → G) → ((a b : F) → make a ≡ make b → a ≡ b) → (told other : Option F) (IsSame : Type 0)
@@ -141,7 +163,7 @@ pub same_value_fault : IsEqualityOfTold fault_of (value_eq.ghosts).eq
 same_value_fault a b fault is =
     let (cause, steps) = value_parts (map step_of a.steps.items) (cause_of a.cause) fault is in
     let causes = same_cause a.cause b.cause fault.cause cause in
-    let both = same_steps a.steps.items b.steps.items in (
+    let both = same_each step_of (step_eq.ghosts).eq same_step a.steps.items b.steps.items in (
       λ same.
           let (s, k) = and_parts _ _ same in
           rw (causes.0 k) (ap (λ (at : List PathStep). Some (fault_with at fault.cause)) (sym (both.0 s) ∙ steps)),

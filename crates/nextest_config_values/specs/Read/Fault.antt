@@ -8,7 +8,7 @@ use Rattle.nextest_config_values.specs.Identifier.Error.{IdentifierFlaw, NameFau
 use Rattle.toml_spans.specs.Step.{PathStep, step_of}
 use Rattle.nextest_config_values.specs.Read.Step.{path_along, path_of}
 use Rattle.toml_spans.specs.QuotedText.{quoted_text}
-use Rattle.nextest_config_values.specs.Read.Text.{FaultOrMemory, found_text, told_text}
+use Rattle.nextest_config_values.specs.Read.Text.{FaultOrMemory, found_text, told_text, words_of, words_text}
 use Rattle.nextest_config_values.specs.declared.read.fault.ReadFault.{ReadFault}
 use Rattle.nextest_config_values.specs.declared.read.fault.FaultKind.{FaultKind}
 use Rattle.nextest_config_values.specs.declared.read.value_fault.FaultCause.{FaultCause}
@@ -37,8 +37,8 @@ pub data BrokenRule : Type 0 where
 pub data Reason : Type 0 where
   invalid_type : List ℕ → List ℕ → Reason
   invalid_value : List ℕ → List ℕ → Reason
-  unknown_variant : List ℕ → List ℕ → Reason
-  unknown_field : List ℕ → List ℕ → Reason
+  unknown_variant : List ℕ → List (List ℕ) → Reason
+  unknown_field : List ℕ → List (List ℕ) → Reason
   missing_field : List ℕ → Reason
   custom : BrokenRule → Reason
   identifier : NameFault IdentifierFlaw → Reason
@@ -82,9 +82,9 @@ reason_of (kinds.InvalidType found expected) = Some (invalid_type (string_bytes 
 reason_of (kinds.InvalidValue found expected) =
     Some (invalid_value (string_bytes found) expected.now)
 reason_of (kinds.UnknownVariant found expected) =
-    Some (unknown_variant (string_bytes found) expected.now)
+    Some (unknown_variant (string_bytes found) (words_of expected.now))
 reason_of (kinds.UnknownField found expected) =
-    Some (unknown_field (string_bytes found) expected.now)
+    Some (unknown_field (string_bytes found) (words_of expected.now))
 reason_of (kinds.MissingField key) = Some (missing_field (string_bytes key))
 reason_of (kinds.Custom rule) = Some (custom (broken_rule rule))
 reason_of (kinds.Identifier error) = option_map identifier (identifier_fault error)
@@ -166,8 +166,8 @@ mismatch_text found expected = found ++ (codes ", expected " ++ expected)
 
 -- an unknown name, whose first backquote stands before it, and the known ones, as a reason prints
 -- them
-abbrev pub unknown_text : List ℕ → List ℕ → List ℕ
-unknown_text found expected = found ++ (codes "`, expected " ++ expected)
+abbrev pub unknown_text : List ℕ → List (List ℕ) → List ℕ
+unknown_text found expected = found ++ (codes "`, expected " ++ words_text expected)
 
 -- how a reason prints
 abbrev pub reason_text : Reason → List ℕ
@@ -224,11 +224,11 @@ abbrev pub wrong_value : Data → List ℕ → Fault
 wrong_value value expected = fault_here (as_told (invalid_value (found_text value) expected))
 
 -- a text that is none of the expected words
-abbrev pub unknown_word : List ℕ → List ℕ → Fault
+abbrev pub unknown_word : List ℕ → List (List ℕ) → Fault
 unknown_word text expected = fault_here (as_told (unknown_variant text expected))
 
 -- a key of a table that is none of the expected ones
-abbrev pub unknown_key : List ℕ → List ℕ → Fault
+abbrev pub unknown_key : List ℕ → List (List ℕ) → Fault
 unknown_key key expected = fault_here (as_told (unknown_field key expected))
 
 -- a table that lacks this key

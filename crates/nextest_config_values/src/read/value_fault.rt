@@ -2,7 +2,7 @@
 
 ghost use Rattle.std.specs.Prelude.{◌≡◌, ◌++◌, [], IfOk, IfSome, is_none, map, OnOk, string_bytes};
 ghost use Rattle.toml.specs.View.{view};
-ghost use Rattle.nextest_config_values.specs.Read.{cause_of, fault_below, fault_here, fault_of, FaultOrMemory, found_text, index, IsMemory, key, missing, no_duration, path_along, path_by, path_of, reason_at, reason_of, RefusesAs, RefusesKind, step_of, TellsAs, TellsMemory, told_at, told_with, unknown_key, unknown_word, wrong_type, wrong_value};
+ghost use Rattle.nextest_config_values.specs.Read.{cause_of, fault_below, fault_here, fault_of, FaultOrMemory, found_text, index, IsMemory, key, missing, no_duration, path_along, path_by, path_of, reason_at, reason_of, RefusesAs, RefusesKind, step_of, TellsAs, TellsMemory, told_at, told_with, unknown_key, unknown_word, words_of, wrong_type, wrong_value};
 ghost use Rattle.nextest_config_values.specs.declared.read.fault.FaultKind.TheVariants.{Memory};
 ghost use Rattle.nextest_config_values.specs.declared.read.value_fault.FaultCause.TheVariants as causes;
 
@@ -86,9 +86,13 @@ impl ValueFault {
         }
     }
 
-    /// A text that is none of the setting's words.
-    pub fn unknown_variant(alloc: Global, text: &str, expected: &'static str) -> ValueFault
-        ensures { RefusesAs (unknown_word text.now expected.now) result }
+    /// A text that is none of the setting's words, which are these.
+    pub fn unknown_variant(
+        alloc: Global,
+        text: &str,
+        expected: &'static [&'static str],
+    ) -> ValueFault
+        ensures { RefusesAs (unknown_word text.now (words_of expected.now)) result }
     {
         match String::from_str(alloc, text) {
             Ok(found) => ValueFault::new(alloc, FaultKind::UnknownVariant { found, expected }),
@@ -96,9 +100,9 @@ impl ValueFault {
         }
     }
 
-    /// A table with a key that the setting doesn't know.
-    pub fn unknown_field(alloc: Global, key: &str, expected: &'static str) -> ValueFault
-        ensures { RefusesAs (unknown_key key.now expected.now) result }
+    /// A table with a key that is none of those that the setting knows.
+    pub fn unknown_field(alloc: Global, key: &str, expected: &'static [&'static str]) -> ValueFault
+        ensures { RefusesAs (unknown_key key.now (words_of expected.now)) result }
     {
         match String::from_str(alloc, key) {
             Ok(found) => ValueFault::new(alloc, FaultKind::UnknownField { found, expected }),

@@ -1,6 +1,6 @@
 use Rattle.std.proofs.Common.{refl}
 use Rattle.toml_spans.proofs.Styled.{styled_then}
-use Rattle.nextest_config_values.proofs.read.fault.write_found.Goals as goal
+use Rattle.nextest_config_values.proofs.read.fault.write_mismatch.Goals as goal
 
 pub returns-clause-styled : goal.returns-clause-styled
 returns-clause-styled g c =
