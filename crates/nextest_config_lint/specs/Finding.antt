@@ -2,11 +2,11 @@
 use Rattle.std.specs.Prelude.{ℕ, List, [], ◌∷◌, ◌++◌, codes, decimal, map, Option, Some, None, string_bytes}
 use Rattle.nextest_config_values.specs.Identifier.Error.{identifier_fault, identifier_fault_text}
 use Rattle.toml_spans.specs.QuotedText.{quoted_text}
-use Rattle.nextest_config_values.specs.Read.{kind_text, quoted_texts, Reason, reason_of, told_text}
+use Rattle.nextest_config_values.specs.Read.{kind_text, quoted_texts, Reason, reason_of, text_or_memory}
 use Rattle.toml_spans.specs.Step.{PathStep, printed_path, step_of}
 use Rattle.nextest_config_values.specs.declared.read.fault.FaultKind.{FaultKind}
 use Rattle.nextest_config_lint.specs.Code.{reason_code}
-use Rattle.nextest_config_lint.specs.Found.{FoundKind, found_severity, kind_told}
+use Rattle.nextest_config_lint.specs.Found.{FoundKind, found_severity, kind_view}
 use Rattle.nextest_config_lint.specs.declared.code.FindingCode.{FindingCode}
 use Rattle.nextest_config_lint.specs.declared.code.FindingCode.TheVariants as code
 use Rattle.nextest_config_lint.specs.declared.finding.Finding.{Finding}
@@ -28,7 +28,7 @@ told_severity None = Error
 
 -- a kind of finding is as grave as what it tells
 abbrev pub finding_severity : FindingKind → FindingSeverity
-finding_severity kind = told_severity (kind_told kind)
+finding_severity kind = told_severity (kind_view kind)
 
 -- severities by number, the graver the greater
 abbrev pub rank : FindingSeverity → ℕ
@@ -95,7 +95,7 @@ finding_kind_text kinds.OverrideOfAll =
 finding_kind_text kinds.ReservedProfile =
     codes "profile names that begin with \"default-\" are reserved"
 finding_kind_text (kinds.NoGroupName error) =
-    told_text identifier_fault_text (identifier_fault error)
+    text_or_memory identifier_fault_text (identifier_fault error)
 finding_kind_text (kinds.GroupOutsideTool mark) =
     codes "a tool's test groups begin with " ++ quoted_text (string_bytes mark)
 finding_kind_text kinds.GroupOfTool = codes "only a tool's test groups begin with \"@\""

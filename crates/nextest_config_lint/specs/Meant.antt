@@ -4,7 +4,7 @@ use Rattle.std.specs.Char.{is_ascii_digit}
 use Rattle.std.specs.List.{list_all}
 use Rattle.toml.specs.Data.{as_integer, as_str, as_table, Data, Members}
 use Rattle.nextest_config_values.specs.Duration.{IsDuration}
-use Rattle.nextest_config_values.specs.Read.Fault.{as_told, Cause, Fault, unknown_field, unknown_variant}
+use Rattle.nextest_config_values.specs.Read.Fault.{for_reason, Cause, Fault, unknown_field, unknown_variant}
 use Rattle.nextest_config_elements.specs.Junit.{store_failure_output_key, store_success_output_key}
 use Rattle.nextest_config_elements.specs.MaxFail.{max_fail_key}
 use Rattle.nextest_config_elements.specs.RetryPolicy.{count_key, delay_key, jitter_key, max_delay_key}
@@ -190,8 +190,8 @@ IsHintAt path taken value hint = hint ≡ None
 
 -- the word or key that is refused as unknown, and the known ones
 abbrev pub unknown_name : Cause → Option (List ℕ × List (List ℕ))
-unknown_name (as_told (unknown_variant name known)) = Some (name, known)
-unknown_name (as_told (unknown_field name known)) = Some (name, known)
+unknown_name (for_reason (unknown_variant name known)) = Some (name, known)
+unknown_name (for_reason (unknown_field name known)) = Some (name, known)
 unknown_name cause = None
 
 -- ---- the fault

@@ -165,5 +165,5 @@ abbrev pub below_of : declared.Below → Below
 below_of = fold-Below Below level_of
 
 -- rows, as the code's table says them
-abbrev pub rows_told : List (Bor (List ℕ) × Reader × FindingSeverity × declared.Below) → Rows
-rows_told known = rows_of (map (λ row. (row.0, row.1, row.2, below_of row.3)) known)
+abbrev pub rows_view : List (Bor (List ℕ) × Reader × FindingSeverity × declared.Below) → Rows
+rows_view known = rows_of (map (λ row. (row.0, row.1, row.2, below_of row.3)) known)

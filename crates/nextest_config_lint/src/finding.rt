@@ -3,7 +3,7 @@
 ghost use Rattle.std.specs.Prelude.{◌≡◌, Some};
 ghost use Rattle.std.specs.Fmt.{WritesOnOk};
 ghost use Rattle.nextest_config_lint.specs.Code.{rule_code, told_code};
-ghost use Rattle.nextest_config_lint.specs.Found.{kind_told};
+ghost use Rattle.nextest_config_lint.specs.Found.{kind_view};
 ghost use Rattle.nextest_config_lint.specs.Finding.{fault_code, finding_kind_text, finding_severity, finding_text, hint_text, scope_text, mistake_text, name_text};
 ghost use Rattle.nextest_config_values.specs.Read.{broken_rule};
 
@@ -166,7 +166,7 @@ impl Finding {
 
     /// What kind of finding it is.
     pub fn code(&self) -> FindingCode
-        ensures { result ≡ told_code (kind_told self.now.kind) }
+        ensures { result ≡ told_code (kind_view self.now.kind) }
     {
         match &self.kind {
             FindingKind::Fault { fault, .. } => code_of_fault(fault),

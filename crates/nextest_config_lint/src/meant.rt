@@ -62,7 +62,7 @@ fn unknown_name(cause: &FaultCause) -> Option<(&str, &'static [&'static str])>
         ≡ unknown_name told) }
 {
     match cause {
-        FaultCause::Told(
+        FaultCause::Kind(
             FaultKind::UnknownVariant { found, expected }
             | FaultKind::UnknownField { found, expected },
         ) => Some((found.as_str(), expected)),

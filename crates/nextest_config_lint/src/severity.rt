@@ -44,15 +44,15 @@ fn is_wrong_type(cause: &FaultCause) -> bool
     ensures { IfSome (cause_of cause.now) (λ told. IsTrue result ↔ IsWrongType told) }
 {
     match cause {
-        FaultCause::Told(FaultKind::InvalidType { .. }) => true,
-        FaultCause::Told(FaultKind::InvalidValue { .. })
-        | FaultCause::Told(FaultKind::UnknownVariant { .. })
-        | FaultCause::Told(FaultKind::UnknownField { .. })
-        | FaultCause::Told(FaultKind::MissingField { .. })
-        | FaultCause::Told(FaultKind::Custom(_))
-        | FaultCause::Told(FaultKind::Identifier(_))
-        | FaultCause::Told(FaultKind::ToolName(_))
-        | FaultCause::Told(FaultKind::Memory)
+        FaultCause::Kind(FaultKind::InvalidType { .. }) => true,
+        FaultCause::Kind(FaultKind::InvalidValue { .. })
+        | FaultCause::Kind(FaultKind::UnknownVariant { .. })
+        | FaultCause::Kind(FaultKind::UnknownField { .. })
+        | FaultCause::Kind(FaultKind::MissingField { .. })
+        | FaultCause::Kind(FaultKind::Custom(_))
+        | FaultCause::Kind(FaultKind::Identifier(_))
+        | FaultCause::Kind(FaultKind::ToolName(_))
+        | FaultCause::Kind(FaultKind::Memory)
         | FaultCause::NoDuration { .. }
         | FaultCause::Missing { .. } => false,
     }
@@ -98,7 +98,7 @@ fn is_missing(cause: &FaultCause, name: &str) -> bool
 {
     match cause {
         FaultCause::Missing { key } => key.as_str() == name,
-        FaultCause::NoDuration { .. } | FaultCause::Told(_) => false,
+        FaultCause::NoDuration { .. } | FaultCause::Kind(_) => false,
     }
 }
 

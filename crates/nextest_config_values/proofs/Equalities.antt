@@ -7,7 +7,7 @@ use Rattle.semver.specs.Identifiers.{parts_of}
 use Rattle.semver.specs.contracts.VersionPartialEq.TheImpl as version_eq
 use Rattle.semver.specs.declared.Version.{Version}
 use Rattle.nextest_config_values.specs.Equality.{IsEqualityBy, IsEqualityOfTold}
-use Rattle.nextest_config_values.specs.Read.{as_told, broken_rule, BrokenRule, Cause, cause_of, custom, fault_of, fault_with, identifier, key, missing_key, no_duration, PathStep, Reason, reason_of, required_above_recommended, step_of, told_of, told_with, ToldFault, tool_name, words_of}
+use Rattle.nextest_config_values.specs.Read.{for_reason, broken_rule, BrokenRule, Cause, cause_of, custom, fault_of, fault_with, identifier, key, missing_key, no_duration, PathStep, Reason, reason_of, required_above_recommended, step_of, read_fault_view, read_fault_with, ReadFaultView, tool_name, words_of}
 use Rattle.nextest_config_values.specs.Read.Fault.{Fault, unknown_field, unknown_variant}
 use Rattle.nextest_config_values.specs.Identifier.{identifier_fault, tool_name_fault}
 use Rattle.nextest_config_values.specs.contracts.read.fault.FaultKindPartialEq.TheImpl as kind_eq
@@ -97,20 +97,20 @@ same_kind (kinds.ToolName error) (kinds.ToolName other) reason is =
 same_kind kinds.Memory b reason is = cc is
 same_kind a b reason is = search rules
 
-fault_parts : (path : List ℕ) (told : Option Reason) (fault : ToldFault) → option_map (told_with path) told ≡ Some fault → (told ≡ Some fault.reason) × (path ≡ fault.path)
+fault_parts : (path : List ℕ) (told : Option Reason) (fault : ReadFaultView) → option_map (read_fault_with path) told ≡ Some fault → (told ≡ Some fault.reason) × (path ≡ fault.path)
 fault_parts path None fault e = cc e
 fault_parts path (Some reason) fault e =
-    let same : told_with path reason ≡ fault = cc e in
-    (ap (λ (f : ToldFault). Some f.reason) same, ap (λ (f : ToldFault). f.path) same)
+    let same : read_fault_with path reason ≡ fault = cc e in
+    (ap (λ (f : ReadFaultView). Some f.reason) same, ap (λ (f : ReadFaultView). f.path) same)
 
-pub same_fault : IsEqualityOfTold told_of (fault_eq.ghosts).eq
+pub same_fault : IsEqualityOfTold read_fault_view (fault_eq.ghosts).eq
 same_fault a b fault is =
     let (reason, path) = fault_parts (string_bytes a.path) (reason_of a.kind) fault is in
     let kind = same_kind a.kind b.kind fault.reason reason in
     let paths = same_text a.path b.path in (
       λ same.
           let (p, k) = and_parts _ _ same in
-          rw (kind.0 k) (ap (λ (at : List ℕ). Some (told_with at fault.reason)) (sym (paths.0 p) ∙ path)),
+          rw (kind.0 k) (ap (λ (at : List ℕ). Some (read_fault_with at fault.reason)) (sym (paths.0 p) ∙ path)),
       λ told.
           let (r, q) = fault_parts (string_bytes b.path) (reason_of b.kind) fault told in
           and_from _ _ (paths.1 (path ∙ sym q)) (kind.1 r),
@@ -134,7 +134,7 @@ alike_within make one (Some f) other IsSame alike whole is = (
   λ e. (alike f refl).1 (one_told make one other (Some f) (e ∙ sym is)),
 )
 
-one_reason : (told : Option Reason) (cause : Cause) → option_map as_told told ≡ Some cause → (reason : Reason) × (cause ≡ as_told reason)
+one_reason : (told : Option Reason) (cause : Cause) → option_map for_reason told ≡ Some cause → (reason : Reason) × (cause ≡ for_reason reason)
 one_reason None cause is = cc is
 one_reason (Some reason) cause is = (reason, cc is)
 
@@ -145,12 +145,12 @@ same_cause (causes.NoDuration found) (causes.NoDuration other) cause is =
 same_cause (causes.Missing name) (causes.Missing other) cause is =
     let texts = same_text name other in
     (λ same. ap (λ (text : List ℕ). Some (missing_key text)) (sym (texts.0 same)) ∙ is, λ e. texts.1 (cc (is, e)))
-same_cause (causes.Told kind) (causes.Told other) cause is =
-    alike_within as_told (λ a b e. cc e) (reason_of kind) (reason_of other) _ (same_kind kind other) cause is
-same_cause (causes.Told kind) (causes.NoDuration other) cause is = let one = one_reason (reason_of kind) cause is in (λ same. cc same, λ e. cc (e, one.1))
-same_cause (causes.Told kind) (causes.Missing other) cause is = let one = one_reason (reason_of kind) cause is in (λ same. cc same, λ e. cc (e, one.1))
-same_cause (causes.NoDuration found) (causes.Told other) cause is = (λ same. cc same, λ e. let one = one_reason (reason_of other) cause e in cc (is, one.1))
-same_cause (causes.Missing name) (causes.Told other) cause is = (λ same. cc same, λ e. let one = one_reason (reason_of other) cause e in cc (is, one.1))
+same_cause (causes.Kind kind) (causes.Kind other) cause is =
+    alike_within for_reason (λ a b e. cc e) (reason_of kind) (reason_of other) _ (same_kind kind other) cause is
+same_cause (causes.Kind kind) (causes.NoDuration other) cause is = let one = one_reason (reason_of kind) cause is in (λ same. cc same, λ e. cc (e, one.1))
+same_cause (causes.Kind kind) (causes.Missing other) cause is = let one = one_reason (reason_of kind) cause is in (λ same. cc same, λ e. cc (e, one.1))
+same_cause (causes.NoDuration found) (causes.Kind other) cause is = (λ same. cc same, λ e. let one = one_reason (reason_of other) cause e in cc (is, one.1))
+same_cause (causes.Missing name) (causes.Kind other) cause is = (λ same. cc same, λ e. let one = one_reason (reason_of other) cause e in cc (is, one.1))
 same_cause a b cause is = search rules
 
 value_parts : (steps : List PathStep) (told : Option Cause) (fault : Fault) → option_map (fault_with steps) told ≡ Some fault → (told ≡ Some fault.cause) × (steps ≡ fault.steps)

@@ -12,7 +12,7 @@ use Rattle.nextest_config_values.specs.Identifier.Normal.{Grammar, IsNormalFault
 use Rattle.nextest_config_values.specs.Identifier.ToolName.{IsToolName, IsToolNameFault, IsToolNameFlaw}
 use Rattle.nextest_config_values.specs.Decisions.{both_decided, IsDecided, IsFoundOrNone, same_decided, true_decided}
 use Rattle.nextest_config_values.specs.Once.{HasMeaningOrFault, HasOneMeaningOrFault}
-use Rattle.nextest_config_values.specs.Read.Fault.{Always, as_told, fault_here, identifier, Reason, tool_name}
+use Rattle.nextest_config_values.specs.Read.Fault.{Always, for_reason, fault_here, identifier, Reason, tool_name}
 use Rattle.nextest_config_values.specs.Read.FromToml.{Reading}
 use Rattle.nextest_config_values.specs.Read.Plain.{text_expected}
 use Rattle.nextest_config_values.specs.Read.Readings.{kind, wrong_kind}
@@ -243,10 +243,10 @@ tool_name_or_flaw cs = elim (plain_decided cs) [
 pub named_fault : {X Flaw : Type 0} {means : X → Type 0} {is_fault : NameFault Flaw → Type 0}
     (reason : NameFault Flaw → Reason) → HasMeaningOrFault means is_fault
     → HasMeaningOrFault means (λ fault. (told : NameFault Flaw) × is_fault told
-    × (fault ≡ fault_here (as_told (reason told))))
+    × (fault ≡ fault_here (for_reason (reason told))))
 named_fault reason (inl meant) = inl meant
 named_fault reason (inr (told, wrong)) =
-    inr (fault_here (as_told (reason told)), (told, wrong, refl))
+    inr (fault_here (for_reason (reason told)), (told, wrong, refl))
 
 module _ {Flaw : Type 0} (grammar : Grammar Flaw) where
   normal_in : (text : List ℕ)
@@ -282,13 +282,13 @@ module _ {Flaw : Type 0} (grammar : Grammar Flaw) where
   name_in text = record {
     means = λ value. IsNormalText grammar.IsForm text;
     faults = λ value fault. (told : NameFault Flaw) × IsNormalFault grammar.IsFlaw text told
-        × (fault ≡ fault_here (as_told (grammar.reason told)));
+        × (fault ≡ fault_here (for_reason (grammar.reason told)));
     takes_memory = λ value. Always;
     law = record {
       meaning_or_fault = λ value. named_fault grammar.reason (normal_or_fault text);
       one_meaning = λ value x y a b. a.1 ∙ sym b.1;
       one_fault = λ value f g a b. a.2
-          ∙ ap (λ r. fault_here (as_told (grammar.reason r)))
+          ∙ ap (λ r. fault_here (for_reason (grammar.reason r)))
           (one_normal_fault text a.0 b.0 a.1 b.1)
           ∙ sym b.2;
       never_both = λ value x f a b. no_normal_fault text x b.0 a b.1;

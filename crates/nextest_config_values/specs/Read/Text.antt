@@ -47,9 +47,9 @@ found_text (float number) = codes "floating point"
 found_text (datetime moment) = codes "datetime"
 
 -- how a refusal prints: the fault that it tells, or that memory was refused
-abbrev pub told_text : {F : Type 0} → (F → List ℕ) → Option F → List ℕ
-told_text text (Some fault) = text fault
-told_text text None = codes "out of memory"
+abbrev pub text_or_memory : {F : Type 0} → (F → List ℕ) → Option F → List ℕ
+text_or_memory text (Some fault) = text fault
+text_or_memory text None = codes "out of memory"
 
 -- the refusal tells a fault of which this holds; or it tells none, and says that memory was refused
 abbrev pub FaultOrMemory : {F : Type 0} → Option F → Type 0 → (F → Type 0) → Type 0

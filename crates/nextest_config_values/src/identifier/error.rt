@@ -4,7 +4,7 @@ ghost use Rattle.std.specs.Prelude.{◌≡◌, ◌++◌, Some};
 ghost use Rattle.std.specs.Fmt.{WritesOnOk, WritesStyledOnOk};
 ghost use Rattle.nextest_config_values.specs.Identifier.{identifier_fault, identifier_fault_text, tool_name_fault, tool_name_fault_text};
 ghost use Rattle.toml_spans.specs.QuotedText.{quoted_text};
-ghost use Rattle.nextest_config_values.specs.Read.{told_text};
+ghost use Rattle.nextest_config_values.specs.Read.{text_or_memory};
 
 use crate::helpers::InvalidIdentifierKind;
 use crate::read::QuotedText;
@@ -62,9 +62,9 @@ pub enum ToolNameFlaw {
 }
 
 impl fmt::Display for InvalidIdentifier {
-    ghost output = { λ error. Some (told_text identifier_fault_text (identifier_fault error)) };
+    ghost output = { λ error. Some (text_or_memory identifier_fault_text (identifier_fault error)) };
 
-    ghost styled_output = { λ error _. Some (told_text identifier_fault_text (identifier_fault error)) };
+    ghost styled_output = { λ error _. Some (text_or_memory identifier_fault_text (identifier_fault error)) };
 
     fn fmt<W: fmt::Write>(&self, f: &mut fmt::Formatter<W>) -> fmt::Result {
         match self {
@@ -104,9 +104,9 @@ fn write_named<W: fmt::Write>(f: &mut fmt::Formatter<W>, reason: &str, text: &st
 }
 
 impl fmt::Display for InvalidToolName {
-    ghost output = { λ error. Some (told_text tool_name_fault_text (tool_name_fault error)) };
+    ghost output = { λ error. Some (text_or_memory tool_name_fault_text (tool_name_fault error)) };
 
-    ghost styled_output = { λ error _. Some (told_text tool_name_fault_text (tool_name_fault error)) };
+    ghost styled_output = { λ error _. Some (text_or_memory tool_name_fault_text (tool_name_fault error)) };
 
     fn fmt<W: fmt::Write>(&self, f: &mut fmt::Formatter<W>) -> fmt::Result {
         match self {

@@ -3,7 +3,7 @@
 ghost use Rattle.std.specs.Prelude.{◌≡◌, ◌++◌, is_none, option_map, Some, string_bytes};
 ghost use Rattle.std.specs.Fmt.{WritesOnOk, WritesStyledOnOk};
 ghost use Rattle.nextest_config_values.specs.Identifier.Error.{identifier_fault, tool_name_fault};
-ghost use Rattle.nextest_config_values.specs.Read.{broken_rule, identifier, IsNameKind, kind_text, mismatch_text, path_text, reason_of, rule_text, styled_kind_text, styled_rule_text, TellsMemory, told_of, tool_name, unknown_text, words_of};
+ghost use Rattle.nextest_config_values.specs.Read.{broken_rule, identifier, IsNameKind, kind_text, mismatch_text, path_text, reason_of, rule_text, styled_kind_text, styled_rule_text, TellsMemory, read_fault_view, tool_name, unknown_text, words_of};
 ghost use Rattle.nextest_config_values.specs.declared.read.fault.FaultKind.TheVariants.{Memory};
 
 use super::text::write_words;
@@ -97,7 +97,7 @@ pub enum Rule {
 impl ReadFault {
     /// Whether a request for memory was refused.
     pub fn is_memory(&self) -> bool
-        ensures { result ≡ is_none (told_of self.now) }
+        ensures { result ≡ is_none (read_fault_view self.now) }
     {
         self.kind.is_memory()
     }
