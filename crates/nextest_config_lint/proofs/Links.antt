@@ -45,24 +45,16 @@ module _ (profile : List ℕ) where
       ap (λ (l : List ListFile). link_after 0 l None) counting.whole
       ∙ last_after 0 position counting.before counting.file counting.after value None (omega (arith, counting.place)) counting.here counting.none_after
 
+  one_before : (file : ListFile) (files : List ListFile) (position : ℕ) (value : Data) → IsCounting files profile position value → IsCounting (file ∷ files) profile (suc position) value
+  one_before file files position value counting =
+      record { before = file ∷ counting.before; file = counting.file; after = counting.after; whole = ap (λ (l : List ListFile). file ∷ l) counting.whole; place = ap suc counting.place; here = counting.here; none_after = counting.none_after }
+
   -- no file has `inherits`, or a value of it counts
   some_counts : (files : List ListFile) → AllByRecursion (λ file. inherits_in profile file ≡ None) files ⊎ ((position : ℕ) × (value : Data) × IsCounting files profile position value)
   some_counts [] = inl tt
   some_counts (file ∷ files) = elim (some_counts files) [
     | inl none ↦ here none (inherits_in profile file) refl
-    | inr (position, value, later) ↦ inr (
-      suc position,
-      value,
-      record {
-        before = file ∷ later.before;
-        file = later.file;
-        after = later.after;
-        whole = ap (λ (l : List ListFile). file ∷ l) later.whole;
-        place = ap suc later.place;
-        here = later.here;
-        none_after = later.none_after;
-      },
-    )
+    | inr (position, value, later) ↦ inr (suc position, value, one_before file files position value later)
   ]
     where
       here : AllByRecursion (λ file. inherits_in profile file ≡ None) files → (value : Option Data) → inherits_in profile file ≡ value

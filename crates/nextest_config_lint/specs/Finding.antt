@@ -73,12 +73,33 @@ mistake_text None = []
 abbrev pub name_text : List ℕ → List ℕ → Option Hint → List ℕ
 name_text said name hint = (said ++ quoted_text name) ++ hint_text hint
 
+-- how what is found prints where that is never told with what may be meant; else nothing
+abbrev pub plain_text : FindingKind → List ℕ
+plain_text (kinds.ToolFeatures features) =
+    codes "experimental features in a tool configuration: "
+    ++ quoted_texts (map string_bytes features.keys)
+plain_text kinds.DefaultInherits = codes "the profile \"default\" can't inherit"
+plain_text (kinds.InheritsItself profile) =
+    codes "the profile " ++ (quoted_text (string_bytes profile) ++ codes " inherits from itself")
+plain_text kinds.OverrideOfAll =
+    codes "an override needs a \"filter\" or a \"platform\""
+plain_text kinds.ReservedProfile =
+    codes "profile names that begin with \"default-\" are reserved"
+plain_text (kinds.NoGroupName error) =
+    text_or_memory identifier_fault_text (identifier_fault error)
+plain_text (kinds.GroupOutsideTool mark) =
+    codes "a tool's test groups begin with " ++ quoted_text (string_bytes mark)
+plain_text kinds.GroupOfTool = codes "only a tool's test groups begin with \"@\""
+plain_text kinds.UnjudgedDuration =
+    codes "not judged here: a duration other than whole numbers, each with a unit"
+plain_text (kinds.DeprecatedArray table) =
+    codes "the array form is deprecated, use a table: " ++ string_bytes table
+plain_text kinds.NotUtf8 = codes "not UTF-8"
+plain_text kind = []
+
 -- how what is found prints, without its path
 abbrev pub finding_kind_text : FindingKind → List ℕ
 finding_kind_text (kinds.Fault fault severity hint) = kind_text fault ++ hint_text hint
-finding_kind_text (kinds.ToolFeatures features) =
-    codes "experimental features in a tool configuration: "
-    ++ quoted_texts (map string_bytes features.keys)
 finding_kind_text (kinds.UnknownFeature name hint) =
     name_text (codes "unknown feature ") (string_bytes name) hint
 finding_kind_text (kinds.UnknownKey key hint) =
@@ -87,6 +108,7 @@ finding_kind_text (kinds.UndefinedGroup name hint) =
     name_text (codes "no file defines the test group ") (string_bytes name) hint
 finding_kind_text (kinds.UndefinedProfile name hint) =
     name_text (codes "no file defines the profile ") (string_bytes name) hint
+<<<<<<< HEAD
 finding_kind_text kinds.DefaultInherits = codes "the profile \"default\" can't inherit"
 finding_kind_text (kinds.InheritsItself profile) =
     codes "the profile " ++ (quoted_text (string_bytes profile) ++ codes " inherits from itself")
@@ -104,7 +126,10 @@ finding_kind_text kinds.UnjudgedDuration =
 finding_kind_text (kinds.DeprecatedArray table) =
     codes "the array form is deprecated, use a table: " ++ string_bytes table
 finding_kind_text kinds.NotUtf8 = codes "not UTF-8"
+=======
+>>>>>>> a6c162980dfd4a460c886f8a5c03cb934342a279
 finding_kind_text (kinds.NotToml message mistake) = string_bytes message ++ mistake_text mistake
+finding_kind_text kind = plain_text kind
 
 -- a path before what is found there, unless it is empty
 abbrev pub path_front : List PathStep → List ℕ
