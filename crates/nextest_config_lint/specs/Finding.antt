@@ -108,26 +108,6 @@ finding_kind_text (kinds.UndefinedGroup name hint) =
     name_text (codes "no file defines the test group ") (string_bytes name) hint
 finding_kind_text (kinds.UndefinedProfile name hint) =
     name_text (codes "no file defines the profile ") (string_bytes name) hint
-<<<<<<< HEAD
-finding_kind_text kinds.DefaultInherits = codes "the profile \"default\" can't inherit"
-finding_kind_text (kinds.InheritsItself profile) =
-    codes "the profile " ++ (quoted_text (string_bytes profile) ++ codes " inherits from itself")
-finding_kind_text kinds.OverrideOfAll =
-    codes "an override needs a \"filter\" or a \"platform\""
-finding_kind_text kinds.ReservedProfile =
-    codes "profile names that begin with \"default-\" are reserved"
-finding_kind_text (kinds.NoGroupName error) =
-    text_or_memory identifier_fault_text (identifier_fault error)
-finding_kind_text (kinds.GroupOutsideTool mark) =
-    codes "a tool's test groups begin with " ++ quoted_text (string_bytes mark)
-finding_kind_text kinds.GroupOfTool = codes "only a tool's test groups begin with \"@\""
-finding_kind_text kinds.UnjudgedDuration =
-    codes "not judged here: a duration other than whole numbers, each with a unit"
-finding_kind_text (kinds.DeprecatedArray table) =
-    codes "the array form is deprecated, use a table: " ++ string_bytes table
-finding_kind_text kinds.NotUtf8 = codes "not UTF-8"
-=======
->>>>>>> a6c162980dfd4a460c886f8a5c03cb934342a279
 finding_kind_text (kinds.NotToml message mistake) = string_bytes message ++ mistake_text mistake
 finding_kind_text kind = plain_text kind
 
