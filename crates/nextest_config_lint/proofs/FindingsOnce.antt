@@ -26,7 +26,8 @@ use Rattle.nextest_config_lint.specs.References.{IsReferenceFound}
 use Rattle.nextest_config_lint.specs.Settings.{settings_of, SettingView}
 use Rattle.nextest_config_elements.specs.MaxFail.{one_number}
 use Rattle.nextest_config_lint.specs.Integers.{IsIntegerHint}
-use Rattle.nextest_config_lint.specs.Meant.{digits_of, IsDurationHint, IsEitherHint, IsHintAt, IsHintBeside, IsSecondsHint, IsShortHint, taken_to, unknown_name}
+use Rattle.nextest_config_lint.specs.Meant.{digits_of, IsDurationHint, IsEitherHint, IsHintAt, IsHintBeside, IsSecondsHint, IsShortHint, taken_to}
+use Rattle.nextest_config_lint.specs.Meant as hints
 use Rattle.nextest_config_lint.specs.declared.integers.IntegerRange.{IntegerRange}
 use Rattle.nextest_config_lint.specs.Reader.{reader_check}
 use Rattle.nextest_config_lint.specs.Unknown.{IsHintFor, IsKeyFound, IsKeyFoundFor, is_known, meant_beside, TableKey}
@@ -141,7 +142,7 @@ beside_once None steps setting a b h k = meant_at_once setting.path (taken_to se
 one_kind : (setting : SettingView) (fault : Fault) (reason : Reason) (a b : FoundKind) → IsFoundKind setting fault reason a → IsFoundKind setting fault reason b → a ≡ b
 one_kind setting fault reason a b (severity, hint, grave, meant, is) (other, hint_too, grave_too, meant_too, is_too) =
     is ∙ ap₂ (λ (s : FindingSeverity) (h : Option Meant). refused reason s h) (severity_once setting fault severity other grave grave_too)
-    (beside_once (unknown_name fault.cause) fault.steps setting hint hint_too meant meant_too) ∙ sym is_too
+    (beside_once (hints.unknown_name fault.cause) fault.steps setting hint hint_too meant meant_too) ∙ sym is_too
 
 one_found : (setting : SettingView) (fault : Fault) (a b : Found) → IsFoundOf setting fault a → IsFoundOf setting fault b → a ≡ b
 one_found setting fault a b h k =
