@@ -16,9 +16,8 @@ use Rattle.toml.proofs.Views.{Entry}
 use Rattle.toml.specs.Data.{Data, get_member, member, Members, no_members}
 use Rattle.toml.specs.View.{members_view}
 use Rattle.toml_spans.proofs.Elements.{all_weaker}
-use Rattle.nextest_config_values.specs.Read.{value_of}
+use Rattle.nextest_config_values.specs.Read.{value_of, words_of}
 use Rattle.nextest_config_lint.specs.Settings.{names_of}
-use Rattle.nextest_config_lint.specs.NearestWord.{words_of}
 use Rattle.nextest_config_lint.specs.Schema.{row_words, rows_told}
 use Rattle.nextest_config_lint.specs.Unknown.{is_known}
 use Rattle.nextest_config_lint.specs.declared.finding.FindingSeverity.{FindingSeverity}

@@ -1,7 +1,7 @@
 -- What is below a value, one level at a time.
 use Rattle.std.proofs.Common.{◌≡◌, ℕ, List, sym, ap, ◌∙◌}
 use Rattle.std.specs.Borrow.{Bor}
-use Rattle.nextest_config_lint.specs.NearestWord.{words_of}
+use Rattle.nextest_config_values.specs.Read.{words_of}
 use Rattle.nextest_config_lint.specs.Schema.{Below, below_of, elements, keys, level_of, names, nothing, rows, rows_told}
 use Rattle.nextest_config_lint.specs.declared.finding.FindingSeverity.{FindingSeverity}
 use Rattle.nextest_config_lint.specs.declared.reader.Reader.{Reader}

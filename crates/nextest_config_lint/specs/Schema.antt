@@ -10,7 +10,7 @@ use Rattle.nextest_config_elements.specs.LeakTimeout.{leak_timeout_keys}
 use Rattle.nextest_config_elements.specs.MaxFail.{fail_fast_keys}
 use Rattle.nextest_config_elements.specs.SlowTimeout.{slow_timeout_keys}
 use Rattle.nextest_config_lint.specs.Forms.{max_threads_key}
-use Rattle.nextest_config_lint.specs.NearestWord.{words_of}
+use Rattle.nextest_config_values.specs.Read.{words_of}
 use Rattle.nextest_config_lint.specs.declared.finding.FindingSeverity.{FindingSeverity}
 use Rattle.nextest_config_lint.specs.declared.finding.FindingSeverity.TheVariants.{Error, Warning}
 use Rattle.nextest_config_lint.specs.declared.reader.Reader.{Reader}

@@ -2,7 +2,8 @@
 
 ghost use Rattle.std.specs.Prelude.{◌≡◌, IfOk, chars, length, option_map};
 ghost use Rattle.nextest_config_lint.specs.Found.{IsNearestMeant, meant_of, the_word};
-ghost use Rattle.nextest_config_lint.specs.NearestWord.{IsNearest, is_same, plain_byte, words_of};
+ghost use Rattle.nextest_config_values.specs.Read.{words_of};
+ghost use Rattle.nextest_config_lint.specs.NearestWord.{IsNearest, is_same, plain_byte};
 
 use crate::finding::Hint;
 use std::alloc::{AllocError, Global};

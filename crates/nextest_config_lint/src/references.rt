@@ -7,7 +7,7 @@ ghost use Rattle.nextest_config_values.specs.Identifier.{IdentifierFlaw, NameFau
 ghost use Rattle.nextest_config_values.specs.Read.Fault.{identifier};
 ghost use Rattle.nextest_config_lint.specs.Defined.{IsDefinedBy, ListFile};
 ghost use Rattle.nextest_config_lint.specs.Found.{AddsOne, AreFoundIn, TellsSome, group_of_tool, group_outside_tool, kind_told, meant_of, no_group_name, override_of_all, reserved_profile};
-ghost use Rattle.nextest_config_lint.specs.NearestWord.{words_of};
+ghost use Rattle.nextest_config_values.specs.Read.{words_of};
 ghost use Rattle.nextest_config_lint.specs.References.{BeginsWith, IsGroupTextTold, IsGroupTold, IsKeptTold, IsNameTold, IsOverrideOfAll, IsParentNameTold, IsParentTold, IsPlaceTold, IsReferenceFound, IsReserved, IsSought, IsToldIf, a_group, a_parent, a_profile, is_key, is_other, named, place_below, place_in_override, place_of, place_view, TellsIfAny, tool_mark_of};
 ghost use Rattle.nextest_config_lint.specs.Settings.{mark_step, setting_view};
 

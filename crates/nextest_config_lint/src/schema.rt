@@ -1,7 +1,7 @@
 //! The places of a configuration file: what stands at a key, what reads it, and what is below it.
 
 ghost use Rattle.std.specs.Prelude.{◌≡◌, IfOk};
-ghost use Rattle.nextest_config_lint.specs.NearestWord.{words_of};
+ghost use Rattle.nextest_config_values.specs.Read.{words_of};
 ghost use Rattle.nextest_config_lint.specs.Schema.{below_of, file_rows, override_junit_table, override_table, profile_table, row_words, rows_in, rows_told};
 
 use crate::finding::FindingSeverity::{self, Error, Warning};

@@ -1,10 +1,9 @@
 //! How grave a fault of a setting is: nextest may take what its readers refuse.
 
 ghost use Rattle.std.specs.Prelude.{◌≡◌, ◌↔◌, IfSome, IsTrue, map};
-ghost use Rattle.nextest_config_values.specs.Read.{cause_of, fault_of};
+ghost use Rattle.nextest_config_values.specs.Read.{cause_of, fault_of, words_of};
 ghost use Rattle.nextest_config_values.specs.Read.Fault.{missing_key};
 ghost use Rattle.toml_spans.specs.Step.{key, step_of};
-ghost use Rattle.nextest_config_lint.specs.NearestWord.{words_of};
 ghost use Rattle.nextest_config_lint.specs.Settings.{mark_step, setting_view};
 ghost use Rattle.nextest_config_lint.specs.Severity.{HasDefaultPeriod, IsConverted, IsConvertible, IsMissingPeriod, IsSeverity, IsSupplied, IsWrongType};
 

@@ -5,7 +5,7 @@ ghost use Rattle.toml.specs.Data.{table};
 ghost use Rattle.toml.specs.View.{table_view};
 ghost use Rattle.nextest_config_lint.specs.Found.{AddsFound, AddsOne, AreFoundIn, meant_of, TellsSome};
 ghost use Rattle.nextest_config_lint.specs.Settings.{setting_view, mark_step, names_of};
-ghost use Rattle.nextest_config_lint.specs.NearestWord.{words_of};
+ghost use Rattle.nextest_config_values.specs.Read.{words_of};
 ghost use Rattle.nextest_config_lint.specs.Schema.{below_of, file_table, row_words, rows_told};
 ghost use Rattle.nextest_config_lint.specs.Unknown.{scope_of, scope_words, is_known, IsHintFor, IsKeyFound, key_at, keys_among, keys_below, keys_in, parts_of, slip_of, word_with_part};
 

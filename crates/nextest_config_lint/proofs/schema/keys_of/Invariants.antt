@@ -1,5 +1,5 @@
 use Rattle.std.proofs.Common.{◌≡◌, ◌++◌, drop}
-use Rattle.nextest_config_lint.specs.NearestWord.{words_of}
+use Rattle.nextest_config_values.specs.Read.{words_of}
 use Rattle.nextest_config_lint.specs.Schema.{row_words, rows_told}
 use Rattle.nextest_config_lint.proofs.schema.keys_of.Given as goal
 
