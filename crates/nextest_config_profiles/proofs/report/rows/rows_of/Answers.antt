@@ -1,4 +1,4 @@
-use Rattle.nextest_config_profiles.proofs.report.rows.given_rows.Goals as goal
+use Rattle.nextest_config_profiles.proofs.report.rows.rows_of.Goals as goal
 
 pub returns-in-Fault : goal.returns-in-Fault
 returns-in-Fault c = rw c.in-Fault.is (c.in_ok-row-in-Fault.row, c.in_ok-row-in-Fault.ensures, c.in_ok-rows-in-Fault.ensures)
