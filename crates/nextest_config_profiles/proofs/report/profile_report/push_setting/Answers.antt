@@ -1,4 +1,4 @@
-use Rattle.std.proofs.Common.{map, option_map, refl}
+use Rattle.std.proofs.Common.{option_map}
 use Rattle.std.proofs.lemmas.List.{map_push}
 use Rattle.nextest_config_profiles.proofs.report.profile_report.push_setting.Goals as goal
 
