@@ -46,13 +46,13 @@ impl<'a> ProfileReport<'a> {
     ) -> Result<Self, AllocError>
         ensures { IfOk result (IsReport effective.now tells_hidden) }
     {
-        let told = told_settings(alloc, effective, tells_hidden)?;
+        let report = settings_report(alloc, effective, tells_hidden)?;
         Ok(ProfileReport {
             chain: chain(alloc, effective)?,
-            settings: told.rows,
+            settings: report.rows,
             others: others(alloc, effective)?,
             overrides: overrides(alloc, effective)?,
-            other_profiles: told.faults,
+            other_profiles: report.faults,
         })
     }
 
@@ -67,26 +67,26 @@ impl<'a> ProfileReport<'a> {
 
 // What is told of the settings.
 #[derive(Drop)]
-struct ToldSettings<'a> {
+struct SettingsReport<'a> {
     rows: Vec<Vec<Row<'a>>>,
     // What is wrong with each in other profiles than the one that gives it.
     faults: Vec<OtherProfileFault<'a>>,
 }
 
 // What is told of each setting, which is read once.
-fn told_settings<'a>(
+fn settings_report<'a>(
     alloc: Global,
     effective: &'a EffectiveProfile<'a>,
     tells_hidden: bool,
-) -> Result<ToldSettings<'a>, AllocError>
-    ensures rows { IfOk result (λ told. AllZip (AreRows effective.now tells_hidden) all_settings
-        (map (λ rows. rows.items) told.rows.items)) }
-    ensures faults { IfOk result (λ told.
-        AreOtherProfileFaults effective.now told.faults.items) }
+) -> Result<SettingsReport<'a>, AllocError>
+    ensures rows { IfOk result (λ report. AllZip (AreRows effective.now tells_hidden) all_settings
+        (map (λ rows. rows.items) report.rows.items)) }
+    ensures faults { IfOk result (λ report.
+        AreOtherProfileFaults effective.now report.faults.items) }
 {
     let names = profile_names(alloc, effective.files())?;
     let settings = all_settings();
-    let mut told = ToldSettings {
+    let mut report = SettingsReport {
         rows: Vec::new(alloc),
         faults: Vec::new(alloc),
     };
@@ -97,10 +97,10 @@ fn told_settings<'a>(
             *setting,
             names.as_slice(),
             tells_hidden,
-            &mut told,
+            &mut report,
         )?;
     }
-    Ok(told)
+    Ok(report)
 }
 
 // Pushes what is told of a setting, where the profiles have these names.
@@ -110,21 +110,21 @@ fn push_setting<'a>(
     setting: Setting,
     names: &[&'a str],
     tells_hidden: bool,
-    told: &mut ToldSettings<'a>,
+    report: &mut SettingsReport<'a>,
 ) -> Result<(), AllocError>
     ensures rows { OnOk result ((rows : List Row)
         × AreRows effective.now tells_hidden (rule_of setting) rows
-        × (map (λ rows. rows.items) told.new.rows.items
-        ≡ map (λ rows. rows.items) told.old.rows.items ++ rows ∷ [])) }
+        × (map (λ rows. rows.items) report.new.rows.items
+        ≡ map (λ rows. rows.items) report.old.rows.items ++ rows ∷ [])) }
     ensures faults { OnOk result ((added : List OtherProfileFault)
         × AreFaultsOf effective.now (words_of names.now) (rule_of setting) added
-        × (told.new.faults.items ≡ told.old.faults.items ++ added)) }
+        × (report.new.faults.items ≡ report.old.faults.items ++ added)) }
 {
     let given = given_for(alloc, effective, None, setting)?;
     let giver = giver_of(&given);
     let rows = rows_of(alloc, effective, setting, tells_hidden, given)?;
-    told.rows.push(rows)?;
-    push_faults(alloc, effective, setting, giver, names, &mut told.faults)?;
+    report.rows.push(rows)?;
+    push_faults(alloc, effective, setting, giver, names, &mut report.faults)?;
     Ok(())
 }
 

@@ -6,7 +6,7 @@ pub returns-clause-rows : goal.returns-clause-rows
 returns-clause-rows c = (
   c.in_ok-rows.rows.items,
   (c.in_ok-given.given, c.in_ok-given.ensures, c.in_ok-rows.ensures),
-  rw c.in_ok-push.ensures.items (map_push (λ rows. rows.items) c.args.told.now.rows.items c.in_ok-rows.rows),
+  rw c.in_ok-push.ensures.items (map_push (λ rows. rows.items) c.args.report.now.rows.items c.in_ok-rows.rows),
 )
 
 pub returns-clause-faults : goal.returns-clause-faults

@@ -8,7 +8,7 @@ use Rattle.nextest_config_profiles.specs.Report.Rows.{AreRows}
 use Rattle.nextest_config_profiles.specs.Report.Setting.{rule_of}
 use Rattle.nextest_config_profiles.proofs.Somes.{list_more}
 use Rattle.nextest_config_profiles.proofs.Zipped.{zip_more}
-use Rattle.nextest_config_profiles.proofs.report.profile_report.told_settings.Goals as goal
+use Rattle.nextest_config_profiles.proofs.report.profile_report.settings_report.Goals as goal
 
 pub loop-setting-preserved : goal.loop-setting-preserved
 loop-setting-preserved c =
