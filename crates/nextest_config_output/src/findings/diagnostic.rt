@@ -37,7 +37,7 @@ pub fn push_finding(
     alloc: Global,
     text: &mut String,
     format: Format,
-    told: &Diagnostic<'_>,
+    diagnostic: &Diagnostic<'_>,
     lines: &[&str],
 ) -> Result<(), AllocError>
     ensures { OnOk result (string_bytes text.new ≡ string_bytes text.old

@@ -13,7 +13,7 @@ use toml_spans::{Place, Span};
 
 // Pushes a finding as a command that shows it at its lines. Its text has the place, too, since the
 // log of a job shows nothing else.
-pub(crate) fn push_github(text: &mut String, told: &Diagnostic<'_>) -> Result<(), AllocError>
+pub(crate) fn push_github(text: &mut String, diagnostic: &Diagnostic<'_>) -> Result<(), AllocError>
     ensures { OnOk result
         (string_bytes text.new ≡ string_bytes text.old ++ github_line (diagnostic_view diagnostic.now)) }
 {

@@ -11,7 +11,7 @@ use std::fmt::Write;
 use toml_spans::Place;
 
 // Pushes a finding as a line that tools read, too.
-pub(crate) fn push_human(text: &mut String, told: &Diagnostic<'_>) -> Result<(), AllocError>
+pub(crate) fn push_human(text: &mut String, diagnostic: &Diagnostic<'_>) -> Result<(), AllocError>
     ensures { OnOk result
         (string_bytes text.new ≡ string_bytes text.old ++ human_line (diagnostic_view diagnostic.now)) }
 {

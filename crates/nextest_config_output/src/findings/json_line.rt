@@ -14,7 +14,7 @@ use toml_spans::Span;
 pub(crate) fn push_json(
     alloc: Global,
     text: &mut String,
-    told: &Diagnostic<'_>,
+    diagnostic: &Diagnostic<'_>,
 ) -> Result<(), AllocError>
     ensures { OnOk result
         (string_bytes text.new ≡ string_bytes text.old ++ json_line (diagnostic_view diagnostic.now)) }
