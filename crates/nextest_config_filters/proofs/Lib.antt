@@ -1,0 +1,7 @@
+pub mod Firsts
+pub mod Literals
+pub mod Nots
+pub mod Once
+pub mod Rests
+pub mod Runs
+pub mod Walks

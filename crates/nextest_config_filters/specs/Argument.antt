@@ -1,13 +1,11 @@
 -- The arguments of predicates. `opened` is the text from the parenthesis before an argument on,
 -- `at` from behind the spaces that follow it.
-use Rattle.std.specs.Prelude.{ℕ, ◌&&◌, ◌||◌, ◌==◌, Bool, true, false, not, codes, List, [], ◌∷◌, nat_eq, Option, Some, None, if◌then◌else◌}
+use Rattle.std.specs.Prelude.{ℕ, ◌&&◌, ◌||◌, ◌==◌, Bool, true, false, not, codes, List, [], ◌∷◌, Option, Some, None, if◌then◌else◌}
 use Rattle.std.specs.Char.{is_ascii_alphabetic, is_ascii_alphanumeric, is_ascii_hexdigit, is_whitespace}
-use Rattle.std.specs.Cmp.Lexicographic.{pointwise}
-use Rattle.std.specs.List.{list_any}
 use Rattle.std.specs.Str.{drop_trailing_whitespace}
 use Rattle.toml_spans.specs.Characters.{backslash, carriage_return, line_feed, slash}
 use Rattle.nextest_config_filters.specs.Predicate.{argument_of}
-use Rattle.nextest_config_filters.specs.Text.{behind_spaces, closing, hash, opening, run, stands, underscore}
+use Rattle.nextest_config_filters.specs.Text.{behind_spaces, closing, hash, is_end, is_text, opening, run, stands, underscore}
 pub use Rattle.nextest_config_filters.specs.Text.{behind_first, first_is}
 use Rattle.nextest_config_filters.specs.Turn.{goes, told, Turn, unjudged}
 use Rattle.nextest_config_filters.specs.declared.fault.TextFaultKind.{TextFaultKind}
@@ -100,14 +98,10 @@ is_code_digit c = is_ascii_hexdigit c || c == underscore
 abbrev pub split_code : List ℕ → List ℕ × List ℕ
 split_code = run is_code_digit
 
-abbrev pub is_some_text : List ℕ → Bool
-is_some_text [] = false
-is_some_text (c ∷ cs) = true
-
 -- digits between braces come next, as in `{61}`
 abbrev pub begins_with_code : List ℕ → Bool
 begins_with_code text = first_is left_brace text
-    && (is_some_text (split_code (behind_first text)).0
+    && (not (is_end (split_code (behind_first text)).0)
     && first_is right_brace (split_code (behind_first text)).1)
 
 -- a character that names an escape: `\b`, `\f`, `\n`, `\r`, `\t`
@@ -131,16 +125,31 @@ abbrev pub comma_turn : Predicate → Bool → List ℕ → List ℕ → Turn
 comma_turn predicate grouped at behind = if grouped then unjudged
     else told (kinds.CommaInArgument predicate) at behind []
 
+-- the first character is an ASCII letter
+abbrev pub begins_with_letter : List ℕ → Bool
+begins_with_letter [] = false
+begins_with_letter (c ∷ cs) = is_ascii_alphabetic c
+
+-- what stands before the first backslash, and the text from it on
+abbrev pub split_backslash : List ℕ → List ℕ × List ℕ
+split_backslash = run (λ c. not (c == backslash))
+
+abbrev pub has_backslash : List ℕ → Bool
+has_backslash text = not (is_end (split_backslash text).1)
+
+-- the text without the spaces behind it
+abbrev pub trimmed_end : List ℕ → List ℕ
+trimmed_end = drop_trailing_whitespace
+
 -- an argument, and what it is without the spaces behind it, is known to be no platform of filters:
 -- it begins with an ASCII letter, has no backslash and is neither of the two words
 abbrev pub is_no_platform : List ℕ → List ℕ → Bool
-is_no_platform [] word = false
-is_no_platform (c ∷ cs) word = is_ascii_alphabetic c && (not (list_any (λ d. d == backslash) (c ∷ cs))
-    && (not (pointwise nat_eq word (codes "host")) && not (pointwise nat_eq word (codes "target"))))
+is_no_platform argument word = begins_with_letter argument && (not (has_backslash argument)
+    && (not (is_text (codes "host") word) && not (is_text (codes "target") word)))
 
 -- the argument without the spaces behind it
 abbrev pub argument_word : List ℕ → List ℕ
-argument_word at = drop_trailing_whitespace (split_argument at).0
+argument_word at = trimmed_end (split_argument at).0
 
 abbrev pub is_platform : Argument → Bool
 is_platform arguments.Nothing = false
@@ -163,17 +172,18 @@ abbrev pub escape_turn : Option TextFaultKind → List ℕ → List ℕ → Turn
 escape_turn (Some kind) begins behind more = told kind begins behind []
 escape_turn None begins behind more = more
 
--- what follows of a text that begins at `at`: whether `(` and `{` stood in it so far, and the text
--- from the character before on, where that is a backslash that escapes the next one
-abbrev pub text_turn : Predicate → List ℕ → List ℕ → Bool → Bool → Option (List ℕ) → List ℕ → Turn
-text_turn predicate opened at parenthesis brace escape [] = not_closed opened
-text_turn predicate opened at parenthesis brace (Some begins) (c ∷ cs) =
-    escape_turn (escape_fault c cs) begins cs (text_turn predicate opened at parenthesis brace None cs)
-text_turn predicate opened at parenthesis brace None (c ∷ cs) =
+-- what follows of a text that begins at `at`: whether `(` and `{` stood in it so far, whether the
+-- character before is a backslash that escapes the next one, and the text from that character on
+abbrev pub text_turn : Predicate → List ℕ → List ℕ → Bool → Bool → Bool → List ℕ → List ℕ → Turn
+text_turn predicate opened at parenthesis brace escaped before [] = not_closed opened
+text_turn predicate opened at parenthesis brace true before (c ∷ cs) =
+    escape_turn (escape_fault c cs) before cs
+    (text_turn predicate opened at parenthesis brace false (c ∷ cs) cs)
+text_turn predicate opened at parenthesis brace false before (c ∷ cs) =
     if c == closing then behind_text predicate at parenthesis cs
     else if c == comma then comma_turn predicate (parenthesis || brace) (c ∷ cs) cs
-    else if c == backslash then text_turn predicate opened at parenthesis brace (Some (c ∷ cs)) cs
-    else text_turn predicate opened at (parenthesis || c == opening) (brace || c == left_brace) None cs
+    else text_turn predicate opened at (parenthesis || c == opening) (brace || c == left_brace)
+        (c == backslash) (c ∷ cs) cs
 
 -- ---- any argument
 
@@ -188,7 +198,7 @@ matcher_turn predicate opened at =
     if (first_is slash at || first_is hash at) && not (begins_with_blanks (behind_first opened)) then unjudged
     else if first_is slash at && not (is_platform (argument_of predicate)) then regex_turn opened at false (behind_first at)
     else if first_is closing (behind_first opened) then told (kinds.NeedsArgument predicate) opened (behind_first (behind_first opened)) []
-    else text_turn predicate opened at false false None at
+    else text_turn predicate opened at false false false at at
 
 -- how a reading goes on from the parenthesis before an argument
 abbrev pub argument_turn : Predicate → List ℕ → Turn

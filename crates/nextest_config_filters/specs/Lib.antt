@@ -4,3 +4,5 @@ pub mod Turn
 pub mod Argument
 pub mod Filter
 pub mod Fault
+pub mod Hint
+pub mod FilterFault

@@ -1,6 +1,6 @@
 -- The predicates of filters.
-use Rattle.std.specs.Prelude.{ℕ, List, [], ◌∷◌, codes, Option}
-use Rattle.nextest_config_values.specs.Read.Word.{value_of}
+use Rattle.std.specs.Prelude.{ℕ, List, [], ◌∷◌, codes, Option, Some, None, if◌then◌else◌}
+use Rattle.nextest_config_filters.specs.Text.{is_text}
 use Rattle.nextest_config_filters.specs.declared.predicate.Argument.{Argument}
 use Rattle.nextest_config_filters.specs.declared.predicate.Argument.TheVariants as arguments
 use Rattle.nextest_config_filters.specs.declared.predicate.Predicate.{Predicate}
@@ -53,6 +53,12 @@ argument_of predicates.Kind = arguments.Matcher
 argument_of predicates.Group = arguments.Matcher
 argument_of predicates.Platform = arguments.Platform
 
+-- the first of these with this name
+abbrev pub named_in : List Predicate → List ℕ → Option Predicate
+named_in [] word = None
+named_in (predicate ∷ others) word = if is_text (name_of predicate) word then Some predicate
+    else named_in others word
+
 -- the predicate with this name, if there is one
-abbrev pub predicate_named : List ℕ → Option Predicate
-predicate_named = value_of name_of predicates_in_order
+abbrev pub predicate_of : List ℕ → Option Predicate
+predicate_of = named_in predicates_in_order

@@ -1,5 +1,5 @@
 -- Words, spaces and what stands at a place of a text. Texts are read by their characters.
-use Rattle.std.specs.Prelude.{◌≡◌, ℕ, ◌≤◌, ◌&&◌, ◌||◌, ◌==◌, Bool, true, false, not, nat_le, IsTrue, List, [], ◌∷◌, ◌++◌, length, encode_utf8_all, Option, Some, None, if◌then◌else◌}
+use Rattle.std.specs.Prelude.{◌≡◌, ℕ, ◌≤◌, ◌&&◌, ◌||◌, ◌==◌, Bool, true, false, not, nat_le, IsTrue, List, [], ◌∷◌, ◌++◌, length, chars, Option, Some, None, if◌then◌else◌}
 use Rattle.std.specs.Char.{is_ascii_alphanumeric, is_whitespace}
 use Rattle.std.specs.List.{AllByRecursion}
 
@@ -40,6 +40,11 @@ abbrev pub first_is : ℕ → List ℕ → Bool
 first_is wanted [] = false
 first_is wanted (c ∷ cs) = c == wanted
 
+-- there is no character
+abbrev pub is_end : List ℕ → Bool
+is_end [] = true
+is_end (c ∷ cs) = false
+
 -- what is behind the first character
 abbrev pub behind_first : List ℕ → List ℕ
 behind_first [] = []
@@ -63,6 +68,15 @@ abbrev pub stripped : List ℕ → List ℕ → Option (List ℕ)
 stripped [] text = Some text
 stripped (w ∷ word) [] = None
 stripped (w ∷ word) (c ∷ cs) = if c == w then stripped word cs else None
+
+-- nothing is behind it
+abbrev pub ends_there : Option (List ℕ) → Bool
+ends_there None = false
+ends_there (Some behind) = is_end behind
+
+-- the characters are those of this text
+abbrev pub is_text : List ℕ → List ℕ → Bool
+is_text wanted text = ends_there (stripped (chars wanted) text)
 
 -- ---- words
 

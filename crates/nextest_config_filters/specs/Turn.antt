@@ -17,18 +17,16 @@ pub record Mark : Type 0 where
 -- how a reading goes on
 pub data Turn : Type 0 where
   -- with this text, in a state
-  pub goes : State → List ℕ → Turn
+  goes : State → List ℕ → Turn
   -- behind a parenthesis that opens
-  pub opens : List ℕ → Turn
+  opens : List ℕ → Turn
   -- behind a parenthesis that closes
-  pub closes : List ℕ → Turn
-  -- the text ends well
-  pub passes : Turn
+  closes : List ℕ → Turn
+  -- the text ends behind an expression
+  ends : Turn
   -- the text isn't judged from here on
-  pub unjudged : Turn
-  -- the text ends where a parenthesis is open
-  pub unclosed : Turn
-  pub tells : Mark → Turn
+  unjudged : Turn
+  tells : Mark → Turn
 
 -- that a fault stands here
 abbrev pub told : TextFaultKind → List ℕ → List ℕ → List ℕ → Turn
@@ -49,7 +47,6 @@ abbrev pub turn_of : CodeTurn → Turn
 turn_of (turns.Goes state text) = goes state (chars text.now)
 turn_of (turns.Opens text) = opens (chars text.now)
 turn_of (turns.Closes text) = closes (chars text.now)
-turn_of turns.Passes = passes
+turn_of turns.Ends = ends
 turn_of turns.Unjudged = unjudged
-turn_of turns.Unclosed = unclosed
 turn_of (turns.Tells mark) = tells (mark_of mark)

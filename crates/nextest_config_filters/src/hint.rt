@@ -1,5 +1,13 @@
 //! What may be meant by what is found.
 
+ghost use Rattle.std.specs.Prelude.{◌≡◌, chars, encode_utf8_all, IfOk, option_map, string_bytes};
+ghost use Rattle.nextest_config_values.specs.NearestWord.{IsNearest};
+ghost use Rattle.nextest_config_filters.specs.Fault.{fault_of};
+ghost use Rattle.nextest_config_filters.specs.FilterFault.{IsFaultOf, offset_of};
+ghost use Rattle.nextest_config_filters.specs.Hint as meant;
+ghost use Rattle.nextest_config_filters.specs.Predicate.{predicate_of};
+ghost use Rattle.nextest_config_filters.specs.Turn.{mark_of};
+
 use crate::fault::{TextFault, TextFaultKind};
 use crate::predicate::{Argument, Predicate};
 use crate::text::behind_spaces;
@@ -15,25 +23,57 @@ const SUGGESTED: [&str; 11] = [
 
 /// The fault that a mark is in a text.
 pub(crate) fn owned_fault(alloc: Global, text: &str, mark: Mark<'_>) -> Result<TextFault, AllocError>
+    ensures { IfOk result (λ fault. IsFaultOf (chars text.now) (mark_of mark.entry) (fault_of fault)) }
 {
-    let hint = hint_of(alloc, text, mark.kind, mark.found)?;
-    let found = String::from_str(alloc, mark.found)?;
+    let hint = hint_in(alloc, text, mark.kind, mark.found)?;
+    let found = kept_text(alloc, mark.found)?;
     Ok(TextFault {
-        begin: text.len().saturating_sub(mark.begins.len()),
-        end: text.len().saturating_sub(mark.behind.len()),
+        begin: offset_of(text, mark.begins),
+        end: offset_of(text, mark.behind),
         kind: mark.kind,
         found,
         hint,
     })
 }
 
+// How many bytes come before what is left of a text.
+fn offset_of(text: &str, left: &str) -> usize
+    ensures { result ≡ offset_of (chars text.now) (chars left.now) }
+{
+    text.len().saturating_sub(left.len())
+}
+
+// The text in memory of its own.
+fn kept_text(alloc: Global, text: &str) -> Result<String, AllocError>
+    ensures { IfOk result (λ kept. string_bytes kept ≡ encode_utf8_all (chars text.now)) }
+{
+    let kept = String::from_str(alloc, text)?;
+    Ok(kept)
+}
+
 // What may be meant by what is found in a text.
+fn hint_in(
+    alloc: Global,
+    text: &str,
+    kind: TextFaultKind,
+    found: &str,
+) -> Result<Option<String>, AllocError>
+    ensures { IfOk result (λ hint. meant.IsHint (encode_utf8_all (chars text.now)) kind
+        (encode_utf8_all (chars found.now)) (option_map string_bytes hint)) }
+{
+    let hint = hint_of(alloc, text, kind, found)?;
+    Ok(hint)
+}
+
+// The same, by the bytes of both.
 fn hint_of(
     alloc: Global,
     text: &str,
     kind: TextFaultKind,
     found: &str,
 ) -> Result<Option<String>, AllocError>
+    ensures { IfOk result (λ hint.
+        meant.IsHint text.now kind found.now (option_map string_bytes hint)) }
 {
     match kind {
         TextFaultKind::ExpectedExpression => kept(alloc, other_case(found, "not")),
@@ -49,6 +89,8 @@ fn hint_of(
 
 // A hint of its own.
 fn kept(alloc: Global, hint: Option<&str>) -> Result<Option<String>, AllocError>
+    ensures { IfOk result (λ kept.
+        option_map string_bytes kept ≡ option_map (λ text. text.now) hint.entry) }
 {
     match hint {
         Some(hint) => Ok(Some(String::from_str(alloc, hint)?)),
@@ -58,6 +100,7 @@ fn kept(alloc: Global, hint: Option<&str>) -> Result<Option<String>, AllocError>
 
 // The word, where it is found in another letter case.
 fn other_case<'w>(found: &str, word: &'w str) -> Option<&'w str>
+    ensures { option_map (λ text. text.now) result ≡ meant.other_case found.now word.now }
 {
     if found.eq_ignore_ascii_case(word) && found != word {
         Some(word)
@@ -68,6 +111,7 @@ fn other_case<'w>(found: &str, word: &'w str) -> Option<&'w str>
 
 // The operator that may be meant.
 fn operator_meant(found: &str) -> Option<&'static str>
+    ensures { option_map (λ text. text.now) result ≡ meant.operator_meant found.now }
 {
     match found {
         "&&" => Some("&"),
@@ -78,12 +122,15 @@ fn operator_meant(found: &str) -> Option<&'static str>
 
 // The name that a word comes nearest to.
 fn nearest_name(alloc: Global, word: &str) -> Result<Option<&'static str>, AllocError>
+    ensures { IfOk result (λ near.
+        IsNearest meant.suggested word.now (option_map (λ name. name.now) near)) }
 {
     nearest(alloc, word, &SUGGESTED)
 }
 
 // The name for a word that other tools have.
 fn alias(word: &str) -> Option<&'static str>
+    ensures { option_map (λ text. text.now) result ≡ meant.alias word.now }
 {
     match word {
         "pkg" | "crate" => Some("package"),
@@ -96,6 +143,8 @@ fn alias(word: &str) -> Option<&'static str>
 
 // The predicate with its argument that a word may be meant for, which may be all of the text.
 fn call_meant(alloc: Global, text: &str, word: &str) -> Result<Option<String>, AllocError>
+    ensures { IfOk result (λ hint.
+        meant.IsCallMeant text.now word.now (option_map string_bytes hint)) }
 {
     match nearest_name(alloc, word)? {
         Some(name) => Ok(Some(format!(in alloc; "{name}{}", parentheses(name))?)),
@@ -111,6 +160,7 @@ fn call_meant(alloc: Global, text: &str, word: &str) -> Result<Option<String>, A
 
 // The parentheses behind a name, with dots where it takes an argument.
 fn parentheses(name: &str) -> &'static str
+    ensures { result.now ≡ meant.parentheses_of (predicate_of (chars name.now)) }
 {
     match Predicate::named(name) {
         Some(predicate) => {

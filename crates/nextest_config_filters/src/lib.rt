@@ -5,6 +5,7 @@ mod argument;
 mod fault;
 mod filter;
 mod hint;
+pub mod laws;
 mod predicate;
 #[cfg(test)]
 mod rows;

@@ -1,7 +1,9 @@
 //! The predicates of filters.
 
-ghost use Rattle.std.specs.Prelude.{◌≡◌};
-ghost use Rattle.nextest_config_filters.specs.Predicate.{argument_of, name_of, predicate_named};
+ghost use Rattle.std.specs.Prelude.{◌≡◌, chars};
+ghost use Rattle.nextest_config_filters.specs.Predicate.{argument_of, name_of, named_in, predicate_of};
+
+use crate::text::is_text;
 
 /// What a filter asks of a test, as nextest's documentation of filtersets names it.
 #[derive(Clone, Copy, Debug, PartialEq, Eq)]
@@ -19,6 +21,21 @@ pub enum Predicate {
     Group,
     Platform,
 }
+
+const PREDICATES: [Predicate; 12] = [
+    Predicate::All,
+    Predicate::Nothing,
+    Predicate::Default,
+    Predicate::Test,
+    Predicate::Package,
+    Predicate::Deps,
+    Predicate::Rdeps,
+    Predicate::Binary,
+    Predicate::BinaryId,
+    Predicate::Kind,
+    Predicate::Group,
+    Predicate::Platform,
+];
 
 /// What stands between the parentheses of a predicate.
 #[derive(Clone, Copy, Debug, PartialEq, Eq)]
@@ -54,27 +71,9 @@ impl Predicate {
 
     /// The predicate with this name.
     pub(crate) fn named(name: &str) -> Option<Predicate>
-        ensures { result ≡ predicate_named name.now }
+        ensures { result ≡ predicate_of (chars name.now) }
     {
-        for predicate in &[
-            Predicate::All,
-            Predicate::Nothing,
-            Predicate::Default,
-            Predicate::Test,
-            Predicate::Package,
-            Predicate::Deps,
-            Predicate::Rdeps,
-            Predicate::Binary,
-            Predicate::BinaryId,
-            Predicate::Kind,
-            Predicate::Group,
-            Predicate::Platform,
-        ] {
-            if predicate.name() == name {
-                return Some(*predicate);
-            }
-        }
-        None
+        find_named(&PREDICATES, name)
     }
 
     /// What its argument is.
@@ -87,4 +86,16 @@ impl Predicate {
             _ => Argument::Matcher,
         }
     }
+}
+
+// The first of these with this name.
+fn find_named(predicates: &[Predicate], name: &str) -> Option<Predicate>
+    ensures { result ≡ named_in predicates.now (chars name.now) }
+{
+    for predicate in predicates {
+        if is_text(name, predicate.name()) {
+            return Some(*predicate);
+        }
+    }
+    None
 }

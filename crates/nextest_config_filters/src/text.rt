@@ -1,8 +1,8 @@
 //! Words, spaces and what stands at a place of a text.
 
-ghost use Rattle.std.specs.Prelude.{◌≡◌, ◌<◌, ℕ, Bool, chars, length, not, option_map, MatchOption};
+ghost use Rattle.std.specs.Prelude.{◌≡◌, ℕ, [], ◌∷◌, Bool, chars, not, option_map, MatchOption};
 ghost use Rattle.std.specs.Fn.{AlwaysReturns};
-ghost use Rattle.nextest_config_filters.specs.Text.{behind_spaces, first_is, is_doubled, is_in_word, is_word_start, run, stands, stripped};
+ghost use Rattle.nextest_config_filters.specs.Text.{behind_spaces, behind_first, first_is, is_end, is_in_word, is_text, is_word_start, IsRun, stands, stripped};
 
 /// The first character, the text that it is, and what is behind it.
 pub(crate) fn split_first(text: &str) -> Option<(char, &str, &str)>
@@ -22,6 +22,13 @@ pub(crate) fn first_is(text: &str, wanted: char) -> bool
         Some((first, _, _)) => first == wanted,
         None => false,
     }
+}
+
+/// Whether there is no character.
+pub(crate) fn is_end(text: &str) -> bool
+    ensures { result ≡ is_end (chars text.now) }
+{
+    split_first(text).is_none()
 }
 
 /// What is behind the first character.
@@ -90,6 +97,16 @@ pub(crate) fn split_standing(text: &str) -> (&str, &str)
         return ("||", behind_first(behind));
     }
     (front, behind)
+}
+
+/// Whether the text is this one.
+pub(crate) fn is_text(text: &str, wanted: &str) -> bool
+    ensures { result ≡ is_text wanted.now (chars text.now) }
+{
+    match stripped(text, wanted) {
+        Some(behind) => is_end(behind),
+        None => false,
+    }
 }
 
 /// What is behind these characters, where the text begins with them.

@@ -1,7 +1,7 @@
 //! What is told of a text, before any memory is taken; and how a reading goes on.
 
-ghost use Rattle.std.specs.Prelude.{◌≡◌};
-ghost use Rattle.nextest_config_filters.specs.Turn.{mark_of, Mark, turn_of, Turn};
+ghost use Rattle.std.specs.Prelude.{◌≡◌, [], chars};
+ghost use Rattle.nextest_config_filters.specs.Turn.{told, turn_of};
 
 use crate::fault::TextFaultKind;
 
@@ -33,13 +33,18 @@ pub(crate) enum Turn<'t> {
     Opens(&'t str),
     /// Behind a parenthesis that closes.
     Closes(&'t str),
-    /// The text ends well.
-    Passes,
+    /// The text ends behind an expression.
+    Ends,
     /// The text isn't judged from here on.
     Unjudged,
-    /// The text ends, and the last parenthesis that is open isn't closed.
-    Unclosed,
     Tells(Mark<'t>),
+}
+
+/// That a fault stands here.
+pub(crate) fn tells_alone<'t>(kind: TextFaultKind, begins: &'t str, behind: &'t str) -> Turn<'t>
+    ensures { turn_of result ≡ told kind (chars begins.now) (chars behind.now) [] }
+{
+    tells(kind, begins, behind, "")
 }
 
 /// That a fault stands here, and what is found.
@@ -49,7 +54,7 @@ pub(crate) fn tells<'t>(
     behind: &'t str,
     found: &'t str,
 ) -> Turn<'t>
-    ensures { turn_of result ≡ Turn.tells (mark kind begins behind found) }
+    ensures { turn_of result ≡ told kind (chars begins.now) (chars behind.now) (chars found.now) }
 {
     Turn::Tells(Mark {
         kind,

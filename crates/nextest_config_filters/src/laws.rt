@@ -1,0 +1,12 @@
+//! Laws over the definitions alone: what is told of filters.
+
+ghost use Rattle.std.specs.Prelude.{◌≡◌, ℕ, List};
+ghost use Rattle.nextest_config_filters.specs.Fault.{Fault};
+ghost use Rattle.nextest_config_filters.specs.FilterFault.{IsFilterFault};
+ghost use Rattle.nextest_config_filters.specs.declared.filter.FilterPlace.{FilterPlace};
+
+/// No filter has two faults.
+pub fn law_filter_once()
+    ensures { (place : FilterPlace) (text : List ℕ) (one other : Fault)
+        → IsFilterFault place text one → IsFilterFault place text other → one ≡ other }
+{}
