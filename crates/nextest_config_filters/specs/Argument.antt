@@ -183,7 +183,7 @@ text_turn predicate opened at parenthesis brace false before (c ∷ cs) =
     if c == closing then behind_text predicate at parenthesis cs
     else if c == comma then comma_turn predicate (parenthesis || brace) (c ∷ cs) cs
     else text_turn predicate opened at (parenthesis || c == opening) (brace || c == left_brace)
-        (c == backslash) (c ∷ cs) cs
+    (c == backslash) (c ∷ cs) cs
 
 -- ---- any argument
 

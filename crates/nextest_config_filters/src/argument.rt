@@ -6,7 +6,9 @@ ghost use Rattle.nextest_config_filters.specs.Turn.{turn_of};
 
 use crate::fault::TextFaultKind;
 use crate::predicate::{Argument, Predicate};
-use crate::text::{behind_first, behind_spaces, first_is, is_end, is_text, split_first, split_run, split_standing};
+use crate::text::{
+    behind_first, behind_spaces, first_is, is_end, is_text, split_first, split_run, split_standing,
+};
 use crate::turn::{State, Turn, tells, tells_alone};
 
 /// How a reading goes on behind an argument. The text begins with the parenthesis before it.
@@ -253,7 +255,12 @@ fn behind_text<'t>(
     let (argument, _) = split_argument(at);
     let word = trimmed_end(argument);
     if predicate.argument() == Argument::Platform && is_no_platform(argument, word) {
-        return tells(TextFaultKind::ExpectedHostOrTarget, at, behind_last(at), word);
+        return tells(
+            TextFaultKind::ExpectedHostOrTarget,
+            at,
+            behind_last(at),
+            word,
+        );
     }
     if parenthesis {
         return Turn::Unjudged;

@@ -144,7 +144,10 @@ fn write_kind<W: fmt::Write>(
             QuotedText(predicate.name())
         ),
         TextFaultKind::UnknownEscape(c) => {
-            write!(f, "unknown escape `\\{c}`, a regular expression is written /../")
+            write!(
+                f,
+                "unknown escape `\\{c}`, a regular expression is written /../"
+            )
         }
         TextFaultKind::UnknownUnicodeEscape => {
             f.write_str("unknown escape `\\u`, expected `\\u{..}`")
@@ -164,11 +167,7 @@ fn write_kind<W: fmt::Write>(
 }
 
 // What is wrong, with what is found.
-fn write_found<W: fmt::Write>(
-    f: &mut fmt::Formatter<W>,
-    said: &str,
-    found: &str,
-) -> fmt::Result
+fn write_found<W: fmt::Write>(f: &mut fmt::Formatter<W>, said: &str, found: &str) -> fmt::Result
     ensures { WritesOnOk W.write_str_gives f.old result (said.now ++ found_text found.now) f.new }
 {
     f.write_str(said)?;

@@ -12,8 +12,8 @@ use crate::fault::{TextFault, TextFaultKind};
 use crate::hint::owned_fault;
 use crate::predicate::Predicate;
 use crate::text::{
-    behind_first, behind_spaces, first_is, is_end, is_word_start, split_first, split_standing, split_word,
-    stripped,
+    behind_first, behind_spaces, first_is, is_end, is_word_start, split_first, split_standing,
+    split_word, stripped,
 };
 use crate::turn::{Mark, State, Turn, tells, tells_alone};
 use std::alloc::{AllocError, Global};
@@ -341,5 +341,9 @@ fn joined<'t>(text: &'t str, operator: &str) -> Option<&'t str>
         ≡ filter.joined (chars text.now) operator.now }
 {
     let more = stripped(text, operator)?;
-    if may_go_on(behind_nots(more)) { Some(more) } else { None }
+    if may_go_on(behind_nots(more)) {
+        Some(more)
+    } else {
+        None
+    }
 }

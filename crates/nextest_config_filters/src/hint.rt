@@ -17,12 +17,25 @@ use std::alloc::{AllocError, Global};
 
 // The names that are suggested.
 const SUGGESTED: [&str; 11] = [
-    "all", "none", "default", "test", "package", "deps", "rdeps", "binary", "binary_id", "kind",
+    "all",
+    "none",
+    "default",
+    "test",
+    "package",
+    "deps",
+    "rdeps",
+    "binary",
+    "binary_id",
+    "kind",
     "platform",
 ];
 
 /// The fault that a mark is in a text.
-pub(crate) fn owned_fault(alloc: Global, text: &str, mark: Mark<'_>) -> Result<TextFault, AllocError>
+pub(crate) fn owned_fault(
+    alloc: Global,
+    text: &str,
+    mark: Mark<'_>,
+) -> Result<TextFault, AllocError>
     ensures { IfOk result (λ fault. IsFaultOf (chars text.now) (mark_of mark.entry) (fault_of fault)) }
 {
     let hint = hint_in(alloc, text, mark.kind, mark.found)?;

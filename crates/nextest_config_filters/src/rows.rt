@@ -203,6 +203,50 @@ filter | \"test(/(?<=a)b/)\" | nothing
 filter | \"test(/pooling(/)\" | nothing
 filter | \"package([foo)\" | nothing
 filter | \"binary(#[)\" | nothing
+filter | \"And all()\" | 0 3 filter-syntax | expected an expression, found \"And\"
+filter | \"NOT test(a)\" | 0 3 filter-syntax | expected an expression, found \"NOT\", did you mean \"not\"
+filter | \"tests(a)\" | 0 5 unknown-predicate | unknown predicate \"tests\", did you mean \"test\"
+filter | \"binary-id(a)\" | 0 9 unknown-predicate | unknown predicate \"binary-id\", did you mean \"binary_id\"
+filter | \"all\" | 0 3 filter-syntax | expected \"(\" behind \"all\", found the end
+filter | \"all)\" | 0 3 filter-syntax | expected \"(\" behind \"all\", found \")\"
+filter | \"al\" | 0 2 filter-syntax | expected a predicate with its argument, found \"al\", did you mean \"all()\"
+filter | \"foo*\" | 0 3 filter-syntax | expected a predicate with its argument, found \"foo\"
+filter | \"all(x )\" | 4 5 filter-argument | \"all\" takes no argument
+filter | \"test(/a/i)\" | 8 9 filter-argument | expected \")\" behind the regular expression, found \"i\"
+filter | \"test(/a)\" | 5 6 filter-argument | this \"/\" begins a regular expression that isn't closed
+filter | \"test(/a/\" | 4 5 filter-syntax | this \"(\" isn't closed
+filter | \"test(/usr/bin/x)\" | 10 13 filter-argument | expected \")\" behind the regular expression, found \"bin\"
+filter | \"platform(linux)\" | 9 14 filter-argument | expected \"host\" or \"target\", found \"linux\"
+filter | \"platform( linux )\" | 10 15 filter-argument | expected \"host\" or \"target\", found \"linux\"
+filter | \"platform(cfg(unix))\" | 9 17 filter-argument | expected \"host\" or \"target\", found \"cfg(unix\"
+filter | \"((all()) or (all()\" | 12 13 filter-syntax | this \"(\" isn't closed
+filter | \"(all() or (all()\" | 10 11 filter-syntax | this \"(\" isn't closed
+filter | \"test(é) test(a)\" | 8 12 filter-syntax | expected an operator or the end, found \"test\"
+filter | \"test(a) test(b)\" | 8 12 filter-syntax | expected an operator or the end, found \"test\"
+filter | \"testing(a)\" | 0 7 unknown-predicate | unknown predicate \"testing\"
+filter | \"test(a) &&& test(b)\" | 8 10 filter-syntax | expected an operator or the end, found \"&&\", did you mean \"&\"
+default-filter | \"default\" | 0 7 filter-syntax | expected \"(\" behind \"default\", found the end
+filter | \"all ( )\" | nothing
+filter | \"!!all()\" | nothing
+filter | \"not not all()\" | nothing
+filter | \"notnot all()\" | nothing
+filter | \"all()or none()\" | nothing
+filter | \"all() ornot none()\" | nothing
+filter | \"not(all())\" | nothing
+filter | \"nottest(a)\" | nothing
+filter | \"test( )\" | nothing
+filter | \"test(=)\" | nothing
+filter | \"kind(unit)\" | nothing
+filter | \"group(x)\" | nothing
+filter | \"test(/\\\\//)\" | nothing
+filter | \"platform( target )\" | nothing
+filter | \"test(foo(bar)\" | nothing
+filter | \"test(a(b)) ..\" | nothing
+filter | \"package({a,b})\" | nothing
+filter | \"test(/a\\\\\\\\/..\" | nothing
+filter | \"test(a) # b\" | nothing
+filter | \"test(\\t/a\" | nothing
+filter | \"test(\\t#a\" | nothing
 ";
 
 #[test]

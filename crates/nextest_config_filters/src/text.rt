@@ -120,5 +120,9 @@ pub(crate) fn stripped<'t>(text: &'t str, front: &str) -> Option<&'t str>
     let Some((c, _, behind)) = split_first(text) else {
         return None;
     };
-    if c == wanted { stripped(behind, more) } else { None }
+    if c == wanted {
+        stripped(behind, more)
+    } else {
+        None
+    }
 }

@@ -9,7 +9,7 @@ abbrev pub invariant-text : goal.invariant-text
 invariant-text l =
     shadow (Utf8 l.rest) × shadow (Utf8 l.before)
     × (text_turn l.predicate (chars l.opened) (chars l.at) false false false (chars l.at) (chars l.at)
-      ≡ text_turn l.predicate (chars l.opened) (chars l.at) l.parenthesis l.brace l.escaped (chars l.before) (chars l.rest))
+    ≡ text_turn l.predicate (chars l.opened) (chars l.at) l.parenthesis l.brace l.escaped (chars l.before) (chars l.rest))
 
 abbrev pub decreases-text : goal.decreases-text
 decreases-text l = length (chars l.rest)

@@ -12,6 +12,7 @@ split_at-requires c =
 pub returns : goal.returns
 returns c =
     let parts = rw c.chars.ensures.rest at c.in_ok-first.ensures.steps.0 in
-    rw (c.split_at.ensures.front, c.split_at.ensures.back)
-    (chars_back c.args.text.now _ c.in_ok-first.first c.len_utf8.result c.utf8.text parts c.len_utf8.ensures.value,
-    chars_front c.args.text.now _ c.in_ok-first.first c.len_utf8.result c.utf8.text parts c.len_utf8.ensures.value)
+    rw (c.split_at.ensures.front, c.split_at.ensures.back) (
+      chars_back c.args.text.now _ c.in_ok-first.first c.len_utf8.result c.utf8.text parts c.len_utf8.ensures.value,
+      chars_front c.args.text.now _ c.in_ok-first.first c.len_utf8.result c.utf8.text parts c.len_utf8.ensures.value,
+    )
