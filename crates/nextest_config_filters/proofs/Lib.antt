@@ -1,5 +1,6 @@
 pub mod Firsts
 pub mod Literals
+pub mod Marks
 pub mod Nots
 pub mod Once
 pub mod Rests
