@@ -316,3 +316,38 @@ fn unescaped(alloc: Global, text: &str) -> Result<String, AllocError> {
     }
     Ok(made)
 }
+
+#[test]
+fn long_filters(rt: HostRuntime) -> Result<(), Fail> {
+    let alloc = rt.alloc();
+    let line = told_of_many(alloc, "(", "all()")?;
+    assert_eq!(rt;
+        line.as_str(),
+        "99999 100000 filter-syntax | this \"(\" isn't closed"
+    );
+    let line = told_of_many(alloc, "not ", "all()")?;
+    assert_eq!(rt; line.as_str(), "nothing");
+    let line = told_of_many(alloc, "not", " all()")?;
+    assert_eq!(rt; line.as_str(), "nothing");
+    let line = told_of_many(alloc, "test(a) or ", "")?;
+    assert_eq!(rt;
+        line.as_str(),
+        "1100000 1100000 filter-syntax | expected an expression, found the end"
+    );
+    let line = told_of_many(alloc, "aaaaaaaaaa", "")?;
+    assert_eq!(rt; line.len() > 1_000_000, true);
+    Ok(())
+}
+
+// What is told of a text that begins with 100,000 of these.
+fn told_of_many(alloc: Global, many: &str, last: &str) -> Result<String, AllocError> {
+    let mut text = String::new(alloc);
+    for _ in 0..100_000 {
+        text.push_str(many)?;
+    }
+    text.push_str(last)?;
+    match filter_fault(alloc, text.as_str(), FilterPlace::Filter)? {
+        Some(fault) => line(alloc, text.as_str(), &fault),
+        None => String::from_str(alloc, "nothing"),
+    }
+}
