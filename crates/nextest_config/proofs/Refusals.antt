@@ -1,12 +1,12 @@
 -- An error prints as the refusal that it tells.
 use Rattle.std.proofs.Common.{rules, ◌≡◌, ◌++◌, ℕ, List, Option, Some, option_map}
-use Rattle.nextest_config_values.specs.Read.{path_text, Reason, reason_text, told_text, told_with}
+use Rattle.nextest_config_values.specs.Read.{path_text, Reason, reason_text, text_or_memory, read_fault_with}
 use Rattle.nextest_config.specs.NextestVersion.{error_kind_text, SourcePlace, setting, wrong_of, error_text, kind_of, Refusal, refusal_at, refusal_of, refusal_text, source_place, source_text, told_refusal}
 use Rattle.nextest_config.specs.declared.nextest_version.error.ConfigParseError.{ConfigParseError}
 use Rattle.nextest_config.specs.declared.nextest_version.error_kind.ConfigParseErrorKind.{ConfigParseErrorKind}
 
-setting_text : (place : SourcePlace) (path : List ℕ) (reason : Option Reason) (refusal : Refusal) → option_map (refusal_at place) (option_map setting (option_map (told_with path) reason)) ≡ Some refusal
-    → source_text (Some place) ++ (path_text path ++ told_text reason_text reason) ≡ refusal_text refusal
+setting_text : (place : SourcePlace) (path : List ℕ) (reason : Option Reason) (refusal : Refusal) → option_map (refusal_at place) (option_map setting (option_map (read_fault_with path) reason)) ≡ Some refusal
+    → source_text (Some place) ++ (path_text path ++ text_or_memory reason_text reason) ≡ refusal_text refusal
 setting_text place path reason refusal told = search rules
 
 text_of_kind : (place : SourcePlace) (kind : ConfigParseErrorKind) (refusal : Refusal) → option_map (refusal_at place) (wrong_of kind) ≡ Some refusal → source_text (Some place) ++ error_kind_text kind ≡ refusal_text refusal

@@ -47,90 +47,47 @@ pub(crate) const PATH: &str = "PATH";
 
 pub(crate) const CODE: &str = "CODE";
 
-/// The words that some flags take, lent.
-#[derive(Clone, Copy)]
-pub(crate) struct Choices<'a> {
-    pub formats: &'a [&'a str],
-    pub show_formats: &'a [&'a str],
-    pub codes: &'a [&'a str],
-}
-
-/// All words that some flags take.
-#[derive(Drop)]
-pub(crate) struct Vocabulary {
-    formats: Vec<&'static str>,
-    show_formats: Vec<&'static str>,
-    codes: Vec<&'static str>,
-}
-
-impl Vocabulary {
-    pub fn new(alloc: Global) -> Result<Self, AllocError> {
-        Ok(Vocabulary {
-            formats: words::<Format>(alloc)?,
-            show_formats: words::<ShowFormat>(alloc)?,
-            codes: words::<FindingCode>(alloc)?,
-        })
-    }
-
-    pub fn choices(&self) -> Choices<'_> {
-        Choices {
-            formats: self.formats.as_slice(),
-            show_formats: self.show_formats.as_slice(),
-            codes: self.codes.as_slice(),
-        }
-    }
-}
-
-// The words of all values.
-fn words<T: Word>(alloc: Global) -> Result<Vec<&'static str>, AllocError> {
-    let mut words = Vec::new(alloc);
-    for value in T::all() {
-        words.push(value.as_word())?;
-    }
-    Ok(words)
-}
-
 /// The command with its subcommands.
-pub(crate) fn command<'a>(alloc: Global, choices: Choices<'a>) -> Result<Command<'a>, AllocError> {
+pub(crate) fn command<'a>(alloc: Global) -> Result<Command<'a>, AllocError> {
     Command::new(alloc, "nextest-config")
         .about("Says what configuration files of nextest ask, and what is wrong in them")
         .version(VERSION)
         .subcommand_required(true)
         .arg_required_else_help(true)
-        .subcommand(check_command(alloc, choices)?)?
-        .subcommand(lint_command(alloc, choices)?)?
-        .subcommand(show_command(alloc, choices)?)?
-        .subcommand(profile_command(alloc, choices)?)?
+        .subcommand(check_command(alloc)?)?
+        .subcommand(lint_command(alloc)?)?
+        .subcommand(show_command(alloc)?)?
+        .subcommand(profile_command(alloc)?)?
         .subcommand(explain_command(alloc)?)
 }
 
-fn check_command<'a>(alloc: Global, choices: Choices<'a>) -> Result<Command<'a>, AllocError> {
+fn check_command<'a>(alloc: Global) -> Result<Command<'a>, AllocError> {
     let current = value(alloc, CURRENT, "VERSION", "The current version of nextest").required(true);
     let command = Command::new(alloc, CHECK)
         .about("Says whether the current version is enough, and what is wrong in the files")
         .arg(current)?
         .arg(flag(alloc, OVERRIDE, "Pass where the version isn't enough, too")?)?;
-    with_list(alloc, with_lint(alloc, command, choices)?, path(alloc))
+    with_list(alloc, with_lint(alloc, command)?, path(alloc))
 }
 
-fn lint_command<'a>(alloc: Global, choices: Choices<'a>) -> Result<Command<'a>, AllocError> {
+fn lint_command<'a>(alloc: Global) -> Result<Command<'a>, AllocError> {
     let command = Command::new(alloc, LINT).about(
         "Tells all that is wrong in the files, each with its place",
     );
-    let command = with_lint(alloc, command, choices)?;
+    let command = with_lint(alloc, command)?;
     with_list(alloc, command, path(alloc).action(ArgAction::Append))
 }
 
-fn show_command<'a>(alloc: Global, choices: Choices<'a>) -> Result<Command<'a>, AllocError> {
+fn show_command<'a>(alloc: Global) -> Result<Command<'a>, AllocError> {
     let about = "Shows which versions and which experimental features the files ask for, and which \
          profiles there are";
     let command = Command::new(alloc, SHOW)
         .about(about)
-        .arg(show_format(alloc, choices))?;
+        .arg(show_format(alloc))?;
     with_list(alloc, command, path(alloc))
 }
 
-fn profile_command<'a>(alloc: Global, choices: Choices<'a>) -> Result<Command<'a>, AllocError> {
+fn profile_command<'a>(alloc: Global) -> Result<Command<'a>, AllocError> {
     let name = Arg::new(alloc, NAME)
         .help("The profile")
         .default_value("default");
@@ -138,7 +95,7 @@ fn profile_command<'a>(alloc: Global, choices: Choices<'a>) -> Result<Command<'a
         .about("Shows what a profile gets for its settings, and which file says so")
         .arg(name)?
         .arg(flag(alloc, ALL, "Show what each value hides, too")?)?
-        .arg(show_format(alloc, choices))?;
+        .arg(show_format(alloc))?;
     with_list(alloc, command, path(alloc))
 }
 
@@ -153,42 +110,32 @@ fn explain_command<'a>(alloc: Global) -> Result<Command<'a>, AllocError> {
 }
 
 // The command with what says how findings are told, and which count.
-fn with_lint<'a>(
-    alloc: Global,
-    command: Command<'a>,
-    choices: Choices<'a>,
-) -> Result<Command<'a>, AllocError> {
+fn with_lint<'a>(alloc: Global, command: Command<'a>) -> Result<Command<'a>, AllocError> {
     let strict = "Fail at a warning, too, and where no .config/nextest.toml is found";
     let allow = "Leave out the findings of a code; a check tells those for which it refuses";
     let help = "How findings are told: as lines, with the lines of the file, as commands of a \
          workflow of GitHub, or as lines of JSON";
     let allow = value(alloc, ALLOW, "CODE", allow)
-        .value_parser(choices.codes)
+        .value_parser(FindingCode::words())
         .action(ArgAction::Append);
-    command.arg(flag(alloc, STRICT, strict)?)?.arg(allow)?.arg(format(
-        alloc,
-        help,
-        choices.formats,
-        Format::Human.as_word(),
-    ))
+    let format = format(alloc, help, Format::Human);
+    command
+        .arg(flag(alloc, STRICT, strict)?)?
+        .arg(allow)?
+        .arg(format)
 }
 
 // The flag that names how something is shown.
-fn show_format<'a>(alloc: Global, choices: Choices<'a>) -> Arg<'a> {
+fn show_format<'a>(alloc: Global) -> Arg<'a> {
     let help = "How it is shown: as lines, or as a JSON object";
-    format(
-        alloc,
-        help,
-        choices.show_formats,
-        ShowFormat::Human.as_word(),
-    )
+    format(alloc, help, ShowFormat::Human)
 }
 
-// The flag that names a format, which is one of these words.
-fn format<'a>(alloc: Global, help: &'a str, words: &'a [&'a str], default: &'a str) -> Arg<'a> {
+// The flag that names a format, by its word.
+fn format<'a, T: Word>(alloc: Global, help: &'a str, default: T) -> Arg<'a> {
     value(alloc, FORMAT, "FORMAT", help)
-        .value_parser(words)
-        .default_value(default)
+        .value_parser(T::words())
+        .default_value(default.as_word())
 }
 
 // The command with what says which files are read, and how; `path` names the repository's.

@@ -9,7 +9,6 @@ mod refusal;
 mod request;
 mod said;
 
-use command_line::Vocabulary;
 use file_system::FileSystem;
 use nextest_config_command::serve;
 use refusal::Refusal;
@@ -34,10 +33,7 @@ fn words(rt: &HostRuntime) -> io::Result<Vec<String>> {
 
 // Does what the words ask for, and answers the number that the program ends with.
 fn run(rt: &HostRuntime, words: &[String]) -> u8 {
-    let Ok(vocabulary) = Vocabulary::new(rt.alloc()) else {
-        return refuse_words(rt, &Refusal::Memory);
-    };
-    match parse(rt, words, vocabulary.choices()) {
+    match parse(rt, words) {
         Ok(Asked::Request(request)) => serve(
             rt.alloc(),
             &request,

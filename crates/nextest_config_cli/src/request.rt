@@ -6,8 +6,8 @@ ghost use Rattle.nextest_config_cli.specs.Matches.{AreArguments, IsAskedBy};
 
 use crate::arguments::{Arguments, request, topic};
 use crate::command_line::{
-    ALL, ALLOW, CODE, CONFIG_FILE, CURRENT, Choices, DEFAULT_PATH, EXPLAIN, FORMAT, NAME, OVERRIDE,
-    PATH, STDIN_PATH, STRICT, TABLE_ONLY, TOOL_CONFIG_FILE, command,
+    ALL, ALLOW, CODE, CONFIG_FILE, CURRENT, DEFAULT_PATH, EXPLAIN, FORMAT, NAME, OVERRIDE, PATH,
+    STDIN_PATH, STRICT, TABLE_ONLY, TOOL_CONFIG_FILE, command,
 };
 use crate::file_system::current_folder;
 use crate::refusal::Refusal;
@@ -27,12 +27,8 @@ pub(crate) enum Asked {
 }
 
 /// What the words ask for, the first of which is the program's name.
-pub(crate) fn parse<'a>(
-    rt: &HostRuntime,
-    words: &'a [String],
-    choices: Choices<'a>,
-) -> Result<Asked, Refusal<'a>> {
-    let matches = matches(rt.alloc(), words, choices)?;
+pub(crate) fn parse<'a>(rt: &HostRuntime, words: &'a [String]) -> Result<Asked, Refusal<'a>> {
+    let matches = matches(rt.alloc(), words)?;
     match matches.subcommand() {
         Some((EXPLAIN, matches)) => {
             let topic = topic(rt.alloc(), matches.get_str(CODE))?;
@@ -45,16 +41,12 @@ pub(crate) fn parse<'a>(
 
 // What `clap` takes of the words. It repeats words as they are, so where it refuses them, what it
 // says of them as they are shown counts.
-fn matches<'a>(
-    alloc: Global,
-    words: &'a [String],
-    choices: Choices<'a>,
-) -> Result<ArgMatches<'a>, Refusal<'a>> {
-    match command(alloc, choices)?.try_get_matches_from(words) {
+fn matches<'a>(alloc: Global, words: &'a [String]) -> Result<ArgMatches<'a>, Refusal<'a>> {
+    match command(alloc)?.try_get_matches_from(words) {
         Ok(matches) => Ok(matches),
         Err(error) => {
             let shown = shown(alloc, words)?;
-            command(alloc, choices)?.try_get_matches_from(shown.as_slice())?;
+            command(alloc)?.try_get_matches_from(shown.as_slice())?;
             Err(Refusal::from(error))
         }
     }

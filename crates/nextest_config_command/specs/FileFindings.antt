@@ -10,7 +10,7 @@ use Rattle.nextest_config_lint.specs.Defined.{file_of, file_with, ListFile}
 use Rattle.nextest_config_lint.specs.File.{AreLocated, IsDocument}
 use Rattle.nextest_config_lint.specs.Finding.{finding_severity}
 use Rattle.nextest_config_lint.specs.FindingsLaws.{IsFileWithoutError}
-use Rattle.nextest_config_lint.specs.Found.{kind_told}
+use Rattle.nextest_config_lint.specs.Found.{kind_view}
 use Rattle.nextest_config_lint.specs.declared.code.FindingCode.{FindingCode}
 use Rattle.nextest_config_lint.specs.declared.defined.ListedFile.{ListedFile}
 use Rattle.nextest_config_lint.specs.declared.file.LocatedFinding.{LocatedFinding}
@@ -43,7 +43,7 @@ AreListed files listed = AllZip IsListFile files (map file_of listed)
 
 -- the word of the code of a kind of finding
 abbrev pub code_text : FindingKind → List ℕ
-code_text kind = code_word (told_code (kind_told kind))
+code_text kind = code_word (told_code (kind_view kind))
 
 -- findings of this kind are left out, by their code
 abbrev pub is_allowed : List FindingCode → FindingKind → Bool

@@ -9,7 +9,7 @@ use Rattle.nextest_config_lint.specs.declared.finding.Finding.{Finding}
 use Rattle.nextest_config_lint.specs.declared.finding.FindingSeverity.{FindingSeverity}
 use Rattle.nextest_config_lint.specs.declared.finding.FindingSeverity.TheVariants.{Error, Note, Warning}
 use Rattle.nextest_config_output.specs.Findings.Summary.{summary_text}
-use Rattle.nextest_config_output.specs.Findings.Told.{Told, told_text}
+use Rattle.nextest_config_output.specs.Findings.Diagnostic.{DiagnosticView, diagnostic_text}
 use Rattle.nextest_config_output.specs.declared.findings.format.Format.{Format}
 use Rattle.nextest_config_output.specs.declared.findings.format.Format.TheVariants.{Full, Github, Human, Json}
 use Rattle.nextest_config_output.specs.declared.findings.summary.Summary.{Summary}
@@ -79,9 +79,9 @@ lint_status strict summary = failure_if (fails_by strict summary)
 
 -- ---- how they are told
 
--- a finding of the file at a path, as it is told
-abbrev pub told_at : List ℕ → LocatedFinding → Told
-told_at path located = record {
+-- a finding of the file at a path, by the texts that are printed of it
+abbrev pub diagnostic_of : List ℕ → LocatedFinding → DiagnosticView
+diagnostic_of path located = record {
   file = path;
   span = located.span;
   severity = severity_of located;
@@ -105,7 +105,7 @@ shown_text Json contents = []
 -- what is told of findings of the file at a path, which has these lines
 abbrev pub located_text : Format → List ℕ → List (List ℕ) → List LocatedFinding → List ℕ
 located_text format path shown located =
-    flat_map (λ one. told_text format (told_at path one) shown) located
+    flat_map (λ one. diagnostic_text format (diagnostic_of path one) shown) located
 
 -- what is told of the findings of a file, with its lines where the format shows them
 abbrev pub file_text : Format → FileFound → List ℕ

@@ -11,7 +11,7 @@ use Rattle.nextest_config.specs.declared.nextest_version.verdict.VersionRole.The
 use Rattle.toml_spans.specs.Step.{printed_path}
 use Rattle.nextest_config_lint.specs.declared.finding.FindingSeverity.{FindingSeverity}
 use Rattle.nextest_config_lint.specs.declared.finding.FindingSeverity.TheVariants.{Error, Warning}
-use Rattle.nextest_config_output.specs.Findings.Told.{Told, told_text}
+use Rattle.nextest_config_output.specs.Findings.Diagnostic.{DiagnosticView, diagnostic_text}
 use Rattle.nextest_config_output.specs.declared.findings.format.Format.{Format}
 use Rattle.nextest_config_output.specs.declared.findings.format.Format.TheVariants.{Full, Github, Human, Json}
 use Rattle.nextest_config_report.specs.Lines.{read_text}
@@ -52,8 +52,8 @@ shortfall_message role s = overridden_text s.overridden ++ (parts_text s.asked
     ++ (codes ", current " ++ parts_text s.current))))))
 
 -- the finding that the current version falls short of the one that is asked here
-abbrev pub shortfall_told : VersionRole → Shortfall → AskedView → Told
-shortfall_told role s asked = record {
+abbrev pub shortfall_diagnostic : VersionRole → Shortfall → AskedView → DiagnosticView
+shortfall_diagnostic role s asked = record {
   file = s.place.path;
   span = asked.span;
   severity = shortfall_severity role s.overridden;
@@ -65,7 +65,7 @@ shortfall_told role s asked = record {
 -- the text tells a shortfall as a finding, at the place where a file asks the version
 abbrev pub IsShortfallTold : Format → List File → VersionRole → Shortfall → List ℕ → Type 0
 IsShortfallTold format files role s text = (asked : AskedView) × IsAskedIn files role s.place asked
-    × (text ≡ told_text format (shortfall_told role s asked) [])
+    × (text ≡ diagnostic_text format (shortfall_diagnostic role s asked) [])
 
 -- the verdict as a finding; one that is satisfied is none
 abbrev pub IsVerdictFinding : Format → List File → Verdict → List ℕ → Type 0

@@ -4,14 +4,14 @@ ghost use Rattle.std.specs.Prelude.{◌≡◌, ◌++◌, IfOk, OnOk, count_by, f
 ghost use Rattle.std.specs.Str.Lines.{lines};
 ghost use Rattle.nextest_config_command.specs.FileFindings.{found_of, is_error, judging_of};
 ghost use Rattle.nextest_config_command.specs.Found.{files_of};
-ghost use Rattle.nextest_config_command.specs.Lint.{AreTextsOf, fails_by, file_text, is_note, IsLint, is_warning, lint_status, lint_text, located_text, path_if, paths_in, severities_of, severity_of, shown_text, summary_line, summary_of, told_at};
-ghost use Rattle.nextest_config_output.specs.Findings.Told.{told_text};
+ghost use Rattle.nextest_config_command.specs.Lint.{AreTextsOf, fails_by, file_text, is_note, IsLint, is_warning, lint_status, lint_text, located_text, path_if, paths_in, severities_of, severity_of, shown_text, summary_line, summary_of, diagnostic_of};
+ghost use Rattle.nextest_config_output.specs.Findings.Diagnostic.{diagnostic_text};
 
 use crate::distinct::count_distinct;
 use crate::file_findings::{FileFindings, Rules, findings_in};
 use crate::parsed_file::ParsedFiles;
 use nextest_config_lint::{Finding, FindingSeverity, LocatedFinding, PathText};
-use nextest_config_output::findings::{Format, Summary, ToldFinding, push_finding};
+use nextest_config_output::findings::{Diagnostic, Format, Summary, push_finding};
 use nextest_config_report::exit_status::ExitStatus;
 use nextest_config_values::read::Word;
 use std::alloc::{AllocError, Global};
@@ -35,7 +35,7 @@ impl Lint {
         ensures { IfOk result (IsLint (judging_of rules.entry) format (files_of files.now)) }
     {
         let found = findings_in(alloc, rules, files)?;
-        let lint = told(alloc, format, found.as_slice())?;
+        let lint = lint_of(alloc, format, found.as_slice())?;
         Ok(lint)
     }
 
@@ -58,7 +58,7 @@ impl Lint {
 }
 
 // What is told of findings.
-fn told(alloc: Global, format: Format, found: &[FileFindings<'_>]) -> Result<Lint, AllocError>
+fn lint_of(alloc: Global, format: Format, found: &[FileFindings<'_>]) -> Result<Lint, AllocError>
     ensures text { IfOk result (λ lint.
         string_bytes lint.text ≡ lint_text format (map found_of found.now)) }
     ensures summary { IfOk result (λ lint. lint.summary ≡ summary_of (map found_of found.now)) }
@@ -291,10 +291,10 @@ fn push_one(
 ) -> Result<(), AllocError>
     requires { AreTextsOf located.now.finding texts.now }
     ensures { OnOk result (string_bytes text.new ≡ string_bytes text.old
-        ++ told_text format (told_at path.now located.now) (map (λ line. line.now) lines.now)) }
+        ++ diagnostic_text format (diagnostic_of path.now located.now) (map (λ line. line.now) lines.now)) }
 {
     let LocatedFinding { span, finding } = located;
-    let told = ToldFinding {
+    let diagnostic = Diagnostic {
         file: path,
         span: *span,
         severity: finding.severity(),
@@ -302,6 +302,6 @@ fn push_one(
         key: texts.key.as_str(),
         message: texts.message.as_str(),
     };
-    push_finding(alloc, text, format, &told, lines)?;
+    push_finding(alloc, text, format, &diagnostic, lines)?;
     Ok(())
 }

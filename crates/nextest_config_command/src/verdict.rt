@@ -14,7 +14,7 @@ use nextest_config::nextest_version::{
     ExperimentalConfig, NextestVersionEval, UnmetVersion, VersionRole,
 };
 use nextest_config_lint::{FindingSeverity, PathText};
-use nextest_config_output::findings::{Format, ToldFinding, push_finding};
+use nextest_config_output::findings::{Diagnostic, Format, push_finding};
 use nextest_config_report::lines::report_text;
 use nextest_config_report::source::SourceStyle;
 use std::alloc::{AllocError, Global};
@@ -79,7 +79,7 @@ fn unmet_text(
     let asked = asked_version(alloc, files, unmet)?;
     let key = PathText(asked.path.as_slice()).to_string(alloc)?;
     let message = unmet_message(alloc, unmet)?;
-    let told = ToldFinding {
+    let diagnostic = Diagnostic {
         file: unmet.source.path.as_str(),
         span: asked.span,
         severity: unmet_severity(unmet.role, unmet.overridden),
@@ -88,7 +88,7 @@ fn unmet_text(
         message: message.as_str(),
     };
     let mut text = String::new(alloc);
-    push_finding(alloc, &mut text, format, &told, &[])?;
+    push_finding(alloc, &mut text, format, &diagnostic, &[])?;
     Ok(text)
 }
 

@@ -8,7 +8,7 @@ use Rattle.toml.specs.Data.{Data, Members, as_integer}
 use Rattle.nextest_config_values.specs.Decisions.{below_decided, both_decided, IsDecided, same_decided, true_decided}
 use Rattle.nextest_config_values.specs.Duration.{duration_reading}
 use Rattle.nextest_config_values.specs.Read.Plain.{u32_decided}
-use Rattle.nextest_config_values.specs.Read.{after_check, bool_reading, both, Check, count_zero, delay_zero, in_range, IsU32, jitter_without_delay, kind, made_of, max_delay_below_delay, max_delay_zero, only, optional, or_default, outside, Reading, required, rule, rule_check, then, u32_reading, value_of, word_reading, words_text}
+use Rattle.nextest_config_values.specs.Read.{after_check, bool_reading, both, Check, count_zero, delay_zero, in_range, IsU32, jitter_without_delay, kind, made_of, max_delay_below_delay, max_delay_zero, only, optional, or_default, outside, Reading, required, rule, rule_check, then, u32_reading, value_of, word_reading}
 use Rattle.nextest_config_elements.specs.FromTable.{set_by_table}
 use Rattle.nextest_config_elements.specs.UnknownKeysLaws.{keys_check}
 use Rattle.nextest_config_elements.specs.declared.retry_policy.Backoff.{Backoff}
@@ -129,8 +129,7 @@ keys_beside backoffs.Exponential = count_key ∷ delay_key ∷ jitter_key ∷ ma
 
 -- the table has these keys alone; the first other one is the fault
 abbrev pub other_keys : Backoff → Check Members
-other_keys backoff =
-    keys_check (backoff_key ∷ keys_beside backoff) (words_text (keys_beside backoff))
+other_keys backoff = keys_check (backoff_key ∷ keys_beside backoff) (keys_beside backoff)
 
 -- ---- a fixed backoff
 

@@ -130,7 +130,7 @@ first_or_none known no_members = inl (λ key unknown. cc unknown.0)
 first_or_none known (member key value others) = one_more known key value others
     (known_decided known key) (first_or_none known others)
 
-pub only_or_first : (known : List (List ℕ)) (expected : List ℕ) (members : Members)
+pub only_or_first : (known expected : List (List ℕ)) (members : Members)
     → HasOnlyKeys known members
     ⊎ ((f : Fault) × ((key : List ℕ) × IsFirstUnknownKey known members key
     × (f ≡ unknown_key key expected)))
@@ -140,7 +140,7 @@ only_or_first known expected members = elim (first_or_none known members) [
 ]
 
 -- the first unknown key is the fault of its table
-abbrev pub keys_check : List (List ℕ) → List ℕ → Check Members
+abbrev pub keys_check : List (List ℕ) → List (List ℕ) → Check Members
 keys_check known expected = record {
   passes = HasOnlyKeys known;
   faults = λ members fault. (key : List ℕ) × IsFirstUnknownKey known members key

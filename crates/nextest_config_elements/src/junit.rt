@@ -54,15 +54,12 @@ impl Word for JunitFlakyFailStatus {
         &[JunitFlakyFailStatus::Failure, JunitFlakyFailStatus::Success]
     }
 
-    fn as_word(self) -> &'static str {
-        match self {
-            JunitFlakyFailStatus::Failure => "failure",
-            JunitFlakyFailStatus::Success => "success",
-        }
+    fn words() -> &'static [&'static str] {
+        &["failure", "success"]
     }
 
-    fn expected() -> &'static str {
-        "`failure` or `success`"
+    fn position(self) -> usize {
+        self as usize
     }
 }
 

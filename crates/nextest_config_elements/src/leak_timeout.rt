@@ -120,14 +120,11 @@ impl Word for LeakTimeoutResult {
         &[LeakTimeoutResult::Fail, LeakTimeoutResult::Pass]
     }
 
-    fn as_word(self) -> &'static str {
-        match self {
-            LeakTimeoutResult::Fail => "fail",
-            LeakTimeoutResult::Pass => "pass",
-        }
+    fn words() -> &'static [&'static str] {
+        &["fail", "pass"]
     }
 
-    fn expected() -> &'static str {
-        "`fail` or `pass`"
+    fn position(self) -> usize {
+        self as usize
     }
 }

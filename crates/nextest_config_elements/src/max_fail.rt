@@ -3,7 +3,7 @@
 ghost use Rattle.std.specs.Prelude.{◌≡◌, ◌↔◌, ◌++◌, ℕ, [], ◌∷◌, IfErr, IfOk, IsTrue, MatchOption, Some};
 ghost use Rattle.std.specs.Fmt.{WritesOnOk, WritesStyledOnOk};
 ghost use Rattle.std.specs.Str.Parse.{AllDigits, IsNumeral, without_leading_sign};
-ghost use Rattle.nextest_config_values.specs.Read.{told_text};
+ghost use Rattle.nextest_config_values.specs.Read.{text_or_memory};
 ghost use Rattle.nextest_config_elements.specs.MaxFail.{bad_count, bad_mode, fail_fast_limit, IsBadCount, IsCountFault, IsCountLimit, IsCountText, IsLimitFault, IsLimitText, IsNoMode, IsNumberText, IsReached, limit_fault, limit_fault_text, limit_text, mode_word, RefusesLimit, styled_limit_text};
 ghost use Rattle.nextest_config_elements.specs.declared.max_fail.MaxFail.{MaxFail};
 ghost use Rattle.nextest_config_elements.specs.declared.max_fail.TerminateMode.{TerminateMode};
@@ -64,15 +64,12 @@ impl Word for TerminateMode {
         &[TerminateMode::Wait, TerminateMode::Immediate]
     }
 
-    fn as_word(self) -> &'static str {
-        match self {
-            TerminateMode::Wait => "wait",
-            TerminateMode::Immediate => "immediate",
-        }
+    fn words() -> &'static [&'static str] {
+        &["wait", "immediate"]
     }
 
-    fn expected() -> &'static str {
-        "`wait` or `immediate`"
+    fn position(self) -> usize {
+        self as usize
     }
 }
 
@@ -303,9 +300,9 @@ fn write_named<W: fmt::Write>(
 impl Error for MaxFailParseError {}
 
 impl fmt::Display for MaxFailParseError {
-    ghost output = { λ error. Some (told_text limit_fault_text (limit_fault error)) };
+    ghost output = { λ error. Some (text_or_memory limit_fault_text (limit_fault error)) };
 
-    ghost styled_output = { λ error _. Some (told_text limit_fault_text (limit_fault error)) };
+    ghost styled_output = { λ error _. Some (text_or_memory limit_fault_text (limit_fault error)) };
 
     fn fmt<W: fmt::Write>(&self, f: &mut fmt::Formatter<W>) -> fmt::Result {
         match self {

@@ -34,7 +34,7 @@ pub trait ProfileSetting: Sized + Drop {
         ensures refused { IfErr result (RefusesBy reading (view value.now)) };
 }
 
-/// What any value is read as, it is read as in a profile: there always is one.
+/// A type that is read by `FromToml` is a setting as it is: no value says that there is none.
 impl<T: FromToml + Drop> ProfileSetting for T {
     ghost Seen = { T.FromToml.Seen };
 

@@ -55,16 +55,12 @@ impl Word for ReportSkipPolicy {
         ]
     }
 
-    fn as_word(self) -> &'static str {
-        match self {
-            ReportSkipPolicy::None => "none",
-            ReportSkipPolicy::Ignored => "ignored",
-            ReportSkipPolicy::All => "all",
-        }
+    fn words() -> &'static [&'static str] {
+        &["none", "ignored", "all"]
     }
 
-    fn expected() -> &'static str {
-        "one of `none`, `ignored`, `all`"
+    fn position(self) -> usize {
+        self as usize
     }
 }
 

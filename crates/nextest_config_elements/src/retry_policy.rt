@@ -3,7 +3,7 @@
 ghost use Rattle.std.specs.Prelude.{◌≡◌, ◌↔◌, ◌∷◌, ℕ, IfOk, IfErr, IsOk, IsTrue, List, MatchOption, OnOk, option_map, string_bytes};
 ghost use Rattle.std.specs.Duration.{as_nanos};
 ghost use Rattle.toml.specs.View.{table_view, view};
-ghost use Rattle.nextest_config_values.specs.Read.{broken_by, broken_rule, no_data, RefusesAs, RefusesAt, RefusesBy, RefusesOne, words_text};
+ghost use Rattle.nextest_config_values.specs.Read.{broken_by, broken_rule, no_data, RefusesAs, RefusesAt, RefusesBy, RefusesOne, words_of};
 ghost use Rattle.nextest_config_elements.specs.RetryPolicy.{backoff_key, backoff_reads_back, backoff_word, backoffs_in_order, count_of, exponential_rules, exponential_table, fail_message, fixed_table, flaky_result_reads_back, flaky_result_word, flaky_results, keys_beside, other_keys, retry_number, retry_policy_of, retry_policy_reading, retry_table, RetryPolicyRecord, table_with_backoff, without_delay};
 ghost use Rattle.nextest_config_elements.specs.UnknownKeys.{IsOneOf};
 
@@ -233,15 +233,12 @@ impl Word for Backoff {
         &[Backoff::Fixed, Backoff::Exponential]
     }
 
-    fn as_word(self) -> &'static str {
-        match self {
-            Backoff::Fixed => "fixed",
-            Backoff::Exponential => "exponential",
-        }
+    fn words() -> &'static [&'static str] {
+        &["fixed", "exponential"]
     }
 
-    fn expected() -> &'static str {
-        "`fixed` or `exponential`"
+    fn position(self) -> usize {
+        self as usize
     }
 }
 
@@ -284,13 +281,13 @@ impl Backoff {
         }
     }
 
-    // The keys beside `backoff`, as a refusal lists them.
-    fn keys(self) -> &'static str
-        ensures { result.now ≡ words_text (keys_beside self) }
+    // The keys beside `backoff`.
+    fn keys(self) -> &'static [&'static str]
+        ensures { words_of result.now ≡ keys_beside self }
     {
         match self {
-            Backoff::Fixed => "one of `count`, `delay`, `jitter`",
-            Backoff::Exponential => "one of `count`, `delay`, `jitter`, `max-delay`",
+            Backoff::Fixed => &[COUNT_KEY, DELAY_KEY, JITTER_KEY],
+            Backoff::Exponential => &[COUNT_KEY, DELAY_KEY, JITTER_KEY, MAX_DELAY_KEY],
         }
     }
 }
@@ -350,14 +347,11 @@ impl Word for FlakyResult {
         &[FlakyResult::Fail, FlakyResult::Pass]
     }
 
-    fn as_word(self) -> &'static str {
-        match self {
-            FlakyResult::Fail => "fail",
-            FlakyResult::Pass => "pass",
-        }
+    fn words() -> &'static [&'static str] {
+        &["fail", "pass"]
     }
 
-    fn expected() -> &'static str {
-        "`fail` or `pass`"
+    fn position(self) -> usize {
+        self as usize
     }
 }

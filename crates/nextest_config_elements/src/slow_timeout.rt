@@ -157,14 +157,11 @@ impl Word for SlowTimeoutResult {
         &[SlowTimeoutResult::Fail, SlowTimeoutResult::Pass]
     }
 
-    fn as_word(self) -> &'static str {
-        match self {
-            SlowTimeoutResult::Fail => "fail",
-            SlowTimeoutResult::Pass => "pass",
-        }
+    fn words() -> &'static [&'static str] {
+        &["fail", "pass"]
     }
 
-    fn expected() -> &'static str {
-        "`fail` or `pass`"
+    fn position(self) -> usize {
+        self as usize
     }
 }

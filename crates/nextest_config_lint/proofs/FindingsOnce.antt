@@ -26,12 +26,13 @@ use Rattle.nextest_config_lint.specs.References.{IsReferenceFound}
 use Rattle.nextest_config_lint.specs.Settings.{settings_of, SettingView}
 use Rattle.nextest_config_elements.specs.MaxFail.{one_number}
 use Rattle.nextest_config_lint.specs.Integers.{IsIntegerHint}
-use Rattle.nextest_config_lint.specs.Meant.{digits_of, IsDurationHint, IsEitherHint, IsHintAt, IsHintBeside, IsSecondsHint, IsShortHint, IsWordHint, keys_taken, refused_key, taken_to, words_taken}
+use Rattle.nextest_config_lint.specs.Meant.{digits_of, IsDurationHint, IsEitherHint, IsHintAt, IsHintBeside, IsSecondsHint, IsShortHint, taken_to}
+use Rattle.nextest_config_lint.specs.Meant as hints
 use Rattle.nextest_config_lint.specs.declared.integers.IntegerRange.{IntegerRange}
 use Rattle.nextest_config_lint.specs.Reader.{reader_check}
 use Rattle.nextest_config_lint.specs.Unknown.{IsHintFor, IsKeyFound, IsKeyFoundFor, is_known, meant_beside, TableKey}
 use Rattle.nextest_config_lint.specs.declared.meant.Taken.{Taken}
-use Rattle.nextest_config_lint.specs.declared.meant.Taken.TheVariants.{Boolean, Duration, FailFast, FinalLevel, Growth, Integer, Level, Mode, Output, Result, ShortDuration, Skipped, Status, Tables}
+use Rattle.nextest_config_lint.specs.declared.meant.Taken.TheVariants.{Boolean, Duration, FailFast, Integer, ShortDuration, Tables}
 use Rattle.nextest_config_lint.specs.Severity.{IsSeverity}
 use Rattle.nextest_config_lint.specs.declared.finding.FindingSeverity.{FindingSeverity}
 use Rattle.nextest_config_lint.specs.Values.{accepted, AreFaults, AreFaultsFound, AreFeatures, AreFeaturesFound, AreFoundBy, AreNotes, AreNotesFound, faulty, IsOutcome, left_open, names_features, Outcome}
@@ -97,10 +98,6 @@ severity_once setting fault a b (inl h) (inr k) = absurd (k.0 h.0)
 severity_once setting fault a b (inr h) (inl k) = absurd (h.0 k.0)
 severity_once setting fault a b (inr h) (inr k) = h.1 ∙ sym k.1
 
-word_meant_once : (words : List (List ℕ)) (text : Option (List ℕ)) (a b : Option Meant) → IsWordHint words text a → IsWordHint words text b → a ≡ b
-word_meant_once words None a b h k = h ∙ sym k
-word_meant_once words (Some text) a b h k = meant_once words text a b h k
-
 seconds_once : (digits : List ℕ) (a b : Option Meant) → IsSecondsHint digits a → IsSecondsHint digits b → a ≡ b
 seconds_once digits a b (inl h) (inl k) = h.1 ∙ sym k.1
 seconds_once digits a b (inl h) (inr k) = absurd (k.0 h.0)
@@ -136,24 +133,16 @@ meant_at_once path (Some Boolean) (Some value) a b h k = h ∙ sym k
 meant_at_once path (Some FailFast) (Some value) a b h k = h ∙ sym k
 meant_at_once path (Some Tables) (Some value) a b h k = h ∙ sym k
 meant_at_once path (Some (Integer range)) (Some value) a b h k = integer_once range (as_str value) a b h k
-meant_at_once path (Some Result) (Some value) a b h k = word_meant_once (words_taken Result) (as_str value) a b h k
-meant_at_once path (Some Mode) (Some value) a b h k = word_meant_once (words_taken Mode) (as_str value) a b h k
-meant_at_once path (Some Growth) (Some value) a b h k = word_meant_once (words_taken Growth) (as_str value) a b h k
-meant_at_once path (Some Skipped) (Some value) a b h k = word_meant_once (words_taken Skipped) (as_str value) a b h k
-meant_at_once path (Some Status) (Some value) a b h k = word_meant_once (words_taken Status) (as_str value) a b h k
-meant_at_once path (Some Level) (Some value) a b h k = word_meant_once (words_taken Level) (as_str value) a b h k
-meant_at_once path (Some FinalLevel) (Some value) a b h k = word_meant_once (words_taken FinalLevel) (as_str value) a b h k
-meant_at_once path (Some Output) (Some value) a b h k = word_meant_once (words_taken Output) (as_str value) a b h k
 meant_at_once path taken value a b h k = h ∙ sym k
 
-beside_once : (name : Option (List ℕ)) (steps : List PathStep) (setting : SettingView) (a b : Option Meant) → IsHintBeside name steps setting a → IsHintBeside name steps setting b → a ≡ b
-beside_once (Some name) steps setting a b h k = meant_once (keys_taken setting.value) name a b h k
+beside_once : (unknown : Option (List ℕ × List (List ℕ))) (steps : List PathStep) (setting : SettingView) (a b : Option Meant) → IsHintBeside unknown steps setting a → IsHintBeside unknown steps setting b → a ≡ b
+beside_once (Some (name, known)) steps setting a b h k = meant_once known name a b h k
 beside_once None steps setting a b h k = meant_at_once setting.path (taken_to setting.reader steps) (found_below steps setting.value) a b h k
 
 one_kind : (setting : SettingView) (fault : Fault) (reason : Reason) (a b : FoundKind) → IsFoundKind setting fault reason a → IsFoundKind setting fault reason b → a ≡ b
 one_kind setting fault reason a b (severity, hint, grave, meant, is) (other, hint_too, grave_too, meant_too, is_too) =
     is ∙ ap₂ (λ (s : FindingSeverity) (h : Option Meant). refused reason s h) (severity_once setting fault severity other grave grave_too)
-    (beside_once (refused_key fault.cause) fault.steps setting hint hint_too meant meant_too) ∙ sym is_too
+    (beside_once (hints.unknown_name fault.cause) fault.steps setting hint hint_too meant meant_too) ∙ sym is_too
 
 one_found : (setting : SettingView) (fault : Fault) (a b : Found) → IsFoundOf setting fault a → IsFoundOf setting fault b → a ≡ b
 one_found setting fault a b h k =

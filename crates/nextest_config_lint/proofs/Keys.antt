@@ -16,10 +16,9 @@ use Rattle.toml.proofs.Views.{Entry}
 use Rattle.toml.specs.Data.{Data, get_member, member, Members, no_members}
 use Rattle.toml.specs.View.{members_view}
 use Rattle.toml_spans.proofs.Elements.{all_weaker}
-use Rattle.nextest_config_values.specs.Read.{value_of}
+use Rattle.nextest_config_values.specs.Read.{value_of, words_of}
 use Rattle.nextest_config_lint.specs.Settings.{names_of}
-use Rattle.nextest_config_values.specs.NearestWord.{words_of}
-use Rattle.nextest_config_lint.specs.Schema.{row_words, rows_told}
+use Rattle.nextest_config_lint.specs.Schema.{row_words, rows_view}
 use Rattle.nextest_config_lint.specs.Unknown.{is_known}
 use Rattle.nextest_config_lint.specs.declared.finding.FindingSeverity.{FindingSeverity}
 use Rattle.nextest_config_lint.specs.declared.reader.Reader.{Reader}
@@ -83,7 +82,7 @@ find_seen seen test (x ∷ xs) =
     ⊎_elim (λ passes. rw passes refl) (λ fails. rw fails (find_seen seen test xs)) (cases_Bool (test (seen x)))
 
 -- the words of rows
-pub words_of_rows : (known : List (Bor (List ℕ) × Reader × FindingSeverity × declared.Below)) → map (λ row. row.0.now) known ≡ row_words (rows_told known)
+pub words_of_rows : (known : List (Bor (List ℕ) × Reader × FindingSeverity × declared.Below)) → map (λ row. row.0.now) known ≡ row_words (rows_view known)
 words_of_rows [] = refl
 words_of_rows (row ∷ known) = ap (λ (words : List (List ℕ)). row.0.now ∷ words) (words_of_rows known)
 

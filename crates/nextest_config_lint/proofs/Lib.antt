@@ -18,8 +18,8 @@ pub mod Places
 pub mod Profiles
 pub mod DefinedNames
 pub mod NameSets
-pub mod RingProfiles
-pub mod Rings
+pub mod Links
+pub mod Walks
 pub mod ReferencesFound
 pub mod Severities
 pub mod ToldReferences

@@ -3,7 +3,7 @@ use Rattle.std.specs.Prelude.{◌≡◌, ℕ, List, [], ◌∷◌, Option, Some,
 use Rattle.std.proofs.Common.{ap}
 use Rattle.toml.specs.Data.{as_array, as_bool, as_str, as_table, Data, get_member, Items, Members}
 use Rattle.nextest_config_values.specs.Read.Fault.{Fault}
-use Rattle.nextest_config_values.specs.Read.{as_told, bool_reading, either, fault_here, key, Reason}
+use Rattle.nextest_config_values.specs.Read.{for_reason, bool_reading, either, fault_here, key, Reason}
 use Rattle.nextest_config_values.specs.Read.Readings.{IsFaultBelow}
 use Rattle.nextest_config.specs.NextestVersion.{all_features, feature_array, features_of_table, features_under, in_order, recommended_key, required_key, switches, version_reading, version_text, versions_reading, word_of}
 use Rattle.nextest_config.specs.declared.nextest_version.edition.Edition.{Edition}
@@ -21,10 +21,10 @@ NeverDuration = AllFaults IsOther
 
 -- ---- the faults themselves
 
-told : (reason : Reason) → NeverDuration (λ fault. fault ≡ fault_here (as_told reason))
+told : (reason : Reason) → NeverDuration (λ fault. fault ≡ fault_here (for_reason reason))
 told reason fault is (found, of_duration) = cc (ap (λ (f : Fault). f.cause) is, of_duration)
 
-told_if : (Holds : Type 0) (reason : Reason) → NeverDuration (λ fault. Holds × (fault ≡ fault_here (as_told reason)))
+told_if : (Holds : Type 0) (reason : Reason) → NeverDuration (λ fault. Holds × (fault ≡ fault_here (for_reason reason)))
 told_if Holds reason fault a = told reason fault a.1
 
 -- ---- put together

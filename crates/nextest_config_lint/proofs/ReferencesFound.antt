@@ -35,10 +35,10 @@ told_undefined : (undefined : List ℕ → Option Meant → FoundKind) (IsDefine
     → ((name : List ℕ) (hint : Option Meant) → IsOfReference (Some (undefined name hint))) → IsUndefinedTold undefined IsDefined IsMeant name told → IsOfReference told
 told_undefined undefined IsDefined IsMeant name told so (names, words, hint, are, fit, sought, is) = rw is (so name hint)
 
-told_text : (IsTold : List ℕ → Option FoundKind → Type 0) (text : Option (List ℕ)) (told : Option FoundKind)
+text_or_memory : (IsTold : List ℕ → Option FoundKind → Type 0) (text : Option (List ℕ)) (told : Option FoundKind)
     → ((text : List ℕ) (told : Option FoundKind) → IsTold text told → IsOfReference told) → IsTextTold IsTold text told → IsOfReference told
-told_text IsTold None told so is = rw is tt
-told_text IsTold (Some text) told so is = so text told is
+text_or_memory IsTold None told so is = rw is tt
+text_or_memory IsTold (Some text) told so is = so text told is
 
 told_name : (IsKept : List ℕ → Option FoundKind → Type 0) (text : List ℕ) (told : Option FoundKind)
     → ((name : List ℕ) (told : Option FoundKind) → IsKept name told → IsOfReference told) → IsNameTold IsKept text told → IsOfReference told
@@ -70,9 +70,9 @@ told_parent files position profile parent told (inr (other, inr (leads_on, named
 told_place : (files : List ListFile) (kind : ConfigSourceKind) (position : ℕ) (place : Place) (value : Data) (told : Option FoundKind)
     → IsPlaceTold files kind position place value told → IsOfReference told
 told_place files kind position (a_profile name) value told is = told_if _ reserved_profile told (refl, (λ path. refl), refl) is
-told_place files kind position (a_parent name) value told is = told_text (IsParentTold files position name) (as_str value) told (told_parent files position name) is
+told_place files kind position (a_parent name) value told is = text_or_memory (IsParentTold files position name) (as_str value) told (told_parent files position name) is
 told_place files kind position an_override value told is = told_if _ override_of_all told (refl, (λ path. refl), refl) is
-told_place files kind position a_group_of value told is = told_text (IsGroupTextTold files) (as_str value) told (told_group_text files) is
+told_place files kind position a_group_of value told is = text_or_memory (IsGroupTextTold files) (as_str value) told (told_group_text files) is
 told_place files kind position (a_group name) value told is = told_name (IsGroupTold kind) name told (told_group kind) is
 told_place files kind position another value told is = rw is tt
 

@@ -2,7 +2,7 @@
 use Rattle.std.proofs.Common.{◌≡◌, List, map, None, Option, Some, ap, option_map}
 use Rattle.toml_spans.specs.Step.{PathStep, step_of}
 use Rattle.nextest_config_lint.specs.Finding.{told_severity, finding_severity}
-use Rattle.nextest_config_lint.specs.Found.{Found, found_at, FoundKind, found_of, found_severity, kind_told}
+use Rattle.nextest_config_lint.specs.Found.{Found, found_at, FoundKind, found_of, found_severity, kind_view}
 use Rattle.nextest_config_lint.specs.declared.finding.Finding.{Finding}
 
 told_kind : (path : List PathStep) (told : Option FoundKind) (found : Found) → option_map (found_at path) told ≡ Some found → told ≡ Some found.kind
@@ -11,4 +11,4 @@ told_kind path (Some kind) found is = ap (option_map (λ (f : Found). f.kind)) i
 
 -- a finding is as grave as what it tells
 pub severity_told : (finding : Finding) (found : Found) → found_of finding ≡ Some found → finding_severity finding.kind ≡ found_severity found.kind
-severity_told finding found is = ap told_severity (told_kind (map step_of finding.path.items) (kind_told finding.kind) found is)
+severity_told finding found is = ap told_severity (told_kind (map step_of finding.path.items) (kind_view finding.kind) found is)

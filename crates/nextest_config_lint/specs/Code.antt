@@ -1,6 +1,6 @@
 -- The codes of findings.
 use Rattle.std.specs.Prelude.{◌≡◌, ℕ, List, [], ◌∷◌, codes, Option, Some, None}
-use Rattle.std.proofs.Common.{refl}
+use Rattle.std.proofs.Common.{rules}
 use Rattle.nextest_config_values.specs.Read.{BrokenRule, Reason, value_of}
 use Rattle.nextest_config_values.specs.Read.Fault as faults
 use Rattle.nextest_config_lint.specs.Found.{FoundKind}
@@ -80,36 +80,7 @@ code_word code.DeprecatedArray = codes "deprecated-array"
 
 pub code_reads_back : (one : FindingCode)
     → value_of code_word codes_in_order (code_word one) ≡ Some one
-code_reads_back code.NotUtf8 = refl
-code_reads_back code.NotToml = refl
-code_reads_back code.InvalidType = refl
-code_reads_back code.InvalidValue = refl
-code_reads_back code.UnknownVariant = refl
-code_reads_back code.UnknownField = refl
-code_reads_back code.MissingField = refl
-code_reads_back code.PreRelease = refl
-code_reads_back code.BuildMetadata = refl
-code_reads_back code.NotVersion = refl
-code_reads_back code.RequiredAboveRecommended = refl
-code_reads_back code.JitterWithoutDelay = refl
-code_reads_back code.CountZero = refl
-code_reads_back code.DelayZero = refl
-code_reads_back code.MaxDelayZero = refl
-code_reads_back code.MaxDelayBelowDelay = refl
-code_reads_back code.Priority = refl
-code_reads_back code.ArrayForm = refl
-code_reads_back code.ToolFeatures = refl
-code_reads_back code.UnknownFeature = refl
-code_reads_back code.UnknownKey = refl
-code_reads_back code.UndefinedGroup = refl
-code_reads_back code.UndefinedProfile = refl
-code_reads_back code.DefaultInherits = refl
-code_reads_back code.InheritsItself = refl
-code_reads_back code.OverrideOfAll = refl
-code_reads_back code.ReservedProfile = refl
-code_reads_back code.GroupName = refl
-code_reads_back code.UnjudgedDuration = refl
-code_reads_back code.DeprecatedArray = refl
+code_reads_back one = search rules
 
 -- ---- of what is found
 

@@ -55,8 +55,8 @@ IsDocument contents (Some members) = IsUtf8 contents × (parse_document contents
 -- ---- a file that is no document
 
 -- what a located finding tells: its range, and what is found
-abbrev pub located_told : LocatedFinding → Span × Option Found
-located_told located = (located.span, found_of located.finding)
+abbrev pub located_view : LocatedFinding → Span × Option Found
+located_view located = (located.span, found_of located.finding)
 
 -- one finding alone, of the whole file, from the end of one front of the text to that of another
 pub record IsAlone (before front : List ℕ) (kind : FoundKind) (located : List LocatedFinding) :
@@ -64,7 +64,7 @@ pub record IsAlone (before front : List ℕ) (kind : FoundKind) (located : List 
   pub span : Span
   pub begins : IsPlace before span.begin
   pub ends : IsPlace front span.end
-  pub told : map located_told located ≡ (span, Some (found_at [] kind)) ∷ []
+  pub told : map located_view located ≡ (span, Some (found_at [] kind)) ∷ []
 
 -- the file isn't UTF-8, where its longest front that is UTF-8 ends
 abbrev pub IsNotUtf8 : List ℕ → List LocatedFinding → Type 0

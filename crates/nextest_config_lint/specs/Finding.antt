@@ -2,11 +2,11 @@
 use Rattle.std.specs.Prelude.{ℕ, List, [], ◌∷◌, ◌++◌, codes, decimal, map, Option, Some, None, string_bytes}
 use Rattle.nextest_config_values.specs.Identifier.Error.{identifier_fault, identifier_fault_text}
 use Rattle.toml_spans.specs.QuotedText.{quoted_text}
-use Rattle.nextest_config_values.specs.Read.{kind_text, quoted_texts, Reason, reason_of, told_text}
+use Rattle.nextest_config_values.specs.Read.{kind_text, quoted_texts, Reason, reason_of, text_or_memory}
 use Rattle.toml_spans.specs.Step.{PathStep, printed_path, step_of}
 use Rattle.nextest_config_values.specs.declared.read.fault.FaultKind.{FaultKind}
 use Rattle.nextest_config_lint.specs.Code.{reason_code}
-use Rattle.nextest_config_lint.specs.Found.{FoundKind, found_severity, kind_told}
+use Rattle.nextest_config_lint.specs.Found.{FoundKind, found_severity, kind_view}
 use Rattle.nextest_config_lint.specs.declared.code.FindingCode.{FindingCode}
 use Rattle.nextest_config_lint.specs.declared.code.FindingCode.TheVariants as code
 use Rattle.nextest_config_lint.specs.declared.finding.Finding.{Finding}
@@ -28,7 +28,7 @@ told_severity None = Error
 
 -- a kind of finding is as grave as what it tells
 abbrev pub finding_severity : FindingKind → FindingSeverity
-finding_severity kind = told_severity (kind_told kind)
+finding_severity kind = told_severity (kind_view kind)
 
 -- severities by number, the graver the greater
 abbrev pub rank : FindingSeverity → ℕ
@@ -73,12 +73,33 @@ mistake_text None = []
 abbrev pub name_text : List ℕ → List ℕ → Option Hint → List ℕ
 name_text said name hint = (said ++ quoted_text name) ++ hint_text hint
 
+-- how what is found prints where that is never told with what may be meant; else nothing
+abbrev pub plain_text : FindingKind → List ℕ
+plain_text (kinds.ToolFeatures features) =
+    codes "experimental features in a tool configuration: "
+    ++ quoted_texts (map string_bytes features.keys)
+plain_text kinds.DefaultInherits = codes "the profile \"default\" can't inherit"
+plain_text (kinds.InheritsItself profile) =
+    codes "the profile " ++ (quoted_text (string_bytes profile) ++ codes " inherits from itself")
+plain_text kinds.OverrideOfAll =
+    codes "an override needs a \"filter\" or a \"platform\""
+plain_text kinds.ReservedProfile =
+    codes "profile names that begin with \"default-\" are reserved"
+plain_text (kinds.NoGroupName error) =
+    text_or_memory identifier_fault_text (identifier_fault error)
+plain_text (kinds.GroupOutsideTool mark) =
+    codes "a tool's test groups begin with " ++ quoted_text (string_bytes mark)
+plain_text kinds.GroupOfTool = codes "only a tool's test groups begin with \"@\""
+plain_text kinds.UnjudgedDuration =
+    codes "not judged here: a duration other than whole numbers, each with a unit"
+plain_text (kinds.DeprecatedArray table) =
+    codes "the array form is deprecated, use a table: " ++ string_bytes table
+plain_text kinds.NotUtf8 = codes "not UTF-8"
+plain_text kind = []
+
 -- how what is found prints, without its path
 abbrev pub finding_kind_text : FindingKind → List ℕ
 finding_kind_text (kinds.Fault fault severity hint) = kind_text fault ++ hint_text hint
-finding_kind_text (kinds.ToolFeatures features) =
-    codes "experimental features in a tool configuration: "
-    ++ quoted_texts (map string_bytes features.keys)
 finding_kind_text (kinds.UnknownFeature name hint) =
     name_text (codes "unknown feature ") (string_bytes name) hint
 finding_kind_text (kinds.UnknownKey key hint) =
@@ -87,24 +108,8 @@ finding_kind_text (kinds.UndefinedGroup name hint) =
     name_text (codes "no file defines the test group ") (string_bytes name) hint
 finding_kind_text (kinds.UndefinedProfile name hint) =
     name_text (codes "no file defines the profile ") (string_bytes name) hint
-finding_kind_text kinds.DefaultInherits = codes "the profile \"default\" can't inherit"
-finding_kind_text (kinds.InheritsItself profile) =
-    codes "the profile " ++ (quoted_text (string_bytes profile) ++ codes " inherits from itself")
-finding_kind_text kinds.OverrideOfAll =
-    codes "an override needs a \"filter\" or a \"platform\""
-finding_kind_text kinds.ReservedProfile =
-    codes "profile names that begin with \"default-\" are reserved"
-finding_kind_text (kinds.NoGroupName error) =
-    told_text identifier_fault_text (identifier_fault error)
-finding_kind_text (kinds.GroupOutsideTool mark) =
-    codes "a tool's test groups begin with " ++ quoted_text (string_bytes mark)
-finding_kind_text kinds.GroupOfTool = codes "only a tool's test groups begin with \"@\""
-finding_kind_text kinds.UnjudgedDuration =
-    codes "not judged here: a duration other than whole numbers, each with a unit"
-finding_kind_text (kinds.DeprecatedArray table) =
-    codes "the array form is deprecated, use a table: " ++ string_bytes table
-finding_kind_text kinds.NotUtf8 = codes "not UTF-8"
 finding_kind_text (kinds.NotToml message mistake) = string_bytes message ++ mistake_text mistake
+finding_kind_text kind = plain_text kind
 
 -- a path before what is found there, unless it is empty
 abbrev pub path_front : List PathStep → List ℕ

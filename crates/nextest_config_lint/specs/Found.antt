@@ -76,30 +76,30 @@ abbrev pub refused_with : FindingSeverity → Option Hint → Reason → FoundKi
 refused_with severity hint reason = refused reason severity (option_map meant_of hint)
 
 -- what a kind of finding tells, unless it is a refusal of memory
-abbrev pub kind_told : FindingKind → Option FoundKind
-kind_told (kinds.Fault fault severity hint) =
+abbrev pub kind_view : FindingKind → Option FoundKind
+kind_view (kinds.Fault fault severity hint) =
     option_map (refused_with severity hint) (reason_of fault)
-kind_told (kinds.ToolFeatures features) = Some (tool_names (map string_bytes features.keys))
-kind_told (kinds.UnknownFeature name hint) =
+kind_view (kinds.ToolFeatures features) = Some (tool_names (map string_bytes features.keys))
+kind_view (kinds.UnknownFeature name hint) =
     Some (unknown_name (string_bytes name) (option_map meant_of hint))
-kind_told (kinds.UnknownKey key hint) =
+kind_view (kinds.UnknownKey key hint) =
     Some (unknown_key (string_bytes key) (option_map meant_of hint))
-kind_told (kinds.UndefinedGroup name hint) =
+kind_view (kinds.UndefinedGroup name hint) =
     Some (undefined_group (string_bytes name) (option_map meant_of hint))
-kind_told (kinds.UndefinedProfile name hint) =
+kind_view (kinds.UndefinedProfile name hint) =
     Some (undefined_profile (string_bytes name) (option_map meant_of hint))
-kind_told kinds.DefaultInherits = Some default_inherits
-kind_told (kinds.InheritsItself profile) = Some (inherits_itself (string_bytes profile))
-kind_told kinds.OverrideOfAll = Some override_of_all
-kind_told kinds.ReservedProfile = Some reserved_profile
-kind_told (kinds.NoGroupName error) =
+kind_view kinds.DefaultInherits = Some default_inherits
+kind_view (kinds.InheritsItself profile) = Some (inherits_itself (string_bytes profile))
+kind_view kinds.OverrideOfAll = Some override_of_all
+kind_view kinds.ReservedProfile = Some reserved_profile
+kind_view (kinds.NoGroupName error) =
     option_map (λ fault. no_group_name (identifier fault)) (identifier_fault error)
-kind_told (kinds.GroupOutsideTool mark) = Some (group_outside_tool (string_bytes mark))
-kind_told kinds.GroupOfTool = Some group_of_tool
-kind_told kinds.UnjudgedDuration = Some unjudged
-kind_told (kinds.DeprecatedArray table) = Some (deprecated_array (string_bytes table))
-kind_told kinds.NotUtf8 = Some not_utf8
-kind_told (kinds.NotToml message mistake) =
+kind_view (kinds.GroupOutsideTool mark) = Some (group_outside_tool (string_bytes mark))
+kind_view kinds.GroupOfTool = Some group_of_tool
+kind_view kinds.UnjudgedDuration = Some unjudged
+kind_view (kinds.DeprecatedArray table) = Some (deprecated_array (string_bytes table))
+kind_view kinds.NotUtf8 = Some not_utf8
+kind_view (kinds.NotToml message mistake) =
     Some (not_toml (string_bytes message) (option_map mistaken_of mistake))
 
 -- what is found, at this path
@@ -108,7 +108,7 @@ found_at path kind = record { path = path; kind = kind }
 
 -- what a finding tells, with its path, unless it is a refusal of memory
 abbrev pub found_of : Finding → Option Found
-found_of finding = option_map (found_at (map step_of finding.path.items)) (kind_told finding.kind)
+found_of finding = option_map (found_at (map step_of finding.path.items)) (kind_view finding.kind)
 
 -- how grave what is found is
 abbrev pub found_severity : FoundKind → FindingSeverity

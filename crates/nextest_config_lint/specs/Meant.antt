@@ -2,14 +2,13 @@
 use Rattle.std.specs.Prelude.{◌≡◌, ◌≤◌, ◌⊎◌, ◌||◌, ℕ, zero, suc, ℤ, pos, negsuc, List, [], ◌∷◌, ◌++◌, codes, decimal, if◌then◌else◌, Option, Some, None, option_and_then}
 use Rattle.std.specs.Char.{is_ascii_digit}
 use Rattle.std.specs.List.{list_all}
-use Rattle.toml.specs.Data.{as_integer, as_str, as_table, Data, get, Members}
+use Rattle.toml.specs.Data.{as_integer, as_str, as_table, Data, Members}
 use Rattle.nextest_config_values.specs.Duration.{IsDuration}
-use Rattle.nextest_config_values.specs.Read.Fault.{as_told, Cause, Fault, unknown_field}
-use Rattle.nextest_config_elements.specs.Junit.{flaky_fail_status_key, report_skipped_key, store_failure_output_key, store_success_output_key}
-use Rattle.nextest_config_elements.specs.LeakTimeout.{result_key}
-use Rattle.nextest_config_elements.specs.MaxFail.{max_fail_key, terminate_key}
-use Rattle.nextest_config_elements.specs.RetryPolicy.{backoff_key, count_key, delay_key, jitter_key, max_delay_key}
-use Rattle.nextest_config_elements.specs.SlowTimeout.{grace_period_key, on_timeout_key, period_key, terminate_after_key}
+use Rattle.nextest_config_values.specs.Read.Fault.{for_reason, Cause, Fault, unknown_field, unknown_variant}
+use Rattle.nextest_config_elements.specs.Junit.{store_failure_output_key, store_success_output_key}
+use Rattle.nextest_config_elements.specs.MaxFail.{max_fail_key}
+use Rattle.nextest_config_elements.specs.RetryPolicy.{count_key, delay_key, jitter_key, max_delay_key}
+use Rattle.nextest_config_elements.specs.SlowTimeout.{grace_period_key, period_key, terminate_after_key}
 use Rattle.toml_spans.specs.Line.{found_below}
 use Rattle.toml_spans.specs.Step.{key, PathStep, printed_path}
 use Rattle.nextest_config_lint.specs.Conversion.{is_word}
@@ -17,7 +16,7 @@ use Rattle.nextest_config_lint.specs.Found.{IsNearestMeant, Meant, the_toml, the
 use Rattle.nextest_config_lint.specs.Integers.{IsIntegerHint}
 use Rattle.nextest_config_lint.specs.Settings.{SettingView}
 use Rattle.nextest_config_lint.specs.declared.meant.Taken.{Taken}
-use Rattle.nextest_config_lint.specs.declared.meant.Taken.TheVariants.{Boolean, Duration, FailFast, FinalLevel, Growth, Integer, Level, Mode, Output, Result, ShortDuration, Skipped, Status, Tables}
+use Rattle.nextest_config_lint.specs.declared.meant.Taken.TheVariants.{Boolean, Duration, FailFast, Integer, ShortDuration, Tables}
 use Rattle.nextest_config_lint.specs.declared.integers.IntegerRange.TheVariants as ranges
 use Rattle.nextest_config_lint.specs.declared.reader.Reader.{Reader}
 use Rattle.nextest_config_lint.specs.declared.reader.Reader.TheVariants as readers
@@ -36,41 +35,28 @@ taken_here readers.Threads = Some (Integer ranges.Threads)
 taken_here readers.Priority = Some (Integer ranges.Priority)
 taken_here readers.Boolean = Some Boolean
 taken_here readers.Array = Some Tables
-taken_here readers.FlakyResult = Some Result
-taken_here readers.FlakyFailStatus = Some Status
-taken_here readers.StatusLevel = Some Level
-taken_here readers.FinalStatusLevel = Some FinalLevel
-taken_here readers.Output = Some Output
 taken_here reader = None
 
 -- what is taken at a key of `slow-timeout`
 abbrev pub taken_in_timeout : List ℕ → Option Taken
 taken_in_timeout name =
     if is_word name period_key || is_word name grace_period_key then Some Duration
-    else if is_word name on_timeout_key then Some Result
     else if is_word name terminate_after_key then Some (Integer ranges.Count)
     else None
 
 -- what is taken at a key of `leak-timeout`
 abbrev pub taken_in_leak : List ℕ → Option Taken
-taken_in_leak name =
-    if is_word name period_key then Some ShortDuration
-    else if is_word name result_key then Some Result
-    else None
+taken_in_leak name = if is_word name period_key then Some ShortDuration else None
 
 -- what is taken at a key of `fail-fast`
 abbrev pub taken_in_limit : List ℕ → Option Taken
-taken_in_limit name =
-    if is_word name terminate_key then Some Mode
-    else if is_word name max_fail_key then Some (Integer ranges.Count)
-    else None
+taken_in_limit name = if is_word name max_fail_key then Some (Integer ranges.Count) else None
 
 -- what is taken at a key of `retries`
 abbrev pub taken_in_retries : List ℕ → Option Taken
 taken_in_retries name =
     if is_word name delay_key || is_word name max_delay_key then Some Duration
     else if is_word name jitter_key then Some Boolean
-    else if is_word name backoff_key then Some Growth
     else if is_word name count_key then Some (Integer ranges.U32)
     else None
 
@@ -79,8 +65,6 @@ abbrev pub taken_in_report : List ℕ → Option Taken
 taken_in_report name =
     if is_word name store_success_output_key || is_word name store_failure_output_key
     then Some Boolean
-    else if is_word name report_skipped_key then Some Skipped
-    else if is_word name flaky_fail_status_key then Some Status
     else None
 
 -- what is taken at a key of the table that a reader reads
@@ -188,28 +172,6 @@ tables_meant path None = None
 tables_meant path (Some held) =
     Some (the_toml (codes "[[" ++ (printed_path path ++ codes "]]")))
 
--- ---- words
-
--- the words that are taken, where only some words are
-abbrev pub words_taken : Taken → List (List ℕ)
-words_taken Result = codes "fail" ∷ codes "pass" ∷ []
-words_taken Mode = codes "wait" ∷ codes "immediate" ∷ []
-words_taken Growth = codes "fixed" ∷ codes "exponential" ∷ []
-words_taken Skipped = codes "none" ∷ codes "ignored" ∷ codes "all" ∷ []
-words_taken Status = codes "failure" ∷ codes "success" ∷ []
-words_taken Level = codes "none" ∷ codes "fail" ∷ codes "retry" ∷ codes "slow" ∷ codes "leak"
-    ∷ codes "pass" ∷ codes "skip" ∷ codes "all" ∷ []
-words_taken FinalLevel = codes "none" ∷ codes "fail" ∷ codes "flaky" ∷ codes "slow" ∷ codes "skip"
-    ∷ codes "leak" ∷ codes "pass" ∷ codes "all" ∷ []
-words_taken Output = codes "immediate" ∷ codes "immediate-final" ∷ codes "final" ∷ codes "never"
-    ∷ []
-words_taken taken = []
-
--- the word that a text comes nearest to
-abbrev pub IsWordHint : List (List ℕ) → Option (List ℕ) → Option Meant → Type 0
-IsWordHint words None hint = hint ≡ None
-IsWordHint words (Some text) hint = IsNearestMeant words text hint
-
 -- ---- the hint
 
 -- what may be meant by a value in place of what is taken there
@@ -222,38 +184,26 @@ IsHintAt path (Some FailFast) (Some value) hint =
 IsHintAt path (Some Tables) (Some value) hint = hint ≡ tables_meant path (as_table value)
 IsHintAt path (Some (Integer range)) (Some value) hint =
     IsIntegerHint range (as_str value) hint
-IsHintAt path (Some taken) (Some value) hint =
-    IsWordHint (words_taken taken) (as_str value) hint
 IsHintAt path taken value hint = hint ≡ None
 
--- ---- keys
+-- ---- unknown names
 
--- the key that a table is refused for
-abbrev pub refused_key : Cause → Option (List ℕ)
-refused_key (as_told (unknown_field name expected)) = Some name
-refused_key cause = None
-
--- the keys that stand beside this backoff
-abbrev pub keys_by : Option (List ℕ) → List (List ℕ)
-keys_by None = []
-keys_by (Some word) =
-    if is_word word (codes "exponential")
-    then count_key ∷ delay_key ∷ jitter_key ∷ max_delay_key ∷ []
-    else count_key ∷ delay_key ∷ jitter_key ∷ []
-
--- the keys that stand beside the backoff of a table
-abbrev pub keys_taken : Data → List (List ℕ)
-keys_taken value = keys_by (option_and_then as_str (get backoff_key value))
+-- the word or key that is refused as unknown, and the known ones
+abbrev pub unknown_name : Cause → Option (List ℕ × List (List ℕ))
+unknown_name (for_reason (unknown_variant name known)) = Some (name, known)
+unknown_name (for_reason (unknown_field name known)) = Some (name, known)
+unknown_name cause = None
 
 -- ---- the fault
 
--- what may be meant by the value that is refused: the key that a refused one comes nearest to, or
+-- what may be meant by what is refused: the known name that an unknown one comes nearest to, or
 -- something in place of what is taken where the steps lead
-abbrev pub IsHintBeside : Option (List ℕ) → List PathStep → SettingView → Option Meant → Type 0
-IsHintBeside (Some name) steps setting hint = IsNearestMeant (keys_taken setting.value) name hint
+abbrev pub IsHintBeside : Option (List ℕ × List (List ℕ)) → List PathStep → SettingView
+    → Option Meant → Type 0
+IsHintBeside (Some (name, known)) steps setting hint = IsNearestMeant known name hint
 IsHintBeside None steps setting hint = IsHintAt setting.path (taken_to setting.reader steps)
     (found_below steps setting.value) hint
 
 -- what may be meant by what a fault of a setting refuses
 abbrev pub IsFaultHint : SettingView → Fault → Option Meant → Type 0
-IsFaultHint setting fault = IsHintBeside (refused_key fault.cause) fault.steps setting
+IsFaultHint setting fault = IsHintBeside (unknown_name fault.cause) fault.steps setting

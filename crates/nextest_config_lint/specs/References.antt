@@ -9,7 +9,7 @@ use Rattle.nextest_config_values.specs.Read.Fault.{identifier}
 use Rattle.nextest_config.specs.declared.nextest_version.source.ConfigSourceKind.{ConfigSourceKind}
 use Rattle.nextest_config.specs.declared.nextest_version.source.ConfigSourceKind.TheVariants.{DiscoveredRepository, ExplicitRepository, Tool}
 use Rattle.nextest_config_lint.specs.Defined.{AreDocuments, AreNamesOf, ComesBackAt, default_miri, default_profile, DefinesGroup, DefinesProfile, groups_key, HasTool, inherits_key, ListFile, profiles_key}
-use Rattle.nextest_config_lint.specs.Found.{default_inherits, Found, found_at, FoundKind, group_of_tool, group_outside_tool, inherits_itself, IsNearestMeant, kind_told, Meant, no_group_name, override_of_all, reserved_profile, undefined_group, undefined_profile}
+use Rattle.nextest_config_lint.specs.Found.{default_inherits, Found, found_at, FoundKind, group_of_tool, group_outside_tool, inherits_itself, IsNearestMeant, kind_view, Meant, no_group_name, override_of_all, reserved_profile, undefined_group, undefined_profile}
 use Rattle.nextest_config_lint.specs.Settings.{SettingView}
 use Rattle.nextest_config_lint.specs.declared.finding.FindingKind.{FindingKind}
 use Rattle.nextest_config_lint.specs.declared.references.Place as declared
@@ -217,4 +217,4 @@ is_other left_out name = not (pointwise nat_eq name left_out)
 -- a kind of finding, if there is one, tells something
 abbrev pub TellsIfAny : Option FindingKind → Type 0
 TellsIfAny None = Unit {0}
-TellsIfAny (Some kind) = IsSome (kind_told kind)
+TellsIfAny (Some kind) = IsSome (kind_view kind)

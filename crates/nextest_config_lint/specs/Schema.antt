@@ -10,7 +10,7 @@ use Rattle.nextest_config_elements.specs.LeakTimeout.{leak_timeout_keys}
 use Rattle.nextest_config_elements.specs.MaxFail.{fail_fast_keys}
 use Rattle.nextest_config_elements.specs.SlowTimeout.{slow_timeout_keys}
 use Rattle.nextest_config_lint.specs.Forms.{max_threads_key}
-use Rattle.nextest_config_values.specs.NearestWord.{words_of}
+use Rattle.nextest_config_values.specs.Read.{words_of}
 use Rattle.nextest_config_lint.specs.declared.finding.FindingSeverity.{FindingSeverity}
 use Rattle.nextest_config_lint.specs.declared.finding.FindingSeverity.TheVariants.{Error, Warning}
 use Rattle.nextest_config_lint.specs.declared.reader.Reader.{Reader}
@@ -165,5 +165,5 @@ abbrev pub below_of : declared.Below → Below
 below_of = fold-Below Below level_of
 
 -- rows, as the code's table says them
-abbrev pub rows_told : List (Bor (List ℕ) × Reader × FindingSeverity × declared.Below) → Rows
-rows_told known = rows_of (map (λ row. (row.0, row.1, row.2, below_of row.3)) known)
+abbrev pub rows_view : List (Bor (List ℕ) × Reader × FindingSeverity × declared.Below) → Rows
+rows_view known = rows_of (map (λ row. (row.0, row.1, row.2, below_of row.3)) known)

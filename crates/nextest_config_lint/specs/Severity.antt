@@ -2,7 +2,7 @@
 use Rattle.std.specs.Prelude.{◌≡◌, ◌⊎◌, ℕ, List, [], ◌∷◌, codes, map, Some}
 use Rattle.toml.specs.Data.{Data}
 use Rattle.nextest_config_values.specs.Read.Fault.{Cause, Fault, invalid_type}
-use Rattle.nextest_config_values.specs.Read.{as_told, missing}
+use Rattle.nextest_config_values.specs.Read.{for_reason, missing}
 use Rattle.toml_spans.specs.Line.{found_below}
 use Rattle.toml_spans.specs.Step.{key, PathStep}
 use Rattle.nextest_config_lint.specs.Conversion.{MayBecome, wanted_to}
@@ -16,7 +16,7 @@ use Rattle.nextest_config_lint.specs.declared.finding.FindingSeverity.TheVariant
 -- the value is of a kind that isn't taken
 abbrev pub IsWrongType : Cause → Type 0
 IsWrongType cause = (found : List ℕ) × (expected : List ℕ)
-    × (cause ≡ as_told (invalid_type found expected))
+    × (cause ≡ for_reason (invalid_type found expected))
 
 -- the value that steps lead to may become what is wanted there
 abbrev pub IsConvertible : SettingView → List PathStep → Type 0

@@ -1,7 +1,7 @@
 -- The words of nextest's settings that choose one of a few: which tests are told of while they run,
 -- which at the end of a run, and when the output of a test is shown.
 use Rattle.std.specs.Prelude.{◌≡◌, ℕ, List, [], ◌∷◌, codes, Option, Some, option_and_then}
-use Rattle.std.proofs.Common.{refl}
+use Rattle.std.proofs.Common.{rules}
 use Rattle.toml.specs.Data.{as_str, Data}
 use Rattle.nextest_config_values.specs.Read.{kind, only, Reading, value_of, word_reading}
 use Rattle.nextest_config_lint.specs.declared.words.FinalStatusLevel.{FinalStatusLevel}
@@ -32,14 +32,7 @@ status_word status.All = codes "all"
 
 pub status_reads_back : (level : StatusLevel)
     → value_of status_word status_levels (status_word level) ≡ Some level
-status_reads_back status.None = refl
-status_reads_back status.Fail = refl
-status_reads_back status.Retry = refl
-status_reads_back status.Slow = refl
-status_reads_back status.Leak = refl
-status_reads_back status.Pass = refl
-status_reads_back status.Skip = refl
-status_reads_back status.All = refl
+status_reads_back level = search rules
 
 -- which tests are told of while they run, by one of the words
 abbrev pub status_reading : Reading Data StatusLevel
@@ -66,14 +59,7 @@ final_word final.All = codes "all"
 
 pub final_reads_back : (level : FinalStatusLevel)
     → value_of final_word final_levels (final_word level) ≡ Some level
-final_reads_back final.None = refl
-final_reads_back final.Fail = refl
-final_reads_back final.Flaky = refl
-final_reads_back final.Slow = refl
-final_reads_back final.Skip = refl
-final_reads_back final.Leak = refl
-final_reads_back final.Pass = refl
-final_reads_back final.All = refl
+final_reads_back level = search rules
 
 -- the level that a text means by another word: `retry` is flaky
 abbrev pub other_level : Data → Option FinalStatusLevel
@@ -99,10 +85,7 @@ display_word display.Never = codes "never"
 
 pub display_reads_back : (display : TestOutputDisplay)
     → value_of display_word displays (display_word display) ≡ Some display
-display_reads_back display.Immediate = refl
-display_reads_back display.ImmediateFinal = refl
-display_reads_back display.Final = refl
-display_reads_back display.Never = refl
+display_reads_back display = search rules
 
 -- when output is shown, by one of the words
 abbrev pub display_reading : Reading Data TestOutputDisplay

@@ -111,42 +111,42 @@ impl Word for FindingCode {
         ]
     }
 
-    fn as_word(self) -> &'static str {
-        match self {
-            FindingCode::NotUtf8 => "not-utf8",
-            FindingCode::NotToml => "not-toml",
-            FindingCode::InvalidType => "invalid-type",
-            FindingCode::InvalidValue => "invalid-value",
-            FindingCode::UnknownVariant => "unknown-variant",
-            FindingCode::UnknownField => "unknown-field",
-            FindingCode::MissingField => "missing-field",
-            FindingCode::PreRelease => "pre-release",
-            FindingCode::BuildMetadata => "build-metadata",
-            FindingCode::NotVersion => "not-version",
-            FindingCode::RequiredAboveRecommended => "required-above-recommended",
-            FindingCode::JitterWithoutDelay => "jitter-without-delay",
-            FindingCode::CountZero => "count-zero",
-            FindingCode::DelayZero => "delay-zero",
-            FindingCode::MaxDelayZero => "max-delay-zero",
-            FindingCode::MaxDelayBelowDelay => "max-delay-below-delay",
-            FindingCode::Priority => "priority",
-            FindingCode::ArrayForm => "array-form",
-            FindingCode::ToolFeatures => "tool-features",
-            FindingCode::UnknownFeature => "unknown-feature",
-            FindingCode::UnknownKey => "unknown-key",
-            FindingCode::UndefinedGroup => "undefined-group",
-            FindingCode::UndefinedProfile => "undefined-profile",
-            FindingCode::DefaultInherits => "default-inherits",
-            FindingCode::InheritsItself => "inherits-itself",
-            FindingCode::OverrideOfAll => "override-of-all",
-            FindingCode::ReservedProfile => "reserved-profile",
-            FindingCode::GroupName => "group-name",
-            FindingCode::UnjudgedDuration => "unjudged-duration",
-            FindingCode::DeprecatedArray => "deprecated-array",
-        }
+    fn words() -> &'static [&'static str] {
+        &[
+            "not-utf8",
+            "not-toml",
+            "invalid-type",
+            "invalid-value",
+            "unknown-variant",
+            "unknown-field",
+            "missing-field",
+            "pre-release",
+            "build-metadata",
+            "not-version",
+            "required-above-recommended",
+            "jitter-without-delay",
+            "count-zero",
+            "delay-zero",
+            "max-delay-zero",
+            "max-delay-below-delay",
+            "priority",
+            "array-form",
+            "tool-features",
+            "unknown-feature",
+            "unknown-key",
+            "undefined-group",
+            "undefined-profile",
+            "default-inherits",
+            "inherits-itself",
+            "override-of-all",
+            "reserved-profile",
+            "group-name",
+            "unjudged-duration",
+            "deprecated-array",
+        ]
     }
 
-    fn expected() -> &'static str {
-        "one of `not-utf8`, `not-toml`, `invalid-type`, `invalid-value`, `unknown-variant`, `unknown-field`, `missing-field`, `pre-release`, `build-metadata`, `not-version`, `required-above-recommended`, `jitter-without-delay`, `count-zero`, `delay-zero`, `max-delay-zero`, `max-delay-below-delay`, `priority`, `array-form`, `tool-features`, `unknown-feature`, `unknown-key`, `undefined-group`, `undefined-profile`, `default-inherits`, `inherits-itself`, `override-of-all`, `reserved-profile`, `group-name`, `unjudged-duration`, `deprecated-array`"
+    fn position(self) -> usize {
+        self as usize
     }
 }

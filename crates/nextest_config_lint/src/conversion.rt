@@ -4,7 +4,7 @@ ghost use Rattle.std.specs.Prelude.{◌≡◌, ◌↔◌, IsTrue, map};
 ghost use Rattle.toml.specs.View.{view};
 ghost use Rattle.toml_spans.specs.Step.{step_of};
 ghost use Rattle.nextest_config_lint.specs.Conversion.{IsConvertedAt, IsIntegerText, is_boolean_text, is_false_text, is_true_text, MayBecome, MayBecomeIf, wanted_at, wanted_below, wanted_here, wanted_in_bench, wanted_in_report, wanted_in_table, wanted_in_timeout, wanted_to};
-ghost use Rattle.nextest_config_values.specs.NearestWord.{words_of};
+ghost use Rattle.nextest_config_values.specs.Read.{words_of};
 ghost use Rattle.nextest_config_lint.specs.declared.conversion.Wanted.TheVariants.{Boolean, Number, Text};
 
 use crate::reader::Reader;

@@ -82,7 +82,7 @@ fn kind_at(alloc: Global, path: &[Step], cause: FaultCause) -> Result<FaultKind,
         reason_of kind ≡ Some (reason_at (printed_path (map step_of path.now)) told))) }
 {
     match cause {
-        FaultCause::Told(kind) => Ok(kind),
+        FaultCause::Kind(kind) => Ok(kind),
         cause => written_kind(alloc, path, cause),
     }
 }
@@ -111,7 +111,7 @@ pub fn is_unjudged(alloc: Global, value: &Value, fault: &ValueFault) -> Result<b
             Some(text) => may_be_duration(alloc, text),
             None => Ok(false),
         },
-        FaultCause::Missing { .. } | FaultCause::Told(_) => Ok(false),
+        FaultCause::Missing { .. } | FaultCause::Kind(_) => Ok(false),
     }
 }
 

@@ -8,8 +8,8 @@ ghost use Rattle.toml.specs.View.{table_view};
 ghost use Rattle.toml_spans.specs.Index.{IsIndexOf, IsSpanOf, ranges_in};
 ghost use Rattle.toml_spans.specs.Step.{key, step_of};
 ghost use Rattle.nextest_config_lint.specs.Defined.{IsDefinedBy, ListFile};
-ghost use Rattle.nextest_config_lint.specs.File.{AreIn, AreLocated, AreLocatedIn, AreSorted, HasRange, IsAlone, IsDocument, IsLocated, IsLocatedBy, IsReadOf, IsToldBy, is_group, is_of_key, located_told, range_at, range_of, whole_path};
-ghost use Rattle.nextest_config_lint.specs.Found.{Found, found_at, found_of, kind_told, not_utf8};
+ghost use Rattle.nextest_config_lint.specs.File.{AreIn, AreLocated, AreLocatedIn, AreSorted, HasRange, IsAlone, IsDocument, IsLocated, IsLocatedBy, IsReadOf, IsToldBy, is_group, is_of_key, located_view, range_at, range_of, whole_path};
+ghost use Rattle.nextest_config_lint.specs.Found.{Found, found_at, found_of, kind_view, not_utf8};
 
 use crate::defined::Defined;
 use crate::document::findings;
@@ -154,8 +154,8 @@ fn not_toml(alloc: Global, text: &[u8], error: &Error) -> Result<Vec<LocatedFind
 
 // A finding of the whole file, and no other.
 fn alone(alloc: Global, span: Span, kind: FindingKind) -> Result<Vec<LocatedFinding>, AllocError>
-    ensures { IfOk result (λ located. map located_told located.items
-        ≡ (span, option_map (found_at []) (kind_told kind)) ∷ []) }
+    ensures { IfOk result (λ located. map located_view located.items
+        ≡ (span, option_map (found_at []) (kind_view kind)) ∷ []) }
 {
     let path = Vec::new(alloc);
     let finding = Finding { path, kind };

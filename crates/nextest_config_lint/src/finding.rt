@@ -3,8 +3,8 @@
 ghost use Rattle.std.specs.Prelude.{◌≡◌, Some};
 ghost use Rattle.std.specs.Fmt.{WritesOnOk};
 ghost use Rattle.nextest_config_lint.specs.Code.{rule_code, told_code};
-ghost use Rattle.nextest_config_lint.specs.Found.{kind_told};
-ghost use Rattle.nextest_config_lint.specs.Finding.{fault_code, finding_kind_text, finding_severity, finding_text, hint_text, scope_text, mistake_text, name_text};
+ghost use Rattle.nextest_config_lint.specs.Found.{kind_view};
+ghost use Rattle.nextest_config_lint.specs.Finding.{fault_code, finding_kind_text, finding_severity, finding_text, hint_text, scope_text, mistake_text, name_text, plain_text};
 ghost use Rattle.nextest_config_values.specs.Read.{broken_rule};
 
 use crate::code::FindingCode;
@@ -166,7 +166,7 @@ impl Finding {
 
     /// What kind of finding it is.
     pub fn code(&self) -> FindingCode
-        ensures { result ≡ told_code (kind_told self.now.kind) }
+        ensures { result ≡ told_code (kind_view self.now.kind) }
     {
         match &self.kind {
             FindingKind::Fault { fault, .. } => code_of_fault(fault),
@@ -247,11 +247,6 @@ impl fmt::Display for FindingKind {
                 fault.fmt(f)?;
                 write_hint(f, hint)
             }
-            FindingKind::ToolFeatures { features } => write!(
-                f,
-                "experimental features in a tool configuration: {}",
-                QuotedTexts(features)
-            ),
             FindingKind::UnknownFeature { name, hint } => {
                 write_name(f, "unknown feature ", name.as_str(), hint)
             }
@@ -264,6 +259,36 @@ impl fmt::Display for FindingKind {
             FindingKind::UndefinedProfile { name, hint } => {
                 write_name(f, "no file defines the profile ", name.as_str(), hint)
             }
+            FindingKind::NotToml { message, mistake } => {
+                f.write_str(message.as_str())?;
+                write_mistake(f, mistake)
+            }
+            FindingKind::ToolFeatures { .. }
+            | FindingKind::DefaultInherits
+            | FindingKind::InheritsItself { .. }
+            | FindingKind::OverrideOfAll
+            | FindingKind::ReservedProfile
+            | FindingKind::NoGroupName(_)
+            | FindingKind::GroupOutsideTool { .. }
+            | FindingKind::GroupOfTool
+            | FindingKind::UnjudgedDuration
+            | FindingKind::DeprecatedArray { .. }
+            | FindingKind::NotUtf8 => self.write_plain(f),
+        }
+    }
+}
+
+impl FindingKind {
+    // What is found, where that is never told with what may be meant; else nothing.
+    fn write_plain<W: fmt::Write>(&self, f: &mut fmt::Formatter<W>) -> fmt::Result
+        ensures { WritesOnOk W.write_str_gives f.old result (plain_text self.now) f.new }
+    {
+        match self {
+            FindingKind::ToolFeatures { features } => write!(
+                f,
+                "experimental features in a tool configuration: {}",
+                QuotedTexts(features)
+            ),
             FindingKind::DefaultInherits => f.write_str("the profile \"default\" can't inherit"),
             FindingKind::InheritsItself { profile } => write!(
                 f,
@@ -292,10 +317,7 @@ impl fmt::Display for FindingKind {
                 write!(f, "the array form is deprecated, use a table: {table}")
             }
             FindingKind::NotUtf8 => f.write_str("not UTF-8"),
-            FindingKind::NotToml { message, mistake } => {
-                f.write_str(message.as_str())?;
-                write_mistake(f, mistake)
-            }
+            _ => Ok(()),
         }
     }
 }

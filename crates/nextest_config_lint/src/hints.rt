@@ -1,7 +1,7 @@
 //! Hints of words.
 
 ghost use Rattle.std.specs.Prelude.{◌≡◌, IfOk, option_map};
-ghost use Rattle.nextest_config_values.specs.NearestWord.{words_of};
+ghost use Rattle.nextest_config_values.specs.Read.{words_of};
 ghost use Rattle.nextest_config_lint.specs.Found.{IsNearestMeant, meant_of, the_word};
 
 use crate::finding::Hint;

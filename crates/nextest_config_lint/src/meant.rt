@@ -5,12 +5,11 @@ ghost use Rattle.std.specs.Char.{is_ascii_digit};
 ghost use Rattle.std.specs.List.{list_all};
 ghost use Rattle.toml.specs.Data.{as_integer, as_str, as_table};
 ghost use Rattle.toml.specs.View.{view};
-ghost use Rattle.nextest_config_values.specs.Read.{cause_of, fault_of};
+ghost use Rattle.nextest_config_values.specs.Read.{cause_of, fault_of, words_of};
 ghost use Rattle.toml_spans.specs.Line.{found_below};
 ghost use Rattle.toml_spans.specs.Step.{step_of};
-ghost use Rattle.nextest_config_lint.specs.Found.{IsNearestMeant, meant_of};
-ghost use Rattle.nextest_config_lint.specs.Meant.{digits_of, digits_of_number, digits_of_text, IsDurationHint, IsDurationText, IsFaultHint, IsEitherHint, IsHintAt, IsLongText, IsSecondsHint, IsShortHint, IsWordHint, keys_by, keys_taken, limit_by, limit_of_count, refused_key, seconds_text, tables_meant, taken_at, taken_here, taken_in_leak, taken_in_limit, taken_in_report, taken_in_retries, taken_in_timeout, taken_to, truth_meant};
-ghost use Rattle.nextest_config_values.specs.NearestWord.{words_of};
+ghost use Rattle.nextest_config_lint.specs.Found.{meant_of};
+ghost use Rattle.nextest_config_lint.specs.Meant.{digits_of, digits_of_number, digits_of_text, IsDurationHint, IsDurationText, IsFaultHint, IsEitherHint, IsHintAt, IsLongText, IsSecondsHint, IsShortHint, limit_by, limit_of_count, seconds_text, tables_meant, taken_at, taken_here, taken_in_leak, taken_in_limit, taken_in_report, taken_in_retries, taken_in_timeout, taken_to, truth_meant, unknown_name};
 ghost use Rattle.nextest_config_lint.specs.Settings.{setting_view};
 
 use crate::faults::value_along;
@@ -28,16 +27,6 @@ use toml_spans::{PathText, Step};
 // From how many nanoseconds on a duration is long: a hundred seconds.
 const LONG: u128 = 100_000_000_000;
 
-const STATUS_LEVELS: &[&str] = &[
-    "none", "fail", "retry", "slow", "leak", "pass", "skip", "all",
-];
-
-const FINAL_STATUS_LEVELS: &[&str] = &[
-    "none", "fail", "flaky", "slow", "skip", "leak", "pass", "all",
-];
-
-const OUTPUTS: &[&str] = &["immediate", "immediate-final", "final", "never"];
-
 /// What is taken at a place, where something may be meant by what stands there instead.
 #[derive(Clone, Copy, Debug, PartialEq, Eq)]
 pub(crate) enum Taken {
@@ -49,22 +38,6 @@ pub(crate) enum Taken {
     Integer(IntegerRange),
     /// An array of tables.
     Tables,
-    /// A word for the result of a test.
-    Result,
-    /// A word for how running tests are ended.
-    Mode,
-    /// A word for how a delay grows.
-    Growth,
-    /// A word for the skipped tests in a report.
-    Skipped,
-    /// A word for the status of a flaky test.
-    Status,
-    /// A word for the tests that are shown while they run.
-    Level,
-    /// A word for the tests that are shown at the end.
-    FinalLevel,
-    /// A word for when output is shown.
-    Output,
 }
 
 /// What may be meant by what is refused of a setting.
@@ -76,43 +49,24 @@ pub(crate) fn hint_of(
     ensures { IfOk result (λ hint. IfSome (fault_of fault.now) (λ told.
         IsFaultHint (setting_view setting.now) told (option_map meant_of hint))) }
 {
-    match refused_key(&fault.cause) {
-        Some(name) => key_hint(alloc, name, setting.value),
+    match unknown_name(&fault.cause) {
+        Some((name, known)) => nearest_hint(alloc, name, known),
         None => hint_to(alloc, setting, fault.steps.as_slice()),
     }
 }
 
-// The key that a table is refused for.
-fn refused_key(cause: &FaultCause) -> Option<&str>
+// The word or key that is refused as unknown, and the known ones.
+fn unknown_name(cause: &FaultCause) -> Option<(&str, &'static [&'static str])>
     ensures { IfSome (cause_of cause.now) (λ told.
-        option_map (λ name. name.now) result ≡ refused_key told) }
+        option_map (λ unknown. (unknown.0.now, words_of unknown.1.now)) result
+        ≡ unknown_name told) }
 {
     match cause {
-        FaultCause::Told(FaultKind::UnknownField { found, .. }) => Some(found.as_str()),
+        FaultCause::Kind(
+            FaultKind::UnknownVariant { found, expected }
+            | FaultKind::UnknownField { found, expected },
+        ) => Some((found.as_str(), expected)),
         _ => None,
-    }
-}
-
-// The key of a table that one which is refused comes nearest to.
-fn key_hint(alloc: Global, name: &str, value: &Value) -> Result<Option<Hint>, AllocError>
-    ensures { IfOk result (λ hint.
-        IsNearestMeant (keys_taken (view value.now)) name.now (option_map meant_of hint)) }
-{
-    let word = match value.get("backoff") {
-        Some(backoff) => backoff.as_str(),
-        None => None,
-    };
-    nearest_hint(alloc, name, keys_by(word))
-}
-
-// The keys that stand beside a backoff.
-fn keys_by(backoff: Option<&str>) -> &'static [&'static str]
-    ensures { words_of result.now ≡ keys_by (option_map (λ word. word.now) backoff.entry) }
-{
-    match backoff {
-        Some("exponential") => &["count", "delay", "jitter", "max-delay"],
-        Some(_) => &["count", "delay", "jitter"],
-        None => &[],
     }
 }
 
@@ -149,14 +103,6 @@ fn hint_at(
         Taken::FailFast => limit_hint(alloc, value),
         Taken::Integer(range) => integer_hint(alloc, range, value),
         Taken::Tables => tables_hint(alloc, setting, value),
-        Taken::Result => word_hint(alloc, &["fail", "pass"], value),
-        Taken::Mode => word_hint(alloc, &["wait", "immediate"], value),
-        Taken::Growth => word_hint(alloc, &["fixed", "exponential"], value),
-        Taken::Skipped => word_hint(alloc, &["none", "ignored", "all"], value),
-        Taken::Status => word_hint(alloc, &["failure", "success"], value),
-        Taken::Level => word_hint(alloc, STATUS_LEVELS, value),
-        Taken::FinalLevel => word_hint(alloc, FINAL_STATUS_LEVELS, value),
-        Taken::Output => word_hint(alloc, OUTPUTS, value),
     }
 }
 
@@ -323,21 +269,6 @@ fn tables_hint(alloc: Global, setting: &Setting, value: &Value) -> Result<Option
     }
 }
 
-// The word that a text comes nearest to.
-fn word_hint(
-    alloc: Global,
-    words: &[&'static str],
-    value: &Value,
-) -> Result<Option<Hint>, AllocError>
-    ensures { IfOk result (λ hint.
-        IsWordHint (words_of words.now) (as_str (view value.now)) (option_map meant_of hint)) }
-{
-    match value.as_str() {
-        Some(text) => nearest_hint(alloc, text, words),
-        None => Ok(None),
-    }
-}
-
 // What is taken where steps lead to in the value that a reader reads.
 fn taken_to(reader: Reader, steps: &[Step]) -> Option<Taken>
     ensures { result ≡ taken_to reader (map step_of steps.now) }
@@ -363,11 +294,6 @@ fn taken_here(reader: Reader) -> Option<Taken>
         Reader::Priority => Some(Taken::Integer(IntegerRange::Priority)),
         Reader::Boolean => Some(Taken::Boolean),
         Reader::Array => Some(Taken::Tables),
-        Reader::FlakyResult => Some(Taken::Result),
-        Reader::FlakyFailStatus => Some(Taken::Status),
-        Reader::StatusLevel => Some(Taken::Level),
-        Reader::FinalStatusLevel => Some(Taken::FinalLevel),
-        Reader::Output => Some(Taken::Output),
         _ => None,
     }
 }
@@ -393,9 +319,6 @@ fn taken_in_timeout(name: &str) -> Option<Taken>
     if (name == "period") | (name == "grace-period") {
         return Some(Taken::Duration);
     }
-    if name == "on-timeout" {
-        return Some(Taken::Result);
-    }
     if name == "terminate-after" {
         return Some(Taken::Integer(IntegerRange::Count));
     }
@@ -408,18 +331,12 @@ fn taken_in_leak(name: &str) -> Option<Taken>
     if name == "period" {
         return Some(Taken::ShortDuration);
     }
-    if name == "result" {
-        return Some(Taken::Result);
-    }
     None
 }
 
 fn taken_in_limit(name: &str) -> Option<Taken>
     ensures { result ≡ taken_in_limit name.now }
 {
-    if name == "terminate" {
-        return Some(Taken::Mode);
-    }
     if name == "max-fail" {
         return Some(Taken::Integer(IntegerRange::Count));
     }
@@ -435,9 +352,6 @@ fn taken_in_retries(name: &str) -> Option<Taken>
     if name == "jitter" {
         return Some(Taken::Boolean);
     }
-    if name == "backoff" {
-        return Some(Taken::Growth);
-    }
     if name == "count" {
         return Some(Taken::Integer(IntegerRange::U32));
     }
@@ -449,12 +363,6 @@ fn taken_in_report(name: &str) -> Option<Taken>
 {
     if (name == "store-success-output") | (name == "store-failure-output") {
         return Some(Taken::Boolean);
-    }
-    if name == "report-skipped" {
-        return Some(Taken::Skipped);
-    }
-    if name == "flaky-fail-status" {
-        return Some(Taken::Status);
     }
     None
 }

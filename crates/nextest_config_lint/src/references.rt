@@ -6,8 +6,8 @@ ghost use Rattle.toml.specs.View.{view};
 ghost use Rattle.nextest_config_values.specs.Identifier.{IdentifierFlaw, NameFault, identifier_fault};
 ghost use Rattle.nextest_config_values.specs.Read.Fault.{identifier};
 ghost use Rattle.nextest_config_lint.specs.Defined.{IsDefinedBy, ListFile};
-ghost use Rattle.nextest_config_lint.specs.Found.{AddsOne, AreFoundIn, TellsSome, group_of_tool, group_outside_tool, kind_told, meant_of, no_group_name, override_of_all, reserved_profile};
-ghost use Rattle.nextest_config_values.specs.NearestWord.{words_of};
+ghost use Rattle.nextest_config_lint.specs.Found.{AddsOne, AreFoundIn, TellsSome, group_of_tool, group_outside_tool, kind_view, meant_of, no_group_name, override_of_all, reserved_profile};
+ghost use Rattle.nextest_config_values.specs.Read.{words_of};
 ghost use Rattle.nextest_config_lint.specs.References.{BeginsWith, IsGroupTextTold, IsGroupTold, IsKeptTold, IsNameTold, IsOverrideOfAll, IsParentNameTold, IsParentTold, IsPlaceTold, IsReferenceFound, IsReserved, IsSought, IsToldIf, a_group, a_parent, a_profile, is_key, is_other, named, place_below, place_in_override, place_of, place_view, TellsIfAny, tool_mark_of};
 ghost use Rattle.nextest_config_lint.specs.Settings.{mark_step, setting_view};
 
@@ -97,7 +97,7 @@ fn find_at(
 ) -> Result<Option<FindingKind>, AllocError>
     ensures told { IfOk result (λ told. (files : List ListFile) → IsDefinedBy files defined.now
         → IsPlaceTold files source.now position (place_of (setting_view setting.now).path)
-        (setting_view setting.now).value (option_and_then kind_told told)) }
+        (setting_view setting.now).value (option_and_then kind_view told)) }
     ensures tells { IfOk result TellsIfAny }
 {
     match place_of(setting.path.as_slice()) {
@@ -209,7 +209,7 @@ fn is_key(step: &Mark, key: &str) -> bool
 // What is found of the name of a profile.
 fn of_profile(name: &str) -> Option<FindingKind>
     ensures told { IsToldIf (IsReserved name.now) reserved_profile
-        (option_and_then kind_told result) }
+        (option_and_then kind_view result) }
     ensures tells { TellsIfAny result }
 {
     if name != DEFAULT_MIRI && name.starts_with("default-") {
@@ -222,7 +222,7 @@ fn of_profile(name: &str) -> Option<FindingKind>
 // What is found of an override.
 fn of_override(value: &Value) -> Option<FindingKind>
     ensures told { IsToldIf (IsOverrideOfAll (view value.now)) override_of_all
-        (option_and_then kind_told result) }
+        (option_and_then kind_view result) }
     ensures tells { TellsIfAny result }
 {
     match value.as_table() {
@@ -246,7 +246,7 @@ fn of_parent(
     parent: &str,
 ) -> Result<Option<FindingKind>, AllocError>
     ensures told { IfOk result (λ told. (files : List ListFile) → IsDefinedBy files defined.now
-        → IsParentTold files position profile.now parent.now (option_and_then kind_told told)) }
+        → IsParentTold files position profile.now parent.now (option_and_then kind_view told)) }
     ensures tells { IfOk result TellsIfAny }
 {
     if profile == DEFAULT_PROFILE {
@@ -267,7 +267,7 @@ fn of_parent_name(
     parent: &str,
 ) -> Result<Option<FindingKind>, AllocError>
     ensures told { IfOk result (λ told. (files : List ListFile) → IsDefinedBy files defined.now
-        → IsParentNameTold files profile.now parent.now (option_and_then kind_told told)) }
+        → IsParentNameTold files profile.now parent.now (option_and_then kind_view told)) }
     ensures tells { IfOk result TellsIfAny }
 {
     if !defined.is_undefined_profile(parent) {
@@ -285,7 +285,7 @@ fn of_group_text(
     text: &str,
 ) -> Result<Option<FindingKind>, AllocError>
     ensures told { IfOk result (λ told. (files : List ListFile) → IsDefinedBy files defined.now
-        → IsGroupTextTold files text.now (option_and_then kind_told told)) }
+        → IsGroupTextTold files text.now (option_and_then kind_view told)) }
     ensures tells { IfOk result TellsIfAny }
 {
     if text == "@global" {
@@ -304,7 +304,7 @@ fn of_group_name(
     name: &ConfigIdentifier,
 ) -> Result<Option<FindingKind>, AllocError>
     ensures told { IfOk result (λ told. (files : List ListFile) → IsDefinedBy files defined.now
-        → IsKeptTold files name.now (option_and_then kind_told told)) }
+        → IsKeptTold files name.now (option_and_then kind_view told)) }
     ensures tells { IfOk result TellsIfAny }
 {
     if !defined.is_undefined_group(name) {
@@ -319,7 +319,7 @@ fn of_group_name(
 fn no_group(error: InvalidIdentifier) -> Result<Option<FindingKind>, AllocError>
     ensures told { IfOk result (λ told. (fault : NameFault IdentifierFlaw)
         × (identifier_fault error ≡ Some fault)
-        × (option_and_then kind_told told ≡ Some (no_group_name (identifier fault)))) }
+        × (option_and_then kind_view told ≡ Some (no_group_name (identifier fault)))) }
     ensures tells { IfOk result TellsIfAny }
 {
     match error {
@@ -335,7 +335,7 @@ fn of_group(
     name: &str,
 ) -> Result<Option<FindingKind>, AllocError>
     ensures told { IfOk result (λ told. IsNameTold (IsGroupTold source.now) name.now
-        (option_and_then kind_told told)) }
+        (option_and_then kind_view told)) }
     ensures tells { IfOk result TellsIfAny }
 {
     match ConfigIdentifier::new(alloc, name) {
@@ -351,7 +351,7 @@ fn of_kept_group(
     name: &str,
 ) -> Result<Option<FindingKind>, AllocError>
     ensures told { IfOk result (λ told. IsGroupTold source.now name.now
-        (option_and_then kind_told told)) }
+        (option_and_then kind_view told)) }
     ensures tells { IfOk result TellsIfAny }
 {
     match source {
@@ -369,7 +369,7 @@ fn of_tools_group(
     name: &str,
 ) -> Result<Option<FindingKind>, AllocError>
     ensures told { IfOk result (λ told. IsToldIf (BeginsWith (tool_mark_of tool.now) name.now → ⊥)
-        (group_outside_tool (tool_mark_of tool.now)) (option_and_then kind_told told)) }
+        (group_outside_tool (tool_mark_of tool.now)) (option_and_then kind_view told)) }
     ensures tells { IfOk result TellsIfAny }
 {
     let mark = tool_mark(alloc, tool)?;
@@ -389,7 +389,7 @@ fn tool_mark(alloc: Global, tool: &ToolName) -> Result<String, AllocError>
 // What is found of the name of a group that a file which is no tool's defines.
 fn of_own_group(name: &str) -> Option<FindingKind>
     ensures told { IsToldIf (BeginsWith (codes "@") name.now) group_of_tool
-        (option_and_then kind_told result) }
+        (option_and_then kind_view result) }
     ensures tells { TellsIfAny result }
 {
     if name.starts_with("@") {

@@ -1,26 +1,15 @@
 //! The profiles that come back to themselves by what they inherit from.
 
-ghost use Rattle.std.specs.Prelude.{◌≡◌, ◌++◌, ◌↔◌, ℕ, IfOk, List, OnOk, Some, false, get_or, map, option_and_then};
-ghost use Rattle.std.specs.BTreeMap.{get_by_text};
-ghost use Rattle.toml.specs.Data.{as_table, get_member};
-ghost use Rattle.toml.specs.View.{table_view, view};
-ghost use Rattle.nextest_config_lint.specs.Defined.{ComesBackAt, file_of, inherits_key};
-ghost use Rattle.nextest_config_lint.specs.RingProfiles.{IsLastOf, IsMarkOf, child_of, child_view, children_among, children_from, children_in, number_in};
+ghost use Rattle.std.specs.Prelude.{◌≡◌, ◌↔◌, ◌<◌, ◌≤◌, ℕ, IfOk, IsSome, List, None, OnOk, Some, map};
+ghost use Rattle.std.specs.BTreeMap.{btree_map_len, get_by_text};
+ghost use Rattle.nextest_config_lint.specs.Defined.{ComesBackAt, ListFile, file_of};
+ghost use Rattle.nextest_config_lint.specs.Inheritance.{AreLinks, link_in};
+ghost use Rattle.nextest_config_lint.specs.RingProfiles.{IsWalk, position_of, same_link};
 
-use crate::defined::{DEFAULT_PROFILE, INHERITS_KEY, ListedFile, PROFILES_KEY};
-use crate::inheritance::find_rings;
-use nextest_config_values::read::value_at;
+use crate::defined::ListedFile;
+use crate::inheritance::{Link, links_of};
 use std::alloc::{AllocError, Global};
 use std::collections::BTreeMap;
-use toml::{Table, Value};
-
-// A profile that a file has `inherits` for: its name, the position of the file, and what it names.
-#[derive(Clone, Copy)]
-pub(crate) struct Child<'a> {
-    name: &'a str,
-    position: usize,
-    parent: Option<&'a str>,
-}
 
 /// The profiles that come back to themselves by what they inherit from, each with the position of
 /// the file whose value counts.
@@ -32,142 +21,55 @@ pub(crate) fn find_ring_profiles(
         → (get_by_text rings profile ≡ Some position)
         ↔ ComesBackAt (map file_of files.now) profile position) }
 {
-    let children = all_children(alloc, files)?;
-    let last = last_children(alloc, children.as_slice())?;
-    let nexts = next_children(alloc, children.as_slice(), &last)?;
-    let back = find_rings(alloc, nexts.as_slice())?;
-    on_rings(alloc, children.as_slice(), back.as_slice())
-}
-
-// The profiles that files have `inherits` for, in reading order, but for `default`.
-fn all_children<'a>(alloc: Global, files: &[ListedFile<'a>]) -> Result<Vec<Child<'a>>, AllocError>
-    ensures { IfOk result (λ children.
-        map child_view children.items ≡ children_from 0 (map file_of files.now)) }
-{
-    let mut children = Vec::new(alloc);
-    for (position, file) in files.iter().enumerate() {
-        add_children(position, file, &mut children)?;
-    }
-    Ok(children)
-}
-
-// Adds the children of a file.
-fn add_children<'a>(
-    position: usize,
-    file: &ListedFile<'a>,
-    children: &mut Vec<Child<'a>>,
-) -> Result<(), AllocError>
-    ensures { OnOk result (map child_view children.new.items
-        ≡ map child_view children.old.items ++ children_in position (file_of file.now)) }
-{
-    match file.table(PROFILES_KEY) {
-        Some(profiles) => add_children_among(position, profiles, children),
-        None => Ok(()),
-    }
-}
-
-// Adds the children of a table of profiles.
-fn add_children_among<'a>(
-    position: usize,
-    profiles: &'a Table,
-    children: &mut Vec<Child<'a>>,
-) -> Result<(), AllocError>
-    ensures { OnOk result (map child_view children.new.items
-        ≡ map child_view children.old.items ++ children_among position (table_view profiles.now)) }
-{
-    for (name, profile) in profiles {
-        add_child(position, name.as_str(), profile, children)?;
-    }
-    Ok(())
-}
-
-// Adds the child that a profile is, if it has `inherits`.
-fn add_child<'a>(
-    position: usize,
-    name: &'a str,
-    profile: &'a Value,
-    children: &mut Vec<Child<'a>>,
-) -> Result<(), AllocError>
-    ensures { OnOk result (map child_view children.new.items
-        ≡ map child_view children.old.items ++ child_of position name.now
-        (option_and_then (get_member inherits_key) (as_table (view profile.now)))) }
-{
-    if name == DEFAULT_PROFILE {
-        return Ok(());
-    }
-    let Some(table) = profile.as_table() else {
-        return Ok(());
-    };
-    let Some(value) = value_at(table, INHERITS_KEY) else {
-        return Ok(());
-    };
-    children.push(Child {
-        name,
-        position,
-        parent: value.as_str(),
-    })?;
-    Ok(())
-}
-
-// For each name the number of its last child.
-fn last_children<'a>(
-    alloc: Global,
-    children: &[Child<'a>],
-) -> Result<BTreeMap<&'a str, usize>, AllocError>
-    ensures { IfOk result (λ last. (name : List ℕ)
-        → IsLastOf (map child_view children.now) name (number_in last name)) }
-{
-    let mut last = BTreeMap::new(alloc);
-    for (number, child) in children.iter().enumerate() {
-        last.insert(child.name, number)?;
-    }
-    Ok(last)
-}
-
-// For each child the number of what it inherits from, if that inherits, too.
-fn next_children(
-    alloc: Global,
-    children: &[Child],
-    last: &BTreeMap<&str, usize>,
-) -> Result<Vec<Option<usize>>, AllocError>
-    ensures { IfOk result (λ nexts. nexts.items
-        ≡ map (λ child. option_and_then (number_in last.now) (child_view child).parent) children.now) }
-{
-    let mut nexts = Vec::new(alloc);
-    for child in children {
-        nexts.push(match child.parent {
-            Some(parent) => last.get(parent).copied(),
-            None => None,
-        })?;
-    }
-    Ok(nexts)
-}
-
-// The names of the children that come back, each with the position of its file.
-fn on_rings(
-    alloc: Global,
-    children: &[Child],
-    back: &[bool],
-) -> Result<BTreeMap<String, usize>, AllocError>
-    ensures { IfOk result (λ rings. (profile : List ℕ)
-        → IsMarkOf (map child_view children.now) back.now profile (get_by_text rings profile)) }
-{
+    let mut left = links_of(alloc, files)?;
     let mut rings = BTreeMap::new(alloc);
-    for (number, child) in children.iter().enumerate() {
-        if is_set(back, number) {
-            let name = String::from_str(alloc, child.name)?;
-            rings.insert(name, child.position)?;
-        }
+    while let Some((profile, _)) = left.first_key_value() {
+        let profile = *profile;
+        let mut trail = BTreeMap::new(alloc);
+        let end = walk(profile, &mut left, &mut trail)?;
+        // Where the walk has ended on its own trail, the ring is what it passes from there on.
+        add_ring(alloc, end, &mut trail, &mut rings)?;
     }
     Ok(rings)
 }
 
-// Whether the flag of this number is set.
-fn is_set(flags: &[bool], number: usize) -> bool
-    ensures { result ≡ get_or flags.now number false }
+// Walks from a profile as far as profiles are left, and keeps what it passes. Where it ends.
+fn walk<'a>(
+    from: &'a str,
+    left: &mut BTreeMap<&'a str, Link<'a>>,
+    trail: &mut BTreeMap<&'a str, Link<'a>>,
+) -> Result<&'a str, AllocError>
+    ensures walk { IfOk result (λ end. (files : List ListFile) → AreLinks files (link_in left.old)
+        → IsWalk files same_link from.now end.now
+        (link_in left.old) (link_in left.new) (link_in trail.old) (link_in trail.new)) }
+    ensures ended { IfOk result (λ end. link_in left.new end.now ≡ None) }
+    ensures fewer { OnOk result (IsSome (link_in left.old from.now)
+        → btree_map_len left.new < btree_map_len left.old) }
 {
-    match flags.get(number) {
-        Some(flag) => *flag,
-        None => false,
+    let mut current = from;
+    while let Some(link) = left.remove(current) {
+        trail.insert(current, link)?;
+        current = link.parent;
     }
+    Ok(current)
+}
+
+// Walks from a profile as far as the trail goes, and adds what it passes to the rings.
+fn add_ring<'a>(
+    alloc: Global,
+    from: &'a str,
+    trail: &mut BTreeMap<&'a str, Link<'a>>,
+    rings: &mut BTreeMap<String, usize>,
+) -> Result<(), AllocError>
+    ensures { OnOk result ((files : List ListFile) → AreLinks files (link_in trail.old)
+        → (end : List ℕ) × (link_in trail.new end ≡ None)
+        × IsWalk files position_of from.now end
+        (link_in trail.old) (link_in trail.new) (get_by_text rings.old) (get_by_text rings.new)) }
+{
+    let mut current = from;
+    while let Some(link) = trail.remove(current) {
+        rings.insert(String::from_str(alloc, current)?, link.position)?;
+        current = link.parent;
+    }
+    Ok(())
 }

@@ -1,8 +1,8 @@
 //! The places of a configuration file: what stands at a key, what reads it, and what is below it.
 
 ghost use Rattle.std.specs.Prelude.{◌≡◌, IfOk};
-ghost use Rattle.nextest_config_values.specs.NearestWord.{words_of};
-ghost use Rattle.nextest_config_lint.specs.Schema.{below_of, file_rows, override_junit_table, override_table, profile_table, row_words, rows_in, rows_told};
+ghost use Rattle.nextest_config_values.specs.Read.{words_of};
+ghost use Rattle.nextest_config_lint.specs.Schema.{below_of, file_rows, override_junit_table, override_table, profile_table, row_words, rows_in, rows_view};
 
 use crate::finding::FindingSeverity::{self, Error, Warning};
 use crate::reader::Reader;
@@ -202,14 +202,14 @@ const OVERRIDE_JUNIT: Below = Below::Rows(&[
 
 /// The keys of a file.
 pub(crate) fn top() -> &'static [Row]
-    ensures { rows_told result.now ≡ file_rows }
+    ensures { rows_view result.now ≡ file_rows }
 {
     TOP
 }
 
 /// The keys of rows, in their order.
 pub(crate) fn keys_of(alloc: Global, rows: &[Row]) -> Result<Vec<&'static str>, AllocError>
-    ensures { IfOk result (λ keys. words_of keys.items ≡ row_words (rows_told rows.now)) }
+    ensures { IfOk result (λ keys. words_of keys.items ≡ row_words (rows_view rows.now)) }
 {
     let mut keys = Vec::new(alloc);
     for (key, _, _, _) in rows {
@@ -220,28 +220,28 @@ pub(crate) fn keys_of(alloc: Global, rows: &[Row]) -> Result<Vec<&'static str>, 
 
 /// The keys of a profile.
 pub(crate) fn profile_keys() -> &'static [Row]
-    ensures { rows_told result.now ≡ rows_in profile_table }
+    ensures { rows_view result.now ≡ rows_in profile_table }
 {
     rows_in(PROFILE)
 }
 
 /// The keys of an override.
 pub(crate) fn override_keys() -> &'static [Row]
-    ensures { rows_told result.now ≡ rows_in override_table }
+    ensures { rows_view result.now ≡ rows_in override_table }
 {
     rows_in(OVERRIDE)
 }
 
 /// The keys of `junit` in an override.
 pub(crate) fn override_junit_keys() -> &'static [Row]
-    ensures { rows_told result.now ≡ rows_in override_junit_table }
+    ensures { rows_view result.now ≡ rows_in override_junit_table }
 {
     rows_in(OVERRIDE_JUNIT)
 }
 
 // The rows of a table; none of anything else.
 fn rows_in(below: Below) -> &'static [Row]
-    ensures { rows_told result.now ≡ rows_in (below_of below) }
+    ensures { rows_view result.now ≡ rows_in (below_of below) }
 {
     match below {
         Below::Rows(rows) => rows,

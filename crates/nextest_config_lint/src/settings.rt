@@ -5,7 +5,7 @@ ghost use Rattle.toml.specs.Data.{get_member};
 ghost use Rattle.toml.specs.View.{array_view, table_view, view};
 ghost use Rattle.toml_spans.specs.Step.{key, step_of};
 ghost use Rattle.nextest_config_lint.specs.Settings.{at_items, at_names, settings_of, if_there, setting_at, settings_below, settings_in, settings_of_rows, setting_view, mark_step};
-ghost use Rattle.nextest_config_lint.specs.Schema.{below_of, rows_told};
+ghost use Rattle.nextest_config_lint.specs.Schema.{below_of, rows_view};
 
 use crate::finding::FindingSeverity;
 use crate::reader::Reader;
@@ -56,7 +56,7 @@ impl<'a> Setting<'a> {
         all: &mut Vec<Setting<'a>>,
     ) -> Result<(), AllocError>
         ensures { OnOk result (map setting_view all.new.items ≡ map setting_view all.old.items
-            ++ settings_of_rows (rows_told rows.now) (map mark_step path.now)
+            ++ settings_of_rows (rows_view rows.now) (map mark_step path.now)
             (table_view table.now)) }
     {
         for (key, reader, severity, below) in rows {

@@ -1,10 +1,9 @@
 //! How grave a fault of a setting is: nextest may take what its readers refuse.
 
 ghost use Rattle.std.specs.Prelude.{◌≡◌, ◌↔◌, IfSome, IsTrue, map};
-ghost use Rattle.nextest_config_values.specs.Read.{cause_of, fault_of};
+ghost use Rattle.nextest_config_values.specs.Read.{cause_of, fault_of, words_of};
 ghost use Rattle.nextest_config_values.specs.Read.Fault.{missing_key};
 ghost use Rattle.toml_spans.specs.Step.{key, step_of};
-ghost use Rattle.nextest_config_values.specs.NearestWord.{words_of};
 ghost use Rattle.nextest_config_lint.specs.Settings.{mark_step, setting_view};
 ghost use Rattle.nextest_config_lint.specs.Severity.{HasDefaultPeriod, IsConverted, IsConvertible, IsMissingPeriod, IsSeverity, IsSupplied, IsWrongType};
 
@@ -45,15 +44,15 @@ fn is_wrong_type(cause: &FaultCause) -> bool
     ensures { IfSome (cause_of cause.now) (λ told. IsTrue result ↔ IsWrongType told) }
 {
     match cause {
-        FaultCause::Told(FaultKind::InvalidType { .. }) => true,
-        FaultCause::Told(FaultKind::InvalidValue { .. })
-        | FaultCause::Told(FaultKind::UnknownVariant { .. })
-        | FaultCause::Told(FaultKind::UnknownField { .. })
-        | FaultCause::Told(FaultKind::MissingField { .. })
-        | FaultCause::Told(FaultKind::Custom(_))
-        | FaultCause::Told(FaultKind::Identifier(_))
-        | FaultCause::Told(FaultKind::ToolName(_))
-        | FaultCause::Told(FaultKind::Memory)
+        FaultCause::Kind(FaultKind::InvalidType { .. }) => true,
+        FaultCause::Kind(FaultKind::InvalidValue { .. })
+        | FaultCause::Kind(FaultKind::UnknownVariant { .. })
+        | FaultCause::Kind(FaultKind::UnknownField { .. })
+        | FaultCause::Kind(FaultKind::MissingField { .. })
+        | FaultCause::Kind(FaultKind::Custom(_))
+        | FaultCause::Kind(FaultKind::Identifier(_))
+        | FaultCause::Kind(FaultKind::ToolName(_))
+        | FaultCause::Kind(FaultKind::Memory)
         | FaultCause::NoDuration { .. }
         | FaultCause::Missing { .. } => false,
     }
@@ -99,7 +98,7 @@ fn is_missing(cause: &FaultCause, name: &str) -> bool
 {
     match cause {
         FaultCause::Missing { key } => key.as_str() == name,
-        FaultCause::NoDuration { .. } | FaultCause::Told(_) => false,
+        FaultCause::NoDuration { .. } | FaultCause::Kind(_) => false,
     }
 }
 

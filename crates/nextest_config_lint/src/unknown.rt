@@ -5,8 +5,8 @@ ghost use Rattle.toml.specs.Data.{table};
 ghost use Rattle.toml.specs.View.{table_view};
 ghost use Rattle.nextest_config_lint.specs.Found.{AddsFound, AddsOne, AreFoundIn, meant_of, TellsSome};
 ghost use Rattle.nextest_config_lint.specs.Settings.{setting_view, mark_step, names_of};
-ghost use Rattle.nextest_config_values.specs.NearestWord.{words_of};
-ghost use Rattle.nextest_config_lint.specs.Schema.{below_of, file_table, row_words, rows_told};
+ghost use Rattle.nextest_config_values.specs.Read.{words_of};
+ghost use Rattle.nextest_config_lint.specs.Schema.{below_of, file_table, row_words, rows_view};
 ghost use Rattle.nextest_config_lint.specs.Unknown.{scope_of, scope_words, is_known, IsHintFor, IsKeyFound, key_at, keys_among, keys_below, keys_in, parts_of, slip_of, word_with_part};
 
 use crate::finding::{Finding, FindingKind, Hint, Scope};
@@ -68,7 +68,7 @@ fn add_beside_rows(
     findings: &mut Vec<Finding>,
 ) -> Result<(), AllocError>
     ensures { OnOk result (AddsFound IsKeyFound
-        (keys_among (Some (row_words (rows_told rows.now))) (map mark_step path.now)
+        (keys_among (Some (row_words (rows_view rows.now))) (map mark_step path.now)
         (table_view table.now))
         findings.old.items findings.new.items) }
 {
@@ -165,7 +165,7 @@ fn scope_of(name: &str) -> Option<Scope>
 
 // The rows of the keys that a table of this kind knows.
 fn rows_of(scope: Scope) -> &'static [Row]
-    ensures { row_words (rows_told result.now) ≡ scope_words scope }
+    ensures { row_words (rows_view result.now) ≡ scope_words scope }
 {
     match scope {
         Scope::Top => top(),
@@ -177,7 +177,7 @@ fn rows_of(scope: Scope) -> &'static [Row]
 
 // Whether the key is that of one of these rows.
 fn is_among(rows: &[Row], name: &str) -> bool
-    ensures { result ≡ is_known (row_words (rows_told rows.now)) name.now }
+    ensures { result ≡ is_known (row_words (rows_view rows.now)) name.now }
 {
     rows.iter().any(|(key, _, _, _)| *key == name)
 }

@@ -68,21 +68,14 @@ impl Word for StatusLevel {
         ]
     }
 
-    fn as_word(self) -> &'static str {
-        match self {
-            StatusLevel::None => "none",
-            StatusLevel::Fail => "fail",
-            StatusLevel::Retry => "retry",
-            StatusLevel::Slow => "slow",
-            StatusLevel::Leak => "leak",
-            StatusLevel::Pass => "pass",
-            StatusLevel::Skip => "skip",
-            StatusLevel::All => "all",
-        }
+    fn words() -> &'static [&'static str] {
+        &[
+            "none", "fail", "retry", "slow", "leak", "pass", "skip", "all",
+        ]
     }
 
-    fn expected() -> &'static str {
-        "one of `none`, `fail`, `retry`, `slow`, `leak`, `pass`, `skip`, `all`"
+    fn position(self) -> usize {
+        self as usize
     }
 }
 
@@ -106,21 +99,14 @@ impl Word for FinalStatusLevel {
         ]
     }
 
-    fn as_word(self) -> &'static str {
-        match self {
-            FinalStatusLevel::None => "none",
-            FinalStatusLevel::Fail => "fail",
-            FinalStatusLevel::Flaky => "flaky",
-            FinalStatusLevel::Slow => "slow",
-            FinalStatusLevel::Skip => "skip",
-            FinalStatusLevel::Leak => "leak",
-            FinalStatusLevel::Pass => "pass",
-            FinalStatusLevel::All => "all",
-        }
+    fn words() -> &'static [&'static str] {
+        &[
+            "none", "fail", "flaky", "slow", "skip", "leak", "pass", "all",
+        ]
     }
 
-    fn expected() -> &'static str {
-        "one of `none`, `fail`, `flaky`, `slow`, `skip`, `leak`, `pass`, `all`"
+    fn position(self) -> usize {
+        self as usize
     }
 }
 
@@ -163,16 +149,11 @@ impl Word for TestOutputDisplay {
         ]
     }
 
-    fn as_word(self) -> &'static str {
-        match self {
-            TestOutputDisplay::Immediate => "immediate",
-            TestOutputDisplay::ImmediateFinal => "immediate-final",
-            TestOutputDisplay::Final => "final",
-            TestOutputDisplay::Never => "never",
-        }
+    fn words() -> &'static [&'static str] {
+        &["immediate", "immediate-final", "final", "never"]
     }
 
-    fn expected() -> &'static str {
-        "one of `immediate`, `immediate-final`, `final`, `never`"
+    fn position(self) -> usize {
+        self as usize
     }
 }

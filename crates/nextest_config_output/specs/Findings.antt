@@ -1,3 +1,4 @@
+pub mod Diagnostic
 pub mod Escapes
 pub mod Excerpt
 pub mod Format
@@ -5,4 +6,3 @@ pub mod Github
 pub mod Human
 pub mod JsonLine
 pub mod Summary
-pub mod Told

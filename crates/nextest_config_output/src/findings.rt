@@ -1,5 +1,6 @@
 //! How findings are told.
 
+mod diagnostic;
 mod escapes;
 mod excerpt;
 mod format;
@@ -8,10 +9,9 @@ mod human;
 mod json_line;
 pub mod laws;
 mod summary;
-mod told;
 
+pub use diagnostic::{Diagnostic, push_finding};
 pub use escapes::{Escaped, Escapes};
 pub use format::Format;
 pub use json_line::json_text;
 pub use summary::Summary;
-pub use told::{ToldFinding, push_finding};

@@ -6,13 +6,14 @@ use Rattle.std.proofs.lemmas.Option.{slice_get-map, slice_get_past, slice_get_re
 use Rattle.std.specs.List.{slice_get}
 use Rattle.std.specs.Option.{IfSome, is_some}
 use Rattle.toml.specs.Data.{Data}
-use Rattle.toml.specs.View.{table_view}
-use Rattle.nextest_config_profiles.specs.Layer.{file_at, profiles_at, profiles_in}
+use Rattle.toml.specs.declared.value.Value.{Value}
+use Rattle.nextest_config_profiles.specs.Layer.{file_at}
 use Rattle.nextest_config_profiles.specs.Profile.{layer_at}
+use Rattle.nextest_config_profiles.specs.Reach.{lent, lent_files}
 use Rattle.nextest_config_profiles.specs.declared.layer.Layer.{Layer}
 
 -- what a look-up by an index finds
-pub looked_up : (files : List Layer) (i : ℕ) (found : Option (Bor Layer)) → is_some found ≡ ltb i (length files) → IfSome found (λ file. file.now ≡ get_or files i file.now)
+pub looked_up : {A : Type 0} (files : List A) (i : ℕ) (found : Option (Bor A)) → is_some found ≡ ltb i (length files) → IfSome found (λ file. file.now ≡ get_or files i file.now)
     → option_map (λ file. file.now) found ≡ slice_get files i
 looked_up files i (Some file) some is =
     let within : i < length files = grind (arith, nat_tests) in
@@ -27,9 +28,9 @@ file_above files zero above = absurd (omega (arith, above))
 file_above files (suc layer) above = let less : suc layer - 1 ≡ layer = omega arith in rw less refl
 
 -- and so is what it has
-pub has_above : (defaults : Option Data) (files : List Layer) (layer : ℕ) → 0 < layer
-    → layer_at (defaults ∷ profiles_in files) layer ≡ option_and_then (λ has. has) (option_map (λ file. profiles_at (table_view file.document.now)) (slice_get files (layer - 1)))
+pub has_above : (defaults : Option Data) (files : List (Option (Bor Value))) (layer : ℕ) → 0 < layer
+    → layer_at (defaults ∷ lent_files files) layer ≡ option_and_then (λ has. has) (option_map lent (slice_get files (layer - 1)))
 has_above defaults files zero above = absurd (omega (arith, above))
 has_above defaults files (suc layer) above =
     let less : suc layer - 1 ≡ layer = omega arith in
-    rw less (ap (option_and_then (λ has. has)) (slice_get-map (λ (file : Layer). profiles_at (table_view file.document.now)) files layer))
+    rw less (ap (option_and_then (λ has. has)) (slice_get-map lent files layer))

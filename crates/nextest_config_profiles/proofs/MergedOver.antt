@@ -6,26 +6,23 @@ use Rattle.toml.specs.View.{view}
 use Rattle.toml.specs.declared.value.Value.{Value}
 use Rattle.nextest_config_profiles.specs.Merged.{HasNoValue, IsMergedOver, Layers}
 use Rattle.nextest_config_profiles.specs.Merging.{over, seen_at}
-use Rattle.nextest_config_profiles.specs.Reach.{layers_of}
+use Rattle.nextest_config_profiles.specs.Reach.{lent, lent_files}
 use Rattle.nextest_config_profiles.specs.Said.{Path, Said, said_at, silent}
 use Rattle.nextest_config_profiles.proofs.Selection.{all_over, all_over_both, IsSeenLeaf, leaf_seen, leaf_selected, none_seen, seen_leaf, selected_leaf}
 
-abbrev pub lent : Option (Bor Value) → Option Data
-lent = option_map (λ value. view value.now)
+pub says_more : (says : Option Data → Said) (files : List (Option (Bor Value))) (file : Option (Bor Value))
+    → map says (lent_files (files ++ file ∷ [])) ≡ map says (lent_files files) ++ says (lent file) ∷ []
+says_more says files file = ap (map says) (map_push lent files file) ∙ map_push says (lent_files files) (lent file)
 
-pub says_more : (says : Option Data → Said) (layers : List (Option (Bor Value))) (layer : Option (Bor Value))
-    → map says (layers_of (layers ++ layer ∷ [])) ≡ map says (layers_of layers) ++ says (lent layer) ∷ []
-says_more says layers layer = ap (map says) (map_push lent layers layer) ∙ map_push says (layers_of layers) (lent layer)
+pub says_long : (says : Option Data → Said) (files : List (Option (Bor Value))) (i : ℕ) → i ≤ length files
+    → length (map says (lent_files (take i files))) ≡ i
+says_long says files i within =
+    length-map _ _ ∙ length-map _ _ ∙ length-take i files ∙ omega (arith, within)
 
-pub says_long : (says : Option Data → Said) (layers : List (Option (Bor Value))) (i : ℕ) → i ≤ length layers
-    → length (map says (layers_of (take i layers))) ≡ i
-says_long says layers i within =
-    length-map _ _ ∙ length-map _ _ ∙ length-take i layers ∙ omega (arith, within)
-
-pub one_layer_more : (says : Option Data → Said) (layers : List (Option (Bor Value))) (layer : Option (Bor Value))
-    → all_over silent (map says (layers_of (layers ++ layer ∷ []))) ≡ over (all_over silent (map says (layers_of layers))) (says (lent layer))
-one_layer_more says layers layer =
-    ap (all_over silent) (says_more says layers layer) ∙ all_over_both silent (map says (layers_of layers)) (says (lent layer) ∷ [])
+pub one_file_more : (says : Option Data → Said) (below : Said) (files : List (Option (Bor Value))) (file : Option (Bor Value))
+    → all_over below (map says (lent_files (files ++ file ∷ []))) ≡ over (all_over below (map says (lent_files files))) (says (lent file))
+one_file_more says below files file =
+    ap (all_over below) (says_more says files file) ∙ all_over_both below (map says (lent_files files)) (says (lent file) ∷ [])
 
 pub merged_result : (layers : Layers) (path : Path) (merged : Option Value)
     → ((below : Path) → seen_at below (option_map view merged) ≡ all_over silent (map (said_at (path ++ below)) layers))

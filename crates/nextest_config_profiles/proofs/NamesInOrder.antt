@@ -1,5 +1,5 @@
 -- The names of a set, nextest's own first.
-use Rattle.std.proofs.Common.{◌≡◌, ◌↔◌, ◌∙◌, ℕ, Bool, true, false, not, List, [], ◌∷◌, ◌++◌, ap, append_assoc, append-nil, Bor, inl, inr, map, refl, sym, ⊎_elim}
+use Rattle.std.proofs.Common.{◌≡◌, ◌↔◌, ◌∙◌, ℕ, Bool, true, false, not, List, [], ◌∷◌, ◌++◌, ap, append_assoc, append-nil, Bor, inl, inr, map, None, refl, sym, ⊎_elim}
 use Rattle.std.proofs.lemmas.Bool.{cases_Bool, false≢true}
 use Rattle.std.proofs.lemmas.List.{map-append}
 use Rattle.std.proofs.lemmas.List.Elements.{filter-append}
@@ -96,6 +96,13 @@ are_names layers keys each name =
         | inr other ↦ inr (inr (filtered_some P is_other (λ x same. ap is_other same ∙ ap not other) (words_of keys) (some_mapped P text keys ((each name).1 is))))
       ],
     )
+
+-- a layer without anything has no profile
+pub nothing_below : (layers : Layers) (name : List ℕ) → IsProfile (None ∷ layers) name ↔ IsProfile layers name
+nothing_below layers name = (
+  λ is. ⊎_elim inl (λ own. inr (⊎_elim inl (λ some. inr (⊎_elim (λ none. absurd (false≢true none)) (λ there. there) some)) own)) is,
+  λ is. ⊎_elim inl (λ own. inr (⊎_elim inl (λ some. inr (inr some)) own)) is,
+)
 
 -- ---- their order
 

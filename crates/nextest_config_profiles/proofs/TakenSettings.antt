@@ -6,7 +6,7 @@ use Rattle.nextest_config_values.specs.Decisions.{IsDecided}
 use Rattle.nextest_config_values.specs.Duration.{duration_in, duration_reading}
 use Rattle.nextest_config_values.specs.Read.Fault.{duration_expected}
 use Rattle.nextest_config_values.specs.Read.Plain.{count_decided, u32_decided}
-use Rattle.nextest_config_values.specs.Read.{bool_reading, count_reading, in_range, IsCount, IsU32, jitter_without_delay, number_reading, rule_check, text_expected, text_reading, u32_reading, value_of, with_word, word_reading, words_text}
+use Rattle.nextest_config_values.specs.Read.{bool_reading, count_reading, in_range, IsCount, IsU32, jitter_without_delay, number_reading, rule_check, text_expected, text_reading, u32_reading, value_of, with_word, word_reading}
 use Rattle.nextest_config_elements.specs.LeakTimeout as leak
 use Rattle.nextest_config_elements.specs.MaxFail as fail
 use Rattle.nextest_config_elements.specs.MaxFail.FailFast.{mode_reads_back}
@@ -81,8 +81,8 @@ fixed_keys = retry.count_key ∷ retry.delay_key ∷ retry.jitter_key ∷ []
 abbrev exponential_keys : List (List ℕ)
 exponential_keys = retry.count_key ∷ retry.delay_key ∷ retry.jitter_key ∷ retry.max_delay_key ∷ []
 
-passes_others : (keys : List (List ℕ)) → Passes AlikeMembers (keys_check (retry.backoff_key ∷ keys) (words_text keys))
-passes_others keys = passes_keys (retry.backoff_key ∷ keys) (words_text keys)
+passes_others : (keys : List (List ℕ)) → Passes AlikeMembers (keys_check (retry.backoff_key ∷ keys) keys)
+passes_others keys = passes_keys (retry.backoff_key ∷ keys) keys
 
 takes_fixed : Takes AlikeMembers retry.fixed_table
 takes_fixed =

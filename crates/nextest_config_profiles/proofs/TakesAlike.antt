@@ -82,7 +82,7 @@ module _ {X : Type 0} {reading : Reading Data X} (name : List ℕ) (takes : Take
   takes_default default = takes_key takes (takes_only default) name
 
 -- no other keys, in both
-pub passes_keys : (known : List (List ℕ)) (expected : List ℕ) → Passes AlikeMembers (keys_check known expected)
+pub passes_keys : (known expected : List (List ℕ)) → Passes AlikeMembers (keys_check known expected)
 passes_keys known expected = record {
   passes_too = λ a b alike passed key unknown.
       passed key (found_too (get_member key a) (get_member key b) (alike key) unknown.0, unknown.1);

@@ -8,7 +8,8 @@ use Rattle.toml_spans.specs.declared.place.Span.{Span}
 use Rattle.nextest_config_profiles.specs.Chain.{IsWrong, no_profile, not_defined, not_text, ring, Wrong}
 use Rattle.nextest_config_profiles.specs.Effective.{IsEffective}
 use Rattle.nextest_config_profiles.specs.Merged.{Layers}
-use Rattle.nextest_config_profiles.specs.Layer.{file_at, IsSpanAt, profiles_at, profiles_in}
+use Rattle.nextest_config_profiles.specs.Layer.{file_at, IsSpanAt, profiles_at}
+use Rattle.nextest_config_profiles.specs.Reach.{lent_files}
 use Rattle.nextest_config_profiles.specs.Said.{Path}
 use Rattle.nextest_config_profiles.specs.declared.effective.Effective.{Effective}
 use Rattle.nextest_config_profiles.specs.declared.layer.Layer.{Layer}
@@ -20,7 +21,8 @@ use Rattle.nextest_config_profiles.specs.declared.profile.ProfileFault.TheVarian
 
 -- the layers by which a profile is told: what nextest sets itself, and above that the files
 abbrev pub layers_in : EffectiveProfile → Layers
-layers_in profile = profiles_at (table_view profile.defaults) ∷ profiles_in profile.layers.now
+layers_in profile =
+    profiles_at (table_view profile.defaults) ∷ lent_files profile.profiles.items
 
 -- the names of a profile and of those that come after it, up to `default`
 abbrev pub chain_in : EffectiveProfile → List (List ℕ)

@@ -1,10 +1,11 @@
--- Where paths lead to.
-use Rattle.std.specs.Prelude.{ℕ, List, map, Option, option_map, Some}
+-- What layers have, and where paths lead to.
+use Rattle.std.specs.Prelude.{ℕ, List, ◌∷◌, map, Option, option_map, Some}
 use Rattle.std.proofs.Common.{Bor}
 use Rattle.toml.specs.Data.{Data}
 use Rattle.toml.specs.View.{view}
 use Rattle.toml.specs.declared.value.Value.{Value}
 use Rattle.nextest_config_profiles.specs.Said.{barred, Path, Said, said_at, silent}
+use Rattle.nextest_config_profiles.specs.declared.reach.LentLayers.{LentLayers}
 use Rattle.nextest_config_profiles.specs.declared.reach.Reach.{Reach}
 use Rattle.nextest_config_profiles.specs.declared.reach.Reach.TheVariants as reached
 
@@ -18,6 +19,14 @@ said_below below reached.Nothing = silent
 said_below below reached.Barred = barred
 said_below below (reached.Value value) = said_at below (Some (view value.now))
 
--- what layers have that are lent, as data
-abbrev pub layers_of : List (Option (Bor Value)) → List (Option Data)
-layers_of layers = map (option_map (λ value. view value.now)) layers
+-- what a layer has that is lent, as data
+abbrev pub lent : Option (Bor Value) → Option Data
+lent = option_map (λ value. view value.now)
+
+-- what files have that are lent, as data
+abbrev pub lent_files : List (Option (Bor Value)) → List (Option Data)
+lent_files files = map lent files
+
+-- what lent layers have, as data: what nextest sets itself, and above that the files
+abbrev pub layers_of : LentLayers → List (Option Data)
+layers_of layers = lent layers.defaults ∷ lent_files layers.files.now

@@ -6,8 +6,8 @@ ghost use Rattle.nextest_config_profiles.specs.Reach.{layers_of, words_of};
 
 use crate::last_value::last_value;
 use crate::profiles::{DEFAULT, is_profile, name_set};
+use crate::reach::LentLayers;
 use std::alloc::{AllocError, Global};
-use toml::Value;
 
 pub(crate) const INHERITS: &str = "inherits";
 
@@ -39,12 +39,12 @@ impl From<AllocError> for ChainFault<'_> {
 /// The profile, what it inherits from, and so on, and at the end `default`, once.
 pub(crate) fn chain_of<'a>(
     alloc: Global,
-    layers: &[Option<&'a Value>],
+    layers: LentLayers<'_, 'a>,
     name: &'a str,
 ) -> Result<Vec<&'a str>, ChainFault<'a>>
     ensures chain { IfOk result (λ chain.
-        IsChain (layers_of layers.now) name.now (words_of chain.items)) }
-    ensures fault { IfErr result (IsChainFault (layers_of layers.now) name.now) }
+        IsChain (layers_of layers.entry) name.now (words_of chain.items)) }
+    ensures fault { IfErr result (IsChainFault (layers_of layers.entry) name.now) }
 {
     if !is_profile(layers, name) {
         return Err(ChainFault::NoProfile);
@@ -72,12 +72,9 @@ fn push<'a>(names: &mut Vec<&'a str>, name: &'a str) -> Result<(), AllocError>
 }
 
 // What comes after a profile: what it inherits from, or else `default`.
-fn next_profile<'a>(
-    layers: &[Option<&'a Value>],
-    profile: &'a str,
-) -> Result<&'a str, ChainFault<'a>>
-    ensures next { IfOk result (λ next. IsNext (layers_of layers.now) profile.now next.now) }
-    ensures fault { IfErr result (IsNextFault (layers_of layers.now) profile.now) }
+fn next_profile<'a>(layers: LentLayers<'_, 'a>, profile: &'a str) -> Result<&'a str, ChainFault<'a>>
+    ensures next { IfOk result (λ next. IsNext (layers_of layers.entry) profile.now next.now) }
+    ensures fault { IfErr result (IsNextFault (layers_of layers.entry) profile.now) }
 {
     let Some(inherits) = last_value(layers, &[profile, INHERITS]) else {
         return Ok(DEFAULT);

@@ -7,6 +7,7 @@ ghost use Rattle.nextest_config_profiles.specs.Effective.{IsEffective, IsGiven, 
 ghost use Rattle.nextest_config_profiles.specs.Reach.{layers_of, words_of};
 
 use crate::merged::merged_over;
+use crate::reach::LentLayers;
 use nextest_config_elements::profile_setting::ProfileSetting;
 use nextest_config_lint::is_unjudged;
 use nextest_config_values::read::ValueFault;
@@ -29,11 +30,11 @@ pub enum Effective<'p, T: Drop> {
 /// What the chain gives the setting at these keys.
 pub(crate) fn first_given<'p, T: ProfileSetting>(
     alloc: Global,
-    layers: &[Option<&Value>],
+    layers: LentLayers<'_, '_>,
     chain: &'p [String],
     keys: &[&str],
 ) -> Result<Effective<'p, T>, AllocError>
-    ensures { IfOk result (IsEffective T.seen T.reading (layers_of layers.now) (words_of keys.now)
+    ensures { IfOk result (IsEffective T.seen T.reading (layers_of layers.entry) (words_of keys.now)
         (map string_bytes chain.now)) }
 {
     for profile in chain {
@@ -47,11 +48,11 @@ pub(crate) fn first_given<'p, T: ProfileSetting>(
 /// What a profile alone gives the setting at these keys.
 pub(crate) fn given_alone<'p, T: ProfileSetting>(
     alloc: Global,
-    layers: &[Option<&Value>],
+    layers: LentLayers<'_, '_>,
     profile: &'p str,
     keys: &[&str],
 ) -> Result<Effective<'p, T>, AllocError>
-    ensures { IfOk result (IsEffective T.seen T.reading (layers_of layers.now) (words_of keys.now)
+    ensures { IfOk result (IsEffective T.seen T.reading (layers_of layers.entry) (words_of keys.now)
         (profile.now ∷ [])) }
 {
     match given_by(alloc, layers, profile, keys)? {
@@ -63,13 +64,13 @@ pub(crate) fn given_alone<'p, T: ProfileSetting>(
 // What a profile gives the setting, if it counts.
 fn given_by<'p, T: ProfileSetting>(
     alloc: Global,
-    layers: &[Option<&Value>],
+    layers: LentLayers<'_, '_>,
     profile: &'p str,
     keys: &[&str],
 ) -> Result<Option<Effective<'p, T>>, AllocError>
     ensures { IfOk result (λ given. MatchOption given
-        (Passes T.seen T.reading (layers_of layers.now) (words_of keys.now) profile.now)
-        (IsGiven T.seen T.reading (layers_of layers.now) (words_of keys.now) profile.now)) }
+        (Passes T.seen T.reading (layers_of layers.entry) (words_of keys.now) profile.now)
+        (IsGiven T.seen T.reading (layers_of layers.entry) (words_of keys.now) profile.now)) }
 {
     let path = path_of(alloc, profile, keys)?;
     match merged_over(alloc, layers, path.as_slice())? {

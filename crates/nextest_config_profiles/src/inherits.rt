@@ -5,7 +5,7 @@ ghost use Rattle.nextest_config_profiles.specs.Inherits.{IsInheritsPlace, IsPlac
 ghost use Rattle.nextest_config_profiles.specs.Reach.{words_of};
 
 use crate::chain::INHERITS;
-use crate::last_value::{LayerValue, last_value};
+use crate::last_value::{LayerValue, last_above};
 use crate::layer::{Layer, profiles_of_files};
 use crate::profile::steps_to;
 use std::alloc::{AllocError, Global};
@@ -32,7 +32,7 @@ pub(crate) fn inherits_place<'a>(
 {
     let profiles = profiles_of_files(alloc, layers)?;
     let path = [profile, INHERITS];
-    match last_value(profiles.as_slice(), &path) {
+    match last_above(None, 0, profiles.as_slice(), &path) {
         Some(found) => {
             let place = place_of(alloc, layers, found, &path)?;
             Ok(Some(place))

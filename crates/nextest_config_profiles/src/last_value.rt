@@ -1,11 +1,11 @@
 //! Which layer decides a path.
 
-ghost use Rattle.std.specs.Prelude.{◌≡◌, ◌++◌, ◌∷◌, [], List, length, map};
+ghost use Rattle.std.specs.Prelude.{◌≡◌, ◌≤◌, ◌++◌, ◌∷◌, [], List, length, map};
 ghost use Rattle.nextest_config_profiles.specs.LastValue.{IsLastValue};
-ghost use Rattle.nextest_config_profiles.specs.Reach.{layers_of, said_below, words_of};
+ghost use Rattle.nextest_config_profiles.specs.Reach.{layers_of, lent_files, said_below, words_of};
 ghost use Rattle.nextest_config_profiles.specs.Said.{Said, said_at};
 
-use crate::reach::{Reach, follow};
+use crate::reach::{LentLayers, Reach, follow};
 use toml::Value;
 
 /// A value of a layer.
@@ -18,12 +18,28 @@ pub struct LayerValue<'a> {
 }
 
 /// What the last of the layers that say anything of a path has there, if that is a value.
-pub(crate) fn last_value<'a>(layers: &[Option<&'a Value>], path: &[&str]) -> Option<LayerValue<'a>>
-    ensures { IsLastValue (map (said_at (words_of path.now)) (layers_of layers.now)) result }
+pub(crate) fn last_value<'a>(layers: LentLayers<'_, 'a>, path: &[&str]) -> Option<LayerValue<'a>>
+    ensures { IsLastValue (map (said_at (words_of path.now)) (layers_of layers.entry)) result }
 {
-    let mut last = None;
-    for (position, layer) in layers.iter().enumerate() {
-        last = later(last, position, follow(*layer, path));
+    let lowest = later(None, 0, follow(layers.defaults, path));
+    last_above(lowest, 1, layers.files, path)
+}
+
+/// What the last of the files that say anything of a path has there, or else the last of the layers
+/// below them, of which there are so many.
+pub(crate) fn last_above<'a>(
+    below: Option<LayerValue<'a>>,
+    count: usize,
+    files: &[Option<&'a Value>],
+    path: &[&str],
+) -> Option<LayerValue<'a>>
+    requires { count ≤ 1 }
+    ensures { (all : List Said) → length all ≡ count → IsLastValue all below.entry
+        → IsLastValue (all ++ map (said_at (words_of path.now)) (lent_files files.now)) result }
+{
+    let mut last = below;
+    for (position, file) in files.iter().enumerate() {
+        last = later(last, count + position, follow(*file, path));
     }
     last
 }

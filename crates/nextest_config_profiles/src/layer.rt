@@ -1,11 +1,12 @@
 //! The files of a list, as layers.
 
-ghost use Rattle.std.specs.Prelude.{◌≡◌, ◌++◌, ◌∷◌, IfOk, map, OnOk, option_map};
+ghost use Rattle.std.specs.Prelude.{◌≡◌, ◌∷◌, IfOk, map, option_map};
 ghost use Rattle.toml.specs.View.{table_view, view};
 ghost use Rattle.toml_spans.specs.Step.{step_of};
 ghost use Rattle.nextest_config_profiles.specs.Layer.{IsSpanAt, profiles_at, profiles_in};
-ghost use Rattle.nextest_config_profiles.specs.Reach.{layers_of};
+ghost use Rattle.nextest_config_profiles.specs.Reach.{layers_of, lent_files};
 
+use crate::reach::LentLayers;
 use nextest_config::nextest_version::ConfigSource;
 use nextest_config_values::read::value_at;
 use std::alloc::{AllocError, Global};
@@ -41,43 +42,29 @@ pub(crate) fn profiles_at(document: &Table) -> Option<&Value>
     value_at(document, "profile")
 }
 
-/// What the layers have for profiles, below them what nextest sets itself.
-pub(crate) fn profiles_in<'a>(
-    alloc: Global,
-    defaults: &'a Table,
-    layers: &[Layer<'a>],
-) -> Result<Vec<Option<&'a Value>>, AllocError>
-    ensures { IfOk result (λ profiles. layers_of profiles.items
-        ≡ profiles_at (table_view defaults.now) ∷ profiles_in layers.now) }
-{
-    let mut profiles = Vec::new(alloc);
-    profiles.push(profiles_at(defaults))?;
-    push_profiles(&mut profiles, layers)?;
-    Ok(profiles)
-}
-
 /// What the files have for profiles.
 pub(crate) fn profiles_of_files<'a>(
     alloc: Global,
     layers: &[Layer<'a>],
 ) -> Result<Vec<Option<&'a Value>>, AllocError>
-    ensures { IfOk result (λ profiles. layers_of profiles.items ≡ profiles_in layers.now) }
+    ensures { IfOk result (λ profiles. lent_files profiles.items ≡ profiles_in layers.now) }
 {
     let mut profiles = Vec::new(alloc);
-    push_profiles(&mut profiles, layers)?;
-    Ok(profiles)
-}
-
-// Pushes what the files have for profiles.
-fn push_profiles<'a>(
-    profiles: &mut Vec<Option<&'a Value>>,
-    layers: &[Layer<'a>],
-) -> Result<(), AllocError>
-    ensures { OnOk result (layers_of profiles.new.items
-        ≡ layers_of profiles.old.items ++ profiles_in layers.now) }
-{
     for layer in layers {
         profiles.push(profiles_at(layer.document))?;
     }
-    Ok(())
+    Ok(profiles)
+}
+
+/// What layers have for profiles: this document, and above it the files.
+pub(crate) fn lent_layers<'l, 'v>(
+    defaults: &'v Table,
+    files: &'l [Option<&'v Value>],
+) -> LentLayers<'l, 'v>
+    ensures { layers_of result ≡ profiles_at (table_view defaults.now) ∷ lent_files files.now }
+{
+    LentLayers {
+        defaults: profiles_at(defaults),
+        files,
+    }
 }

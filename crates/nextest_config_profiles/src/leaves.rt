@@ -10,6 +10,7 @@ ghost use Rattle.nextest_config_profiles.specs.Reach.{layers_of, words_of};
 
 use crate::last_value::last_value;
 use crate::merged::merged_over;
+use crate::reach::LentLayers;
 use std::alloc::{AllocError, Global};
 use toml::{Table, Value};
 
@@ -34,12 +35,12 @@ pub(crate) struct ValueLeaf {
 /// All leaves that the layers, the lowest first, have below a path.
 pub(crate) fn leaves_below(
     alloc: Global,
-    layers: &[Option<&Value>],
+    layers: LentLayers<'_, '_>,
     path: &[&str],
 ) -> Result<Vec<Leaf>, AllocError>
     ensures each { IfOk result (λ leaves. AllByRecursion
-        (IsLeafBelow (layers_of layers.now) (words_of path.now)) leaves.items) }
-    ensures all { IfOk result (λ leaves. AreAllLeaves (layers_of layers.now) (words_of path.now)
+        (IsLeafBelow (layers_of layers.entry) (words_of path.now)) leaves.items) }
+    ensures all { IfOk result (λ leaves. AreAllLeaves (layers_of layers.entry) (words_of path.now)
         leaves.items) }
 {
     match merged_over(alloc, layers, path)? {
@@ -126,14 +127,14 @@ fn one_key_more(alloc: Global, keys: &[String], key: &String) -> Result<Vec<Stri
 // Leaves that the layers have, each with its layer.
 fn with_layers(
     alloc: Global,
-    layers: &[Option<&Value>],
+    layers: LentLayers<'_, '_>,
     path: &[&str],
     leaves: Vec<ValueLeaf>,
 ) -> Result<Vec<Leaf>, AllocError>
-    requires { AllByRecursion (λ leaf. IsOfLayers (layers_of layers.now) (words_of path.now)
+    requires { AllByRecursion (λ leaf. IsOfLayers (layers_of layers) (words_of path.now)
         (placed_leaf leaf)) leaves.items }
     ensures each { IfOk result (λ found. AllByRecursion
-        (IsLeafBelow (layers_of layers.now) (words_of path.now)) found.items) }
+        (IsLeafBelow (layers_of layers.entry) (words_of path.now)) found.items) }
     ensures same { IfOk result (λ found. map placed found.items ≡ map placed_leaf leaves.items) }
 {
     let mut found = Vec::new(alloc);
@@ -151,12 +152,12 @@ fn with_layers(
 // The layer that a leaf comes from.
 fn layer_of(
     alloc: Global,
-    layers: &[Option<&Value>],
+    layers: LentLayers<'_, '_>,
     path: &[&str],
     leaf: &ValueLeaf,
 ) -> Result<usize, AllocError>
-    requires { IsOfLayers (layers_of layers.now) (words_of path.now) (placed_leaf leaf.now) }
-    ensures { IfOk result (λ layer. IsLeaf (layers_of layers.now)
+    requires { IsOfLayers (layers_of layers) (words_of path.now) (placed_leaf leaf.now) }
+    ensures { IfOk result (λ layer. IsLeaf (layers_of layers.entry)
         (words_of path.now ++ map string_bytes leaf.now.keys.items) layer (view leaf.now.value)) }
 {
     let whole = whole_path(alloc, path, leaf.keys.as_slice())?;

@@ -2,6 +2,7 @@
 
 use crate::chain::{ChainFault, chain_of};
 use crate::layer::profiles_at;
+use crate::reach::LentLayers;
 use nextest_config_values::read::value_at;
 use std::alloc::{AllocError, Global};
 use std::collections::BTreeSet;
@@ -17,20 +18,24 @@ pub fn profiles_to_locate(
     documents: &[&Table],
     name: &str,
 ) -> Result<BTreeSet<String>, AllocError> {
-    let mut layers = Vec::new(alloc);
+    let mut files = Vec::new(alloc);
     for document in documents {
-        layers.push(profiles_at(document))?;
+        files.push(profiles_at(document))?;
     }
+    let layers = LentLayers {
+        defaults: None,
+        files: files.as_slice(),
+    };
     let mut locate = BTreeSet::new(alloc);
-    add_chain(alloc, layers.as_slice(), name, &mut locate)?;
-    add_retried(alloc, layers.as_slice(), &mut locate)?;
+    add_chain(alloc, layers, name, &mut locate)?;
+    add_retried(alloc, files.as_slice(), &mut locate)?;
     Ok(locate)
 }
 
 // Adds the profiles of a chain, if there is one.
 fn add_chain(
     alloc: Global,
-    layers: &[Option<&Value>],
+    layers: LentLayers<'_, '_>,
     name: &str,
     locate: &mut BTreeSet<String>,
 ) -> Result<(), AllocError> {
@@ -52,22 +57,22 @@ fn add_names(
     Ok(())
 }
 
-// Adds the profiles of which more than one layer sets `retries`.
+// Adds the profiles of which more than one file sets `retries`.
 fn add_retried(
     alloc: Global,
-    layers: &[Option<&Value>],
+    files: &[Option<&Value>],
     locate: &mut BTreeSet<String>,
 ) -> Result<(), AllocError> {
     let mut once = BTreeSet::new(alloc);
-    for layer in layers {
-        if let Some(Value::Table(profiles)) = layer {
+    for file in files {
+        if let Some(Value::Table(profiles)) = file {
             add_retried_of(alloc, profiles, &mut once, locate)?;
         }
     }
     Ok(())
 }
 
-// Adds the profiles that set `retries` in a layer and in an earlier one, too.
+// Adds the profiles that set `retries` in a file and in an earlier one, too.
 fn add_retried_of<'l>(
     alloc: Global,
     profiles: &'l Table,

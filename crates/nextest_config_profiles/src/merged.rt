@@ -8,23 +8,24 @@ ghost use Rattle.nextest_config_profiles.specs.Merging.{IsOver, over, Puts, seen
 ghost use Rattle.nextest_config_profiles.specs.Reach.{layers_of, said_below, words_of};
 ghost use Rattle.nextest_config_profiles.specs.Said.{Path};
 
-use crate::reach::{Reach, follow};
+use crate::reach::{LentLayers, Reach, follow};
 use std::alloc::{AllocError, Global};
 use toml::{Table, Value};
 
 /// What the layers, the lowest first, come to at a path, where they have anything there.
 pub(crate) fn merged_over(
     alloc: Global,
-    layers: &[Option<&Value>],
+    layers: LentLayers<'_, '_>,
     path: &[&str],
 ) -> Result<Option<Value>, AllocError>
     ensures { IfOk result (λ merged. MatchOption merged
-        (HasNoValue (layers_of layers.now) (words_of path.now))
-        (λ value. IsMergedOver (layers_of layers.now) (words_of path.now) (view value))) }
+        (HasNoValue (layers_of layers.entry) (words_of path.now))
+        (λ value. IsMergedOver (layers_of layers.entry) (words_of path.now) (view value))) }
 {
-    let mut merged = None;
-    for layer in layers {
-        merged = merge(merged, follow(*layer, path))?;
+    let files = layers.files;
+    let mut merged = merge(None, follow(layers.defaults, path))?;
+    for file in files {
+        merged = merge(merged, follow(*file, path))?;
     }
     Ok(merged)
 }

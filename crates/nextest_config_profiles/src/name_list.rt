@@ -7,6 +7,7 @@ ghost use Rattle.nextest_config_profiles.specs.Reach.{words_of};
 
 use crate::layer::{Layer, profiles_of_files};
 use crate::profiles::{DEFAULT, DEFAULT_MIRI, name_set};
+use crate::reach::LentLayers;
 use std::alloc::{AllocError, Global};
 
 /// The names of all profiles: those that some file has, and those that nextest has itself.
@@ -17,7 +18,11 @@ pub fn profile_names<'a>(alloc: Global, layers: &[Layer<'a>]) -> Result<Vec<&'a 
     ensures order { IfOk result (λ names. AreInOrder (words_of names.items)) }
 {
     let profiles = profiles_of_files(alloc, layers)?;
-    let all = name_set(alloc, profiles.as_slice())?;
+    let files = LentLayers {
+        defaults: None,
+        files: profiles.as_slice(),
+    };
+    let all = name_set(alloc, files)?;
     let mut names = Vec::new(alloc);
     names.push(DEFAULT)?;
     names.push(DEFAULT_MIRI)?;

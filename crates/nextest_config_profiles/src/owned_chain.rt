@@ -1,16 +1,13 @@
 //! The chain of a profile, as texts of their own.
 
-ghost use Rattle.std.specs.Prelude.{◌≡◌, ◌∷◌, IfErr, IfOk, map, MatchOption, string_bytes};
-ghost use Rattle.toml.specs.View.{table_view};
+ghost use Rattle.std.specs.Prelude.{◌≡◌, IfErr, IfOk, map, MatchOption, string_bytes};
 ghost use Rattle.nextest_config_profiles.specs.Chain.{chain_wrong, IsChain, IsWrong};
-ghost use Rattle.nextest_config_profiles.specs.Layer.{profiles_at, profiles_in};
 ghost use Rattle.nextest_config_profiles.specs.Profile.{owned_wrong};
-ghost use Rattle.nextest_config_profiles.specs.Reach.{words_of};
+ghost use Rattle.nextest_config_profiles.specs.Reach.{layers_of, words_of};
 
 use crate::chain::{ChainFault, chain_of};
-use crate::layer::{Layer, profiles_in};
+use crate::reach::LentLayers;
 use std::alloc::{AllocError, Global};
-use toml::Table;
 
 /// Why a profile has no chain.
 #[derive(Drop)]
@@ -40,18 +37,15 @@ impl From<AllocError> for OwnedFault {
 /// The chain of a profile.
 pub(crate) fn owned_chain(
     alloc: Global,
-    defaults: &Table,
-    layers: &[Layer<'_>],
+    layers: LentLayers<'_, '_>,
     name: &str,
 ) -> Result<Vec<String>, OwnedFault>
-    ensures chain { IfOk result (λ chain. IsChain
-        (profiles_at (table_view defaults.now) ∷ profiles_in layers.now) name.now
-        (map string_bytes chain.items)) }
+    ensures chain { IfOk result (λ chain.
+        IsChain (layers_of layers.entry) name.now (map string_bytes chain.items)) }
     ensures fault { IfErr result (λ fault. MatchOption (owned_wrong fault) (Unit {0})
-        (IsWrong (profiles_at (table_view defaults.now) ∷ profiles_in layers.now) name.now)) }
+        (IsWrong (layers_of layers.entry) name.now)) }
 {
-    let profiles = profiles_in(alloc, defaults, layers)?;
-    match chain_of(alloc, profiles.as_slice(), name) {
+    match chain_of(alloc, layers, name) {
         Ok(chain) => {
             let chain = copies(alloc, chain.as_slice())?;
             Ok(chain)

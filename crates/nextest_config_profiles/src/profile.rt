@@ -2,28 +2,29 @@
 
 ghost use Rattle.std.specs.Prelude.{◌≡◌, ◌∷◌, [], IfErr, IfOk, length, map, MatchOption, None, option_map, string_bytes};
 ghost use Rattle.std.specs.List.{AllByRecursion};
-ghost use Rattle.toml.specs.View.{table_view, view};
+ghost use Rattle.toml.specs.View.{view};
 ghost use Rattle.toml_spans.specs.Step.{step_of};
 ghost use Rattle.nextest_config_profiles.specs.Effective.{IsEffective};
 ghost use Rattle.nextest_config_profiles.specs.Chain.{IsChain};
 ghost use Rattle.nextest_config_profiles.specs.Inherits.{HasPlace, IsPlacedFault};
-ghost use Rattle.nextest_config_profiles.specs.Layer.{all_layers, profiles_at, profiles_in};
+ghost use Rattle.nextest_config_profiles.specs.Layer.{all_layers};
 ghost use Rattle.nextest_config_profiles.specs.Merged.{HasNoValue, IsMergedOver};
 ghost use Rattle.nextest_config_profiles.specs.Profile.{chain_in, file_in, files_in, Gets, IsProfileFault, IsSpanIn, layer_at, layers_in, owned_wrong, profile_wrong, steps_to};
 ghost use Rattle.nextest_config_profiles.specs.SettingKey.{keys_of};
 ghost use Rattle.nextest_config_profiles.specs.LastValue.{IsLastValue};
 ghost use Rattle.nextest_config_profiles.specs.Leaves.{AreAllLeaves, IsLeafBelow};
-ghost use Rattle.nextest_config_profiles.specs.Reach.{words_of};
+ghost use Rattle.nextest_config_profiles.specs.Reach.{layers_of, words_of};
 ghost use Rattle.nextest_config_profiles.specs.Said.{said_at};
 
 use crate::defaults::default_document;
 use crate::effective::{Effective, first_given, given_alone};
 use crate::inherits::{InheritsPlace, inherits_place};
 use crate::last_value::{LayerValue, last_value};
-use crate::layer::{Layer, profiles_at, profiles_in};
+use crate::layer::{Layer, lent_layers, profiles_at, profiles_of_files};
 use crate::leaves::{Leaf, leaves_below};
 use crate::merged::merged_over;
 use crate::owned_chain::{OwnedFault, owned_chain};
+use crate::reach::LentLayers;
 use crate::setting_key::SettingKey;
 use nextest_config_elements::profile_setting::ProfileSetting;
 use std::alloc::{AllocError, Global};
@@ -35,6 +36,8 @@ use toml_spans::{Span, Step};
 pub struct EffectiveProfile<'a> {
     defaults: Table,
     layers: &'a [Layer<'a>],
+    // What the files have for profiles.
+    profiles: Vec<Option<&'a Value>>,
     chain: Vec<String>,
 }
 
@@ -75,10 +78,12 @@ impl<'a> EffectiveProfile<'a> {
         ensures in_a_file { IfErr result HasPlace }
     {
         let defaults = default_document(alloc)?;
-        match owned_chain(alloc, &defaults, layers, name) {
+        let profiles = profiles_of_files(alloc, layers)?;
+        match owned_chain(alloc, lent_layers(&defaults, profiles.as_slice()), name) {
             Ok(chain) => Ok(EffectiveProfile {
                 defaults,
                 layers,
+                profiles,
                 chain,
             }),
             Err(fault) => Err(placed(alloc, layers, fault)?),
@@ -92,6 +97,13 @@ impl<'a> EffectiveProfile<'a> {
         self.chain.as_slice()
     }
 
+    // What its layers have for profiles.
+    fn lent(&self) -> LentLayers<'_, '_>
+        ensures { layers_of result ≡ layers_in self.now }
+    {
+        lent_layers(&self.defaults, self.profiles.as_slice())
+    }
+
     /// What the profile gets for the setting at these keys.
     pub fn setting<T: ProfileSetting>(
         &self,
@@ -101,8 +113,7 @@ impl<'a> EffectiveProfile<'a> {
         ensures { IfOk result (IsEffective T.seen T.reading (layers_in self.now)
             (words_of keys.now) (chain_in self.now)) }
     {
-        let profiles = profiles_in(alloc, &self.defaults, self.layers)?;
-        let given = first_given(alloc, profiles.as_slice(), self.chain.as_slice(), keys)?;
+        let given = first_given(alloc, self.lent(), self.chain.as_slice(), keys)?;
         Ok(given)
     }
 
@@ -129,8 +140,7 @@ impl<'a> EffectiveProfile<'a> {
         ensures { IfOk result (IsEffective T.seen T.reading (layers_in self.now)
             (words_of keys.now) (name.now ∷ [])) }
     {
-        let profiles = profiles_in(alloc, &self.defaults, self.layers)?;
-        let given = given_alone(alloc, profiles.as_slice(), name, keys)?;
+        let given = given_alone(alloc, self.lent(), name, keys)?;
         Ok(given)
     }
 
@@ -144,8 +154,7 @@ impl<'a> EffectiveProfile<'a> {
         ensures { IfOk result
             (IsLastValue (map (said_at (words_of path.now)) (layers_in self.now))) }
     {
-        let profiles = profiles_in(alloc, &self.defaults, self.layers)?;
-        Ok(last_value(profiles.as_slice(), path))
+        Ok(last_value(self.lent(), path))
     }
 
     /// Where the value, or without one the key, of a path below `profile` stands in the file of a
@@ -176,7 +185,7 @@ impl<'a> EffectiveProfile<'a> {
     pub fn layer_count(&self) -> usize
         ensures { result ≡ length (layers_in self.now) }
     {
-        self.layers.len() + 1
+        self.profiles.len() + 1
     }
 
     /// What a layer alone has for profiles.
@@ -186,8 +195,8 @@ impl<'a> EffectiveProfile<'a> {
     {
         match layer {
             0 => profiles_at(&self.defaults),
-            layer => match self.layers.get(layer - 1) {
-                Some(file) => profiles_at(file.document),
+            layer => match self.profiles.as_slice().get(layer - 1) {
+                Some(profiles) => *profiles,
                 None => None,
             },
         }
@@ -209,8 +218,7 @@ impl<'a> EffectiveProfile<'a> {
             (HasNoValue (layers_in self.now) (words_of path.now))
             (λ value. IsMergedOver (layers_in self.now) (words_of path.now) (view value))) }
     {
-        let profiles = profiles_in(alloc, &self.defaults, self.layers)?;
-        let value = merged_over(alloc, profiles.as_slice(), path)?;
+        let value = merged_over(alloc, self.lent(), path)?;
         Ok(value)
     }
 
@@ -222,8 +230,7 @@ impl<'a> EffectiveProfile<'a> {
         ensures all { IfOk result (λ leaves.
             AreAllLeaves (layers_in self.now) (words_of path.now) leaves.items) }
     {
-        let profiles = profiles_in(alloc, &self.defaults, self.layers)?;
-        let leaves = leaves_below(alloc, profiles.as_slice(), path)?;
+        let leaves = leaves_below(alloc, self.lent(), path)?;
         Ok(leaves)
     }
 }

@@ -3,8 +3,9 @@
 ghost use Rattle.std.specs.Prelude.{◌≡◌, ◌↔◌, ◌⊎◌, ℕ, IfOk, IsTrue, List, OnOk, option_map};
 ghost use Rattle.toml.specs.View.{table_view, view};
 ghost use Rattle.nextest_config_profiles.specs.Profiles.{HasName, HasProfile, IsProfile, profiles_of, SomeOf};
-ghost use Rattle.nextest_config_profiles.specs.Reach.{layers_of};
+ghost use Rattle.nextest_config_profiles.specs.Reach.{layers_of, lent_files};
 
+use crate::reach::LentLayers;
 use nextest_config_values::read::value_at;
 use std::alloc::{AllocError, Global};
 use std::collections::BTreeSet;
@@ -18,14 +19,16 @@ pub(crate) const DEFAULT_MIRI: &str = "default-miri";
 /// itself.
 pub(crate) fn name_set<'a>(
     alloc: Global,
-    layers: &[Option<&'a Value>],
+    layers: LentLayers<'_, 'a>,
 ) -> Result<BTreeSet<&'a str>, AllocError>
     ensures { IfOk result (λ names. (name : List ℕ)
-        → HasName names.keys name ↔ IsProfile (layers_of layers.now) name) }
+        → HasName names.keys name ↔ IsProfile (layers_of layers.entry) name) }
 {
+    let files = layers.files;
     let mut names = BTreeSet::new(alloc);
-    for layer in layers {
-        add_profiles(*layer, &mut names)?;
+    add_profiles(layers.defaults, &mut names)?;
+    for file in files {
+        add_profiles(*file, &mut names)?;
     }
     add_name(DEFAULT, &mut names)?;
     add_name(DEFAULT_MIRI, &mut names)?;
@@ -70,18 +73,21 @@ fn profiles_of(layer: Option<&Value>) -> Option<&Table>
 }
 
 /// Whether this is the name of a profile.
-pub(crate) fn is_profile(layers: &[Option<&Value>], name: &str) -> bool
-    ensures { IsTrue result ↔ IsProfile (layers_of layers.now) name.now }
+pub(crate) fn is_profile(layers: LentLayers<'_, '_>, name: &str) -> bool
+    ensures { IsTrue result ↔ IsProfile (layers_of layers.entry) name.now }
 {
-    (name == DEFAULT) | (name == DEFAULT_MIRI) | some_has_profile(layers, name)
+    (name == DEFAULT)
+        | (name == DEFAULT_MIRI)
+        | has_profile(layers.defaults, name)
+        | some_has_profile(layers.files, name)
 }
 
-// Whether some layer has a profile of this name.
-fn some_has_profile(layers: &[Option<&Value>], name: &str) -> bool
-    ensures { IsTrue result ↔ SomeOf (HasProfile name.now) (layers_of layers.now) }
+// Whether some file has a profile of this name.
+fn some_has_profile(files: &[Option<&Value>], name: &str) -> bool
+    ensures { IsTrue result ↔ SomeOf (HasProfile name.now) (lent_files files.now) }
 {
-    for layer in layers {
-        if has_profile(*layer, name) {
+    for file in files {
+        if has_profile(*file, name) {
             return true;
         }
     }

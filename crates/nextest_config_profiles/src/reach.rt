@@ -1,4 +1,4 @@
-//! What a layer says of a path of keys.
+//! What layers have, and what one says of a path of keys.
 
 ghost use Rattle.std.specs.Prelude.{◌≡◌, ◌++◌, option_map};
 ghost use Rattle.toml.specs.View.{view};
@@ -7,6 +7,14 @@ ghost use Rattle.nextest_config_profiles.specs.Reach.{said_below, words_of};
 
 use nextest_config_values::read::value_at;
 use toml::Value;
+
+/// What layers have for profiles, the lowest first.
+#[derive(Clone, Copy)]
+pub(crate) struct LentLayers<'l, 'v> {
+    /// What nextest sets itself, where that is one of them.
+    pub defaults: Option<&'v Value>,
+    pub files: &'l [Option<&'v Value>],
+}
 
 /// Where a path leads to.
 #[derive(Clone, Copy)]

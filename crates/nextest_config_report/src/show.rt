@@ -43,15 +43,12 @@ impl Word for ShowFormat {
         &[ShowFormat::Human, ShowFormat::Json]
     }
 
-    fn as_word(self) -> &'static str {
-        match self {
-            ShowFormat::Human => "human",
-            ShowFormat::Json => "json",
-        }
+    fn words() -> &'static [&'static str] {
+        &["human", "json"]
     }
 
-    fn expected() -> &'static str {
-        "`human` or `json`"
+    fn position(self) -> usize {
+        self as usize
     }
 }
 

@@ -228,12 +228,23 @@ impl FromRow<()> for FaultKind {
 fn mismatch(rt: &impl Runner, name: &str, text: &str) -> FaultKind {
     let (found, wanted) = cut(rt, text, " / ");
     let found = copied(rt, found);
-    let expected = expected(wanted);
     match name {
-        "InvalidType" => FaultKind::InvalidType { found, expected },
-        "InvalidValue" => FaultKind::InvalidValue { found, expected },
-        "UnknownVariant" => FaultKind::UnknownVariant { found, expected },
-        "UnknownField" => FaultKind::UnknownField { found, expected },
+        "InvalidType" => FaultKind::InvalidType {
+            found,
+            expected: expected(wanted),
+        },
+        "InvalidValue" => FaultKind::InvalidValue {
+            found,
+            expected: expected(wanted),
+        },
+        "UnknownVariant" => FaultKind::UnknownVariant {
+            found,
+            expected: known(wanted),
+        },
+        "UnknownField" => FaultKind::UnknownField {
+            found,
+            expected: known(wanted),
+        },
         _ => unknown(rt, name),
     }
 }
@@ -243,9 +254,19 @@ pub fn expected(text: &str) -> &'static str {
     match text {
         "a boolean" => "a boolean",
         "a string" => "a string",
-        "`a`" => "`a`",
         "" => "",
         _ => "?",
+    }
+}
+
+/// The same words, for the program's whole life.
+pub fn known(words: &str) -> &'static [&'static str] {
+    match words {
+        "a" => &["a"],
+        "a b" => &["a", "b"],
+        "a b c" => &["a", "b", "c"],
+        "a b c d" => &["a", "b", "c", "d"],
+        _ => &[],
     }
 }
 

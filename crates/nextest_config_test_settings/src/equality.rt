@@ -69,11 +69,11 @@ Rule | Priority 101 ~ Priority 102 ~ Priority -128 ~ Priority 127 | differ
 Rule | PreRelease ~ BuildMetadata ~ NotVersion a ~ RequiredAboveRecommended 1.0.0 2.0.0 ~ ArrayForm ~ JitterWithoutDelay ~ CountZero ~ DelayZero ~ MaxDelayZero ~ MaxDelayBelowDelay ~ Priority 101 | differ
 FaultKind | InvalidType a / a string ~ InvalidType b / a string ~ InvalidType a / a boolean | differ
 FaultKind | InvalidValue a / a string ~ InvalidValue b / a string ~ InvalidValue a / a boolean | differ
-FaultKind | UnknownVariant a / a string ~ UnknownVariant b / a string ~ UnknownVariant a / a boolean | differ
-FaultKind | UnknownField a / a string ~ UnknownField b / a string ~ UnknownField a / a boolean | differ
+FaultKind | UnknownVariant a / a ~ UnknownVariant b / a ~ UnknownVariant a / a b ~ UnknownVariant a / a b c | differ
+FaultKind | UnknownField a / a ~ UnknownField b / a ~ UnknownField a / a b ~ UnknownField a / a b c | differ
 FaultKind | Identifier Empty ~ Identifier InvalidXid a ~ Identifier InvalidXid b | differ
 FaultKind | ToolName Empty ~ ToolName InvalidXid a ~ ToolName InvalidXid b | differ
-FaultKind | InvalidType a / a string ~ InvalidValue a / a string ~ UnknownVariant a / a string ~ UnknownField a / a string ~ MissingField a ~ Custom PreRelease ~ Identifier Empty ~ ToolName Empty ~ Memory | differ
+FaultKind | InvalidType a / a string ~ InvalidValue a / a string ~ UnknownVariant a / a ~ UnknownField a / a ~ MissingField a ~ Custom PreRelease ~ Identifier Empty ~ ToolName Empty ~ Memory | differ
 ReadFault | p, Custom PreRelease ~ q, Custom PreRelease ~ p, Custom BuildMetadata ~ , Memory | differ
 "#;
 

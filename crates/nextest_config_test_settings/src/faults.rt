@@ -4,7 +4,7 @@ use nextest_config_test_rows::rows::{Subject, cut, unknown};
 use nextest_config_test_rows::runner::Runner;
 use nextest_config_test_rows::tables::{Rows, Tables};
 use nextest_config_test_rows::told::tell;
-use nextest_config_test_rows::values::{FromRow, expected, word};
+use nextest_config_test_rows::values::{FromRow, expected, known, word};
 use nextest_config_values::read::{FaultKind, ReadFault, ValueFault};
 use toml::Value;
 
@@ -34,12 +34,14 @@ invalid_type a boolean | p, 1 | p: invalid type: integer `1`, expected a boolean
 invalid_type a boolean | , 1 | invalid type: integer `1`, expected a boolean
 invalid_value a string | p, 1 | p: invalid value: integer `1`, expected a string
 invalid_value a boolean | p, 1 | p: invalid value: integer `1`, expected a boolean
-unknown_variant `a` | p, x | p: unknown variant `x`, expected `a`
+unknown_variant a | p, x | p: unknown variant `x`, expected `a`
 missing_field | p, k | p: missing configuration field "p.k"
 missing_field | , k | missing configuration field "k"
 - memory | ,  | out of memory
-unknown_field `a` | p, k | p: unknown field `k`, expected `a`
-unknown_field `a` | p, x | p: unknown field `x`, expected `a`
+unknown_field a | p, k | p: unknown field `k`, expected `a`
+unknown_field a | p, x | p: unknown field `x`, expected `a`
+unknown_variant a b | p, x | p: unknown variant `x`, expected `a` or `b`
+unknown_field a b c | p, x | p: unknown field `x`, expected one of `a`, `b`, `c`
 no_duration | p, 'x' | p: invalid value: string "x", expected a duration
 no_duration | p, '5' | p: invalid value: string "5", expected a duration
 
@@ -56,11 +58,11 @@ element missing_field | , x | k[7]: missing configuration field "k[7].x"
 element memory | p,  | out of memory
 
 # at every size
-new | p«p», UnknownField «f» / `a` | p«p»: unknown field `«f»`, expected `a`
+new | p«p», UnknownField «f» / a | p«p»: unknown field `«f»`, expected `a`
 new | p«p», Custom NotVersion «"» | p«p»: invalid version "«\"»"
 invalid_type a boolean | p«p», '«x»' | p«p»: invalid type: string "«x»", expected a boolean
 invalid_value a string | p«p», '«x»' | p«p»: invalid value: string "«x»", expected a string
-unknown_variant `a` | p«p», x«x» | p«p»: unknown variant `x«x»`, expected `a`
+unknown_variant a | p«p», x«x» | p«p»: unknown variant `x«x»`, expected `a`
 missing_field | p«p», k«k» | p«p»: missing configuration field "p«p».k«k»"
 element missing_field | p«p», x«x» | p«p».k[7]: missing configuration field "p«p».k[7].x«x»"
 "#;
@@ -103,14 +105,13 @@ fn told(rt: &impl Runner, call: &str, given: &str, at: &str) -> ReadFault {
 // The fault that a maker makes of what is given to it. With it the call begins.
 fn fault(rt: &impl Runner, call: &str, given: &str) -> ValueFault {
     let (maker, wanted) = word(call);
-    let wanted = expected(wanted);
     match maker {
         "new" => new(rt, FaultKind::from_row(rt, given)),
-        "unknown_variant" => ValueFault::unknown_variant(rt.call(), given, wanted),
+        "unknown_variant" => ValueFault::unknown_variant(rt.call(), given, known(wanted)),
         "missing_field" => ValueFault::missing_field(rt.call(), given),
         "memory" => ValueFault::memory(rt.call()),
-        "unknown_field" => ValueFault::unknown_field(rt.call(), given, wanted),
-        _ => mismatch(rt, maker, given, wanted),
+        "unknown_field" => ValueFault::unknown_field(rt.call(), given, known(wanted)),
+        _ => mismatch(rt, maker, given, expected(wanted)),
     }
 }
 

@@ -87,15 +87,34 @@ pub const DEFAULTS: &str = r#"
 - TrackDefault bool |  | TrackDefault { value: false, is_deserialized: false }
 "#;
 
+// Names, compared and hashed as they are: a generic function of another crate takes them so alone.
+#[derive(PartialEq, Eq, PartialOrd, Ord, Hash, Drop)]
+struct Identifier(ConfigIdentifier);
+
+#[derive(PartialEq, Eq, PartialOrd, Ord, Hash, Drop)]
+struct Tool(ToolName);
+
+impl FromRow<Orders> for Identifier {
+    fn from_row(rt: &impl Runner, text: &str) -> Self {
+        Identifier(ConfigIdentifier::from_row(rt, text))
+    }
+}
+
+impl FromRow<Orders> for Tool {
+    fn from_row(rt: &impl Runner, text: &str) -> Self {
+        Tool(ToolName::from_row(rt, text))
+    }
+}
+
 /// How the two values of a row compare.
 pub struct Orders;
 
 impl Subject for Orders {
     fn answer(rt: &impl Runner, call: &str, input: &str) -> String {
         match call {
-            "ConfigIdentifier" => ordered::<ConfigIdentifier, _>(rt, input),
+            "ConfigIdentifier" => ordered::<Identifier, _>(rt, input),
             "TestPriority" => ordered::<TestPriority, _>(rt, input),
-            "ToolName" => ordered::<ToolName, _>(rt, input),
+            "ToolName" => ordered::<Tool, _>(rt, input),
             _ => unknown(rt, call),
         }
     }
@@ -107,12 +126,12 @@ pub struct Hashes;
 impl Subject for Hashes {
     fn answer(rt: &impl Runner, call: &str, input: &str) -> String {
         match call {
-            "set of ConfigIdentifier" => distinct::<ConfigIdentifier, _>(rt, input),
+            "set of ConfigIdentifier" => distinct::<Identifier, _>(rt, input),
             "set of TestPriority" => distinct::<TestPriority, _>(rt, input),
-            "set of ToolName" => distinct::<ToolName, _>(rt, input),
-            "hash of ConfigIdentifier" => hashed::<ConfigIdentifier, _>(rt, input),
+            "set of ToolName" => distinct::<Tool, _>(rt, input),
+            "hash of ConfigIdentifier" => hashed::<Identifier, _>(rt, input),
             "hash of TestPriority" => hashed::<TestPriority, _>(rt, input),
-            "hash of ToolName" => hashed::<ToolName, _>(rt, input),
+            "hash of ToolName" => hashed::<Tool, _>(rt, input),
             "sorted TestPriority" => sorted(rt, input),
             _ => unknown(rt, call),
         }

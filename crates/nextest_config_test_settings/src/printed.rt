@@ -81,10 +81,15 @@ FaultKind | InvalidType  / a boolean | invalid type: , expected a boolean
 FaultKind | InvalidType map /  | invalid type: map, expected  |
 FaultKind | InvalidValue integer `-1` / a string | invalid value: integer `-1`, expected a string
 FaultKind | InvalidValue  / a string | invalid value: , expected a string
-written FaultKind | UnknownVariant "\u{1} / `a` | "unknown variant `\"\u{1}`, expected `a`"
-FaultKind | UnknownVariant  / `a` | unknown variant ``, expected `a`
-FaultKind | UnknownField max-delay / `a` | unknown field `max-delay`, expected `a`
-FaultKind | UnknownField  / `a` | unknown field ``, expected `a`
+written FaultKind | UnknownVariant "\u{1} / a | "unknown variant `\"\u{1}`, expected `a`"
+FaultKind | UnknownVariant  / a | unknown variant ``, expected `a`
+FaultKind | UnknownField max-delay / a | unknown field `max-delay`, expected `a`
+FaultKind | UnknownField  / a | unknown field ``, expected `a`
+FaultKind | UnknownVariant x /  | unknown variant `x`, expected  |
+FaultKind | UnknownVariant x / a b | unknown variant `x`, expected `a` or `b`
+FaultKind | UnknownVariant x / a b c | unknown variant `x`, expected one of `a`, `b`, `c`
+FaultKind | UnknownField x / a b | unknown field `x`, expected `a` or `b`
+FaultKind | UnknownField x / a b c d | unknown field `x`, expected one of `a`, `b`, `c`, `d`
 FaultKind | MissingField p.k | missing configuration field "p.k"
 FaultKind | MissingField "\\ | missing configuration field ""\\"
 FaultKind | MissingField  | missing configuration field ""
@@ -98,8 +103,8 @@ FaultKind | Memory | out of memory
 
 ReadFault | p, InvalidType map / a boolean | p: invalid type: map, expected a boolean
 ReadFault | p, InvalidValue map / a boolean | p: invalid value: map, expected a boolean
-ReadFault | p, UnknownVariant x / `a` | p: unknown variant `x`, expected `a`
-ReadFault | retries, UnknownField max-delay / `a` | retries: unknown field `max-delay`, expected `a`
+ReadFault | p, UnknownVariant x / a | p: unknown variant `x`, expected `a`
+ReadFault | retries, UnknownField max-delay / a | retries: unknown field `max-delay`, expected `a`
 ReadFault | p, MissingField p.k | p: missing configuration field "p.k"
 ReadFault | p, Custom Priority -128 | p: priority -128 must be between -100 and 100
 ReadFault | p, Identifier Empty | p: identifier is empty
@@ -155,8 +160,8 @@ Rule | RequiredAboveRecommended 1.0.0-a«a» 0.0.0+b«b» | required version (1.
 Rule | RequiredAboveRecommended «#».«#».«#» 0.0.«#» | required version («#».«#».«#») must not be greater than recommended version (0.0.«#»)
 FaultKind | InvalidType «x» / a boolean | invalid type: «x», expected a boolean
 FaultKind | InvalidValue «x» / a boolean | invalid value: «x», expected a boolean
-FaultKind | UnknownVariant «x» / a boolean | unknown variant `«x»`, expected a boolean
-FaultKind | UnknownField «x» / a boolean | unknown field `«x»`, expected a boolean
+FaultKind | UnknownVariant «x» / a | unknown variant `«x»`, expected `a`
+FaultKind | UnknownField «x» / a | unknown field `«x»`, expected `a`
 FaultKind | MissingField «x» | missing configuration field "«x»"
 FaultKind | Custom NotVersion «x» | invalid version "«x»"
 FaultKind | Identifier InvalidXid «x» | invalid identifier "«x»"

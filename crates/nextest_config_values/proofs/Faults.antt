@@ -3,10 +3,10 @@ use Rattle.std.proofs.Common.{◌≡◌, ◌⊎◌, ℕ, List, Option, Some, Non
 use Rattle.std.proofs.Math.Logic.{⊎_elim, ⊎_map}
 use Rattle.std.proofs.lemmas.Result.{err_from_is_err_and}
 use Rattle.std.specs.Result.{IfErr, IsErrAnd}
-use Rattle.std.specs.Prelude.{IfSome}
-use Rattle.nextest_config_values.specs.Identifier.{IsNormalFault, NameFault}
+use Rattle.std.specs.Prelude.{IfSome, MatchResult}
+use Rattle.nextest_config_values.specs.Identifier.{Grammar, IsNormalFault, NameFault}
 use Rattle.nextest_config_values.specs.Read.Fault.{Fault}
-use Rattle.nextest_config_values.specs.Read.{Always, as_told, fault_below, fault_here, fault_of, FaultOrMemory, inner_at, IsMemory, IsNameKind, IsRefusal, no_data, PathStep, Reading, Reason, Refuses, RefusesAs, RefusesAt, RefusesBy, RefusesKind, RefusesOne, TellsAs, TellsMemory, told_at, told_of}
+use Rattle.nextest_config_values.specs.Read.{Always, for_reason, fault_below, fault_here, fault_of, FaultOrMemory, inner_at, IsMemory, IsNameKind, IsRefusal, no_data, PathStep, Reading, Reason, Refuses, RefusesAs, RefusesAt, RefusesBy, RefusesKind, RefusesOne, TellsAs, TellsMemory, read_fault_at, read_fault_view}
 use Rattle.nextest_config_values.specs.declared.read.fault.FaultKind.{FaultKind}
 use Rattle.nextest_config_values.specs.declared.read.fault.ReadFault.{ReadFault}
 use Rattle.nextest_config_values.specs.declared.read.value_fault.ValueFault.{ValueFault}
@@ -64,14 +64,23 @@ module _ {D X : Type 0} (reading : Reading D X) (value : D) where
 
   -- what is told of the refusal at a path
   pub refused_at : (at : List ℕ) (fault : ValueFault) (told : ReadFault) → RefusesBy reading value fault → (IsMemory fault → TellsMemory told)
-      → IfSome (fault_of fault) (λ f. TellsAs (told_at at f) told) → RefusesAt reading value at told
+      → IfSome (fault_of fault) (λ f. TellsAs (read_fault_at at f) told) → RefusesAt reading value at told
   refused_at at fault told refused memory tells = by_fault (fault_of fault) refused.told tells where
     by_fault : (known : Option Fault) → FaultOrMemory known (IsMemory fault × (reading.takes_memory value ⊎ ((x : X) → ¬ reading.means value x))) (reading.faults value)
-        → IfSome known (λ f. TellsAs (told_at at f) told) → RefusesAt reading value at told
+        → IfSome known (λ f. TellsAs (read_fault_at at f) told) → RefusesAt reading value at told
     by_fault (Some f) faulty tells =
-        fault_mapped (told_of told) tells (λ no_memory. (no_memory, inr (λ x meant. reading.law.never_both value x f meant faulty)))
+        fault_mapped (read_fault_view told) tells (λ no_memory. (no_memory, inr (λ x meant. reading.law.never_both value x f meant faulty)))
         (λ t same. (f, faulty, same))
     by_fault None without tells = let no_memory = memory without.0 in rw no_memory.1 ((no_memory.0, refl), without.1)
+
+  -- what is told of the refusal at a path, where `map_err` tells it
+  pub refused_where : {Y : Type 0} {tells : ValueFault → ReadFault → Type 0} (at : List ℕ) (read : Result Y ValueFault) (told : Result Y ReadFault) → IfErr read (RefusesBy reading value)
+      → MatchResult read (λ x. told ≡ Ok x) (λ fault. IsErrAnd told (tells fault))
+      → ((fault : ValueFault) (t : ReadFault) → tells fault t → (IsMemory fault → TellsMemory t) × IfSome (fault_of fault) (λ f. TellsAs (read_fault_at at f) t))
+      → IfErr told (RefusesAt reading value at)
+  refused_where at (Ok x) told refused is_told tells = rw is_told tt
+  refused_where at (Err fault) (Ok x) refused is_told tells = absurd is_told
+  refused_where at (Err fault) (Err t) refused is_told tells = let told = tells fault t is_told in refused_at at fault t refused told.0 told.1
 
 -- ---- of readings that are put together
 
@@ -110,10 +119,10 @@ in_later first value {x} {later_means} meant refused = in_whole refused (λ take
 
 -- ---- of a name
 
-pub refused_name : {Flaw : Type 0} (IsFlaw : List ℕ → Flaw → Type 0) (reason : NameFault Flaw → Reason) {X : Type 0} {means : X → Type 0} (text : List ℕ) (told : Option (NameFault Flaw)) (of_memory : Type 0) (kind : FaultKind) (fault : ValueFault)
-    → FaultOrMemory told of_memory (IsNormalFault IsFlaw text) → IsNameKind reason told kind → RefusesKind kind fault
-    → IsRefusal means (λ f. (name : NameFault Flaw) × IsNormalFault IsFlaw text name × (f ≡ fault_here (as_told (reason name)))) Always fault
-refused_name IsFlaw reason text (Some name) of_memory kind fault flawed_so kind_is refused =
-    record { told = refused_as _ (fault_here (as_told (reason name))) fault (inl no_data) (name, flawed_so, refl) (rw kind_is at refused) }
-refused_name IsFlaw reason text None of_memory kind fault flawed_so kind_is refused =
+pub refused_name : {Flaw : Type 0} (grammar : Grammar Flaw) {X : Type 0} {means : X → Type 0} (text : List ℕ) (told : Option (NameFault Flaw)) (of_memory : Type 0) (kind : FaultKind) (fault : ValueFault)
+    → FaultOrMemory told of_memory (IsNormalFault grammar.IsFlaw text) → IsNameKind grammar.reason told kind → RefusesKind kind fault
+    → IsRefusal means (λ f. (name : NameFault Flaw) × IsNormalFault grammar.IsFlaw text name × (f ≡ fault_here (for_reason (grammar.reason name)))) Always fault
+refused_name grammar text (Some name) of_memory kind fault flawed_so kind_is refused =
+    record { told = refused_as _ (fault_here (for_reason (grammar.reason name))) fault (inl no_data) (name, flawed_so, refl) (rw kind_is at refused) }
+refused_name grammar text None of_memory kind fault flawed_so kind_is refused =
     record { told = refused_memory _ fault (rw kind_is at refused) (inl no_data) }

@@ -11,7 +11,8 @@ use Rattle.std.specs.Cmp.Lexicographic.{pointwise}
 use Rattle.std.specs.List.{AllByRecursion, AllWithin, HoldsAt, zip}
 use Rattle.toml_spans.proofs.Elements.{all_always, all_joined, all_weaker, decided_all}
 use Rattle.nextest_config_values.proofs.Distances.{distance_apart}
-use Rattle.nextest_config_values.specs.NearestWord.{distance, farness, IsFewEdits, IsNear, IsNearest, IsNearestWord, is_same, most_edits, words_of}
+use Rattle.nextest_config_values.specs.Read.{words_of}
+use Rattle.nextest_config_values.specs.NearestWord.{distance, farness, IsFewEdits, IsNear, IsNearest, IsNearestWord, is_same, most_edits}
 
 -- ---- how far a word is
 

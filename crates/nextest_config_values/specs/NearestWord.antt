@@ -1,15 +1,10 @@
 -- The word of a list that a name comes nearest to.
-use Rattle.std.proofs.Common.{◌≡◌, ℕ, suc, ◌<◌, ◌≤◌, ◌/◌, max, Bool, true, ◌⊎◌, List, [], ◌∷◌, ◌++◌, length, map, nat_eq, Option, Some, None, refl, sym, ap, ◌∙◌, drop, subst, arith}
+use Rattle.std.proofs.Common.{◌≡◌, ℕ, suc, ◌<◌, ◌≤◌, ◌/◌, max, Bool, true, ◌⊎◌, List, [], ◌∷◌, ◌++◌, length, nat_eq, Option, Some, None, refl, sym, ap, ◌∙◌, drop, subst, arith}
 use Rattle.std.specs.Prelude.{◌==◌, chars, if◌then◌else◌}
-use denote.Ref.{Bor}
 use Rattle.std.specs.Char.{to_ascii_lowercase}
 use Rattle.std.specs.Cmp.Lexicographic.{pointwise}
 use Rattle.std.specs.List.{AllByRecursion}
 use Rattle.strsim.specs.Edits.{levenshtein_row}
-
--- the words without where they lie in memory
-abbrev pub words_of : List (Bor (List ℕ)) → List (List ℕ)
-words_of = map (λ word. word.now)
 
 -- ---- how far a word is
 

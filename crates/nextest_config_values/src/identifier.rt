@@ -3,6 +3,7 @@
 mod config_identifier;
 mod error;
 mod kept_text;
+mod name;
 mod tool_name;
 
 pub use config_identifier::ConfigIdentifier;

@@ -11,7 +11,7 @@ ghost use Rattle.nextest_config_values.specs.Equality.{IsCopy, IsEquality, IsEqu
 ghost use Rattle.nextest_config_values.specs.Identifier.{identifier_fault, IdentifierFlaw, IsIdentifier, IsIdentifierFault, IsToolName, IsToolNameFault, NameFault, normal_chars, SameAnswers, tool_name_fault, ToolNameFlaw};
 ghost use Rattle.nextest_config_values.specs.NearestWord.{IsNearest};
 ghost use Rattle.nextest_config_values.specs.Once.{HasOneMeaningOrFault};
-ghost use Rattle.nextest_config_values.specs.Read.{broken_rule, cause_of, fault_of, faults_at, IsReading, reason_of, step_of, told_of, ToldFault};
+ghost use Rattle.nextest_config_values.specs.Read.{broken_rule, cause_of, fault_of, faults_at, IsReading, reason_of, step_of, read_fault_view, ReadFaultView};
 ghost use Rattle.nextest_config_values.specs.ToolConfig.{Argument, argument_fault, argument_of, ArgumentFault, IsArgumentFault, IsToolArgument};
 ghost use Rattle.nextest_config_values.specs.declared.track_default.TrackDefault.{TrackDefault};
 
@@ -29,7 +29,7 @@ use std::hash::Hash;
 /// and no value has two faults that are told at one path.
 pub fn law_value_once<T: FromToml>()
     ensures once { IsReading T.reading.means T.reading.faults }
-    ensures told_once { (value : Data) (at : List ℕ) (told other : ToldFault)
+    ensures told_once { (value : Data) (at : List ℕ) (told other : ReadFaultView)
         → faults_at T.reading value at told → faults_at T.reading value at other → told ≡ other }
 {}
 
@@ -115,7 +115,7 @@ pub fn law_equality()
     ensures count { IsEquality ⟦<NonZeroCount as PartialEq>⟧.eq }
     ensures rule { IsEqualityBy broken_rule ⟦<Rule as PartialEq>⟧.eq }
     ensures kind { IsEqualityOfTold reason_of ⟦<FaultKind as PartialEq>⟧.eq }
-    ensures fault { IsEqualityOfTold told_of ⟦<ReadFault as PartialEq>⟧.eq }
+    ensures fault { IsEqualityOfTold read_fault_view ⟦<ReadFault as PartialEq>⟧.eq }
     ensures step { IsEqualityBy step_of ⟦<Step as PartialEq>⟧.eq }
     ensures cause { IsEqualityOfTold cause_of ⟦<FaultCause as PartialEq>⟧.eq }
     ensures value_fault { IsEqualityOfTold fault_of ⟦<ValueFault as PartialEq>⟧.eq }

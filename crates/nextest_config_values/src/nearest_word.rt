@@ -1,7 +1,8 @@
 //! The word of a list that a name comes nearest to.
 
 ghost use Rattle.std.specs.Prelude.{◌≡◌, IfOk, chars, length, option_map};
-ghost use Rattle.nextest_config_values.specs.NearestWord.{IsNearest, is_same, plain_byte, words_of};
+ghost use Rattle.nextest_config_values.specs.Read.{words_of};
+ghost use Rattle.nextest_config_values.specs.NearestWord.{IsNearest, is_same, plain_byte};
 
 use std::alloc::{AllocError, Global};
 use strsim::levenshtein;

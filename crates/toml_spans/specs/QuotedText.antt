@@ -5,11 +5,14 @@ use Rattle.std.specs.Char.Escape.{escape_unicode}
 use Rattle.std.specs.Str.{chars}
 use Rattle.toml_spans.specs.Characters.{backslash, carriage_return, double_quote, line_feed, nul, tab}
 
--- a character with no escape of its own: as `\u{..}` with its code in lower case hexadecimal, where
--- it is a control character (U+0000 to U+001F, U+007F to U+009F)
+-- a character by its code: as `\u{..}`, in lower case hexadecimal
+abbrev pub by_code : ℕ → List ℕ
+by_code c = flat_map encode_utf8 (escape_unicode c)
+
+-- a character with no escape of its own: by its code, where it is a control character (U+0000 to
+-- U+001F, U+007F to U+009F)
 abbrev pub unnamed_character : ℕ → List ℕ
-unnamed_character c = if is_control c then flat_map encode_utf8 (escape_unicode c)
-    else encode_utf8 c
+unnamed_character c = if is_control c then by_code c else encode_utf8 c
 
 -- a character between the quotes
 abbrev pub quoted_character : ℕ → List ℕ

@@ -25,5 +25,5 @@ pub use index::Index;
 pub use line::{line_after, line_of};
 pub use partial::PartialIndex;
 pub use place::{Place, Span};
-pub use quoted_text::{QuotedText, quoted, write_quoted};
-pub use step::{NameText, PathText, Step};
+pub use quoted_text::{QuotedText, quoted, write_by_code, write_quoted};
+pub use step::{NameText, PathText, Step, is_bare_key};

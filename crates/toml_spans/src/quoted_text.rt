@@ -2,7 +2,7 @@
 
 ghost use Rattle.std.specs.Prelude.{◌≡◌, IfOk, Some, string_bytes};
 ghost use Rattle.std.specs.Fmt.{WritesOnOk, WritesStyledOnOk};
-ghost use Rattle.toml_spans.specs.QuotedText.{quoted_character, quoted_text, unnamed_character};
+ghost use Rattle.toml_spans.specs.QuotedText.{by_code, quoted_character, quoted_text, unnamed_character};
 
 use std::alloc::{AllocError, Global};
 use std::fmt;
@@ -53,9 +53,18 @@ fn write_unnamed<W: fmt::Write>(f: &mut fmt::Formatter<W>, c: char) -> fmt::Resu
     ensures writes { WritesOnOk W.write_str_gives f.old result (unnamed_character c) f.new }
     ensures styled { WritesStyledOnOk W.write_str_gives f.old result (unnamed_character c) f.new }
 {
-    if !c.is_control() {
-        return f.write_char(c);
+    if c.is_control() {
+        write_by_code(f, c)
+    } else {
+        f.write_char(c)
     }
+}
+
+/// Writes a character by its code in hexadecimal, as `\u{7f}`.
+pub fn write_by_code<W: fmt::Write>(f: &mut fmt::Formatter<W>, c: char) -> fmt::Result
+    ensures writes { WritesOnOk W.write_str_gives f.old result (by_code c) f.new }
+    ensures styled { WritesStyledOnOk W.write_str_gives f.old result (by_code c) f.new }
+{
     for mark in c.escape_unicode() {
         f.write_char(mark)?;
     }

@@ -72,8 +72,8 @@ fn write_key<W: fmt::Write>(f: &mut fmt::Formatter<W>, key: &str) -> fmt::Result
     }
 }
 
-// Whether the key needs no quotes.
-fn is_bare_key(key: &str) -> bool
+/// Whether the key needs no quotes (TOML 1.1, "Keys").
+pub fn is_bare_key(key: &str) -> bool
     ensures { result ≡ is_bare_key key.now }
 {
     !key.is_empty() && key.bytes().all(|byte| is_bare(byte))

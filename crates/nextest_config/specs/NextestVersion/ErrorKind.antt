@@ -1,6 +1,6 @@
 -- What is wrong with a source, without where it lies in memory.
 use Rattle.std.specs.Prelude.{◌≡◌, ℕ, Bool, true, false, List, ◌++◌, Option, Some, None, option_map, map, codes, string_bytes}
-use Rattle.nextest_config_values.specs.Read.{fault_text, FaultOrMemory, kind_text, path_text, quoted_texts, told_of, ToldFault}
+use Rattle.nextest_config_values.specs.Read.{fault_text, FaultOrMemory, kind_text, path_text, quoted_texts, read_fault_view, ReadFaultView}
 use Rattle.nextest_config_values.specs.declared.read.fault.ReadFault.{ReadFault}
 use Rattle.nextest_config.specs.declared.nextest_version.error_kind.ConfigParseErrorKind.{ConfigParseErrorKind}
 use Rattle.nextest_config.specs.declared.nextest_version.error_kind.ConfigParseErrorKind.TheVariants as kinds
@@ -9,13 +9,13 @@ use Rattle.nextest_config.specs.declared.nextest_version.error_kind.ConfigParseE
 -- a tool's and names these features
 pub data Wrong : Type 0 where
   not_toml : Wrong
-  setting : ToldFault → Wrong
+  setting : ReadFaultView → Wrong
   tool_features : List (List ℕ) → Wrong
 
 -- what a kind of error says, unless memory was refused
 abbrev pub wrong_of : ConfigParseErrorKind → Option Wrong
 wrong_of kinds.TomlParseError = Some not_toml
-wrong_of (kinds.VersionOnlyDeserializeError fault) = option_map setting (told_of fault)
+wrong_of (kinds.VersionOnlyDeserializeError fault) = option_map setting (read_fault_view fault)
 wrong_of (kinds.ExperimentalFeaturesInToolConfig features) =
     Some (tool_features (map string_bytes features.keys))
 wrong_of kinds.Memory = None
@@ -35,7 +35,7 @@ RefusesSource IsSuch kind = FaultOrMemory (wrong_of kind) (kind ≡ kinds.Memory
 -- memory was refused
 abbrev pub IsSettingKind : ReadFault → ConfigParseErrorKind → Type 0
 IsSettingKind refused kind =
-    FaultOrMemory (told_of refused) (kind ≡ kinds.Memory)
+    FaultOrMemory (read_fault_view refused) (kind ≡ kinds.Memory)
     (λ told. wrong_of kind ≡ Some (setting told))
 
 -- how what is wrong with a source prints

@@ -2,7 +2,7 @@
 use Rattle.std.specs.Prelude.{◌≡◌, ◌≢◌, ℕ, Bool, false, List, [], codes, Option, Some, None}
 use Rattle.toml.specs.Data.{Members}
 use Rattle.toml.specs.Parse.{parse_document}
-use Rattle.nextest_config_values.specs.Read.{faults_at, or_default, Reading, Then, ToldFault}
+use Rattle.nextest_config_values.specs.Read.{faults_at, or_default, Reading, Then, ReadFaultView}
 use Rattle.nextest_config.specs.NextestVersion.NextestVersionDeserialize.{Versions, no_versions, versions_of, versions_reading}
 use Rattle.nextest_config.specs.NextestVersion.ErrorKind.{Wrong, not_toml, setting, tool_features}
 use Rattle.nextest_config.specs.NextestVersion.ExperimentalDeserialize.{AreNames, Features, FeatureSetting, features_of, in_form, no_features, no_feature_setting}
@@ -88,7 +88,7 @@ BreaksToolRule DiscoveredRepository features wrong = ⊥
 
 -- a setting of the table is refused, which is told at its path in the document
 abbrev pub IsWrongSetting : {X : Type 0} → Reading Members X → Members → Wrong → Type 0
-IsWrongSetting reading members wrong = (told : ToldFault) × faults_at reading members [] told
+IsWrongSetting reading members wrong = (told : ReadFaultView) × faults_at reading members [] told
     × (wrong ≡ setting told)
 
 -- what is wrong with `experimental`; where that is all right, that a tool names a feature

@@ -11,7 +11,7 @@ use Rattle.toml.specs.Parse.{parse_document}
 use Rattle.nextest_config_values.specs.Decisions.{IsDecided}
 use Rattle.nextest_config_values.specs.Once.{HasMeaningOrFault, HasOneMeaningOrFault}
 use Rattle.nextest_config_values.specs.Read.Fault.{Fault}
-use Rattle.nextest_config_values.specs.Read.{one_then, Reading, Then, told_at}
+use Rattle.nextest_config_values.specs.Read.{one_then, Reading, Then, read_fault_at}
 use Rattle.nextest_config.specs.NextestVersion.ErrorKind.{not_toml, setting, tool_features, Wrong}
 use Rattle.nextest_config.specs.NextestVersion.Experimental.{word_of}
 use Rattle.nextest_config.specs.NextestVersion.ExperimentalDeserialize.{AreNames, Features, FeatureSetting, in_form, no_features}
@@ -58,7 +58,7 @@ module _ {X : Type 0} (reading : Reading Members X) (members : Members) where
       → a ≡ b
   one_setting a b (told, (f, faulty, tells), is) (also, (g, faulty_too, tells_too), other) =
       let same : told ≡ also =
-      tells ∙ ap (told_at []) (reading.law.one_fault members f g faulty faulty_too)
+      tells ∙ ap (read_fault_at []) (reading.law.one_fault members f g faulty faulty_too)
       ∙ sym tells_too in
       is ∙ ap setting same ∙ sym other
 
@@ -182,9 +182,9 @@ tool_rule_or_error DiscoveredRepository features = inl tt
 -- what a fault of a setting tells
 wrong_setting : {X : Type 0} (reading : Reading Members X) (members : Members) (fault : Fault)
     → reading.faults members fault
-    → IsWrongSetting reading members (setting (told_at [] fault))
+    → IsWrongSetting reading members (setting (read_fault_at [] fault))
 wrong_setting reading table fault faulty =
-    (told_at [] fault, (fault, faulty, refl), refl)
+    (read_fault_at [] fault, (fault, faulty, refl), refl)
 
 module _ (edition : Edition) (kind : ConfigSourceKind) (table : Members) where
   named_or_error : (versions : Versions) (named : FeatureSetting) → AsksVersions table versions
@@ -207,7 +207,7 @@ module _ (edition : Edition) (kind : ConfigSourceKind) (table : Members) where
       (tool_rule_or_error kind named.features)
   features_or_error versions of_versions (inr (fault, faulty)) =
       inr (
-        setting (told_at [] fault),
+        setting (read_fault_at [] fault),
         inr (
           versions,
           of_versions,
@@ -220,7 +220,7 @@ module _ (edition : Edition) (kind : ConfigSourceKind) (table : Members) where
   table_by (inl (versions, of_versions)) =
       features_or_error versions of_versions ((features_asked edition).law.meaning_or_fault table)
   table_by (inr (fault, faulty)) =
-      inr (setting (told_at [] fault), inl (wrong_setting versions_asked table fault faulty))
+      inr (setting (read_fault_at [] fault), inl (wrong_setting versions_asked table fault faulty))
 
   table_or_error : IsAskOrWrong edition kind table
   table_or_error = table_by (versions_asked.law.meaning_or_fault table)

@@ -43,11 +43,7 @@ impl ConfigExperimental {
     pub fn as_word(self) -> &'static str
         ensures { result.now ≡ word_of self }
     {
-        match self {
-            ConfigExperimental::SetupScripts => "setup-scripts",
-            ConfigExperimental::WrapperScripts => "wrapper-scripts",
-            ConfigExperimental::Benchmarks => "benchmarks",
-        }
+        Word::as_word(self)
     }
 
     /// All features, in order.
@@ -119,12 +115,12 @@ impl Word for ConfigExperimental {
         ]
     }
 
-    fn as_word(self) -> &'static str {
-        ConfigExperimental::as_word(self)
+    fn words() -> &'static [&'static str] {
+        &["setup-scripts", "wrapper-scripts", "benchmarks"]
     }
 
-    fn expected() -> &'static str {
-        "one of `setup-scripts`, `wrapper-scripts`, `benchmarks`"
+    fn position(self) -> usize {
+        self as usize
     }
 }
 

@@ -4,7 +4,7 @@ use Rattle.toml_spans.specs.declared.place.Span.{Span}
 use Rattle.nextest_config_lint.specs.declared.finding.FindingSeverity.{FindingSeverity}
 use Rattle.nextest_config_lint.specs.declared.finding.FindingSeverity.TheVariants.{Error, Note, Warning}
 use Rattle.nextest_config_output.specs.Findings.Escapes.{escaped_text}
-use Rattle.nextest_config_output.specs.Findings.Told.Finding.{found_text, Told}
+use Rattle.nextest_config_output.specs.Findings.Diagnostic.View.{found_text, DiagnosticView}
 use Rattle.nextest_config_output.specs.declared.findings.escapes.Escapes.TheVariants.{Message, Property}
 
 -- the command that shows a finding of this severity
@@ -27,17 +27,18 @@ span_text span =
     ++ columns_text span)))
 
 -- FILE:LINE:COLUMN: FINDING
-abbrev pub place_and_found : Told → List ℕ
-place_and_found told =
-    escaped_text Message told.file
-    ++ (codes ":" ++ (decimal told.span.begin.line ++ (codes ":" ++ (decimal told.span.begin.column
-    ++ (codes ": " ++ found_text Message told)))))
+abbrev pub place_and_found : DiagnosticView → List ℕ
+place_and_found diagnostic =
+    escaped_text Message diagnostic.file
+    ++ (codes ":" ++ (decimal diagnostic.span.begin.line
+    ++ (codes ":" ++ (decimal diagnostic.span.begin.column
+    ++ (codes ": " ++ found_text Message diagnostic)))))
 
 -- ::COMMAND file=FILE,line=LINE,endLine=LINE,col=COLUMN,endColumn=COLUMN,title=CODE:: and then
 -- FILE:LINE:COLUMN: FINDING; without the columns where the range has several lines
-abbrev pub github_line : Told → List ℕ
-github_line told =
-    codes "::" ++ (github_command told.severity
-    ++ (codes " file=" ++ (escaped_text Property told.file
-    ++ (codes "," ++ (span_text told.span ++ (codes ",title=" ++ (told.code
-    ++ (codes "::" ++ (place_and_found told ++ codes "\n")))))))))
+abbrev pub github_line : DiagnosticView → List ℕ
+github_line diagnostic =
+    codes "::" ++ (github_command diagnostic.severity
+    ++ (codes " file=" ++ (escaped_text Property diagnostic.file
+    ++ (codes "," ++ (span_text diagnostic.span ++ (codes ",title=" ++ (diagnostic.code
+    ++ (codes "::" ++ (place_and_found diagnostic ++ codes "\n")))))))))

@@ -28,16 +28,11 @@ impl Word for Format {
         &[Format::Human, Format::Full, Format::Github, Format::Json]
     }
 
-    fn as_word(self) -> &'static str {
-        match self {
-            Format::Human => "human",
-            Format::Full => "full",
-            Format::Github => "github",
-            Format::Json => "json",
-        }
+    fn words() -> &'static [&'static str] {
+        &["human", "full", "github", "json"]
     }
 
-    fn expected() -> &'static str {
-        "one of `human`, `full`, `github`, `json`"
+    fn position(self) -> usize {
+        self as usize
     }
 }

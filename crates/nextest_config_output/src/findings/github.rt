@@ -2,10 +2,10 @@
 
 ghost use Rattle.std.specs.Prelude.{◌≡◌, ◌++◌, OnOk, string_bytes};
 ghost use Rattle.nextest_config_output.specs.Findings.Github.{github_command, github_line, span_text};
-ghost use Rattle.nextest_config_output.specs.Findings.Told.{told_of};
+ghost use Rattle.nextest_config_output.specs.Findings.Diagnostic.{diagnostic_view};
 
+use crate::findings::diagnostic::{Diagnostic, Found};
 use crate::findings::escapes::{Escaped, Escapes};
-use crate::findings::told::{Found, ToldFinding};
 use nextest_config_lint::FindingSeverity;
 use std::alloc::AllocError;
 use std::fmt::Write;
@@ -13,18 +13,18 @@ use toml_spans::{Place, Span};
 
 // Pushes a finding as a command that shows it at its lines. Its text has the place, too, since the
 // log of a job shows nothing else.
-pub(crate) fn push_github(text: &mut String, told: &ToldFinding<'_>) -> Result<(), AllocError>
+pub(crate) fn push_github(text: &mut String, diagnostic: &Diagnostic<'_>) -> Result<(), AllocError>
     ensures { OnOk result
-        (string_bytes text.new ≡ string_bytes text.old ++ github_line (told_of told.now)) }
+        (string_bytes text.new ≡ string_bytes text.old ++ github_line (diagnostic_view diagnostic.now)) }
 {
-    let command = github_command(told.severity);
-    let file = Escaped(Escapes::Property, told.file);
+    let command = github_command(diagnostic.severity);
+    let file = Escaped(Escapes::Property, diagnostic.file);
     write!(text, "::{command} file={file},")?;
-    push_span(text, told.span)?;
-    let path = Escaped(Escapes::Message, told.file);
-    let Place { line, column } = told.span.begin;
-    let found = Found(Escapes::Message, told);
-    let code = told.code;
+    push_span(text, diagnostic.span)?;
+    let path = Escaped(Escapes::Message, diagnostic.file);
+    let Place { line, column } = diagnostic.span.begin;
+    let found = Found(Escapes::Message, diagnostic);
+    let code = diagnostic.code;
     writeln!(text, ",title={code}::{path}:{line}:{column}: {found}")
 }
 

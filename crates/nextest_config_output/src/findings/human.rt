@@ -2,23 +2,23 @@
 
 ghost use Rattle.std.specs.Prelude.{◌≡◌, ◌++◌, OnOk, string_bytes};
 ghost use Rattle.nextest_config_output.specs.Findings.Human.{human_line};
-ghost use Rattle.nextest_config_output.specs.Findings.Told.{told_of};
+ghost use Rattle.nextest_config_output.specs.Findings.Diagnostic.{diagnostic_view};
 
+use crate::findings::diagnostic::{Diagnostic, Found, severity_word};
 use crate::findings::escapes::{Escaped, Escapes};
-use crate::findings::told::{Found, ToldFinding, severity_word};
 use std::alloc::AllocError;
 use std::fmt::Write;
 use toml_spans::Place;
 
 // Pushes a finding as a line that tools read, too.
-pub(crate) fn push_human(text: &mut String, told: &ToldFinding<'_>) -> Result<(), AllocError>
+pub(crate) fn push_human(text: &mut String, diagnostic: &Diagnostic<'_>) -> Result<(), AllocError>
     ensures { OnOk result
-        (string_bytes text.new ≡ string_bytes text.old ++ human_line (told_of told.now)) }
+        (string_bytes text.new ≡ string_bytes text.old ++ human_line (diagnostic_view diagnostic.now)) }
 {
-    let file = Escaped(Escapes::InLine, told.file);
-    let Place { line, column } = told.span.begin;
-    let severity = severity_word(told.severity);
-    let found = Found(Escapes::InLine, told);
-    let code = told.code;
+    let file = Escaped(Escapes::InLine, diagnostic.file);
+    let Place { line, column } = diagnostic.span.begin;
+    let severity = severity_word(diagnostic.severity);
+    let found = Found(Escapes::InLine, diagnostic);
+    let code = diagnostic.code;
     writeln!(text, "{file}:{line}:{column}: {severity}: {found} [{code}]")
 }

@@ -2,9 +2,9 @@
 
 ghost use Rattle.std.specs.Prelude.{◌≡◌, ◌++◌, IfOk, OnOk, string_bytes};
 ghost use Rattle.nextest_config_output.specs.Findings.JsonLine.{json_line, number_member, quoted, text_member};
-ghost use Rattle.nextest_config_output.specs.Findings.Told.{told_of};
+ghost use Rattle.nextest_config_output.specs.Findings.Diagnostic.{diagnostic_view};
 
-use crate::findings::told::{ToldFinding, severity_word};
+use crate::findings::diagnostic::{Diagnostic, severity_word};
 use serde_json::Value;
 use std::alloc::{AllocError, Global};
 use std::fmt::Write;
@@ -14,22 +14,22 @@ use toml_spans::Span;
 pub(crate) fn push_json(
     alloc: Global,
     text: &mut String,
-    told: &ToldFinding<'_>,
+    diagnostic: &Diagnostic<'_>,
 ) -> Result<(), AllocError>
     ensures { OnOk result
-        (string_bytes text.new ≡ string_bytes text.old ++ json_line (told_of told.now)) }
+        (string_bytes text.new ≡ string_bytes text.old ++ json_line (diagnostic_view diagnostic.now)) }
 {
-    let Span { begin, end } = told.span;
-    let path = json_text(alloc, told.file)?;
+    let Span { begin, end } = diagnostic.span;
+    let path = json_text(alloc, diagnostic.file)?;
     write!(text, "{{\"path\":{path}")?;
     push_number(text, "line", begin.line)?;
     push_number(text, "column", begin.column)?;
     push_number(text, "end_line", end.line)?;
     push_number(text, "end_column", end.column)?;
-    push_text(alloc, text, "severity", severity_word(told.severity))?;
-    push_text(alloc, text, "code", told.code)?;
-    push_text(alloc, text, "key", told.key)?;
-    push_text(alloc, text, "message", told.message)?;
+    push_text(alloc, text, "severity", severity_word(diagnostic.severity))?;
+    push_text(alloc, text, "code", diagnostic.code)?;
+    push_text(alloc, text, "key", diagnostic.key)?;
+    push_text(alloc, text, "message", diagnostic.message)?;
     text.push_str("}\n")?;
     Ok(())
 }

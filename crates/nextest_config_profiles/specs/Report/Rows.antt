@@ -3,7 +3,7 @@ use Rattle.std.specs.Prelude.{◌≡◌, ◌↔◌, ◌⊎◌, ℕ, Bool, true, 
 use Rattle.std.specs.List.{AllZip}
 use Rattle.toml.specs.Data.{as_table, Data, integer, string}
 use Rattle.toml.specs.View.{view}
-use Rattle.nextest_config_values.specs.Read.{fault_of, fault_text, told_at}
+use Rattle.nextest_config_values.specs.Read.{fault_of, fault_text, read_fault_at}
 use Rattle.nextest_config_values.specs.Read.Fault.{Fault}
 use Rattle.nextest_config_values.specs.declared.read.value_fault.ValueFault.{ValueFault}
 use Rattle.nextest_config_lint.specs.Conversion.{IsConvertedAt}
@@ -242,7 +242,7 @@ pub record ArePlacesOf (effective : EffectiveProfile) (profile : List ℕ) (sett
 -- the text is what the fault says
 abbrev pub IsMessage : Option Fault → List ℕ → Type 0
 IsMessage None text = ⊥
-IsMessage (Some fault) text = text ≡ fault_text (told_at [] fault)
+IsMessage (Some fault) text = text ≡ fault_text (read_fault_at [] fault)
 
 -- what is told of a fault of a setting: what it says, and where the parts of the value stand
 abbrev pub IsFaultState : EffectiveProfile → List ℕ → SettingRule → ValueFault → KeyState → Type 0

@@ -1,19 +1,24 @@
 //! The whole of what is told of a profile.
 
-ghost use Rattle.std.specs.Prelude.{◌≡◌, IfOk, map};
+ghost use Rattle.std.specs.Prelude.{◌≡◌, ◌++◌, ◌∷◌, [], IfOk, List, map, OnOk};
 ghost use Rattle.std.specs.List.{AllZip, list_any};
+ghost use Rattle.nextest_config_profiles.specs.Reach.{words_of};
+ghost use Rattle.nextest_config_profiles.specs.Report.OtherProfiles.{AreFaultsOf, AreOtherProfileFaults};
 ghost use Rattle.nextest_config_profiles.specs.Report.ProfileReport.{has_fault, have_fault, is_fault, IsReport, rows_have_fault};
 ghost use Rattle.nextest_config_profiles.specs.Report.Rows.{AreRows};
-ghost use Rattle.nextest_config_profiles.specs.Report.Setting.{all_settings};
+ghost use Rattle.nextest_config_profiles.specs.Report.Setting.{all_settings, rule_of};
+ghost use Rattle.nextest_config_profiles.specs.declared.report.parts.OtherProfileFault.{OtherProfileFault};
+ghost use Rattle.nextest_config_profiles.specs.declared.report.parts.Row.{Row};
 
-use crate::EffectiveProfile;
 use crate::report::chain::chain;
-use crate::report::other_profiles::other_profile_faults;
+use crate::report::given::given_for;
+use crate::report::other_profiles::{giver_of, push_faults};
 use crate::report::others::others;
 use crate::report::overrides::overrides;
 use crate::report::parts::{ChainProfile, KeyState, OtherKey, OtherProfileFault, Override, Row};
 use crate::report::rows::rows_of;
-use crate::report::setting::all_settings;
+use crate::report::setting::{Setting, all_settings};
+use crate::{EffectiveProfile, profile_names};
 use std::alloc::{AllocError, Global};
 
 /// What is told of a profile.
@@ -41,12 +46,13 @@ impl<'a> ProfileReport<'a> {
     ) -> Result<Self, AllocError>
         ensures { IfOk result (IsReport effective.now tells_hidden) }
     {
+        let report = settings_report(alloc, effective, tells_hidden)?;
         Ok(ProfileReport {
             chain: chain(alloc, effective)?,
-            settings: all_rows(alloc, effective, tells_hidden)?,
+            settings: report.rows,
             others: others(alloc, effective)?,
             overrides: overrides(alloc, effective)?,
-            other_profiles: other_profile_faults(alloc, effective)?,
+            other_profiles: report.faults,
         })
     }
 
@@ -59,21 +65,67 @@ impl<'a> ProfileReport<'a> {
     }
 }
 
-// What is told of each setting.
-fn all_rows<'a>(
+// What is told of the settings.
+#[derive(Drop)]
+struct SettingsReport<'a> {
+    rows: Vec<Vec<Row<'a>>>,
+    // What is wrong with each in other profiles than the one that gives it.
+    faults: Vec<OtherProfileFault<'a>>,
+}
+
+// What is told of each setting, which is read once.
+fn settings_report<'a>(
     alloc: Global,
     effective: &'a EffectiveProfile<'a>,
     tells_hidden: bool,
-) -> Result<Vec<Vec<Row<'a>>>, AllocError>
-    ensures { IfOk result (λ all. AllZip (AreRows effective.now tells_hidden) all_settings
-        (map (λ rows. rows.items) all.items)) }
+) -> Result<SettingsReport<'a>, AllocError>
+    ensures rows { IfOk result (λ report. AllZip (AreRows effective.now tells_hidden) all_settings
+        (map (λ rows. rows.items) report.rows.items)) }
+    ensures faults { IfOk result (λ report.
+        AreOtherProfileFaults effective.now report.faults.items) }
 {
+    let names = profile_names(alloc, effective.files())?;
     let settings = all_settings();
-    let mut all = Vec::new(alloc);
+    let mut report = SettingsReport {
+        rows: Vec::new(alloc),
+        faults: Vec::new(alloc),
+    };
     for setting in settings {
-        all.push(rows_of(alloc, effective, *setting, tells_hidden)?)?;
+        push_setting(
+            alloc,
+            effective,
+            *setting,
+            names.as_slice(),
+            tells_hidden,
+            &mut report,
+        )?;
     }
-    Ok(all)
+    Ok(report)
+}
+
+// Pushes what is told of a setting, where the profiles have these names.
+fn push_setting<'a>(
+    alloc: Global,
+    effective: &'a EffectiveProfile<'a>,
+    setting: Setting,
+    names: &[&'a str],
+    tells_hidden: bool,
+    report: &mut SettingsReport<'a>,
+) -> Result<(), AllocError>
+    ensures rows { OnOk result ((rows : List Row)
+        × AreRows effective.now tells_hidden (rule_of setting) rows
+        × (map (λ rows. rows.items) report.new.rows.items
+        ≡ map (λ rows. rows.items) report.old.rows.items ++ rows ∷ [])) }
+    ensures faults { OnOk result ((added : List OtherProfileFault)
+        × AreFaultsOf effective.now (words_of names.now) (rule_of setting) added
+        × (report.new.faults.items ≡ report.old.faults.items ++ added)) }
+{
+    let given = given_for(alloc, effective, None, setting)?;
+    let giver = giver_of(&given);
+    let rows = rows_of(alloc, effective, setting, tells_hidden, given)?;
+    report.rows.push(rows)?;
+    push_faults(alloc, effective, setting, giver, names, &mut report.faults)?;
+    Ok(())
 }
 
 // Whether a row of a setting tells of a fault, or of no value.

@@ -4,11 +4,11 @@ ghost use Rattle.std.specs.Prelude.{◌≡◌, ◌∷◌, [], filter, IfOk, map,
 ghost use Rattle.std.specs.List.{AllZip};
 ghost use Rattle.toml.specs.View.{view};
 ghost use Rattle.nextest_config_profiles.specs.Reach.{words_of};
-ghost use Rattle.nextest_config_profiles.specs.Report.Rows.{AreImplied, AreRows, AreRowsFor, AreRowsOf, AreValueRows, AreWholeRows, at_of, IsAbsentRow, IsGivenRow, IsGivenState, IsImpliedRow, IsMemberRow, IsFoundMember, is_optional, IsNothingRow, IsNothingState, IsTaken, IsTakenAway, stands_for_table};
+ghost use Rattle.nextest_config_profiles.specs.Report.Rows.{AreImplied, AreRowsFor, AreRowsOf, AreValueRows, AreWholeRows, at_of, IsAbsentRow, IsGivenRow, IsGivenState, IsImpliedRow, IsMemberRow, IsFoundMember, is_optional, IsNothingRow, IsNothingState, IsTaken, IsTakenAway, stands_for_table};
 ghost use Rattle.nextest_config_profiles.specs.Report.Setting.{absent_of, member_of, rule_of};
 
 use crate::report::faulty::fault_row;
-use crate::report::given::{Given, given_for};
+use crate::report::given::Given;
 use crate::report::hidden::hidden_rows;
 use crate::report::keys::{copy_of, with_key};
 use crate::report::last::last_at;
@@ -31,22 +31,8 @@ pub(crate) struct GivenSetting<'p> {
     pub tells_hidden: bool,
 }
 
-/// What is told of a setting.
+/// The rows of a setting for which this is given.
 pub(crate) fn rows_of<'p>(
-    alloc: Global,
-    effective: &'p EffectiveProfile<'p>,
-    setting: Setting,
-    tells_hidden: bool,
-) -> Result<Vec<Row<'p>>, AllocError>
-    ensures { IfOk result (λ rows.
-        AreRows effective.now tells_hidden (rule_of setting) rows.items) }
-{
-    let given = given_for(alloc, effective, None, setting)?;
-    given_rows(alloc, effective, setting, tells_hidden, given)
-}
-
-// The rows of a setting for which this is given.
-fn given_rows<'p>(
     alloc: Global,
     effective: &'p EffectiveProfile<'p>,
     setting: Setting,

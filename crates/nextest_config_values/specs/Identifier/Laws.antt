@@ -6,13 +6,13 @@ use Rattle.toml.specs.Data.{Data, as_str}
 use Rattle.unicode_ident.proofs.IdentLemmas.{is_xid_continue-ascii, is_xid_start-ascii}
 use Rattle.unicode_ident.specs.Ident.{is_xid_start}
 use Rattle.nextest_config_values.specs.Helpers.Identifiers.{GoesOn, IsPlainFlaw, IsPlainIdentifier}
-use Rattle.nextest_config_values.specs.Identifier.ConfigIdentifier.{AreFlawed, HasNoColon, IsCutAtColon, IsIdentifierFlaw, IsIdentifierForm, IsMarkedPair, IsUnmarked, tool_mark}
+use Rattle.nextest_config_values.specs.Identifier.ConfigIdentifier.{AreFlawed, HasNoColon, IsCutAtColon, IsIdentifier, IsIdentifierFault, IsIdentifierFlaw, IsIdentifierForm, IsMarkedPair, IsUnmarked, tool_mark}
 use Rattle.nextest_config_values.specs.Identifier.Error.{Component, IdentifierFlaw, NameFault, OneComponent, ToolNameFlaw, Whole, flawed}
-use Rattle.nextest_config_values.specs.Identifier.Normal.{IsNormalFault, IsNormalText, normal_chars, normal_form}
-use Rattle.nextest_config_values.specs.Identifier.ToolName.{IsToolNameFlaw}
+use Rattle.nextest_config_values.specs.Identifier.Normal.{Grammar, IsNormalFault, IsNormalText, normal_chars, normal_form}
+use Rattle.nextest_config_values.specs.Identifier.ToolName.{IsToolName, IsToolNameFault, IsToolNameFlaw}
 use Rattle.nextest_config_values.specs.Decisions.{both_decided, IsDecided, IsFoundOrNone, same_decided, true_decided}
 use Rattle.nextest_config_values.specs.Once.{HasMeaningOrFault, HasOneMeaningOrFault}
-use Rattle.nextest_config_values.specs.Read.Fault.{Always, as_told, fault_here, identifier, Reason, tool_name}
+use Rattle.nextest_config_values.specs.Read.Fault.{Always, for_reason, fault_here, identifier, Reason, tool_name}
 use Rattle.nextest_config_values.specs.Read.FromToml.{Reading}
 use Rattle.nextest_config_values.specs.Read.Plain.{text_expected}
 use Rattle.nextest_config_values.specs.Read.Readings.{kind, wrong_kind}
@@ -243,35 +243,33 @@ tool_name_or_flaw cs = elim (plain_decided cs) [
 pub named_fault : {X Flaw : Type 0} {means : X → Type 0} {is_fault : NameFault Flaw → Type 0}
     (reason : NameFault Flaw → Reason) → HasMeaningOrFault means is_fault
     → HasMeaningOrFault means (λ fault. (told : NameFault Flaw) × is_fault told
-    × (fault ≡ fault_here (as_told (reason told))))
+    × (fault ≡ fault_here (for_reason (reason told))))
 named_fault reason (inl meant) = inl meant
 named_fault reason (inr (told, wrong)) =
-    inr (fault_here (as_told (reason told)), (told, wrong, refl))
+    inr (fault_here (for_reason (reason told)), (told, wrong, refl))
 
-module _ {Flaw : Type 0} (IsInGrammar : List ℕ → Type 0) (IsFlaw : List ℕ → Flaw → Type 0)
-    (grammar_or_flaw : (cs : List ℕ) → IsInGrammar cs ⊎ ((f : Flaw) × IsFlaw cs f))
-    (one_flaw : (cs : List ℕ) (f g : Flaw) → IsFlaw cs f → IsFlaw cs g → f ≡ g)
-    (not_flawed : (cs : List ℕ) (f : Flaw) → IsInGrammar cs → IsFlaw cs f → ⊥) where
-  form_or_flaw : (text : List ℕ)
-      → IsInGrammar (normal_chars text) ⊎ ((f : Flaw) × IsFlaw (normal_chars text) f)
-      → HasMeaningOrFault (IsNormalText IsInGrammar text) (IsNormalFault IsFlaw text)
-  form_or_flaw text (inl form) = inl (normal_form text, (form, refl))
-  form_or_flaw text (inr (flaw, wrong)) = inr (flawed flaw (normal_form text), (wrong, refl))
+module _ {Flaw : Type 0} (grammar : Grammar Flaw) where
+  normal_in : (text : List ℕ)
+      → grammar.IsForm (normal_chars text) ⊎ ((f : Flaw) × grammar.IsFlaw (normal_chars text) f)
+      → HasMeaningOrFault (IsNormalText grammar.IsForm text) (IsNormalFault grammar.IsFlaw text)
+  normal_in text (inl form) = inl (normal_form text, (form, refl))
+  normal_in text (inr (flaw, wrong)) = inr (flawed flaw (normal_form text), (wrong, refl))
 
   pub normal_or_fault : (text : List ℕ)
-      → HasMeaningOrFault (IsNormalText IsInGrammar text) (IsNormalFault IsFlaw text)
-  normal_or_fault text = form_or_flaw text (grammar_or_flaw (normal_chars text))
+      → HasMeaningOrFault (IsNormalText grammar.IsForm text) (IsNormalFault grammar.IsFlaw text)
+  normal_or_fault text = normal_in text (grammar.form_or_flaw (normal_chars text))
 
-  pub one_normal_fault : (text : List ℕ) (r s : NameFault Flaw) → IsNormalFault IsFlaw text r
-      → IsNormalFault IsFlaw text s → r ≡ s
+  pub one_normal_fault : (text : List ℕ) (r s : NameFault Flaw) → IsNormalFault grammar.IsFlaw text r
+      → IsNormalFault grammar.IsFlaw text s → r ≡ s
   one_normal_fault text (flawed f x) (flawed g y) a b =
-      rw (one_flaw (normal_chars text) f g a.0 b.0, a.1, b.1) refl
+      rw (grammar.one_flaw (normal_chars text) f g a.0 b.0, a.1, b.1) refl
 
   pub no_normal_fault : (text kept : List ℕ) (r : NameFault Flaw)
-      → IsNormalText IsInGrammar text kept → IsNormalFault IsFlaw text r → ⊥
-  no_normal_fault text kept (flawed f x) h a = not_flawed (normal_chars text) f h.0 a.0
+      → IsNormalText grammar.IsForm text kept → IsNormalFault grammar.IsFlaw text r → ⊥
+  no_normal_fault text kept (flawed f x) h a = grammar.not_flawed (normal_chars text) f h.0 a.0
 
-  pub one_name_or_fault : HasOneMeaningOrFault (IsNormalText IsInGrammar) (IsNormalFault IsFlaw)
+  pub one_name_or_fault : HasOneMeaningOrFault (IsNormalText grammar.IsForm)
+      (IsNormalFault grammar.IsFlaw)
   one_name_or_fault = record {
     meaning_or_fault = normal_or_fault;
     one_meaning = λ text m n a b. a.1 ∙ sym b.1;
@@ -280,47 +278,51 @@ module _ {Flaw : Type 0} (IsInGrammar : List ℕ → Type 0) (IsFlaw : List ℕ 
   }
 
   -- a text whose normal form is of the grammar
-  abbrev pub name_in : (NameFault Flaw → Reason) → List ℕ → Reading Data (List ℕ)
-  name_in reason text = record {
-    means = λ value. IsNormalText IsInGrammar text;
-    faults = λ value fault. (told : NameFault Flaw) × IsNormalFault IsFlaw text told
-        × (fault ≡ fault_here (as_told (reason told)));
+  abbrev pub name_in : List ℕ → Reading Data (List ℕ)
+  name_in text = record {
+    means = λ value. IsNormalText grammar.IsForm text;
+    faults = λ value fault. (told : NameFault Flaw) × IsNormalFault grammar.IsFlaw text told
+        × (fault ≡ fault_here (for_reason (grammar.reason told)));
     takes_memory = λ value. Always;
     law = record {
-      meaning_or_fault = λ value. named_fault reason (normal_or_fault text);
+      meaning_or_fault = λ value. named_fault grammar.reason (normal_or_fault text);
       one_meaning = λ value x y a b. a.1 ∙ sym b.1;
       one_fault = λ value f g a b. a.2
-          ∙ ap (λ r. fault_here (as_told (reason r))) (one_normal_fault text a.0 b.0 a.1 b.1)
+          ∙ ap (λ r. fault_here (for_reason (grammar.reason r)))
+          (one_normal_fault text a.0 b.0 a.1 b.1)
           ∙ sym b.2;
       never_both = λ value x f a b. no_normal_fault text x b.0 a b.1;
     };
   }
 
   -- the reading of a name: a text whose normal form is of the grammar, and no other kind of value
-  abbrev pub name_reading : (NameFault Flaw → Reason) → Reading Data (List ℕ)
-  name_reading reason = kind as_str (name_in reason) (wrong_kind text_expected)
+  abbrev pub name_reading : Reading Data (List ℕ)
+  name_reading = kind as_str name_in (wrong_kind text_expected)
 
-pub one_identifier_or_fault : HasOneMeaningOrFault (IsNormalText IsIdentifierForm)
-    (IsNormalFault IsIdentifierFlaw)
-one_identifier_or_fault =
-    one_name_or_fault IsIdentifierForm IsIdentifierFlaw identifier_or_flaw one_identifier_flaw
-    identifier_not_flawed
+-- the form of identifiers
+abbrev pub identifier_grammar : Grammar IdentifierFlaw
+identifier_grammar = record {
+  IsForm = IsIdentifierForm;
+  IsFlaw = IsIdentifierFlaw;
+  form_or_flaw = identifier_or_flaw;
+  one_flaw = one_identifier_flaw;
+  not_flawed = identifier_not_flawed;
+  reason = identifier;
+}
 
-pub one_tool_name_or_fault : HasOneMeaningOrFault (IsNormalText IsPlainIdentifier)
-    (IsNormalFault IsToolNameFlaw)
-one_tool_name_or_fault =
-    one_name_or_fault IsPlainIdentifier IsToolNameFlaw tool_name_or_flaw one_tool_name_flaw
-    tool_name_not_flawed
+-- the form of tool names
+abbrev pub tool_name_grammar : Grammar ToolNameFlaw
+tool_name_grammar = record {
+  IsForm = IsPlainIdentifier;
+  IsFlaw = IsToolNameFlaw;
+  form_or_flaw = tool_name_or_flaw;
+  one_flaw = one_tool_name_flaw;
+  not_flawed = tool_name_not_flawed;
+  reason = tool_name;
+}
 
--- the reading of an identifier: a text that is one, kept in its normal form
-abbrev pub identifier_reading : Reading Data (List ℕ)
-identifier_reading =
-    name_reading IsIdentifierForm IsIdentifierFlaw identifier_or_flaw one_identifier_flaw
-    identifier_not_flawed
-    identifier
+pub one_identifier_or_fault : HasOneMeaningOrFault IsIdentifier IsIdentifierFault
+one_identifier_or_fault = one_name_or_fault identifier_grammar
 
--- the reading of a tool name: a text that is one, kept in its normal form
-abbrev pub tool_name_reading : Reading Data (List ℕ)
-tool_name_reading =
-    name_reading IsPlainIdentifier IsToolNameFlaw tool_name_or_flaw one_tool_name_flaw
-    tool_name_not_flawed tool_name
+pub one_tool_name_or_fault : HasOneMeaningOrFault IsToolName IsToolNameFault
+one_tool_name_or_fault = one_name_or_fault tool_name_grammar

@@ -1,12 +1,12 @@
 -- Texts as they are shown to people.
 use Rattle.std.specs.Prelude.{◌≡◌, ℕ, Bool, nat_le, not, ◌==◌, ◌&&◌, ◌||◌, IsTrue, List, codes, encode_utf8, flat_map, if◌then◌else◌}
 use Rattle.std.specs.Char.{is_control}
-use Rattle.std.specs.Char.Escape.{escape_unicode}
 use Rattle.std.specs.List.{AllByRecursion}
 use Rattle.std.specs.Str.{chars}
 use Rattle.nextest_config_values.specs.declared.literal.shown.LineFeeds.{LineFeeds}
 use Rattle.nextest_config_values.specs.declared.literal.shown.LineFeeds.TheVariants.{Escaped, Kept}
 use Rattle.toml_spans.specs.Characters.{carriage_return, line_feed, nul, tab}
+use Rattle.toml_spans.specs.QuotedText.{by_code}
 
 -- the character's code is one of those from the first to the last, which count too
 abbrev pub is_from_to : ℕ → ℕ → ℕ → Bool
@@ -20,11 +20,9 @@ abbrev pub is_unprintable : ℕ → Bool
 is_unprintable c = is_control c || c == 8203 || is_from_to 8206 8207 c || is_from_to 8232 8238 c
     || is_from_to 8294 8297 c
 
--- a character without a short escape: where it is never shown as it is, as `\u{..}` with its code
--- in lower case hexadecimal
+-- a character without a short escape: by its code, where it is never shown as it is
 abbrev pub shown_by_code : ℕ → List ℕ
-shown_by_code c = if is_unprintable c then flat_map encode_utf8 (escape_unicode c)
-    else encode_utf8 c
+shown_by_code c = if is_unprintable c then by_code c else encode_utf8 c
 
 -- a character, as it is shown in a line: by a short escape, by its code, or as it is
 abbrev pub shown_character : ℕ → List ℕ

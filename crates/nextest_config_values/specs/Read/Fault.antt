@@ -8,7 +8,7 @@ use Rattle.nextest_config_values.specs.Identifier.Error.{IdentifierFlaw, NameFau
 use Rattle.toml_spans.specs.Step.{PathStep, step_of}
 use Rattle.nextest_config_values.specs.Read.Step.{path_along, path_of}
 use Rattle.toml_spans.specs.QuotedText.{quoted_text}
-use Rattle.nextest_config_values.specs.Read.Text.{FaultOrMemory, found_text, told_text}
+use Rattle.nextest_config_values.specs.Read.Text.{FaultOrMemory, found_text, text_or_memory, words_of, words_text}
 use Rattle.nextest_config_values.specs.declared.read.fault.ReadFault.{ReadFault}
 use Rattle.nextest_config_values.specs.declared.read.fault.FaultKind.{FaultKind}
 use Rattle.nextest_config_values.specs.declared.read.value_fault.FaultCause.{FaultCause}
@@ -37,15 +37,15 @@ pub data BrokenRule : Type 0 where
 pub data Reason : Type 0 where
   invalid_type : List ℕ → List ℕ → Reason
   invalid_value : List ℕ → List ℕ → Reason
-  unknown_variant : List ℕ → List ℕ → Reason
-  unknown_field : List ℕ → List ℕ → Reason
+  unknown_variant : List ℕ → List (List ℕ) → Reason
+  unknown_field : List ℕ → List (List ℕ) → Reason
   missing_field : List ℕ → Reason
   custom : BrokenRule → Reason
   identifier : NameFault IdentifierFlaw → Reason
   tool_name : NameFault ToolNameFlaw → Reason
 
 -- what is told of a refused value at a path
-pub record ToldFault : Type 0 where
+pub record ReadFaultView : Type 0 where
   pub path : List ℕ
   pub reason : Reason
 
@@ -54,7 +54,7 @@ pub record ToldFault : Type 0 where
 pub data Cause : Type 0 where
   no_duration : List ℕ → Cause
   missing_key : List ℕ → Cause
-  as_told : Reason → Cause
+  for_reason : Reason → Cause
 
 -- a refused value: the steps from it to what is wrong, and why that is refused
 pub record Fault : Type 0 where
@@ -82,9 +82,9 @@ reason_of (kinds.InvalidType found expected) = Some (invalid_type (string_bytes 
 reason_of (kinds.InvalidValue found expected) =
     Some (invalid_value (string_bytes found) expected.now)
 reason_of (kinds.UnknownVariant found expected) =
-    Some (unknown_variant (string_bytes found) expected.now)
+    Some (unknown_variant (string_bytes found) (words_of expected.now))
 reason_of (kinds.UnknownField found expected) =
-    Some (unknown_field (string_bytes found) expected.now)
+    Some (unknown_field (string_bytes found) (words_of expected.now))
 reason_of (kinds.MissingField key) = Some (missing_field (string_bytes key))
 reason_of (kinds.Custom rule) = Some (custom (broken_rule rule))
 reason_of (kinds.Identifier error) = option_map identifier (identifier_fault error)
@@ -95,7 +95,7 @@ reason_of kinds.Memory = None
 abbrev pub cause_of : FaultCause → Option Cause
 cause_of (causes.NoDuration found) = Some (no_duration (string_bytes found))
 cause_of (causes.Missing key) = Some (missing_key (string_bytes key))
-cause_of (causes.Told kind) = option_map as_told (reason_of kind)
+cause_of (causes.Kind kind) = option_map for_reason (reason_of kind)
 
 -- the fault with these steps and this cause
 abbrev pub fault_with : List PathStep → Cause → Fault
@@ -107,15 +107,16 @@ fault_of fault = option_map (fault_with (map step_of fault.steps.items)) (cause_
 
 -- the fault says that memory was refused
 abbrev pub IsMemory : ValueFault → Type 0
-IsMemory fault = fault.cause ≡ causes.Told kinds.Memory
+IsMemory fault = fault.cause ≡ causes.Kind kinds.Memory
 
 -- this reason, told at this path
-abbrev pub told_with : List ℕ → Reason → ToldFault
-told_with path reason = record { path = path; reason = reason }
+abbrev pub read_fault_with : List ℕ → Reason → ReadFaultView
+read_fault_with path reason = record { path = path; reason = reason }
 
 -- what a fault tells, unless memory was refused
-abbrev pub told_of : ReadFault → Option ToldFault
-told_of fault = option_map (told_with (string_bytes fault.path)) (reason_of fault.kind)
+abbrev pub read_fault_view : ReadFault → Option ReadFaultView
+read_fault_view fault =
+    option_map (read_fault_with (string_bytes fault.path)) (reason_of fault.kind)
 
 -- the fault tells that memory was refused, at the empty path
 abbrev pub TellsMemory : ReadFault → Type 0
@@ -131,11 +132,12 @@ duration_expected = codes "a duration"
 abbrev pub reason_at : List ℕ → Cause → Reason
 reason_at path (no_duration found) = invalid_value found duration_expected
 reason_at path (missing_key key) = missing_field (path_of path key)
-reason_at path (as_told reason) = reason
+reason_at path (for_reason reason) = reason
 
 -- what is told of the fault of a value at a path
-abbrev pub told_at : List ℕ → Fault → ToldFault
-told_at at fault = told_with (path_along at fault.steps) (reason_at (path_along at fault.steps) fault.cause)
+abbrev pub read_fault_at : List ℕ → Fault → ReadFaultView
+read_fault_at at fault = let path = path_along at fault.steps in
+    read_fault_with path (reason_at path fault.cause)
 
 -- ---- how they print
 
@@ -166,8 +168,8 @@ mismatch_text found expected = found ++ (codes ", expected " ++ expected)
 
 -- an unknown name, whose first backquote stands before it, and the known ones, as a reason prints
 -- them
-abbrev pub unknown_text : List ℕ → List ℕ → List ℕ
-unknown_text found expected = found ++ (codes "`, expected " ++ expected)
+abbrev pub unknown_text : List ℕ → List (List ℕ) → List ℕ
+unknown_text found expected = found ++ (codes "`, expected " ++ words_text expected)
 
 -- how a reason prints
 abbrev pub reason_text : Reason → List ℕ
@@ -187,12 +189,12 @@ path_text [] = []
 path_text (b ∷ rest) = (b ∷ rest) ++ codes ": "
 
 -- how what is told prints
-abbrev pub fault_text : ToldFault → List ℕ
+abbrev pub fault_text : ReadFaultView → List ℕ
 fault_text told = path_text told.path ++ reason_text told.reason
 
 -- how a kind of fault prints
 abbrev pub kind_text : FaultKind → List ℕ
-kind_text kind = told_text reason_text (reason_of kind)
+kind_text kind = text_or_memory reason_text (reason_of kind)
 
 -- how a broken rule prints, whatever the format asks for: nothing is said of numbers
 abbrev pub styled_rule_text : BrokenRule → Option (List ℕ)
@@ -217,19 +219,19 @@ fault_below step fault = fault_with (step ∷ fault.steps) fault.cause
 
 -- a value whose kind isn't the expected one
 abbrev pub wrong_type : Data → List ℕ → Fault
-wrong_type value expected = fault_here (as_told (invalid_type (found_text value) expected))
+wrong_type value expected = fault_here (for_reason (invalid_type (found_text value) expected))
 
 -- a value of the right kind that isn't the expected one
 abbrev pub wrong_value : Data → List ℕ → Fault
-wrong_value value expected = fault_here (as_told (invalid_value (found_text value) expected))
+wrong_value value expected = fault_here (for_reason (invalid_value (found_text value) expected))
 
 -- a text that is none of the expected words
-abbrev pub unknown_word : List ℕ → List ℕ → Fault
-unknown_word text expected = fault_here (as_told (unknown_variant text expected))
+abbrev pub unknown_word : List ℕ → List (List ℕ) → Fault
+unknown_word text expected = fault_here (for_reason (unknown_variant text expected))
 
 -- a key of a table that is none of the expected ones
-abbrev pub unknown_key : List ℕ → List ℕ → Fault
-unknown_key key expected = fault_here (as_told (unknown_field key expected))
+abbrev pub unknown_key : List ℕ → List (List ℕ) → Fault
+unknown_key key expected = fault_here (for_reason (unknown_field key expected))
 
 -- a table that lacks this key
 abbrev pub missing : List ℕ → Fault
@@ -257,12 +259,12 @@ RefusesOne IsFault = Refuses IsFault ((fault : Fault) × IsFault fault)
 -- the refusal is what a kind of fault says, of the value itself, or memory was refused
 abbrev pub RefusesKind : FaultKind → ValueFault → Type 0
 RefusesKind kind fault = FaultOrMemory (reason_of kind) (IsMemory fault)
-    (λ reason. RefusesAs (fault_here (as_told reason)) fault)
+    (λ reason. RefusesAs (fault_here (for_reason reason)) fault)
 
 -- the refusal tells this, or that memory was refused
-abbrev pub TellsAs : ToldFault → ReadFault → Type 0
+abbrev pub TellsAs : ReadFaultView → ReadFault → Type 0
 TellsAs expected fault =
-    FaultOrMemory (told_of fault) (TellsMemory fault) (λ told. told ≡ expected)
+    FaultOrMemory (read_fault_view fault) (TellsMemory fault) (λ told. told ≡ expected)
 
 -- the kind of fault says why a name is refused; or memory was refused, and the kind says that
 abbrev pub IsNameKind : {Flaw : Type 0} → (NameFault Flaw → Reason) → Option (NameFault Flaw)

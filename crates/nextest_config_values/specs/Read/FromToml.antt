@@ -1,7 +1,7 @@
 -- What a reader of TOML values is: what values mean, what is wrong with them, and how it refuses.
 use Rattle.std.specs.Prelude.{◌≡◌, ◌⊎◌, ℕ, List}
 use Rattle.nextest_config_values.specs.Once.{HasMeaningOrFault}
-use Rattle.nextest_config_values.specs.Read.Fault.{Fault, Refuses, TellsMemory, told_at, told_of, ToldFault}
+use Rattle.nextest_config_values.specs.Read.Fault.{Fault, Refuses, TellsMemory, read_fault_at, read_fault_view, ReadFaultView}
 use Rattle.nextest_config_values.specs.Read.Text.{FaultOrMemory}
 use Rattle.nextest_config_values.specs.declared.read.fault.ReadFault.{ReadFault}
 use Rattle.nextest_config_values.specs.declared.read.value_fault.ValueFault.{ValueFault}
@@ -37,13 +37,13 @@ RefusesBy reading value =
     IsRefusal (reading.means value) (reading.faults value) (reading.takes_memory value)
 
 -- what is told of the fault of a value at a path
-abbrev pub faults_at : {D X : Type 0} → Reading D X → D → List ℕ → ToldFault → Type 0
+abbrev pub faults_at : {D X : Type 0} → Reading D X → D → List ℕ → ReadFaultView → Type 0
 faults_at reading value at told =
-    (fault : Fault) × reading.faults value fault × (told ≡ told_at at fault)
+    (fault : Fault) × reading.faults value fault × (told ≡ read_fault_at at fault)
 
 -- a value at a path is refused by a reading: its fault is told there; or memory was refused where
 -- it was wanted
 abbrev pub RefusesAt : {D X : Type 0} → Reading D X → D → List ℕ → ReadFault → Type 0
-RefusesAt reading value at fault = FaultOrMemory (told_of fault)
+RefusesAt reading value at fault = FaultOrMemory (read_fault_view fault)
     (TellsMemory fault × WantsMemory (reading.means value) (reading.takes_memory value))
     (faults_at reading value at)

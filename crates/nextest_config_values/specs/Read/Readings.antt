@@ -4,7 +4,7 @@ use Rattle.std.proofs.Common.{refl, sym, ap, ◌∙◌, subst, inl, inr, rules}
 use Rattle.toml.specs.Data.{Data}
 use Rattle.nextest_config_values.specs.Decisions.{IsDecided, IsFoundOrNone}
 use Rattle.nextest_config_values.specs.Once.{HasMeaningOrFault}
-use Rattle.nextest_config_values.specs.Read.Fault.{Always, as_told, BrokenRule, custom, Fault, fault_below, fault_here, wrong_type, wrong_value}
+use Rattle.nextest_config_values.specs.Read.Fault.{Always, for_reason, BrokenRule, custom, Fault, fault_below, fault_here, wrong_type, wrong_value}
 use Rattle.nextest_config_values.specs.Read.FromToml.{Reading}
 use Rattle.toml_spans.specs.Step.{PathStep}
 
@@ -314,7 +314,7 @@ obeyed_or_broken (inr obeyed) fault = inl obeyed
 
 -- a value that breaks this rule
 abbrev pub broken_by : BrokenRule → Fault
-broken_by broken = fault_here (as_told (custom broken))
+broken_by broken = fault_here (for_reason (custom broken))
 
 -- a rule that is broken is the fault
 abbrev pub rule_check : {D : Type 0} → (IsBroken : Type 0) → IsDecided IsBroken → BrokenRule

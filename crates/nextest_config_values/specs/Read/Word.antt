@@ -1,5 +1,5 @@
 -- Enums whose values are words.
-use Rattle.std.specs.Prelude.{◌≡◌, ℕ, List, [], ◌∷◌, ◌++◌, map, codes, Option, Some, None, nat_eq, if◌then◌else◌}
+use Rattle.std.specs.Prelude.{◌≡◌, ℕ, List, [], ◌∷◌, map, Option, Some, None, nat_eq, if◌then◌else◌}
 use Rattle.std.proofs.Common.{inl, inr, refl, sym, ap, ◌∙◌}
 use Rattle.std.proofs.lemmas.Bool.{cases_Bool}
 use Rattle.std.specs.Cmp.Lexicographic.{pointwise, same_text}
@@ -9,23 +9,6 @@ use Rattle.nextest_config_values.specs.Read.Fault.{unknown_word}
 use Rattle.nextest_config_values.specs.Read.FromToml.{Reading}
 use Rattle.nextest_config_values.specs.Read.Plain.{text_expected}
 use Rattle.nextest_config_values.specs.Read.Readings.{kind, one_that, wrong_kind}
-use Rattle.nextest_config_values.specs.Read.Text.{comma_list}
-
--- a word between backquotes
-abbrev pub backquoted_word : List ℕ → List ℕ
-backquoted_word word = codes "`" ++ (word ++ codes "`")
-
--- words between backquotes, with commas between
-abbrev pub backquoted_words : List (List ℕ) → List ℕ
-backquoted_words words = comma_list (map backquoted_word words)
-
--- words as a refusal lists them: one, two, or more
-abbrev pub words_text : List (List ℕ) → List ℕ
-words_text [] = []
-words_text (word ∷ []) = backquoted_word word
-words_text (word ∷ other ∷ []) = backquoted_word word ++ (codes " or " ++ backquoted_word other)
-words_text (word ∷ other ∷ third ∷ rest) =
-    codes "one of " ++ backquoted_words (word ∷ other ∷ third ∷ rest)
 
 -- the first value with this word
 abbrev pub value_of : {X : Type 0} → (X → List ℕ) → List X → List ℕ → Option X
@@ -66,7 +49,7 @@ module _ {X : Type 0} (all : List X) (word : X → List ℕ)
   -- the value whose word is the text
   abbrev pub with_word : List ℕ → Reading Data X
   with_word held = one_that (λ x. word x ≡ held) (λ x y a b. one_value x y (a ∙ sym b))
-      (value_or_none held) (λ value. unknown_word held (words_text (map word all)))
+      (value_or_none held) (λ value. unknown_word held (map word all))
 
   -- a text that is one of these words
   abbrev pub word_reading : Reading Data X

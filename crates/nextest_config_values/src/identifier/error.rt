@@ -1,13 +1,10 @@
 //! Why a text was refused as an identifier or as a tool name.
 
-ghost use Rattle.std.specs.Prelude.{◌≡◌, ◌++◌, [], Some, string_bytes};
+ghost use Rattle.std.specs.Prelude.{◌≡◌, ◌++◌, Some};
 ghost use Rattle.std.specs.Fmt.{WritesOnOk, WritesStyledOnOk};
-ghost use Rattle.nextest_config_values.specs.Identifier.{flawed, identifier_fault, identifier_fault_text, tool_name_fault, tool_name_fault_text};
+ghost use Rattle.nextest_config_values.specs.Identifier.{identifier_fault, identifier_fault_text, tool_name_fault, tool_name_fault_text};
 ghost use Rattle.toml_spans.specs.QuotedText.{quoted_text};
-ghost use Rattle.nextest_config_values.specs.Read.{told_text};
-ghost use Rattle.nextest_config_values.specs.declared.helpers.identifiers.InvalidIdentifierKind.TheVariants as kinds;
-ghost use Rattle.nextest_config_values.specs.declared.identifier.error.IdentifierFlaw.TheVariants as identifiers;
-ghost use Rattle.nextest_config_values.specs.declared.identifier.error.ToolNameFlaw.TheVariants as names;
+ghost use Rattle.nextest_config_values.specs.Read.{text_or_memory};
 
 use crate::helpers::InvalidIdentifierKind;
 use crate::read::QuotedText;
@@ -47,7 +44,7 @@ pub enum InvalidToolName {
 
 /// What is wrong with the characters of an identifier.
 #[derive(Clone, Copy, Debug, PartialEq, Eq)]
-pub(crate) enum IdentifierFlaw {
+pub enum IdentifierFlaw {
     /// The whole text, which isn't marked as a tool identifier.
     Whole(InvalidIdentifierKind),
     /// A text that is marked as a tool identifier and has one component.
@@ -58,52 +55,16 @@ pub(crate) enum IdentifierFlaw {
 
 /// What is wrong with the characters of a tool name.
 #[derive(Clone, Copy, Debug, PartialEq, Eq)]
-pub(crate) enum ToolNameFlaw {
+pub enum ToolNameFlaw {
     Empty,
     StartsWithToolPrefix,
     InvalidXid,
 }
 
-impl IdentifierFlaw {
-    /// The refusal of a text with this flaw.
-    pub(crate) fn of(self, text: String) -> InvalidIdentifier
-        requires { self ≡ identifiers.Whole kinds.Empty → string_bytes text ≡ [] }
-        ensures { identifier_fault result ≡ Some (flawed self (string_bytes text)) }
-    {
-        match self {
-            IdentifierFlaw::Whole(InvalidIdentifierKind::Empty) => InvalidIdentifier::Empty,
-            IdentifierFlaw::Whole(InvalidIdentifierKind::InvalidXid) => {
-                InvalidIdentifier::InvalidXid(text)
-            }
-            IdentifierFlaw::OneComponent => InvalidIdentifier::ToolIdentifierInvalidFormat(text),
-            IdentifierFlaw::Component(InvalidIdentifierKind::Empty) => {
-                InvalidIdentifier::ToolComponentEmpty(text)
-            }
-            IdentifierFlaw::Component(InvalidIdentifierKind::InvalidXid) => {
-                InvalidIdentifier::ToolIdentifierInvalidXid(text)
-            }
-        }
-    }
-}
-
-impl ToolNameFlaw {
-    /// The refusal of a text with this flaw.
-    pub(crate) fn of(self, text: String) -> InvalidToolName
-        requires { self ≡ names.Empty → string_bytes text ≡ [] }
-        ensures { tool_name_fault result ≡ Some (flawed self (string_bytes text)) }
-    {
-        match self {
-            ToolNameFlaw::Empty => InvalidToolName::Empty,
-            ToolNameFlaw::StartsWithToolPrefix => InvalidToolName::StartsWithToolPrefix(text),
-            ToolNameFlaw::InvalidXid => InvalidToolName::InvalidXid(text),
-        }
-    }
-}
-
 impl fmt::Display for InvalidIdentifier {
-    ghost output = { λ error. Some (told_text identifier_fault_text (identifier_fault error)) };
+    ghost output = { λ error. Some (text_or_memory identifier_fault_text (identifier_fault error)) };
 
-    ghost styled_output = { λ error _. Some (told_text identifier_fault_text (identifier_fault error)) };
+    ghost styled_output = { λ error _. Some (text_or_memory identifier_fault_text (identifier_fault error)) };
 
     fn fmt<W: fmt::Write>(&self, f: &mut fmt::Formatter<W>) -> fmt::Result {
         match self {
@@ -143,9 +104,9 @@ fn write_named<W: fmt::Write>(f: &mut fmt::Formatter<W>, reason: &str, text: &st
 }
 
 impl fmt::Display for InvalidToolName {
-    ghost output = { λ error. Some (told_text tool_name_fault_text (tool_name_fault error)) };
+    ghost output = { λ error. Some (text_or_memory tool_name_fault_text (tool_name_fault error)) };
 
-    ghost styled_output = { λ error _. Some (told_text tool_name_fault_text (tool_name_fault error)) };
+    ghost styled_output = { λ error _. Some (text_or_memory tool_name_fault_text (tool_name_fault error)) };
 
     fn fmt<W: fmt::Write>(&self, f: &mut fmt::Formatter<W>) -> fmt::Result {
         match self {

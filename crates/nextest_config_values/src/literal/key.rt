@@ -1,12 +1,12 @@
 //! Keys, as TOML writes them.
 
-ghost use Rattle.std.specs.Prelude.{◌≡◌, Some};
+ghost use Rattle.std.specs.Prelude.{Some};
 ghost use Rattle.std.specs.Fmt.{WritesOnOk};
-ghost use Rattle.nextest_config_values.specs.Literal.Key.{is_bare_key, key_text};
+ghost use Rattle.nextest_config_values.specs.Literal.Key.{key_text};
 
 use crate::literal::text::write_basic;
 use std::fmt;
-use toml_parser::bytes::is_bare;
+use toml_spans::is_bare_key;
 
 /// A key as TOML writes it (TOML 1.1, "Keys"): bare where it may be, else as a basic string.
 #[derive(Clone, Copy, Debug, PartialEq, Eq)]
@@ -29,11 +29,4 @@ pub(crate) fn write_key<W: fmt::Write>(f: &mut fmt::Formatter<W>, key: &str) -> 
     } else {
         write_basic(f, key)
     }
-}
-
-// Whether the key needs no quotes.
-fn is_bare_key(key: &str) -> bool
-    ensures { result ≡ is_bare_key key.now }
-{
-    !key.is_empty() && key.bytes().all(|byte| is_bare(byte))
 }

@@ -7,6 +7,7 @@ ghost use Rattle.nextest_config_values.specs.Literal.Shown.{character_in, is_pla
 
 use std::alloc::{AllocError, Global};
 use std::fmt;
+use toml_spans::write_by_code;
 
 /// A text in a line: what ends a line, other control characters, and what no one sees or what turns
 /// the direction of texts around, print by their escapes.
@@ -106,21 +107,19 @@ pub fn write_shown<W: fmt::Write>(f: &mut fmt::Formatter<W>, c: char) -> fmt::Re
         '\r' => f.write_str("\\r"),
         '\t' => f.write_str("\\t"),
         '\0' => f.write_str("\\0"),
-        c => write_by_code(f, c),
+        c => write_unnamed(f, c),
     }
 }
 
 // A character that has no short escape.
-fn write_by_code<W: fmt::Write>(f: &mut fmt::Formatter<W>, c: char) -> fmt::Result
+fn write_unnamed<W: fmt::Write>(f: &mut fmt::Formatter<W>, c: char) -> fmt::Result
     ensures { WritesOnOk W.write_str_gives f.old result (shown_by_code c) f.new }
 {
-    if !is_unprintable(c) {
-        return f.write_char(c);
+    if is_unprintable(c) {
+        write_by_code(f, c)
+    } else {
+        f.write_char(c)
     }
-    for mark in c.escape_unicode() {
-        f.write_char(mark)?;
-    }
-    Ok(())
 }
 
 /// Whether a character is never shown as it is.

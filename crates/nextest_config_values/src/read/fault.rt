@@ -3,9 +3,10 @@
 ghost use Rattle.std.specs.Prelude.{◌≡◌, ◌++◌, is_none, option_map, Some, string_bytes};
 ghost use Rattle.std.specs.Fmt.{WritesOnOk, WritesStyledOnOk};
 ghost use Rattle.nextest_config_values.specs.Identifier.Error.{identifier_fault, tool_name_fault};
-ghost use Rattle.nextest_config_values.specs.Read.{broken_rule, identifier, IsNameKind, kind_text, path_text, reason_of, rule_text, styled_kind_text, styled_rule_text, TellsMemory, told_of, tool_name};
+ghost use Rattle.nextest_config_values.specs.Read.{broken_rule, identifier, IsNameKind, kind_text, mismatch_text, path_text, reason_of, rule_text, styled_kind_text, styled_rule_text, TellsMemory, read_fault_view, tool_name, unknown_text, words_of};
 ghost use Rattle.nextest_config_values.specs.declared.read.fault.FaultKind.TheVariants.{Memory};
 
+use super::text::write_words;
 use crate::identifier::{InvalidIdentifier, InvalidToolName};
 use semver::Version;
 use std::alloc::{AllocError, Global};
@@ -21,7 +22,8 @@ pub struct ReadFault {
     pub kind: FaultKind,
 }
 
-/// The reason why a TOML value was refused. What is expected is written as it is printed.
+/// The reason why a TOML value was refused. Words and keys that are expected are these; what else is
+/// expected is written as it is printed.
 #[derive(Debug, PartialEq, Eq, Drop)]
 pub enum FaultKind {
     /// The value is of a kind that the setting doesn't take.
@@ -37,12 +39,12 @@ pub enum FaultKind {
     /// The text is none of the setting's words.
     UnknownVariant {
         found: String,
-        expected: &'static str,
+        expected: &'static [&'static str],
     },
     /// The table has a key that the setting doesn't know.
     UnknownField {
         found: String,
-        expected: &'static str,
+        expected: &'static [&'static str],
     },
     /// The table lacks a key; `key` is its path.
     MissingField {
@@ -95,7 +97,7 @@ pub enum Rule {
 impl ReadFault {
     /// Whether a request for memory was refused.
     pub fn is_memory(&self) -> bool
-        ensures { result ≡ is_none (told_of self.now) }
+        ensures { result ≡ is_none (read_fault_view self.now) }
     {
         self.kind.is_memory()
     }
@@ -189,34 +191,16 @@ impl fmt::Display for FaultKind {
     fn fmt<W: fmt::Write>(&self, f: &mut fmt::Formatter<W>) -> fmt::Result {
         match self {
             FaultKind::InvalidType { found, expected } => {
-                write_found(f, "invalid type: ", found.as_str(), ", expected ", expected)
+                write_mismatch(f, "invalid type: ", found.as_str(), expected)
             }
             FaultKind::InvalidValue { found, expected } => {
-                write_found(
-                    f,
-                    "invalid value: ",
-                    found.as_str(),
-                    ", expected ",
-                    expected,
-                )
+                write_mismatch(f, "invalid value: ", found.as_str(), expected)
             }
             FaultKind::UnknownVariant { found, expected } => {
-                write_found(
-                    f,
-                    "unknown variant `",
-                    found.as_str(),
-                    "`, expected ",
-                    expected,
-                )
+                write_unknown(f, "unknown variant `", found.as_str(), expected)
             }
             FaultKind::UnknownField { found, expected } => {
-                write_found(
-                    f,
-                    "unknown field `",
-                    found.as_str(),
-                    "`, expected ",
-                    expected,
-                )
+                write_unknown(f, "unknown field `", found.as_str(), expected)
             }
             FaultKind::MissingField { key } => {
                 f.write_str("missing configuration field \"")?;
@@ -231,23 +215,40 @@ impl fmt::Display for FaultKind {
     }
 }
 
-// What was found and what was expected, each after one of these texts.
-fn write_found<W: fmt::Write>(
+// What was found, after this text, and what was expected.
+fn write_mismatch<W: fmt::Write>(
     f: &mut fmt::Formatter<W>,
     reason: &str,
     found: &str,
-    between: &str,
     expected: &str,
 ) -> fmt::Result
     ensures writes { WritesOnOk W.write_str_gives f.old result
-        (reason.now ++ (found.now ++ (between.now ++ expected.now))) f.new }
+        (reason.now ++ mismatch_text found.now expected.now) f.new }
     ensures styled { WritesStyledOnOk W.write_str_gives f.old result
-        (reason.now ++ (found.now ++ (between.now ++ expected.now))) f.new }
+        (reason.now ++ mismatch_text found.now expected.now) f.new }
 {
     f.write_str(reason)?;
     f.write_str(found)?;
-    f.write_str(between)?;
+    f.write_str(", expected ")?;
     f.write_str(expected)
+}
+
+// An unknown name after this text, and the known ones.
+fn write_unknown<W: fmt::Write>(
+    f: &mut fmt::Formatter<W>,
+    reason: &str,
+    found: &str,
+    expected: &[&str],
+) -> fmt::Result
+    ensures writes { WritesOnOk W.write_str_gives f.old result
+        (reason.now ++ unknown_text found.now (words_of expected.now)) f.new }
+    ensures styled { WritesStyledOnOk W.write_str_gives f.old result
+        (reason.now ++ unknown_text found.now (words_of expected.now)) f.new }
+{
+    f.write_str(reason)?;
+    f.write_str(found)?;
+    f.write_str("`, expected ")?;
+    write_words(f, expected)
 }
 
 impl fmt::Display for Rule {

@@ -23,10 +23,7 @@ pub fn optional_field<T: FromToml>(
     ensures refused { IfErr result
         (RefusesAt (optional key.now T.reading) (table_view table.now) at.now) }
 {
-    match optional(alloc, table, key) {
-        Ok(x) => Ok(x),
-        Err(fault) => Err(fault.at(alloc, at)),
-    }
+    optional(alloc, table, key).map_err(|fault| fault.at(alloc, at))
 }
 
 /// The value at a key of the table at the path `at`. A missing key is a fault at that path.
@@ -41,10 +38,7 @@ pub fn required_field<T: FromToml>(
     ensures refused { IfErr result
         (RefusesAt (required key.now T.reading) (table_view table.now) at.now) }
 {
-    match required(alloc, table, key) {
-        Ok(x) => Ok(x),
-        Err(fault) => Err(fault.at(alloc, at)),
-    }
+    required(alloc, table, key).map_err(|fault| fault.at(alloc, at))
 }
 
 /// The value at a key of the table at the path `at`, or `default` where the key is missing.
@@ -60,10 +54,7 @@ pub fn field_or<T: FromToml + Drop>(
     ensures refused { IfErr result
         (RefusesAt (or_default key.now (T.seen default) T.reading) (table_view table.now) at.now) }
 {
-    match or_default(alloc, table, key, default) {
-        Ok(x) => Ok(x),
-        Err(fault) => Err(fault.at(alloc, at)),
-    }
+    or_default(alloc, table, key, default).map_err(|fault| fault.at(alloc, at))
 }
 
 /// The value at a key of a table; `None` where the key is missing.

@@ -34,9 +34,6 @@ pub trait FromToml: Sized {
         ensures meant { IfOk result (λ x. reading.means (view value.now) (seen x)) }
         ensures refused { IfErr result (RefusesAt reading (view value.now) at.now) }
     {
-        match Self::read_value(alloc, value) {
-            Ok(x) => Ok(x),
-            Err(fault) => Err(fault.at(alloc, at)),
-        }
+        Self::read_value(alloc, value).map_err(|fault| fault.at(alloc, at))
     }
 }

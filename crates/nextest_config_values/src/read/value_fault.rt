@@ -2,7 +2,7 @@
 
 ghost use Rattle.std.specs.Prelude.{◌≡◌, ◌++◌, [], IfOk, IfSome, is_none, map, OnOk, string_bytes};
 ghost use Rattle.toml.specs.View.{view};
-ghost use Rattle.nextest_config_values.specs.Read.{cause_of, fault_below, fault_here, fault_of, FaultOrMemory, found_text, index, IsMemory, key, missing, no_duration, path_along, path_by, path_of, reason_at, reason_of, RefusesAs, RefusesKind, step_of, TellsAs, TellsMemory, told_at, told_with, unknown_key, unknown_word, wrong_type, wrong_value};
+ghost use Rattle.nextest_config_values.specs.Read.{cause_of, fault_below, fault_here, fault_of, FaultOrMemory, found_text, index, IsMemory, key, missing, no_duration, path_along, path_by, path_of, reason_at, reason_of, RefusesAs, RefusesKind, step_of, TellsAs, TellsMemory, read_fault_at, read_fault_with, unknown_key, unknown_word, words_of, wrong_type, wrong_value};
 ghost use Rattle.nextest_config_values.specs.declared.read.fault.FaultKind.TheVariants.{Memory};
 ghost use Rattle.nextest_config_values.specs.declared.read.value_fault.FaultCause.TheVariants as causes;
 
@@ -31,7 +31,7 @@ pub enum FaultCause {
     /// The table lacks this key.
     Missing { key: String },
     /// The value is refused for this reason, wherever it stands.
-    Told(FaultKind),
+    Kind(FaultKind),
 }
 
 impl ValueFault {
@@ -53,7 +53,7 @@ impl ValueFault {
         if kind.is_memory() {
             return ValueFault::memory(alloc);
         }
-        ValueFault::here(alloc, FaultCause::Told(kind))
+        ValueFault::here(alloc, FaultCause::Kind(kind))
     }
 
     /// A value whose kind the setting doesn't take.
@@ -86,9 +86,13 @@ impl ValueFault {
         }
     }
 
-    /// A text that is none of the setting's words.
-    pub fn unknown_variant(alloc: Global, text: &str, expected: &'static str) -> ValueFault
-        ensures { RefusesAs (unknown_word text.now expected.now) result }
+    /// A text that is none of the setting's words, which are these.
+    pub fn unknown_variant(
+        alloc: Global,
+        text: &str,
+        expected: &'static [&'static str],
+    ) -> ValueFault
+        ensures { RefusesAs (unknown_word text.now (words_of expected.now)) result }
     {
         match String::from_str(alloc, text) {
             Ok(found) => ValueFault::new(alloc, FaultKind::UnknownVariant { found, expected }),
@@ -96,9 +100,9 @@ impl ValueFault {
         }
     }
 
-    /// A table with a key that the setting doesn't know.
-    pub fn unknown_field(alloc: Global, key: &str, expected: &'static str) -> ValueFault
-        ensures { RefusesAs (unknown_key key.now expected.now) result }
+    /// A table with a key that is none of those that the setting knows.
+    pub fn unknown_field(alloc: Global, key: &str, expected: &'static [&'static str]) -> ValueFault
+        ensures { RefusesAs (unknown_key key.now (words_of expected.now)) result }
     {
         match String::from_str(alloc, key) {
             Ok(found) => ValueFault::new(alloc, FaultKind::UnknownField { found, expected }),
@@ -120,7 +124,7 @@ impl ValueFault {
     pub fn memory(alloc: Global) -> ValueFault
         ensures { IsMemory result }
     {
-        ValueFault::here(alloc, FaultCause::Told(FaultKind::Memory))
+        ValueFault::here(alloc, FaultCause::Kind(FaultKind::Memory))
     }
 
     /// Whether a request for memory was refused.
@@ -128,7 +132,7 @@ impl ValueFault {
         ensures { result ≡ is_none (fault_of self.now) }
     {
         match &self.cause {
-            FaultCause::Told(kind) => kind.is_memory(),
+            FaultCause::Kind(kind) => kind.is_memory(),
             FaultCause::NoDuration { .. } | FaultCause::Missing { .. } => false,
         }
     }
@@ -170,7 +174,7 @@ impl ValueFault {
     pub fn at(self, alloc: Global, at: &str) -> ReadFault
         ensures memory { IsMemory self → TellsMemory result }
         ensures told { IfSome (fault_of self)
-            (λ fault. TellsAs (told_at at.now fault) result) }
+            (λ fault. TellsAs (read_fault_at at.now fault) result) }
     {
         match path_along(alloc, at, self.steps.as_slice()) {
             Ok(path) => {
@@ -185,7 +189,7 @@ impl ValueFault {
 impl FaultCause {
     /// What is told of the cause at this path.
     pub fn kind_at(self, alloc: Global, path: &str) -> FaultKind
-        ensures memory { self ≡ causes.Told Memory → result ≡ Memory }
+        ensures memory { self ≡ causes.Kind Memory → result ≡ Memory }
         ensures kind { IfSome (cause_of self) (λ cause. FaultOrMemory (reason_of result)
             (result ≡ Memory) (λ reason. reason ≡ reason_at path.now cause)) }
     {
@@ -198,7 +202,7 @@ impl FaultCause {
                 Ok(key) => FaultKind::MissingField { key },
                 Err(AllocError) => FaultKind::Memory,
             },
-            FaultCause::Told(kind) => kind,
+            FaultCause::Kind(kind) => kind,
         }
     }
 }
@@ -206,7 +210,7 @@ impl FaultCause {
 // A fault of this kind at a path; a refusal of memory has none.
 fn fault_with(alloc: Global, path: String, kind: FaultKind) -> ReadFault
     ensures { FaultOrMemory (reason_of kind) (TellsMemory result)
-        (λ reason. TellsAs (told_with (string_bytes path) reason) result) }
+        (λ reason. TellsAs (read_fault_with (string_bytes path) reason) result) }
 {
     if kind.is_memory() {
         return ReadFault::memory(alloc);

@@ -1,7 +1,8 @@
 //! Enums whose values are words.
 
 ghost use Rattle.std.specs.Prelude.{◌≡◌, ◌≢◌, ℕ, List, Some, map, MatchOption};
-ghost use Rattle.nextest_config_values.specs.Read.{value_of, word_reading, words_text};
+ghost use Rattle.std.specs.List.{slice_get};
+ghost use Rattle.nextest_config_values.specs.Read.{value_of, word_reading, words_of};
 
 use super::from_toml::FromToml;
 use super::plain::held_text;
@@ -23,12 +24,19 @@ pub trait Word: Copy + 'static {
     fn all() -> &'static [Self]
         ensures { result.now ≡ all };
 
-    fn as_word(self) -> &'static str
-        ensures { result.now ≡ word self };
+    /// The words of the values, in this order.
+    fn words() -> &'static [&'static str]
+        ensures { words_of result.now ≡ map word all };
 
-    /// The words, as a refusal lists them.
-    fn expected() -> &'static str
-        ensures { result.now ≡ words_text (map word all) };
+    /// Where the value stands among all, from 0.
+    fn position(self) -> usize
+        ensures { slice_get all result ≡ Some self };
+
+    fn as_word(self) -> &'static str
+        ensures { result.now ≡ word self }
+    {
+        Self::words()[self.position()]
+    }
 }
 
 impl<T: Word + 'static> FromToml for T {
@@ -42,7 +50,7 @@ impl<T: Word + 'static> FromToml for T {
         let text = held_text(alloc, value)?;
         match find_word(text) {
             Some(word) => Ok(word),
-            None => Err(ValueFault::unknown_variant(alloc, text, T::expected())),
+            None => Err(ValueFault::unknown_variant(alloc, text, T::words())),
         }
     }
 }

@@ -2,13 +2,13 @@ use Rattle.std.proofs.Common.{◌≡◌, ℕ, List, Option, Some, None, map, opt
 use Rattle.std.specs.Prelude.{IfSome}
 use Rattle.toml_spans.specs.Step.{printed_path, step_of}
 use Rattle.nextest_config_values.specs.Read.{reason_at, reason_of}
-use Rattle.nextest_config_values.specs.Read.Fault.{as_told, Reason}
+use Rattle.nextest_config_values.specs.Read.Fault.{for_reason, Reason}
 use Rattle.nextest_config_lint.proofs.faults.kind_at.Goals as goal
 
 -- what is told already is told so at any path
-told_stays : (path : List ℕ) (reason : Option Reason) → IfSome (option_map as_told reason) (λ told. reason ≡ Some (reason_at path told))
+told_stays : (path : List ℕ) (reason : Option Reason) → IfSome (option_map for_reason reason) (λ told. reason ≡ Some (reason_at path told))
 told_stays path None = tt
 told_stays path (Some reason) = refl
 
-pub returns-in-Told : goal.returns-in-Told
-returns-in-Told c = rw c.in-Told.is (told_stays (printed_path (map step_of c.args.path.now)) (reason_of c.in-Told.kind))
+pub returns-in-Kind : goal.returns-in-Kind
+returns-in-Kind c = rw c.in-Kind.is (told_stays (printed_path (map step_of c.args.path.now)) (reason_of c.in-Kind.kind))

@@ -1,7 +1,7 @@
 use Rattle.std.proofs.Common.{◌≡◌, ◌++◌, ◌∷◌, [], IsSome, List, map, None, Option, option_map, option_to_list, refl, rules, Some}
 use Rattle.std.proofs.lemmas.List.{map-append}
 use Rattle.toml_spans.specs.Step.{PathStep, step_of}
-use Rattle.nextest_config_lint.specs.Found.{found_at, FoundKind, found_of, kind_told}
+use Rattle.nextest_config_lint.specs.Found.{found_at, FoundKind, found_of, kind_view}
 use Rattle.nextest_config_lint.specs.References.{IsPlaceTold, place_of, TellsIfAny}
 use Rattle.nextest_config_lint.specs.Settings.{setting_view}
 use Rattle.nextest_config_lint.specs.declared.finding.Finding.{Finding}
@@ -15,12 +15,12 @@ pushed_told path (Some kind) old new finding some pushed is = rw (pushed, map-ap
 pub returns-in_ok-push-in-Some : goal.returns-in_ok-push-in-Some
 returns-in_ok-push-in-Some c files by =
     let setting = setting_view c.args.setting.now in
-    let told : IsPlaceTold files c.args.source.now c.args.position (place_of setting.path) setting.value (kind_told c.in-Some.kind) =
+    let told : IsPlaceTold files c.args.source.now c.args.position (place_of setting.path) setting.value (kind_view c.in-Some.kind) =
     rw c.in-Some.is at (c.in_ok-kind.ensures.told files by) in
     let some : TellsIfAny (Some c.in-Some.kind) = rw c.in-Some.is at c.in_ok-kind.ensures.tells in
     let finding : Finding = record { path = c.in_ok-path-in-Some.path; kind = c.in-Some.kind } in
     let path_is : map step_of c.in_ok-path-in-Some.path.items ≡ setting.path = search rules in (
-      option_map (found_at setting.path) (kind_told c.in-Some.kind),
-      (kind_told c.in-Some.kind, told, refl),
-      pushed_told setting.path (kind_told c.in-Some.kind) c.args.findings.now.items _ finding some (search rules) (rw path_is refl),
+      option_map (found_at setting.path) (kind_view c.in-Some.kind),
+      (kind_view c.in-Some.kind, told, refl),
+      pushed_told setting.path (kind_view c.in-Some.kind) c.args.findings.now.items _ finding some (search rules) (rw path_is refl),
     )

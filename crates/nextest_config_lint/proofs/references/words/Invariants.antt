@@ -1,5 +1,5 @@
 use Rattle.std.proofs.Common.{◌≡◌, map, string_bytes}
-use Rattle.nextest_config_values.specs.NearestWord.{words_of}
+use Rattle.nextest_config_values.specs.Read.{words_of}
 use Rattle.nextest_config_lint.proofs.references.words.Given as goal
 
 abbrev pub invariant-loop-name : goal.invariant-loop-name

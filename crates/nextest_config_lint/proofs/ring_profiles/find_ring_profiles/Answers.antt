@@ -1,22 +1,26 @@
-use Rattle.std.proofs.Common.{◌≡◌, ◌↔◌, ℕ, List, Option, false, get_or, map, subst, true}
-use Rattle.std.proofs.lemmas.Result.{IfOk-weaker}
-use Rattle.std.specs.BTreeMap.{get_by_text}
+use Rattle.std.proofs.Common.{◌≡◌, ℕ, List, None, ap, map, option_map, refl, sym}
+use Rattle.std.proofs.lemmas.Bool.{true≢false}
 use Rattle.nextest_config_lint.specs.Defined.{file_of}
-use Rattle.nextest_config_lint.specs.RingProfiles.{child_view, IsLastOf, number_in}
-use Rattle.nextest_config_lint.specs.Inheritance.{ComesBack}
-use Rattle.nextest_config_lint.specs.declared.ring_profiles.Child.{Child}
-use Rattle.nextest_config_lint.proofs.RingProfiles.{linked, ring_profiles}
+use Rattle.nextest_config_lint.specs.Inheritance.{link_in, link_view}
+use Rattle.nextest_config_lint.proofs.Walks.{none_left, settled_after, settled_at_first, trail_links}
 use Rattle.nextest_config_lint.proofs.ring_profiles.find_ring_profiles.Goals as goal
 
-pub returns : goal.returns
-returns c = IfOk-weaker c.on_rings.result _ _ (λ rings marks. λ profile position.
+pub loop-profile-init : goal.loop-profile-init
+loop-profile-init c = settled_at_first c.in_ok-left.ensures (λ profile. rw c.new-rings.ensures.empty refl)
+
+pub loop-profile-preserved : goal.loop-profile-preserved
+loop-profile-preserved c =
     let files = map file_of c.args.files.now in
-    let children = c.in_ok-children.children.items in
-    let numbers = c.in_ok-last.last in
-    let nexts = c.in_ok-nexts.nexts.items in
-    let back = c.in_ok-back.back.items in
-    let last = subst (λ (l : List Child). (name : List ℕ) → IsLastOf (map child_view l) name (number_in numbers name)) c.as_slice.ensures.value c.in_ok-last.ensures in
-    let links = rw c.as_slice-2.ensures.value at c.in_ok-nexts.ensures in
-    let marked = subst (λ (l : List (Option ℕ)). (k : ℕ) → (get_or back k false ≡ true) ↔ ComesBack l k) c.as_slice-3.ensures.value c.in_ok-back.ensures in
-    let kept = rw (c.as_slice-4.ensures.value, c.as_slice-5.ensures.value) at (marks profile) in
-    ring_profiles files (map child_view children) (number_in numbers) nexts back (linked files children numbers nexts c.in_ok-children.ensures last links) marked profile position (get_by_text rings profile) kept) c.on_rings.ensures
+    let so_far = c.loop-profile.invariant in
+    let walk = c.in_ok-end.ensures.walk files so_far.links in
+    let empty : (profile : List ℕ) → link_in c.new-trail.result profile ≡ None = λ profile. rw c.new-trail.ensures.empty refl in
+    let links = trail_links so_far empty walk c.in_ok-end.ensures.ended in
+    let (last, ended, around) = c.in_ok-add_ring.ensures files links in
+    settled_after so_far empty walk c.in_ok-end.ensures.ended around ended
+
+-- none is left, so all are settled
+pub returns : goal.returns
+returns c = λ profile position. (
+  c.loop-profile.invariant.come_back profile position,
+  c.loop-profile.invariant.all profile position (ap (option_map link_view) (none_left _ c.loop-profile.left.entries (λ some. absurd (true≢false (sym (rw c.in_default.is at (c.first_key_value.ensures.variant.1 some))))))),
+)

@@ -3,7 +3,7 @@ use Rattle.std.proofs.lemmas.Map.Iter.{iter_end}
 use Rattle.std.specs.BTreeMap.{keys}
 use Rattle.std.specs.Map.Iter.{deref}
 use Rattle.nextest_config_lint.specs.Settings.{mark_step}
-use Rattle.nextest_config_values.specs.NearestWord.{words_of}
+use Rattle.nextest_config_values.specs.Read.{words_of}
 use Rattle.nextest_config_lint.specs.Unknown.{IsKeyFound, TableKey, key_at}
 use Rattle.nextest_config_lint.proofs.FoundLists.{adds_next}
 use Rattle.nextest_config_lint.proofs.Keys.{all_names}

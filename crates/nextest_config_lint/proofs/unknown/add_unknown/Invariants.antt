@@ -1,7 +1,7 @@
 use Rattle.std.proofs.Common.{map, string_bytes}
 use Rattle.nextest_config_lint.specs.Found.{AddsFound}
 use Rattle.nextest_config_lint.specs.Settings.{mark_step}
-use Rattle.nextest_config_values.specs.NearestWord.{words_of}
+use Rattle.nextest_config_values.specs.Read.{words_of}
 use Rattle.nextest_config_lint.specs.Unknown.{IsKeyFound, key_at}
 use Rattle.nextest_config_lint.proofs.unknown.add_unknown.Given as goal
 

@@ -1,6 +1,5 @@
 use Rattle.std.proofs.Common.{◌≡◌, drop}
-use Rattle.nextest_config_values.specs.Read.{value_of}
-use Rattle.nextest_config_values.specs.NearestWord.{words_of}
+use Rattle.nextest_config_values.specs.Read.{value_of, words_of}
 use Rattle.nextest_config_lint.proofs.unknown.is_known.Given as goal
 
 -- the key is none so far

@@ -17,7 +17,7 @@ loop-current-init c =
 pub returns-then-not-remove-clause-fault : goal.returns-then-not-remove-clause-fault
 returns-then-not-remove-clause-fault c =
     let (goes_on, way, starts, is_profile, left, utf8) = c.loop-current.invariant in
-    let layers = layers_of c.args.layers.now in
+    let layers = layers_of c.args.layers in
     let current = c.loop-current.current.now in
     let chain = words_of c.loop-current.chain.items in
     let some : SomeOf (λ other. other ≡ current) chain = ⊎_elim (λ has. absurd (not_found current c.loop-current.left.keys (sym c.remove.ensures.test ∙ c.if-not-remove.true) has)) (λ some. some) (left current is_profile) in
@@ -30,7 +30,7 @@ returns-then-not-remove-clause-fault c =
 pub returns-in_err-current-clause-fault : goal.returns-in_err-current-clause-fault
 returns-in_err-current-clause-fault c =
     let (goes_on, way, starts, is_profile, left, utf8) = c.loop-current.invariant in
-    let layers = layers_of c.args.layers.now in
+    let layers = layers_of c.args.layers in
     let name = c.args.name.now in
     let current = c.loop-current.current.now in
     let leads = leads_on layers (words_of c.loop-current.chain.items) name current starts.0 way starts.1 in
@@ -41,7 +41,7 @@ returns-in_err-current-clause-fault c =
 pub loop-current-preserved : goal.loop-current-preserved
 loop-current-preserved c =
     let (goes_on, way, starts, is_profile, left, utf8) = c.loop-current.invariant in
-    let layers = layers_of c.args.layers.now in
+    let layers = layers_of c.args.layers in
     let name = c.args.name.now in
     let current = c.loop-current.current.now in
     let next = c.in_ok-current.current.now in

@@ -10,12 +10,12 @@ pub unreachable-requires : goal.unreachable-requires
 unreachable-requires c =
     let path : words_of c.as_slice-2.result.now ≡ words_of c.args.path.now ++ map string_bytes c.args.leaf.now.keys.items =
     ap words_of c.as_slice-2.ensures.value ∙ c.in_ok-whole.ensures ∙ ap (λ keys. words_of c.args.path.now ++ map string_bytes keys) c.as_slice.ensures.value in
-    let last = subst (λ path. IsLastValue (map (said_at path) (layers_of c.args.layers.now)) c.last_value.result) path c.last_value.ensures in
+    let last = subst (λ path. IsLastValue (map (said_at path) (layers_of c.args.layers)) c.last_value.result) path c.last_value.ensures in
     not_nothing _ c.requires.0 (view c.args.leaf.now.value) (rw c.in-None.is at last) c.requires.1
 
 pub returns : goal.returns
 returns c =
     let path : words_of c.as_slice-2.result.now ≡ words_of c.args.path.now ++ map string_bytes c.args.leaf.now.keys.items =
     ap words_of c.as_slice-2.ensures.value ∙ c.in_ok-whole.ensures ∙ ap (λ keys. words_of c.args.path.now ++ map string_bytes keys) c.as_slice.ensures.value in
-    let last = subst (λ path. IsLastValue (map (said_at path) (layers_of c.args.layers.now)) c.last_value.result) path c.last_value.ensures in
+    let last = subst (λ path. IsLastValue (map (said_at path) (layers_of c.args.layers)) c.last_value.result) path c.last_value.ensures in
     by_last _ c.requires.0 c.in-Some.last.layer (view c.args.leaf.now.value) (view c.in-Some.last.value.now) c.requires.1 (rw c.in-Some.is at last)

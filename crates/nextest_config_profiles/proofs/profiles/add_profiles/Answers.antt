@@ -5,7 +5,7 @@ use Rattle.std.specs.Map.Iter.{deref}
 use Rattle.toml.specs.Data.{get_member}
 use Rattle.toml.specs.View.{table_view}
 use Rattle.nextest_config_profiles.specs.Profiles.{HasProfile, SomeOf}
-use Rattle.nextest_config_profiles.proofs.MergedOver.{lent}
+use Rattle.nextest_config_profiles.specs.Reach.{lent}
 use Rattle.nextest_config_profiles.proofs.Names.{has_key, key_has, mapped_some, some_joined, some_left, some_mapped, some_of_one, some_right}
 use Rattle.nextest_config_profiles.proofs.profiles.add_profiles.Goals as goal
 

@@ -1,5 +1,5 @@
 use Rattle.std.proofs.Common.{option_map, take}
-use Rattle.nextest_config_values.specs.NearestWord.{words_of}
+use Rattle.nextest_config_values.specs.Read.{words_of}
 use Rattle.nextest_config_values.proofs.NearestWords.{IsSoFar}
 use Rattle.nextest_config_values.proofs.nearest_word.nearest.Given as goal
 

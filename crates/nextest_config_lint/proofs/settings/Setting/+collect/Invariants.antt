@@ -1,7 +1,7 @@
 use Rattle.std.proofs.Common.{◌≡◌, ◌++◌, drop, map}
 use Rattle.toml.specs.View.{array_view, items_view, table_view}
 use Rattle.nextest_config_lint.specs.Settings.{at_items, settings_in, settings_of_rows, setting_view, mark_step}
-use Rattle.nextest_config_lint.specs.Schema.{below_of, rows_told}
+use Rattle.nextest_config_lint.specs.Schema.{below_of, rows_view}
 use Rattle.nextest_config_lint.proofs.Profiles.{at_entries}
 use Rattle.nextest_config_lint.proofs.settings.Setting.+collect.Given as goal
 
@@ -18,5 +18,5 @@ invariant-collect_names-loop-name l =
 
 abbrev pub invariant-collect_rows-loop-key : goal.invariant-collect_rows-loop-key
 invariant-collect_rows-loop-key l =
-    map setting_view l.all.items ++ settings_of_rows (rows_told (drop l.key-index l.rows)) (map mark_step l.path) (table_view l.table)
-    ≡ map setting_view l.fn.all.items ++ settings_of_rows (rows_told l.rows) (map mark_step l.path) (table_view l.table)
+    map setting_view l.all.items ++ settings_of_rows (rows_view (drop l.key-index l.rows)) (map mark_step l.path) (table_view l.table)
+    ≡ map setting_view l.fn.all.items ++ settings_of_rows (rows_view l.rows) (map mark_step l.path) (table_view l.table)

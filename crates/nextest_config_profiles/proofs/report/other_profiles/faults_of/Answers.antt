@@ -1,5 +1,4 @@
 use Rattle.std.proofs.Common.{option_map}
-use Rattle.std.proofs.lemmas.List.{take_all}
 use Rattle.nextest_config_profiles.specs.Report.OtherProfiles.{IsFaultOf}
 use Rattle.nextest_config_profiles.specs.Report.Setting.{rule_of}
 use Rattle.nextest_config_profiles.proofs.Somes.{some_more}
@@ -9,11 +8,4 @@ pub loop-name-preserved : goal.loop-name-preserved
 loop-name-preserved c =
     let (fault, is_of_other_profile, pushed) = c.in_ok-push_fault.ensures in
     rw pushed
-    (some_more (IsFaultOf c.args.effective.now (rule_of c.args.setting) (option_map (λ name. name.now) c.in_ok-giver.giver)) (λ word. word.now) c.args.names.now c.loop-name.name-index _ _ fault c.loop-name-test.true c.loop-name.invariant is_of_other_profile)
-
-pub returns : goal.returns
-returns c = record {
-  giver = option_map (λ name. name.now) c.in_ok-giver.giver;
-  is_giver = c.in_ok-giver.ensures;
-  are_faults = rw (take_all c.loop-name.name-index c.args.names.now c.loop-name-test.false) at c.loop-name.invariant;
-}
+    (some_more (IsFaultOf c.args.effective.now (rule_of c.args.setting) (option_map (λ name. name.now) c.args.giver)) (λ word. word.now) c.args.names.now c.loop-name.name-index _ _ fault c.loop-name-test.true c.loop-name.invariant is_of_other_profile)

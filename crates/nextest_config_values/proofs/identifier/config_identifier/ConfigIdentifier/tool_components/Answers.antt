@@ -7,5 +7,5 @@ use Rattle.nextest_config_values.proofs.identifier.config_identifier.ConfigIdent
 pub returns-in-Some : goal.returns-in-Some
 returns-in-Some c =
     let stripped = strip_text tool_mark c.as_str.result.now (Some c.in-Some.components) c.in-Some.ensures.cases in
-    let whole = sym (c.as_str.ensures ∙ c.self.view_is) ∙ stripped.0 in
-    marked_components _ c.args.self.now c.in-Some.components.now c.split_once.result whole (stripped.1 c.as_str.utf8) (rw c.self.view_is at c.self.invariant.form) c.split_once.ensures.cases
+    let whole = sym c.as_str.ensures.value ∙ stripped.0 in
+    marked_components _ c.args.self.now c.in-Some.components.now c.split_once.result whole (stripped.1 c.as_str.utf8) c.as_str.ensures.kept.form c.split_once.ensures.cases

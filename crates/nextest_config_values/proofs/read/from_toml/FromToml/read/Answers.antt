@@ -1,8 +1,9 @@
+use Rattle.std.proofs.Common.{rules}
 use Rattle.toml.specs.View.{view}
-use Rattle.nextest_config_values.proofs.Faults.{refused_at}
+use Rattle.nextest_config_values.proofs.Faults.{refused_where}
 use Rattle.nextest_config_values.proofs.read.from_toml.FromToml.read.Goals as goal
 
-pub returns-in-Err-clause-refused : goal.returns-in-Err-clause-refused
-returns-in-Err-clause-refused g c =
-    refused_at g.Self.FromToml.reading (view c.args.value.now) c.args.at.now c.in-Err.fault c.at.result c.in-Err.ensures.refused
-    c.at.ensures.memory c.at.ensures.told
+pub returns-clause-refused : goal.returns-clause-refused
+returns-clause-refused g c =
+    refused_where g.Self.FromToml.reading (view c.args.value.now) c.args.at.now _ _ c.read_value.ensures.refused
+    c.map_err.ensures.cases (λ fault told made. search rules)

@@ -1,6 +1,6 @@
 use Rattle.std.proofs.Common.{◌≡◌, ℕ, List, Option, Some, None, map, option_map, refl, string_bytes}
 use Rattle.std.specs.Prelude.{IfSome}
-use Rattle.nextest_config_values.specs.Read.{Cause, cause_of, fault_with, FaultOrMemory, path_along, PathStep, Reason, reason_at, reason_of, step_of, TellsAs, TellsMemory, told_at, told_with}
+use Rattle.nextest_config_values.specs.Read.{Cause, cause_of, fault_with, FaultOrMemory, path_along, PathStep, Reason, reason_at, reason_of, step_of, TellsAs, TellsMemory, read_fault_at, read_fault_with}
 use Rattle.nextest_config_values.specs.declared.read.fault.FaultKind.{FaultKind}
 use Rattle.nextest_config_values.specs.declared.read.fault.FaultKind.TheVariants.{Memory}
 use Rattle.nextest_config_values.specs.declared.read.fault.ReadFault.{ReadFault}
@@ -8,16 +8,16 @@ use Rattle.nextest_config_values.proofs.read.value_fault.ValueFault.at.Goals as 
 
 -- what is told of a reason at a path is told of the cause that says it there
 of_reason : (path : List ℕ) (cause : Cause) (reason : Option Reason) (kind : Type 0) (told : ReadFault)
-    → FaultOrMemory reason kind (λ one. one ≡ reason_at path cause) → FaultOrMemory reason (TellsMemory told) (λ one. TellsAs (told_with path one) told)
-    → TellsAs (told_with path (reason_at path cause)) told
+    → FaultOrMemory reason kind (λ one. one ≡ reason_at path cause) → FaultOrMemory reason (TellsMemory told) (λ one. TellsAs (read_fault_with path one) told)
+    → TellsAs (read_fault_with path (reason_at path cause)) told
 of_reason path cause (Some one) kind told is tells = rw is at tells
 of_reason path cause None kind told is memory = rw memory.1 (memory.0, refl)
 
 -- what is told of a cause is told of the fault with these steps
 of_steps : (at path : List ℕ) (steps : List PathStep) (cause : Option Cause) (kind : FaultKind) (told : ReadFault) → path ≡ path_along at steps
     → IfSome cause (λ k. FaultOrMemory (reason_of kind) (kind ≡ Memory) (λ reason. reason ≡ reason_at path k))
-    → FaultOrMemory (reason_of kind) (TellsMemory told) (λ reason. TellsAs (told_with path reason) told)
-    → IfSome (option_map (fault_with steps) cause) (λ fault. TellsAs (told_at at fault) told)
+    → FaultOrMemory (reason_of kind) (TellsMemory told) (λ reason. TellsAs (read_fault_with path reason) told)
+    → IfSome (option_map (fault_with steps) cause) (λ fault. TellsAs (read_fault_at at fault) told)
 of_steps at path steps None kind told is said tells = tt
 of_steps at path steps (Some k) kind told is said tells = rw is at (of_reason path k (reason_of kind) (kind ≡ Memory) told said tells)
 
