@@ -1,5 +1,0 @@
-use Rattle.nextest_config_filters.proofs.Marks.{fault_in_text}
-use Rattle.nextest_config_filters.proofs.laws.law_filter_range.Goals as goal
-
-pub returns : goal.returns
-returns c = fault_in_text
