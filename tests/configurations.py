@@ -4,11 +4,15 @@ Each function takes the source of randomness.
 """
 
 import collections
+from random import Random
 
 import documents
 import places
 import settings
 from inputs import array, chance, some_features, some_value, some_version, some_versions, table
+
+# How many tables with values of several keys are written at each place.
+SEVERAL = 40
 
 # A list of files: those by their names, the tools as pairs of a name and a file, the repository's in turn, what
 # standard input holds, the folder that the command runs in, and whether tables only are taken.
@@ -19,17 +23,31 @@ Repository = collections.namedtuple("Repository", "words path contents kind", de
 
 
 def values_of(path, place):
-    """What is written at a place: the values of its key, and tables with each value of one of their keys."""
+    """What is written at a place: the values of its key, and tables with each value of one of their keys, and with
+    values of several."""
     yield from settings.VALUES[path[-1]]
-    for field in place.reader.fields:
+    fields = place.reader.fields
+    for field in fields:
         beside = {"count": "3"} if field == "backoff" else settings.BESIDE.get(path[-1], {})
         yield from (table({**beside, field: value}.items()) for value in settings.VALUES[field])
+    source = Random(str(path))
+    yield from dict.fromkeys(table(several(source, fields)) for _ in range(SEVERAL if fields else 0))
+
+
+def several(random, fields):
+    """Keys of a table with their values, of which the first are mostly right; now and then one that isn't known."""
+    for field in fields:
+        values = settings.VALUES[field]
+        if chance(random, 0.8):
+            yield field, random.choice(values[: random.randint(1, len(values))])
+    if chance(random, 0.3):
+        yield "zone", "1"
 
 
 def is_right(place, text):
     """Whether a value means something at a place, or may."""
-    _, fault = places.judged((), place, documents.read(f"x = {text}".encode()).value["x"])
-    return fault is None or fault.is_unjudged
+    value = documents.read(f"x = {text}".encode()).value["x"]
+    return all(fault.is_unjudged for fault in place.reader.faults(value))
 
 
 def by_key(turns):
@@ -244,8 +262,9 @@ def right_document_in_turn(random, number, is_tools):
             heads.append(setting(random, ["t" if step == "*" else step for step in path], value))
     if chance(random, 0.5):
         sections["t"]["inherits"] = pair(random, "inherits", random.choice(['"u"', '"u"', '"default-miri"', '"x"', "1"]))
-    if chance(random, 0.6):
-        sections["u"]["retries"] = pair(random, "retries", random.choice(APART))
+    for name, share in (("t", 0.3), ("u", 0.6)):
+        if chance(random, share):
+            sections[name]["retries"] = pair(random, "retries", random.choice(APART))
     if chance(random, 0.1):
         sections["u"]["inherits"] = 'inherits = "t"\n'
     lines = [line for name, pairs in sections.items() for line in [f"[profile.{name}]\n", *pairs.values()]]

@@ -93,6 +93,8 @@ def some_features(random):
     names = some_names(random)
     if chance(random, 0.5):
         return array(quoted(name) if chance(random, 0.95) else some_value(random) for name in names)
+    if chance(random, 0.2):
+        return table((word, random.choice(["true", some_value(random)])) for word in WORDS)
     values = ["true", "false", "true", some_value(random)]
     return table((quoted(name), random.choice(values)) for name in dict.fromkeys(names))
 

@@ -13,10 +13,10 @@ import documents
 import rules
 from reports import WORDS, Ask
 from rules import Fault, meant, nearest, path_text, printed
-from settings import HOMES, TOP
+from settings import HOMES, TOP, VERSIONS
 
-# The code's table of places, by which it is known that none is left out here.
-SCHEMA = pathlib.Path(__file__).resolve().parent.parent / "crates/nextest_config_lint/src/schema.rt"
+# The code's table of keys, by which it is known that none is left out here.
+KEYS = pathlib.Path(__file__).resolve().parent.parent / "crates/nextest_config_elements/src/keys.rt"
 # The most names of a list among which the nearest is sought.
 MOST_NAMES = 100
 # Booleans of which two letters have changed places.
@@ -48,46 +48,58 @@ def places_in(rows, front=()):
             yield from places_in(place.each.rows, path)
 
 
-def met_at(reader, path, value, fault, steps=()):
-    """Which forms of a value, and of the keys of its table, are met, each right or wrong."""
+def met_at(reader, path, value, faults):
+    """Which forms of a value with these faults, and of the keys of its table, are met, each right or wrong."""
     form = rules.KINDS[type(value)]
-    if fault is None:
+    if not faults:
         form = value if isinstance(value, str) and value in reader.takes else form
         yield path, "any value" if reader is rules.UNREAD else form, "right"
-        keys = [key for key in reader.fields if isinstance(value, dict) and key in value]
-    elif not fault.is_unjudged:
+    elif not all(fault.is_unjudged for fault in faults):
         yield path, form if form in reader.refuses else "another kind", "wrong"
-        keys = [key for key in steps[:1] if key in reader.fields]
-    for key in keys if not (fault and fault.is_unjudged) else []:
-        yield from met_at(reader.fields[key], (*path, key), value[key], fault, steps[1:])
+        if len(faults) > 1:
+            yield path, form, "wrong at several places"
+    unknown = [fault.key for fault in faults if fault.code == "unknown-field"]
+    for key, field in reader.fields.items() if isinstance(value, dict) else []:
+        if key in value and key not in unknown:
+            yield from met_at(field, (*path, key), value[key], list(field.faults(value[key])))
 
 
 def met_in(settings, tables_only):
     """The same of the settings of a file, with `*` for each name, and 0 for each index."""
     for path, place, value in settings:
-        _, fault = judged(path, place, value, tables_only)
         names = [at == 1 and path[0] in ("profile", "test-groups") for at in range(len(path))]
         steps = ["*" if is_name else 0 if isinstance(step, int) else step for step, is_name in zip(path, names)]
-        yield from met_at(place.reader, tuple(steps), value, fault, fault.steps if fault else ())
+        yield from met_at(place.reader, tuple(steps), value, faults_at(path, place, value, tables_only))
 
 
 def all_forms(reader, path):
     """All that may be met of what reads at a path."""
     yield from ((path, form, "right") for form in reader.takes)
     yield from ((path, form, "wrong") for form in reader.refuses)
+    several = [form for form in reader.refuses if form == "array" or form == "table" and reader.fields]
+    yield from ((path, form, "wrong at several places") for form in several)
     if reader is not rules.UNREAD:
         yield path, "another kind", "wrong"
     for key, field in reader.fields.items():
         yield from all_forms(field, (*path, key))
 
 
+def keys_of_code():
+    """How often the code's tables have each key, in a row of its own or in one that several of them share."""
+    text = KEYS.read_text()
+    shared = dict(re.findall(r'const (\w+): Field = Field \{\s+key: "([\w-]+)"', text))
+    tables = "".join(re.findall(r"const \w+: &\[Field\] = &\[(.*?)\];", text, re.DOTALL))
+    rows = re.findall(r'\bkey: "([\w-]+)"', tables)
+    return collections.Counter(rows + [shared[name] for name in re.findall(r"\w+", tables) if name in shared])
+
+
 def lacking(met, keys=None):
     """What isn't met of the settings below these keys of a file, or below all."""
     rows = {key: place for key, place in TOP.items() if keys is None or key in keys}
     wanted = {form for path, place in places_in(rows) for form in all_forms(place.reader, path)}
-    said = collections.Counter(re.findall(r'"([\w-]+)",\s+Reader::', SCHEMA.read_text()))
-    here = collections.Counter(path[-1] for path, _ in places_in(TOP) if path[-1] not in (0, "*"))
-    others = [f"the key {key}, as {SCHEMA.name} has it" for key in said.keys() | here.keys() if said[key] != here[key]]
+    said = keys_of_code()
+    here = collections.Counter([path[-1] for path, _ in places_in(TOP) if path[-1] not in (0, "*")] + [*VERSIONS, *WORDS])
+    others = [f"the key {key}, as {KEYS.name} has it" for key in said.keys() | here.keys() if said[key] != here[key]]
     return others + sorted(f"{path_text(path)}, {form}, {how}" for path, form, how in wanted - met)
 
 
@@ -124,7 +136,7 @@ def may_become(made, value):
 
 
 def is_supplied(path, fault):
-    """Whether nextest's own default profile may have the missing key."""
+    """Whether a missing key is one that nextest's own default profile has, so that nothing is told of it."""
     timeouts = [("slow-timeout",), ("leak-timeout",), ("bench", "slow-timeout")]
     return fault.missing == "period" and fault.steps == () and path in [("profile", "default", *it) for it in timeouts]
 
@@ -178,11 +190,12 @@ class Listed:
         value, file, asked = self.values[position], self.files[position], {}
         if value is None:
             return "not a TOML document"
-        for key in ("nextest-version", "experimental"):
-            asked[key], fault = judged((key,), TOP[key], value[key], self.tables_only) if key in value else (None, None)
-            if fault:
-                return f"{path_text((key, *fault.steps))}: {fault.said((key,))}"
-        versions, names = asked["nextest-version"] or {}, sum(asked["experimental"] or ([], []), [])
+        for key in [key for key in ("nextest-version", "experimental") if key in value]:
+            faults = faults_at((key,), TOP[key], value[key], self.tables_only)
+            if faults:
+                return f"{path_text((key, *faults[0].steps))}: {faults[0].said((key,))}"
+            asked[key] = TOP[key].reader.means(value[key])
+        versions, names = asked.get("nextest-version", {}), sum(asked.get("experimental", []), [])
         if file.tool is not None and names:
             return tool_features(names)
         is_array = isinstance(value.get("experimental"), list)
@@ -248,14 +261,11 @@ def repeated(front, statement):
     return f", {printed(names[-1])} stands on line {line} already"
 
 
-def judged(path, place, value, tables_only=False):
-    """What a value means, and the fault of one that means nothing."""
-    try:
-        if path == ("experimental",) and tables_only and isinstance(value, list):
-            raise Fault("array-form", "the array form of `experimental` isn't supported, use a table")
-        return place.reader.read(value), None
-    except Fault as fault:
-        return None, fault
+def faults_at(path, place, value, tables_only=False):
+    """All that is wrong with a value, and what isn't judged in it."""
+    if path == ("experimental",) and tables_only and isinstance(value, list):
+        return [Fault("array-form", "the array form of `experimental` isn't supported, use a table")]
+    return list(place.reader.faults(value))
 
 
 def tool_features(names):
@@ -274,19 +284,20 @@ class Judge:
         self.features = None
 
     def found(self, steps, severity, code, message, of_key=False, key=None):
-        """A finding at a path, or at a key of the table there."""
+        """A finding at a path, or of what is there at a key of its table: where the value stands, or the key."""
         node = self.root.at(steps if key is None else (*steps, key))
-        span = (node.key() if of_key or key is not None else None) or node.place()
+        span = (node.key() if of_key else None) or node.place()
         return finding_at(self.path, span, severity, code, path_text(steps), message)
 
     def kinds(self):
         """The findings by their kinds, in the order in which those of one place are told."""
         faults, notes = [], []
         for path, place, value in self.settings:
-            means, fault = judged(path, place, value, self.listed.tables_only)
-            self.features = means if path == ("experimental",) else self.features
-            if fault:
+            found = [it for it in faults_at(path, place, value, self.listed.tables_only) if not is_supplied(path, it)]
+            for fault in found:
                 (notes if fault.is_unjudged else faults).append(self.told(path, place, value, fault))
+            if path == ("experimental",) and not found:
+                self.features = place.reader.means(value)
         kinds = [self.of_features(), self.unknown_keys(), self.references()]
         return [faults, *map(list, kinds), notes + self.of_array()]
 
@@ -299,10 +310,10 @@ class Judge:
         for step in fault.steps:
             reader, inner = reader.fields.get(step, rules.UNREAD), inner[step]
         is_made = fault.code == "invalid-type" and reader.made and may_become(reader.made, inner)
-        severity = "warning" if is_made or is_supplied(path, fault) else place.severity
-        is_whole = fault.missing or fault.code == "unknown-field"
-        hint = fault.hint if is_whole else reader.hint(inner, path)
-        return self.found(steps, severity, fault.code, fault.said(path) + (hint or ""))
+        is_unknown = fault.code == "unknown-field"
+        hint = fault.hint if is_unknown or fault.missing else reader.hint(inner, path)
+        said = fault.said(path) + (hint or "")
+        return self.found(steps, "warning" if is_made else place.severity, fault.code, said, is_unknown, fault.key)
 
     # Features.
 
@@ -333,7 +344,7 @@ class Judge:
             names = [name for name in value if name not in words] if words and isinstance(value, dict) else []
             for name in by_bytes(names):
                 said = f"unknown key {printed(name)}{key_hint(name, list(words)) or ''}"
-                yield self.found(path, "warning", "unknown-key", said, key=name)
+                yield self.found(path, "warning", "unknown-key", said, of_key=True, key=name)
 
     # References.
 

@@ -1,7 +1,7 @@
 """How values are read, and what is said of those that are refused, for the random runs.
 
 It is by the definitions of crates/*/specs, and no answer of a program is used. A reader of values says which forms it
-takes: kinds of TOML, and words.
+takes, kinds of TOML and words, and all that is wrong with a value, each key of a table by itself.
 """
 
 import collections
@@ -12,19 +12,35 @@ from documents import DateTime
 from reports import GREATEST, is_tool_name, printed
 
 KINDS = {bool: "boolean", int: "number", str: "text", list: "array", dict: "table", float: "float", DateTime: "date-time"}
-# What reads values: how, which forms it takes, which of them it may refuse, what is meant by a value that it refuses,
-# the readers of the keys of its table, and what nextest may make of a scalar of another kind.
-Reader = collections.namedtuple(
-    "Reader", "read takes refuses hint fields made", defaults=[(), lambda value, path: None, {}, None]
-)
+# What reads values: all that is wrong with one, in order, which forms it takes, which of them it may refuse, what is
+# meant by a value that it refuses, the readers of the keys of its table, what nextest may make of a scalar of another
+# kind, and what a value means in which nothing is wrong.
+PARTS = "faults takes refuses hint fields made means"
+DEFAULTS = [(), lambda value, path: None, {}, None, lambda value: value]
+
+
+class Reader(collections.namedtuple("Reader", PARTS, defaults=DEFAULTS)):
+    def reads(self, value):
+        return not list(self.faults(value))
+
+    def read(self, value):
+        """What a value means; it is refused for the first of its faults."""
+        faults = list(self.faults(value))
+        if faults:
+            raise faults[0]
+        return self.means(value)
 
 
 class Fault(Exception):
-    """What is wrong with a value: its code, what is said, and the steps to where it is wrong."""
+    """What is wrong with a value: its code, what is said, and the steps to where it is wrong.
 
-    def __init__(self, code, text, missing=None, hint=None, is_unjudged=False):
+    What is wrong with a table as a whole may stand at one of its keys.
+    """
+
+    def __init__(self, code, text, missing=None, key=None, hint=None, is_unjudged=False):
         super().__init__(code)
-        self.code, self.text, self.missing, self.hint, self.is_unjudged = code, text, missing, hint, is_unjudged
+        self.code, self.text, self.missing, self.key, self.hint = code, text, missing, key, hint
+        self.is_unjudged = is_unjudged
         self.steps = ()
 
     def said(self, path=()):
@@ -100,25 +116,23 @@ def meant(word):
 
 
 def of_kind(kind, expected, hint=lambda value, path: None, made=None):
-    def read(value):
+    def faults(value):
         if type(value) is not kind:
-            raise wrong_type(value, expected)
-        return value
+            yield wrong_type(value, expected)
 
-    return Reader(read, (KINDS[kind],), hint=hint, made=made)
+    return Reader(faults, (KINDS[kind],), hint=hint, made=made)
 
 
 def integer(is_taken, expected, *known, made=None):
     """An integer that is taken, or one of the words that are known."""
 
-    def read(value):
+    def faults(value):
         if type(value) not in ((int, str) if known else (int,)):
-            raise wrong_type(value, expected)
-        if not is_taken(value) if type(value) is int else value not in known:
-            raise wrong_value(value, expected)
-        return value
+            yield wrong_type(value, expected)
+        elif not is_taken(value) if type(value) is int else value not in known:
+            yield wrong_value(value, expected)
 
-    return Reader(read, ("number", *known), ("number", "text")[: 1 + len(known)], integer_hint(is_taken), made=made)
+    return Reader(faults, ("number", *known), ("number", "text")[: 1 + len(known)], integer_hint(is_taken), made=made)
 
 
 def integer_hint(is_taken):
@@ -139,36 +153,15 @@ def truth_hint(value, _):
 
 
 def words(*known, also=()):
-    def read(value):
-        TEXT.read(value)
-        if value not in (*known, *also):
-            raise Fault("unknown-variant", f"unknown variant `{value}`, expected {listed(known)}")
-        return value
+    def faults(value):
+        yield from TEXT.faults(value)
+        if isinstance(value, str) and value not in (*known, *also):
+            yield Fault("unknown-variant", f"unknown variant `{value}`, expected {listed(known)}")
 
     def hint(value, _):
         return meant(nearest(value, known)) if isinstance(value, str) else None
 
-    return Reader(read, (*known, *also), ("text",), hint)
-
-
-def read_below(reader, value, step):
-    """What the value at a step means."""
-    try:
-        return reader.read(value[step])
-    except Fault as fault:
-        fault.steps = (step, *fault.steps)
-        raise
-
-
-def fields_of(value, fields, required=()):
-    """What the keys of a table mean."""
-    means = {}
-    for key, reader in fields.items():
-        if key in value:
-            means[key] = read_below(reader, value, key)
-        elif key in required:
-            raise Fault("missing-field", "missing configuration field ", missing=key)
-    return means
+    return Reader(faults, (*known, *also), ("text",), hint)
 
 
 TEXT = of_kind(str, "a string")
@@ -176,7 +169,10 @@ BOOLEAN = of_kind(bool, "a boolean", truth_hint)
 MADE_TEXT = TEXT._replace(made="text")
 MADE_BOOLEAN = BOOLEAN._replace(made="boolean")
 TABLE = of_kind(dict, "a table")
-UNREAD = Reader(lambda value: value, ("any value",))
+UNREAD = Reader(lambda value: (), ("any value",))
+
+
+# Arrays and tables.
 
 
 def array_hint(value, path):
@@ -186,17 +182,42 @@ def array_hint(value, path):
 ARRAY = of_kind(list, "an array", array_hint)
 
 
-def read_texts(value):
-    of_kind(list, "an array of strings").read(value)
-    for index in range(len(value)):
-        read_below(TEXT, value, index)
+def faults_below(reader, value, step):
+    for fault in reader.faults(value[step]):
+        fault.steps = (step, *fault.steps)
+        yield fault
 
 
-TEXTS = Reader(read_texts, ("array",), ("array",))
+def faults_of_texts(value):
+    yield from of_kind(list, "an array of strings").faults(value)
+    for index in range(len(value)) if isinstance(value, list) else []:
+        yield from faults_below(TEXT, value, index)
 
 
-def table_of(fields, required=(), hint=TABLE.hint):
-    return Reader(lambda value: fields_of(TABLE.read(value), fields, required), ("table",), ("table",), hint, fields)
+TEXTS = Reader(faults_of_texts, ("array",), ("array",))
+
+
+def faults_of_keys(value, fields, required=()):
+    """What is wrong with the keys of a table; nothing, where the value is none."""
+    for key, reader in fields.items() if isinstance(value, dict) else []:
+        if key in value:
+            yield from faults_below(reader, value, key)
+        elif key in required:
+            yield Fault("missing-field", "missing configuration field ", missing=key)
+
+
+def means_of_keys(value, fields, absent=None):
+    """What the keys of a table mean: those that read, and those of the absent ones that mean something."""
+    there = {key: reader.means(value[key]) for key, reader in fields.items() if key in value and reader.reads(value[key])}
+    return {**{key: one for key, one in (absent or {}).items() if key not in value}, **there}
+
+
+def table_of(fields, required=()):
+    def faults(value):
+        yield from TABLE.faults(value)
+        yield from faults_of_keys(value, fields, required)
+
+    return Reader(faults, ("table",), ("table",), fields=fields)
 
 
 # Durations.
@@ -228,14 +249,12 @@ def may_be_duration(text):
     return text == "0" or nanoseconds(re.sub(rf"(?<=[0-9]){WHITE}+(?=[0-9])", "", whole)) is not None
 
 
-def read_duration(value, expected="a duration"):
-    of_kind(str, expected).read(value)
-    length = nanoseconds(value)
-    if length is None:
+def faults_of_duration(value, expected="a duration"):
+    yield from of_kind(str, expected).faults(value)
+    if isinstance(value, str) and nanoseconds(value) is None:
         fault = wrong_value(value, "a duration")
         fault.is_unjudged = may_be_duration(value)
-        raise fault
-    return length
+        yield fault
 
 
 def seconds_hint(value, _):
@@ -250,17 +269,17 @@ def short_hint(value, path):
     return f', did you mean "{value}ms" or "{value}s"' if hint and int(value) >= 100 else hint
 
 
-DURATION = Reader(read_duration, ("text",), ("text",), seconds_hint)
+DURATION = Reader(faults_of_duration, ("text",), ("text",), seconds_hint, means=nanoseconds)
 SHORT_DURATION = DURATION._replace(hint=short_hint)
 
 
 def timeout(expected, fields, may_be_empty, hint=seconds_hint):
-    def read(value):
-        if not isinstance(value, dict):
-            return None if may_be_empty and value == "" else read_duration(value, expected)
-        return fields_of(value, fields, ["period"])
+    def faults(value):
+        if not isinstance(value, dict) and not (may_be_empty and value == ""):
+            yield from faults_of_duration(value, expected)
+        yield from faults_of_keys(value, fields, ["period"])
 
-    return Reader(read, ("text", "table"), ("text", "table"), hint, fields)
+    return Reader(faults, ("text", "table"), ("text", "table"), hint, fields)
 
 
 # Identifiers.

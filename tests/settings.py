@@ -10,13 +10,14 @@ import re
 from reports import GREATEST, NUMBER, WORDS, dotted, printed
 from rules import (
     ARRAY, BOOLEAN, DURATION, MADE_BOOLEAN, MADE_TEXT, SHORT_DURATION, TABLE, TEXT, TEXTS, UNREAD, Fault, Reader,
-    fields_of, integer, integer_hint, is_integer, listed, meant, nearest, of_kind, read_texts, short_hint, table_of,
-    timeout, truth_hint, words, wrong_type, wrong_value,
+    faults_of_keys, integer, integer_hint, is_integer, listed, meant, means_of_keys, nearest, of_kind, short_hint,
+    table_of, timeout, truth_hint, words, wrong_type, wrong_value,
 )
 
 # What reads them.
 
 U32 = integer(lambda it: 0 <= it < 1 << 32, "u32")
+I8 = integer(lambda it: -128 <= it < 128, "i8")
 COUNT = integer(lambda it: it > 0, "a nonzero usize", made="number")
 FLAKY_RESULT = words("fail", "pass")
 FLAKY_STATUS = words("failure", "success")
@@ -25,13 +26,13 @@ FINAL_LEVEL = words("none", "fail", "flaky", "slow", "skip", "leak", "pass", "al
 OUTPUT = words("immediate", "immediate-final", "final", "never")
 
 
-def read_priority(value):
-    integer(lambda it: -128 <= it < 128, "i8").read(value)
-    if not -100 <= value <= 100:
-        raise Fault("priority", f"priority {value} must be between -100 and 100")
+def faults_of_priority(value):
+    yield from I8.faults(value)
+    if I8.reads(value) and not -100 <= value <= 100:
+        yield Fault("priority", f"priority {value} must be between -100 and 100")
 
 
-PRIORITY = Reader(read_priority, ("number",), ("number",), integer_hint(lambda it: -100 <= it <= 100), made="number")
+PRIORITY = Reader(faults_of_priority, ("number",), ("number",), integer_hint(lambda it: -100 <= it <= 100), made="number")
 THREADS = integer(lambda it: it != 0, 'an integer other than 0 or the string "num-cpus"', "num-cpus")
 ALL_THREADS = 'an integer, the string "num-cpus" or the string "num-test-threads"'
 THREADS_REQUIRED = integer(lambda it: it > 0, ALL_THREADS, "num-cpus", "num-test-threads")
@@ -40,59 +41,84 @@ SLOW_TIMEOUT = timeout('a table ({ period = "60s", terminate-after = 2 }) or a s
 LEAK = {"period": SHORT_DURATION, "result": FLAKY_RESULT}
 LEAK_TIMEOUT = timeout('a table ({ period = "500ms", result = "fail" }) or a string ("100ms")', LEAK, False, short_hint)
 
+# A table of retries: its keys, those that are required, what absent ones mean, and its rules. A rule between keys has
+# its code, what is said where it is broken, the keys that it asks, at the first of which it stands, and when what they
+# mean breaks it.
+Policy = collections.namedtuple("Policy", "fields required absent rules")
+Rule = collections.namedtuple("Rule", "code said keys is_broken")
+
 RETRIES_EXPECTED = 'a table ({ backoff = "fixed", count = 5 }) or a number (5)'
-BESIDE_FIXED = {"count": U32, "delay": DURATION, "jitter": BOOLEAN}
-BACKOFFS = {"fixed": BESIDE_FIXED, "exponential": {**BESIDE_FIXED, "max-delay": DURATION}}
-BACKOFF = words(*BACKOFFS)
+FIXED = {"backoff": words("fixed", "exponential"), "count": U32, "delay": DURATION, "jitter": BOOLEAN}
+NO_DELAY = "`jitter` cannot be true if `delay` isn't specified or is zero"
+BELOW = "`max-delay` cannot be less than delay with exponential backoff"
+# By the backoff.
+POLICIES = {
+    "fixed": Policy(
+        FIXED,
+        ["backoff", "count"],
+        {"jitter": False, "delay": 0},
+        [Rule("jitter-without-delay", NO_DELAY, ("jitter", "delay"), lambda jitter, delay: jitter and delay == 0)],
+    ),
+    "exponential": Policy(
+        {**FIXED, "max-delay": DURATION},
+        ["backoff", "count", "delay"],
+        {"max-delay": None},
+        [
+            *(
+                Rule(f"{key}-zero", f"`{key}` cannot be zero with exponential backoff", (key,), lambda it: it == 0)
+                for key in ("count", "delay", "max-delay")
+            ),
+            Rule("max-delay-below-delay", BELOW, ("max-delay", "delay"), lambda most, it: most is not None and most < it),
+        ],
+    ),
+}
+# Where the backoff doesn't read.
+NO_POLICY = POLICIES["exponential"]._replace(required=["backoff", "count"], rules=[])
 
 
-def read_retries(value):
-    if type(value) is int:
-        if not 0 <= value < 1 << 32:
-            raise wrong_value(value, RETRIES_EXPECTED if value < 0 else "a u32")
-        return
-    of_kind(dict, RETRIES_EXPECTED).read(value)
-    fields_of(value, {"backoff": BACKOFF}, ["backoff"])
-    grows, fields = value["backoff"] == "exponential", BACKOFFS[value["backoff"]]
-    means = fields_of(value, fields, ["count", "delay"] if grows else ["count"])
-    unknown = sorted((key for key in value if key not in fields and key != "backoff"), key=str.encode)
-    if unknown:
-        hint = meant(nearest(unknown[0], list(fields)))
-        raise Fault("unknown-field", f"unknown field `{unknown[0]}`, expected {listed(fields)}", hint=hint)
-    for is_broken, code, said in retries_rules(means, grows):
-        if is_broken:
-            raise Fault(code, said)
+def first_broken(rules, means):
+    """The first rule that is broken of those whose keys all read."""
+    for rule in rules:
+        if means.keys() >= set(rule.keys) and rule.is_broken(*(means[key] for key in rule.keys)):
+            yield Fault(rule.code, rule.said, key=rule.keys[0])
+            return
 
 
-def retries_rules(means, grows):
-    delay, most, backoff = means.get("delay"), means.get("max-delay"), "with exponential backoff"
-    if not grows:
-        alone = "`jitter` cannot be true if `delay` isn't specified or is zero"
-        yield means.get("jitter") and not delay, "jitter-without-delay", alone
-        return
-    yield means["count"] == 0, "count-zero", f"`count` cannot be zero {backoff}"
-    yield delay == 0, "delay-zero", f"`delay` cannot be zero {backoff}"
-    yield most == 0, "max-delay-zero", f"`max-delay` cannot be zero {backoff}"
-    is_below = most is not None and most < delay
-    yield is_below, "max-delay-below-delay", f"`max-delay` cannot be less than delay {backoff}"
+def faults_of_policy(value):
+    backoff = means_of_keys(value, {"backoff": FIXED["backoff"]}).get("backoff")
+    fields, required, absent, rules = POLICIES.get(backoff, NO_POLICY)
+    yield from faults_of_keys(value, fields, required)
+    for key in sorted((key for key in value if key not in fields), key=str.encode):
+        said = f"unknown field `{key}`, expected {listed([*fields][1:])}"
+        yield Fault("unknown-field", said, key=key, hint=meant(nearest(key, [*fields])))
+    yield from first_broken(rules, means_of_keys(value, fields, absent))
+
+
+def faults_of_retries(value):
+    if isinstance(value, dict):
+        yield from faults_of_policy(value)
+    elif type(value) is not int:
+        yield wrong_type(value, RETRIES_EXPECTED)
+    elif not U32.reads(value):
+        yield wrong_value(value, RETRIES_EXPECTED if value < 0 else "a u32")
 
 
 BOTH = ("number", "table")
-RETRIES = Reader(read_retries, BOTH, BOTH, U32.hint, {"backoff": BACKOFF, **BACKOFFS["exponential"]})
+RETRIES = Reader(faults_of_retries, BOTH, BOTH, U32.hint, POLICIES["exponential"].fields)
 
 LIMIT_EXPECTED = 'a positive integer or the string "all"'
 
 
-def read_limit(value):
+def faults_of_limit(value):
     if type(value) not in (int, str):
-        raise wrong_type(value, LIMIT_EXPECTED)
+        yield wrong_type(value, LIMIT_EXPECTED)
     if type(value) is int and value < 1:
-        raise wrong_value(value, LIMIT_EXPECTED)
+        yield wrong_value(value, LIMIT_EXPECTED)
     if isinstance(value, str) and value != "all":
         how = "or a positive integer"
         if is_integer(value):
             how = f"(numbers must be {'specified without' if int(value) > 0 else 'positive and without'} quotes)"
-        raise wrong_value(value, f'the string "all" {how}')
+        yield wrong_value(value, f'the string "all" {how}')
 
 
 def limit_hint(value, path):
@@ -102,18 +128,18 @@ def limit_hint(value, path):
 
 
 LIMIT = {
-    "max-fail": Reader(read_limit, ("number", "all"), ("number", "text"), integer_hint(lambda it: it > 0)),
+    "max-fail": Reader(faults_of_limit, ("number", "all"), ("number", "text"), integer_hint(lambda it: it > 0)),
     "terminate": words("wait", "immediate"),
 }
 
 
-def read_fail_fast(value):
+def faults_of_fail_fast(value):
     if not isinstance(value, bool):
-        of_kind(dict, "a boolean or { max-fail = ... }").read(value)
-        fields_of(value, LIMIT, ["max-fail"])
+        yield from of_kind(dict, "a boolean or { max-fail = ... }").faults(value)
+    yield from faults_of_keys(value, LIMIT, ["max-fail"])
 
 
-FAIL_FAST = Reader(read_fail_fast, ("boolean", "table"), ("table",), limit_hint, LIMIT)
+FAIL_FAST = Reader(faults_of_fail_fast, ("boolean", "table"), ("table",), limit_hint, LIMIT)
 
 REPORT = {
     "path": MADE_TEXT,
@@ -127,56 +153,72 @@ JUNIT = table_of(REPORT)
 GROUP = table_of({"max-threads": UNREAD}, ["max-threads"])._replace(fields={})
 
 
-def read_platform(value):
+def faults_of_platform(value):
     if type(value) not in (str, dict):
-        raise wrong_type(value, 'a string or a table ({ host = "..", target = ".." })')
+        yield wrong_type(value, 'a string or a table ({ host = "..", target = ".." })')
 
 
-PLATFORM = Reader(read_platform, ("text", "table"))
+PLATFORM = Reader(faults_of_platform, ("text", "table"))
 
 
-def read_version(value):
-    """The three numbers of a version."""
-    TEXT.read(value)
-    mark = re.search("[-+]", value)
-    if mark:
+def faults_of_version(value):
+    if not isinstance(value, str):
+        yield wrong_type(value, "a string")
+    elif mark := re.search("[-+]", value):
         code, what = {"-": ("pre-release", "pre-release identifiers are"), "+": ("build-metadata", "build metadata is")}[mark[0]]
-        raise Fault(code, f"{what} not supported in nextest-version")
-    if not re.fullmatch(rf"{NUMBER}\.{NUMBER}(?:\.{NUMBER})?", value) or max(map(int, value.split("."))) > GREATEST:
-        raise Fault("not-version", f"invalid version {printed(value)}")
-    return (*map(int, value.split(".")), 0)[:3]
+        yield Fault(code, f"{what} not supported in nextest-version")
+    elif not re.fullmatch(rf"{NUMBER}\.{NUMBER}(?:\.{NUMBER})?", value) or max(map(int, value.split("."))) > GREATEST:
+        yield Fault("not-version", f"invalid version {printed(value)}")
 
 
-VERSION = Reader(read_version, ("text",), ("text",))
+def numbers_of(version):
+    return (*map(int, version.split(".")), 0)[:3]
+
+
+VERSION = Reader(faults_of_version, ("text",), ("text",), means=numbers_of)
 VERSIONS = {"required": VERSION, "recommended": VERSION}
 
 
-def read_versions(value):
+def asked_by(value):
     """The versions that are asked for, by their roles."""
+    return means_of_keys({"required": value} if isinstance(value, str) else value, VERSIONS)
+
+
+def faults_of_versions(value):
     if isinstance(value, str):
-        return {"required": read_version(value)}
-    of_kind(dict, 'a table ({ required = "0.9.20", recommended = "0.9.30" }) or a string ("0.9.50")').read(value)
-    asked = fields_of(value, VERSIONS)
-    if len(asked) == 2 and asked["required"] > asked["recommended"]:
-        required, recommended = map(dotted, asked.values())
-        said = f"required version ({required}) must not be greater than recommended version ({recommended})"
-        raise Fault("required-above-recommended", said)
-    return asked
+        yield from VERSION.faults(value)
+    elif not isinstance(value, dict):
+        yield wrong_type(value, 'a table ({ required = "0.9.20", recommended = "0.9.30" }) or a string ("0.9.50")')
+    else:
+        yield from faults_of_keys(value, VERSIONS)
+        asked = asked_by(value)
+        if len(asked) == 2 and asked["required"] > asked["recommended"]:
+            required, recommended = map(dotted, asked.values())
+            said = f"required version ({required}) must not be greater than recommended version ({recommended})"
+            yield Fault("required-above-recommended", said, key="recommended")
 
 
-def read_features(value):
-    """The names of the known features, and of the others, each in order."""
+SWITCHES = dict.fromkeys(WORDS, BOOLEAN)
+
+
+def faults_of_features(value):
     if isinstance(value, list):
-        read_texts(value)
-        return [word for word in WORDS if word in value], sorted(set(value) - set(WORDS))
-    example = 'a table ({ setup-scripts = true, benchmarks = true }) or an array (["setup-scripts", "benchmarks"])'
-    of_kind(dict, example).read(value)
-    switched = fields_of(value, dict.fromkeys(WORDS, BOOLEAN))
-    return [word for word in WORDS if switched.get(word)], sorted(set(value) - set(WORDS))
+        yield from TEXTS.faults(value)
+    else:
+        example = 'a table ({ setup-scripts = true, benchmarks = true }) or an array (["setup-scripts", "benchmarks"])'
+        yield from of_kind(dict, example).faults(value)
+        yield from faults_of_keys(value, SWITCHES)
 
 
-NEXTEST_VERSION = Reader(read_versions, ("text", "table"), ("text", "table"), fields=VERSIONS)
-FEATURES = Reader(read_features, ("array", "table"), ("array", "table"), fields=dict.fromkeys(WORDS, BOOLEAN))
+def named_by(value):
+    """The names of the known features, and of the others, each in order."""
+    known = [word for word in WORDS if (word in value if isinstance(value, list) else value.get(word))]
+    return known, sorted(set(value) - set(WORDS))
+
+
+VERSION_FORMS, FEATURE_FORMS = ("text", "table"), ("array", "table")
+NEXTEST_VERSION = Reader(faults_of_versions, VERSION_FORMS, VERSION_FORMS, fields=VERSIONS, means=asked_by)
+FEATURES = Reader(faults_of_features, FEATURE_FORMS, FEATURE_FORMS, fields=SWITCHES, means=named_by)
 
 
 # Where they may stand.
@@ -319,9 +361,16 @@ SAME = {
 VALUES = {
     **{key: values for keys, values in SAME.items() for key in keys.split()},
     "retries": [
-        *["2", "0", '"two"', '"2"', "-1", "4294967296", "[1]", "true", '{ backoff = "fixed", count = 1, colour = 2 }'],
+        *["2", "0", "1_0", "4294967295", '"two"', '"2"', "-1", "4294967296", "[1]", "true"],
+        *['{ backoff = "fixed", count = 1, colour = 2 }'],
         *['{ backoff = "fixed", count = 3, jitter = true }', '{ backoff = "fixed", count = 1, max_delay = "1s" }'],
         *['{ backoff = "exponential", count = 3, delay = "2s", max-delay = "1s" }', '{ backoff = "fixed" }'],
+        *['{ backof = "fixed", count = 0, jitter = true }', '{ backoff = "fixed", count = "1", jitter = true, x = 1 }'],
+        *['{ backoff = "fixed", count = 1, jitter = true, max-delay = 1 }', '{ backoff = "exponential", jitter = true }'],
+        *['{ backoff = "exponential", count = 0, delay = "0", jiter = 1 }', '{ backoff = "exponential", "é" = 1, Count = 0 }'],
+        *['{ backoff = "exponential", delay = "0s", max-delay = "1.5s" }', '{ backoff = "fixd", count = -1, max-delay = 1 }'],
+        *['{ backoff = "exponential", count = 2, delay = "x", max-delay = "0s" }'],
+        *['{ backoff = "exponential", delay = "2s", max-delay = "1s", jitter = 1 }'],
     ],
     "slow-timeout": [*SOME_TIMEOUTS, "{ terminate-after = 2 }", '{ period = "60s", terminate-afer = 2 }'],
     "leak-timeout": [*SOME_TIMEOUTS, '{ result = "pass" }', '{ period = "1s", colour = 1 }'],
@@ -337,7 +386,7 @@ VALUES = {
     "inherits": [
         *['"ci"', '"default"', '"nightly"', '"cii"', '"default-miri"', '"x y"', '"é"', '"e\u0301"', "''", "1", "['ci']"],
     ],
-    "run-extra-args": ["['a', 'b']", "[\n  'a', # one\n  'b',\n]", '["a", 1]', '"a"', "[[ ]]", "[ ]", "{ }"],
+    "run-extra-args": ["['a', 'b']", "[\n  'a', # one\n  'b',\n]", '["a", 1]', '"a"', "[[ ]]", "[ ]", "{ }", "[1, 'a', true]"],
     "priority": ["100", "-100", "0", "101", "-1000", '"5"', '"500"', "1.5", "true", "[ ]"],
     "platform": [
         *["'cfg(unix)'", '"x86_64-unknown-linux-gnu"', "{ host = 'cfg(unix)', target = 1 }", "{ hots = '' }", "1"],
@@ -349,7 +398,9 @@ VALUES = {
     "store": ["{ dir = 'target/nextest' }", "{ dirs = 1 }", "{ dir = 1 }", "'a'"],
     "test-groups": ["{ serial = { max-threads = 1 } }", "{ db = 2 }", "[ ]", "{ }"],
     "nextest-version": [*SOME_VERSIONS, '{ required = "0.9.60", recommended = "0.9.50" }', "{ }"],
-    "experimental": ["[ ]", '["benchmarks", "x"]', '["setup-scripts", 1]', "{ }", "{ benchmark = true }", "1"],
+    "experimental": [
+        *["[ ]", '["benchmarks", "x"]', '["setup-scripts", 1]', "{ }", "{ benchmark = true }", "1", '[1, "x", true]'],
+    ],
     # A name of a profile or of a test group, and an override.
     "*": ["{ max-threads = 2 }", "{ retries = 2 }", "1", "[ ]"],
     0: ["{ filter = 'a', retries = 2 }", "1", "'a'"],

@@ -1,3 +1,5 @@
+pub mod Judged
+pub mod Levels
 pub mod Limits
 pub mod Numbers
 pub mod Printed

@@ -4,7 +4,10 @@ use Rattle.std.proofs.Common.{rules}
 use Rattle.toml.specs.Data.{Data, Members, as_table}
 use Rattle.nextest_config_values.specs.Helpers.Paths.{joined_path}
 use Rattle.nextest_config_values.specs.Read.{bool_reading, inner, kind, made_of, optional, Reading, text_reading, then, value_of, word_reading, wrong_kind}
+use Rattle.nextest_config_elements.specs.Fields.{allowed, field, Fields, no_fields, nothing}
 use Rattle.nextest_config_elements.specs.ReportSkipPolicy.{report_skip_reading}
+use Rattle.nextest_config_elements.specs.declared.field.FaultSeverity.TheVariants.{Error, ErrorUnlessConverted}
+use Rattle.nextest_config_elements.specs.declared.field.Shape.TheVariants as shapes
 use Rattle.nextest_config_elements.specs.declared.junit.DefaultJunitImpl.{DefaultJunitImpl}
 use Rattle.nextest_config_elements.specs.declared.junit.JunitConfig.{JunitConfig}
 use Rattle.nextest_config_elements.specs.declared.junit.JunitFlakyFailStatus.{JunitFlakyFailStatus}
@@ -141,10 +144,15 @@ report_skipped_key = codes "report-skipped"
 abbrev pub flaky_fail_status_key : List ℕ
 flaky_fail_status_key = codes "flaky-fail-status"
 
--- the keys that the table `junit` may have
-abbrev pub junit_keys : List (List ℕ)
-junit_keys = path_key ∷ report_name_key ∷ store_success_output_key ∷ store_failure_output_key
-    ∷ report_skipped_key ∷ flaky_fail_status_key ∷ []
+-- the fields of the table `junit`
+abbrev pub junit_fields : Fields
+junit_fields =
+    field (allowed path_key shapes.Text ErrorUnlessConverted) nothing
+    (field (allowed report_name_key shapes.Text ErrorUnlessConverted) nothing
+    (field (allowed store_success_output_key shapes.Boolean ErrorUnlessConverted) nothing
+    (field (allowed store_failure_output_key shapes.Boolean ErrorUnlessConverted) nothing
+    (field (allowed report_skipped_key shapes.ReportSkipPolicy Error) nothing
+    (field (allowed flaky_fail_status_key shapes.FlakyFailStatus Error) nothing no_fields)))))
 
 -- the keys of `junit` after the path and the name, in turn
 abbrev pub keys_after_texts : Option (List ℕ) → Option (List ℕ) → Reading Members JunitTable

@@ -6,7 +6,10 @@ use Rattle.toml.specs.Data.{Data, Members, as_str}
 use Rattle.nextest_config_values.specs.Duration.{duration_reading}
 use Rattle.nextest_config_values.specs.Read.{kind, made_of, or_default, Reading, required, then, value_of, word_reading}
 use Rattle.nextest_config_elements.specs.Durations.{milliseconds}
+use Rattle.nextest_config_elements.specs.Fields.{allowed, field, Fields, needed, no_fields, nothing}
 use Rattle.nextest_config_elements.specs.FromTable.{set_by_table}
+use Rattle.nextest_config_elements.specs.declared.field.FaultSeverity.TheVariants.{Error}
+use Rattle.nextest_config_elements.specs.declared.field.Shape.TheVariants as shapes
 use Rattle.nextest_config_elements.specs.declared.leak_timeout.LeakTimeout.{LeakTimeout}
 use Rattle.nextest_config_elements.specs.declared.leak_timeout.LeakTimeoutResult.{LeakTimeoutResult}
 use Rattle.nextest_config_elements.specs.declared.leak_timeout.LeakTimeoutResult.TheVariants.{Fail, Pass}
@@ -51,9 +54,11 @@ period_key = codes "period"
 abbrev pub result_key : List ℕ
 result_key = codes "result"
 
--- the keys that the table `leak-timeout` may have
-abbrev pub leak_timeout_keys : List (List ℕ)
-leak_timeout_keys = period_key ∷ result_key ∷ []
+-- the fields of the table `leak-timeout`
+abbrev pub leak_timeout_fields : Fields
+leak_timeout_fields =
+    field (needed period_key shapes.ShortDuration Error) nothing
+    (field (allowed result_key shapes.LeakTimeoutResult Error) nothing no_fields)
 
 -- the table `leak-timeout` has a period, and may have a result; other keys don't count
 abbrev pub leak_timeout_table : Reading Members LeakTimeoutRecord

@@ -1,13 +1,17 @@
 pub mod Durations
+pub mod Fields
 pub mod FromTable
 pub mod GlobalTimeout
 pub mod IntegerLaws
 pub mod Junit
+pub mod Keys
 pub mod LeakTimeout
 pub mod MaxFail
 pub mod Priority
+pub mod ReadingDecisions
 pub mod ReportSkipPolicy
 pub mod RetryPolicy
+pub mod RetryRules
 pub mod SlowTimeout
 pub mod ThreadsRequired
 pub mod UnknownKeys

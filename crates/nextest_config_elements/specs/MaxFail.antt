@@ -8,4 +8,4 @@ pub use Limit.{fail_fast_limit, IsReached, limit_text, mode_word, styled_limit_t
 pub use NumberText.{IsNumberText, minus, plus, Sign, sign_text, signed_number, unsigned}
 pub use NumberTextLaws.{number_from_parts, number_or_none, number_parts, one_number}
 pub use LimitText.{bad_count, bad_mode, HasCount, IsAllText, IsBadCount, IsBadMode, IsCountFault, IsCountLimit, IsCountText, IsLimitFault, IsLimitText, IsNoMode, IsNotPositive, IsParted, limit_fault, limit_fault_text, LimitFault, MeansMode, not_positive, RefusesLimit}
-pub use FailFast.{fail_fast_expected, fail_fast_keys, fail_fast_reading, fail_fast_table, HasInteger, IsExpected, limit_of, max_fail_expected, max_fail_in, max_fail_key, max_fail_reading, terminate_key, terminate_reading}
+pub use FailFast.{fail_fast_expected, fail_fast_fields, fail_fast_reading, fail_fast_table, HasInteger, IsExpected, limit_of, max_fail_expected, max_fail_in, max_fail_key, max_fail_reading, terminate_key, terminate_reading}

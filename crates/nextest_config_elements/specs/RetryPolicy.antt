@@ -9,8 +9,11 @@ use Rattle.nextest_config_values.specs.Decisions.{below_decided, both_decided, I
 use Rattle.nextest_config_values.specs.Duration.{duration_reading}
 use Rattle.nextest_config_values.specs.Read.Plain.{u32_decided}
 use Rattle.nextest_config_values.specs.Read.{after_check, bool_reading, both, Check, count_zero, delay_zero, in_range, IsU32, jitter_without_delay, kind, made_of, max_delay_below_delay, max_delay_zero, only, optional, or_default, outside, Reading, required, rule, rule_check, then, u32_reading, value_of, word_reading}
+use Rattle.nextest_config_elements.specs.Fields.{allowed, by_backoff, field, Fields, needed, no_fields, nothing, Parts}
 use Rattle.nextest_config_elements.specs.FromTable.{set_by_table}
 use Rattle.nextest_config_elements.specs.UnknownKeysLaws.{keys_check}
+use Rattle.nextest_config_elements.specs.declared.field.FaultSeverity.TheVariants.{Error}
+use Rattle.nextest_config_elements.specs.declared.field.Shape.TheVariants as shapes
 use Rattle.nextest_config_elements.specs.declared.retry_policy.Backoff.{Backoff}
 use Rattle.nextest_config_elements.specs.declared.retry_policy.Backoff.TheVariants as backoffs
 use Rattle.nextest_config_elements.specs.declared.retry_policy.FlakyResult.{FlakyResult}
@@ -126,6 +129,36 @@ max_delay_key = codes "max-delay"
 abbrev pub keys_beside : Backoff → List (List ℕ)
 keys_beside backoffs.Fixed = count_key ∷ delay_key ∷ jitter_key ∷ []
 keys_beside backoffs.Exponential = count_key ∷ delay_key ∷ jitter_key ∷ max_delay_key ∷ []
+
+-- the fields of a table with a fixed backoff
+abbrev pub fixed_fields : Fields
+fixed_fields =
+    field (needed backoff_key shapes.Backoff Error) nothing
+    (field (needed count_key shapes.U32 Error) nothing
+    (field (allowed delay_key shapes.Duration Error) nothing
+    (field (allowed jitter_key shapes.Boolean Error) nothing no_fields)))
+
+-- the fields of a table with an exponential backoff
+abbrev pub exponential_fields : Fields
+exponential_fields =
+    field (needed backoff_key shapes.Backoff Error) nothing
+    (field (needed count_key shapes.U32 Error) nothing
+    (field (needed delay_key shapes.Duration Error) nothing
+    (field (allowed jitter_key shapes.Boolean Error) nothing
+    (field (allowed max_delay_key shapes.Duration Error) nothing no_fields))))
+
+-- the fields of a table without a backoff, which may turn out to be either
+abbrev pub open_fields : Fields
+open_fields =
+    field (needed backoff_key shapes.Backoff Error) nothing
+    (field (needed count_key shapes.U32 Error) nothing
+    (field (allowed delay_key shapes.Duration Error) nothing
+    (field (allowed jitter_key shapes.Boolean Error) nothing
+    (field (allowed max_delay_key shapes.Duration Error) nothing no_fields))))
+
+-- what stands in the table `retries`, by its backoff
+abbrev pub retries_parts : Parts
+retries_parts = by_backoff fixed_fields exponential_fields open_fields
 
 -- the table has these keys alone; the first other one is the fault
 abbrev pub other_keys : Backoff → Check Members

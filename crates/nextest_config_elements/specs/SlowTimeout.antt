@@ -7,7 +7,10 @@ use Rattle.toml.specs.Data.{Data, Members, as_str}
 use Rattle.nextest_config_values.specs.Duration.{duration_reading}
 use Rattle.nextest_config_values.specs.Read.{count_reading, kind, made_of, only, optional, or_default, Reading, required, then, value_of, word_reading}
 use Rattle.nextest_config_elements.specs.Durations.{seconds}
+use Rattle.nextest_config_elements.specs.Fields.{allowed, field, Fields, needed, no_fields, nothing}
 use Rattle.nextest_config_elements.specs.FromTable.{set_by_table}
+use Rattle.nextest_config_elements.specs.declared.field.FaultSeverity.TheVariants.{Error, ErrorUnlessConverted}
+use Rattle.nextest_config_elements.specs.declared.field.Shape.TheVariants as shapes
 use Rattle.nextest_config_elements.specs.declared.slow_timeout.SlowTimeout.{SlowTimeout}
 use Rattle.nextest_config_elements.specs.declared.slow_timeout.SlowTimeoutResult.{SlowTimeoutResult}
 use Rattle.nextest_config_elements.specs.declared.slow_timeout.SlowTimeoutResult.TheVariants.{Fail, Pass}
@@ -75,9 +78,13 @@ grace_period_key = codes "grace-period"
 abbrev pub on_timeout_key : List ℕ
 on_timeout_key = codes "on-timeout"
 
--- the keys that the table `slow-timeout` may have
-abbrev pub slow_timeout_keys : List (List ℕ)
-slow_timeout_keys = period_key ∷ terminate_after_key ∷ grace_period_key ∷ on_timeout_key ∷ []
+-- the fields of the table `slow-timeout`
+abbrev pub slow_timeout_fields : Fields
+slow_timeout_fields =
+    field (needed period_key shapes.Duration Error) nothing
+    (field (allowed terminate_after_key shapes.Count ErrorUnlessConverted) nothing
+    (field (allowed grace_period_key shapes.Duration Error) nothing
+    (field (allowed on_timeout_key shapes.SlowTimeoutResult Error) nothing no_fields)))
 
 -- the table `slow-timeout` has a period, and may have the rest; other keys don't count
 abbrev pub slow_timeout_table : Reading Members SlowTimeoutRecord

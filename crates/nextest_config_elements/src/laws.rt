@@ -1,6 +1,6 @@
 //! Laws of the definitions, for every value. They call nothing.
 
-ghost use Rattle.std.specs.Prelude.{◌≡◌, ◌↔◌, ℕ, ◌<◌, ◌≤◌, ◌^◌, ℤ, ◌<ℤ◌, IsTrue, List, map};
+ghost use Rattle.std.specs.Prelude.{◌≡◌, ◌↔◌, ℕ, ◌<◌, ◌≤◌, ◌^◌, ℤ, ◌<ℤ◌, IsTrue};
 ghost use Rattle.std.specs.Ordering.{MatchOrdering};
 ghost use Rattle.toml.specs.Data.{Members};
 ghost use Rattle.nextest_config_values.specs.Duration.{duration_reading};
@@ -8,24 +8,25 @@ ghost use Rattle.nextest_config_values.specs.Equality.{IsCopy, IsEquality, IsEqu
 ghost use Rattle.nextest_config_values.specs.Helpers.PathsLaws.{relative_path_reading};
 ghost use Rattle.nextest_config_values.specs.Once.{HasOneMeaningOrFault};
 ghost use Rattle.nextest_config_values.specs.Read.{IsReading};
-ghost use Rattle.nextest_config_elements.specs.Junit.{HasText, junit_keys, junit_reading, junit_table, JunitTable};
-ghost use Rattle.nextest_config_elements.specs.LeakTimeout.{leak_timeout_keys, leak_timeout_reading};
-ghost use Rattle.nextest_config_elements.specs.MaxFail.{fail_fast_keys, fail_fast_reading, IsLimitFault, IsLimitText, IsReached, limit_fault, limit_text, LimitFault};
+ghost use Rattle.nextest_config_elements.specs.Junit.{HasText, junit_reading, junit_table, JunitTable};
+ghost use Rattle.nextest_config_elements.specs.LeakTimeout.{leak_timeout_reading};
+ghost use Rattle.nextest_config_elements.specs.MaxFail.{fail_fast_reading, IsLimitFault, IsLimitText, IsReached, limit_fault, limit_text, LimitFault};
 ghost use Rattle.nextest_config_elements.specs.Priority.{priority_reading};
 ghost use Rattle.nextest_config_elements.specs.RetryPolicy.{flaky_result_reading, retry_policy_reading};
-ghost use Rattle.nextest_config_elements.specs.SlowTimeout.{slow_timeout_keys, slow_timeout_reading};
+ghost use Rattle.nextest_config_elements.specs.SlowTimeout.{slow_timeout_reading};
 ghost use Rattle.nextest_config_elements.specs.ThreadsRequired.{threads_reading};
 ghost use Rattle.nextest_config_elements.specs.declared.max_fail.MaxFail.{MaxFail};
 ghost use Rattle.nextest_config_elements.specs.declared.max_fail.MaxFail.TheVariants.{All, Count};
 ghost use Rattle.nextest_config_elements.specs.declared.max_fail.TerminateMode.{TerminateMode};
 
+use crate::field::{FaultSeverity, Field, Parts, Shape};
 use crate::global_timeout::GlobalTimeout;
 use crate::junit::{JunitFlakyFailStatus, JunitImpl, MissingSetting};
 use crate::leak_timeout::{LeakTimeout, LeakTimeoutResult};
-use crate::max_fail::{CountFault, MaxFail, MaxFailParseError, TerminateMode};
+use crate::max_fail::{CountFault, MaxFail, MaxFailCount, MaxFailParseError, TerminateMode};
 use crate::priority::{TestPriority, TestPriorityOutOfRange};
 use crate::report_skip_policy::{MismatchReason, ReportSkipPolicy};
-use crate::retry_policy::{FlakyResult, RetryPolicy};
+use crate::retry_policy::{Backoff, FlakyResult, RetryPolicy};
 use crate::slow_timeout::{SlowTimeout, SlowTimeoutResult};
 use crate::threads_required::ThreadsRequired;
 
@@ -75,14 +76,6 @@ pub fn law_setting_once()
     ensures relative_path { IsReading relative_path_reading.means relative_path_reading.faults }
 {}
 
-/// The keys that a type tells are those of the table that it is read from, in their order.
-pub fn law_keys()
-    ensures slow_timeout { map (λ key. key.now) SlowTimeout.KEYS.now ≡ slow_timeout_keys }
-    ensures leak_timeout { map (λ key. key.now) LeakTimeout.KEYS.now ≡ leak_timeout_keys }
-    ensures fail_fast { map (λ key. key.now) MaxFail.KEYS.now ≡ fail_fast_keys }
-    ensures junit { map (λ key. key.now) JunitImpl.KEYS.now ≡ junit_keys }
-{}
-
 /// What is kept of the table of a report takes memory only for its texts.
 pub fn law_report_memory()
     ensures { (members : Members) (said : JunitTable) → junit_table.means members said
@@ -92,7 +85,10 @@ pub fn law_report_memory()
 /// Values are equal exactly where they are the same; refusals of a fail limit where they tell the
 /// same.
 pub fn law_equality()
+    ensures shape { IsEquality ⟦<Shape as PartialEq>⟧.eq }
+    ensures fault_severity { IsEquality ⟦<FaultSeverity as PartialEq>⟧.eq }
     ensures retry_policy { IsEquality ⟦<RetryPolicy as PartialEq>⟧.eq }
+    ensures backoff { IsEquality ⟦<Backoff as PartialEq>⟧.eq }
     ensures flaky_result { IsEquality ⟦<FlakyResult as PartialEq>⟧.eq }
     ensures leak_timeout { IsEquality ⟦<LeakTimeout as PartialEq>⟧.eq }
     ensures leak_timeout_result { IsEquality ⟦<LeakTimeoutResult as PartialEq>⟧.eq }
@@ -113,7 +109,12 @@ pub fn law_equality()
 
 /// A copy is the value that it is made of.
 pub fn law_copies()
+    ensures field { IsCopy ⟦<Field as Clone>⟧.is_clone }
+    ensures parts { IsCopy ⟦<Parts as Clone>⟧.is_clone }
+    ensures shape { IsCopy ⟦<Shape as Clone>⟧.is_clone }
+    ensures fault_severity { IsCopy ⟦<FaultSeverity as Clone>⟧.is_clone }
     ensures retry_policy { IsCopy ⟦<RetryPolicy as Clone>⟧.is_clone }
+    ensures backoff { IsCopy ⟦<Backoff as Clone>⟧.is_clone }
     ensures flaky_result { IsCopy ⟦<FlakyResult as Clone>⟧.is_clone }
     ensures leak_timeout { IsCopy ⟦<LeakTimeout as Clone>⟧.is_clone }
     ensures leak_timeout_result { IsCopy ⟦<LeakTimeoutResult as Clone>⟧.is_clone }
@@ -124,6 +125,7 @@ pub fn law_copies()
     ensures mismatch { IsCopy ⟦<MismatchReason as Clone>⟧.is_clone }
     ensures global_timeout { IsCopy ⟦<GlobalTimeout as Clone>⟧.is_clone }
     ensures fail_limit { IsCopy ⟦<MaxFail as Clone>⟧.is_clone }
+    ensures fail_count { IsCopy ⟦<MaxFailCount as Clone>⟧.is_clone }
     ensures terminate_mode { IsCopy ⟦<TerminateMode as Clone>⟧.is_clone }
     ensures count_fault { IsCopy ⟦<CountFault as Clone>⟧.is_clone }
     ensures slow_timeout { IsCopy ⟦<SlowTimeout as Clone>⟧.is_clone }

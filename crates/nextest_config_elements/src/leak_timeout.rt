@@ -5,6 +5,8 @@ ghost use Rattle.toml.specs.View.{view};
 ghost use Rattle.nextest_config_values.specs.Read.{RefusesAt, RefusesBy};
 ghost use Rattle.nextest_config_elements.specs.LeakTimeout.{default_leak_timeout, leak_timeout_of, leak_timeout_reading, leak_timeout_reads_back, leak_timeout_results, leak_timeout_table, leak_timeout_word, LeakTimeoutRecord};
 
+use crate::field::FaultSeverity::Error;
+use crate::field::{Field, Parts, Shape};
 use crate::from_table::{FromTable, read_set};
 use nextest_config_values::read::{FromToml, ReadFault, ValueFault, Word, or_default, required};
 use std::alloc::Global;
@@ -28,8 +30,23 @@ pub struct LeakTimeout {
 }
 
 impl LeakTimeout {
-    /// The keys that the table `leak-timeout` may have.
-    pub const KEYS: &'static [&'static str] = &[PERIOD_KEY, RESULT_KEY];
+    /// The fields of the table `leak-timeout`.
+    pub const FIELDS: &'static [Field] = &[
+        Field {
+            key: PERIOD_KEY,
+            shape: Shape::ShortDuration,
+            parts: Parts::Nothing,
+            severity: Error,
+            required: true,
+        },
+        Field {
+            key: RESULT_KEY,
+            shape: Shape::LeakTimeoutResult,
+            parts: Parts::Nothing,
+            severity: Error,
+            required: false,
+        },
+    ];
 }
 
 impl Default for LeakTimeout {

@@ -1,9 +1,11 @@
 //! The settings of nextest's profiles.
 #![tactic(auto)]
 
+pub mod field;
 mod from_table;
 pub mod global_timeout;
 pub mod junit;
+pub mod keys;
 pub mod laws;
 pub mod leak_timeout;
 pub mod max_fail;

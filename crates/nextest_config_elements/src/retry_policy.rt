@@ -5,12 +5,18 @@ ghost use Rattle.std.specs.Duration.{as_nanos};
 ghost use Rattle.toml.specs.View.{table_view, view};
 ghost use Rattle.nextest_config_values.specs.Read.{broken_by, broken_rule, no_data, RefusesAs, RefusesAt, RefusesBy, RefusesOne, words_of};
 ghost use Rattle.nextest_config_elements.specs.RetryPolicy.{backoff_key, backoff_reads_back, backoff_word, backoffs_in_order, count_of, exponential_rules, exponential_table, fail_message, fixed_table, flaky_result_reads_back, flaky_result_word, flaky_results, keys_beside, other_keys, retry_number, retry_policy_of, retry_policy_reading, retry_table, RetryPolicyRecord, table_with_backoff, without_delay};
+ghost use Rattle.nextest_config_elements.specs.RetryRules.{backoff_in};
 ghost use Rattle.nextest_config_elements.specs.UnknownKeys.{IsOneOf};
 
+mod rules;
+
+use crate::field::FaultSeverity::Error;
+use crate::field::{Field, Parts, Shape};
 use crate::from_table::{FromTable, read_set};
 use nextest_config_values::read::{
-    FaultKind, ReadFault, Rule, ValueFault, Word, optional, or_default, required,
+    FaultKind, ReadFault, Rule, ValueFault, Word, optional, or_default, required, value_at,
 };
+pub use rules::check_rules;
 use std::alloc::{AllocError, Global};
 use std::time::Duration;
 use toml::{Table, Value};
@@ -26,6 +32,50 @@ const DELAY_KEY: &str = "delay";
 const JITTER_KEY: &str = "jitter";
 
 const MAX_DELAY_KEY: &str = "max-delay";
+
+const FIXED_WORD: &str = "fixed";
+
+const EXPONENTIAL_WORD: &str = "exponential";
+
+const BACKOFF_FIELD: Field = Field {
+    key: BACKOFF_KEY,
+    shape: Shape::Backoff,
+    parts: Parts::Nothing,
+    severity: Error,
+    required: true,
+};
+
+const COUNT_FIELD: Field = Field {
+    key: COUNT_KEY,
+    shape: Shape::U32,
+    parts: Parts::Nothing,
+    severity: Error,
+    required: true,
+};
+
+const DELAY_FIELD: Field = Field {
+    key: DELAY_KEY,
+    shape: Shape::Duration,
+    parts: Parts::Nothing,
+    severity: Error,
+    required: false,
+};
+
+const JITTER_FIELD: Field = Field {
+    key: JITTER_KEY,
+    shape: Shape::Boolean,
+    parts: Parts::Nothing,
+    severity: Error,
+    required: false,
+};
+
+const MAX_DELAY_FIELD: Field = Field {
+    key: MAX_DELAY_KEY,
+    shape: Shape::Duration,
+    parts: Parts::Nothing,
+    severity: Error,
+    required: false,
+};
 
 /// The maximum number of retries of a failed test, and the time between tries.
 #[derive(Clone, Copy, Debug, PartialEq, Eq)]
@@ -61,6 +111,35 @@ impl Default for RetryPolicy {
 }
 
 impl RetryPolicy {
+    /// The fields of a table with a fixed backoff.
+    pub const FIXED_FIELDS: &'static [Field] = &[
+        BACKOFF_FIELD,
+        COUNT_FIELD,
+        DELAY_FIELD,
+        JITTER_FIELD,
+    ];
+
+    /// The fields of a table with an exponential backoff.
+    pub const EXPONENTIAL_FIELDS: &'static [Field] = &[
+        BACKOFF_FIELD,
+        COUNT_FIELD,
+        Field {
+            required: true,
+            ..DELAY_FIELD
+        },
+        JITTER_FIELD,
+        MAX_DELAY_FIELD,
+    ];
+
+    /// The fields of a table without a backoff, which may turn out to be of either kind.
+    pub const OPEN_FIELDS: &'static [Field] = &[
+        BACKOFF_FIELD,
+        COUNT_FIELD,
+        DELAY_FIELD,
+        JITTER_FIELD,
+        MAX_DELAY_FIELD,
+    ];
+
     /// So many retries, with no delay between them.
     pub fn new_without_delay(count: u32) -> Self
         ensures { retry_policy_of result ≡ without_delay count }
@@ -213,12 +292,12 @@ fn broken(alloc: Global, rule: Rule) -> ValueFault
     ValueFault::new(alloc, FaultKind::Custom(rule))
 }
 
-// How the delay between tries grows.
+/// How the delay between tries grows.
 #[derive(Clone, Copy, Debug, PartialEq, Eq)]
-enum Backoff {
-    // The delay doesn't grow.
+pub enum Backoff {
+    /// The delay doesn't grow.
     Fixed,
-    // The delay grows exponentially, from try to try.
+    /// The delay grows exponentially, from try to try.
     Exponential,
 }
 
@@ -234,7 +313,7 @@ impl Word for Backoff {
     }
 
     fn words() -> &'static [&'static str] {
-        &["fixed", "exponential"]
+        &[FIXED_WORD, EXPONENTIAL_WORD]
     }
 
     fn position(self) -> usize {
@@ -243,6 +322,18 @@ impl Word for Backoff {
 }
 
 impl Backoff {
+    /// The backoff that a table names, by its word at `backoff`.
+    pub fn of_table(table: &Table) -> Option<Backoff>
+        ensures { result ≡ backoff_in (table_view table.now) }
+    {
+        let value = value_at(table, BACKOFF_KEY)?;
+        match value.as_str()? {
+            FIXED_WORD => Some(Backoff::Fixed),
+            EXPONENTIAL_WORD => Some(Backoff::Exponential),
+            _ => None,
+        }
+    }
+
     // The policy that a table with this backoff means.
     fn read_table(self, alloc: Global, table: &Table) -> Result<RetryPolicy, ValueFault>
         ensures meant { IfOk result (λ policy.
@@ -281,8 +372,8 @@ impl Backoff {
         }
     }
 
-    // The keys beside `backoff`.
-    fn keys(self) -> &'static [&'static str]
+    /// The keys beside `backoff`.
+    pub fn keys(self) -> &'static [&'static str]
         ensures { words_of result.now ≡ keys_beside self }
     {
         match self {

@@ -7,6 +7,8 @@ ghost use Rattle.nextest_config_values.specs.Read.{RefusesAt, RefusesBy};
 ghost use Rattle.nextest_config_elements.specs.Durations.{seconds};
 ghost use Rattle.nextest_config_elements.specs.SlowTimeout.{default_grace_period, slow_timeout_of, slow_timeout_reading, slow_timeout_reads_back, slow_timeout_results, slow_timeout_table, slow_timeout_word, SlowTimeoutRecord, with_period};
 
+use crate::field::FaultSeverity::{Error, ErrorUnlessConverted};
+use crate::field::{Field, Parts, Shape};
 use crate::from_table::{FromTable, read_set};
 use nextest_config_values::read::{
     FromToml, NonZeroCount, ReadFault, ValueFault, Word, optional, or_default, required,
@@ -39,12 +41,36 @@ pub struct SlowTimeout {
 }
 
 impl SlowTimeout {
-    /// The keys that the table `slow-timeout` may have.
-    pub const KEYS: &'static [&'static str] = &[
-        PERIOD_KEY,
-        TERMINATE_AFTER_KEY,
-        GRACE_PERIOD_KEY,
-        ON_TIMEOUT_KEY,
+    /// The fields of the table `slow-timeout`.
+    pub const FIELDS: &'static [Field] = &[
+        Field {
+            key: PERIOD_KEY,
+            shape: Shape::Duration,
+            parts: Parts::Nothing,
+            severity: Error,
+            required: true,
+        },
+        Field {
+            key: TERMINATE_AFTER_KEY,
+            shape: Shape::Count,
+            parts: Parts::Nothing,
+            severity: ErrorUnlessConverted,
+            required: false,
+        },
+        Field {
+            key: GRACE_PERIOD_KEY,
+            shape: Shape::Duration,
+            parts: Parts::Nothing,
+            severity: Error,
+            required: false,
+        },
+        Field {
+            key: ON_TIMEOUT_KEY,
+            shape: Shape::SlowTimeoutResult,
+            parts: Parts::Nothing,
+            severity: Error,
+            required: false,
+        },
     ];
 
     /// A timeout that no test meets: roughly 30 years.

@@ -13,24 +13,24 @@ use Rattle.nextest_config.specs.declared.nextest_version.edition.Edition.{Editio
 use Rattle.nextest_config.specs.declared.nextest_version.source.ConfigSourceKind.{ConfigSourceKind}
 use Rattle.nextest_config.specs.declared.nextest_version.source.ConfigSourceKind.TheVariants.{Tool}
 use Rattle.nextest_config_values.specs.NearestWord.{nearest_once}
-use Rattle.toml_spans.specs.Line.{found_below}
 use Rattle.toml_spans.specs.Step.{index, key, PathStep}
 use Rattle.nextest_config_lint.proofs.ReferencesFound.{IsAtPath, meant_once, reference_at, reference_once}
 use Rattle.nextest_config_lint.specs.Defined.{ListFile}
 use Rattle.nextest_config_lint.specs.Document.{AreFindings, keys_of_document}
-use Rattle.nextest_config_lint.specs.Faults.{IsFoundKind, IsFoundOf, IsUnjudged}
+use Rattle.nextest_config_lint.specs.Faults.{IsFoundKind, IsFoundOf}
 use Rattle.nextest_config_lint.specs.Features.{AreNamedFound, AreToolsFound, IsNameFound, IsStepTo}
 use Rattle.nextest_config_lint.specs.FindingsLaws.{own_findings}
 use Rattle.nextest_config_lint.specs.Found.{AreFoundIn, AreFoundOf, Found, found_at, FoundKind, Meant, refused, the_toml, tool_names, unknown_key, unknown_name}
 use Rattle.nextest_config_lint.specs.References.{IsReferenceFound}
-use Rattle.nextest_config_lint.specs.Settings.{settings_of, SettingView}
+use Rattle.nextest_config_lint.specs.Settings.{a_value, absent_key, between, features_at, is_known, refused_key, settings_of, SettingView, Subject}
+use Rattle.nextest_config_lint.specs.Subjects.{IsLeftOpen, NamesFeatures}
+use Rattle.nextest_config_lint.proofs.Subjects.{named_not_right, named_not_wrong, never_wrong, one_wrong}
+use Rattle.nextest_config_elements.specs.declared.field.Shape.{Shape}
 use Rattle.nextest_config_elements.specs.MaxFail.{one_number}
 use Rattle.nextest_config_lint.specs.Integers.{IsIntegerHint}
-use Rattle.nextest_config_lint.specs.Meant.{digits_of, IsDurationHint, IsEitherHint, IsHintAt, IsHintBeside, IsSecondsHint, IsShortHint, taken_to}
-use Rattle.nextest_config_lint.specs.Meant as hints
+use Rattle.nextest_config_lint.specs.Meant.{digits_of, IsDurationHint, IsEitherHint, IsHintAt, IsHintOf, IsSecondsHint, IsShortHint, IsValueHint, taken_of, unknown_word_in}
 use Rattle.nextest_config_lint.specs.declared.integers.IntegerRange.{IntegerRange}
-use Rattle.nextest_config_lint.specs.Reader.{reader_check}
-use Rattle.nextest_config_lint.specs.Unknown.{IsHintFor, IsKeyFound, IsKeyFoundFor, is_known, meant_beside, TableKey}
+use Rattle.nextest_config_lint.specs.Unknown.{IsHintFor, IsKeyFound, IsKeyFoundFor, meant_beside, TableKey}
 use Rattle.nextest_config_lint.specs.declared.meant.Taken.{Taken}
 use Rattle.nextest_config_lint.specs.declared.meant.Taken.TheVariants.{Boolean, Duration, FailFast, Integer, ShortDuration, Tables}
 use Rattle.nextest_config_lint.specs.Severity.{IsSeverity}
@@ -54,34 +54,32 @@ lists_once Are once (x ∷ xs) a b (here, rest, is, are, whole) (there, others, 
 
 -- ---- of a value
 
--- a value that names features is accepted
-names_passes : (edition : Edition) (setting : SettingView) (named : FeatureSetting) → IsOutcome edition setting (names_features named)
-    → (reader_check edition setting.reader).passes setting.value
-names_passes edition setting named (reads, means) = rw reads (named, means)
+named_once : (edition : Edition) (subject : Subject) (value other : Data) (named others : FeatureSetting)
+    → NamesFeatures edition subject value named → NamesFeatures edition subject other others → names_features value named ≡ names_features other others
+named_once edition subject value other named others (is, means) (also, means_too) =
+    let same : value ≡ other = cc (is, also) in
+    ap₂ names_features same
+    ((features_under edition).law.one_meaning value named others means (subst (λ (it : Data). (features_under edition).means it others) (sym same) means_too))
 
 pub one_outcome : (edition : Edition) (setting : SettingView) (a b : Outcome) → IsOutcome edition setting a → IsOutcome edition setting b → a ≡ b
 one_outcome edition setting accepted accepted h k = refl
-one_outcome edition setting accepted (names_features named) h k = absurd (h.0 k.0)
-one_outcome edition setting accepted (faulty fault) h k = absurd ((reader_check edition setting.reader).never_both setting.value fault h.1 k.0)
-one_outcome edition setting accepted (left_open fault) h k = absurd ((reader_check edition setting.reader).never_both setting.value fault h.1 k.0)
-one_outcome edition setting (names_features named) accepted h k = absurd (k.0 h.0)
-one_outcome edition setting (names_features named) (names_features other) h k = ap names_features ((features_under edition).law.one_meaning setting.value named other h.1 k.1)
-one_outcome edition setting (names_features named) (faulty fault) h k =
-    absurd ((reader_check edition setting.reader).never_both setting.value fault (names_passes edition setting named h) k.0)
-one_outcome edition setting (names_features named) (left_open fault) h k =
-    absurd ((reader_check edition setting.reader).never_both setting.value fault (names_passes edition setting named h) k.0)
-one_outcome edition setting (faulty fault) accepted h k = absurd ((reader_check edition setting.reader).never_both setting.value fault k.1 h.0)
-one_outcome edition setting (faulty fault) (names_features named) h k =
-    absurd ((reader_check edition setting.reader).never_both setting.value fault (names_passes edition setting named k) h.0)
-one_outcome edition setting (faulty fault) (faulty other) h k = ap faulty ((reader_check edition setting.reader).one_fault setting.value fault other h.0 k.0)
+one_outcome edition setting accepted (names_features value named) h k = absurd (named_not_right edition setting.subject value named k h)
+one_outcome edition setting accepted (faulty fault) h k = absurd (never_wrong edition setting.subject fault h k.0)
+one_outcome edition setting accepted (left_open fault) h k = absurd (never_wrong edition setting.subject fault h k.0)
+one_outcome edition setting (names_features value named) accepted h k = absurd (named_not_right edition setting.subject value named h k)
+one_outcome edition setting (names_features value named) (names_features other others) h k = named_once edition setting.subject value other named others h k
+one_outcome edition setting (names_features value named) (faulty fault) h k = absurd (named_not_wrong edition setting.subject value named fault h k.0)
+one_outcome edition setting (names_features value named) (left_open fault) h k = absurd (named_not_wrong edition setting.subject value named fault h k.0)
+one_outcome edition setting (faulty fault) accepted h k = absurd (never_wrong edition setting.subject fault k h.0)
+one_outcome edition setting (faulty fault) (names_features value named) h k = absurd (named_not_wrong edition setting.subject value named fault k h.0)
+one_outcome edition setting (faulty fault) (faulty other) h k = ap faulty (one_wrong edition setting.subject fault other h.0 k.0)
 one_outcome edition setting (faulty fault) (left_open other) h k =
-    absurd (h.1 (subst (IsUnjudged setting.value) ((reader_check edition setting.reader).one_fault setting.value other fault k.0 h.0) k.1))
-one_outcome edition setting (left_open fault) accepted h k = absurd ((reader_check edition setting.reader).never_both setting.value fault k.1 h.0)
-one_outcome edition setting (left_open fault) (names_features named) h k =
-    absurd ((reader_check edition setting.reader).never_both setting.value fault (names_passes edition setting named k) h.0)
+    absurd (h.1 (subst (IsLeftOpen setting.subject) (one_wrong edition setting.subject other fault k.0 h.0) k.1))
+one_outcome edition setting (left_open fault) accepted h k = absurd (never_wrong edition setting.subject fault k h.0)
+one_outcome edition setting (left_open fault) (names_features value named) h k = absurd (named_not_wrong edition setting.subject value named fault k h.0)
 one_outcome edition setting (left_open fault) (faulty other) h k =
-    absurd (k.1 (subst (IsUnjudged setting.value) ((reader_check edition setting.reader).one_fault setting.value fault other h.0 k.0) h.1))
-one_outcome edition setting (left_open fault) (left_open other) h k = ap left_open ((reader_check edition setting.reader).one_fault setting.value fault other h.0 k.0)
+    absurd (k.1 (subst (IsLeftOpen setting.subject) (one_wrong edition setting.subject fault other h.0 k.0) h.1))
+one_outcome edition setting (left_open fault) (left_open other) h k = ap left_open (one_wrong edition setting.subject fault other h.0 k.0)
 
 -- one list is found of a value, where one is by each outcome
 by_outcome_once : (edition : Edition) (setting : SettingView) (Are : Outcome → List Found → Type 0)
@@ -126,23 +124,31 @@ integer_once range (Some text) a b (inl (number, writes, is)) (inr (none, is_too
 integer_once range (Some text) a b (inr (none, is)) (inl (number, writes, is_too)) = absurd (none number writes)
 integer_once range (Some text) a b (inr (none, is)) (inr (none_too, is_too)) = is ∙ sym is_too
 
-meant_at_once : (path : List PathStep) (taken : Option Taken) (value : Option Data) (a b : Option Meant) → IsHintAt path taken value a → IsHintAt path taken value b → a ≡ b
-meant_at_once path (Some Duration) (Some value) a b h k = duration_once (digits_of value) a b h k
-meant_at_once path (Some ShortDuration) (Some value) a b h k = short_once (digits_of value) a b h k
-meant_at_once path (Some Boolean) (Some value) a b h k = h ∙ sym k
-meant_at_once path (Some FailFast) (Some value) a b h k = h ∙ sym k
-meant_at_once path (Some Tables) (Some value) a b h k = h ∙ sym k
-meant_at_once path (Some (Integer range)) (Some value) a b h k = integer_once range (as_str value) a b h k
-meant_at_once path taken value a b h k = h ∙ sym k
+meant_at_once : (path : List PathStep) (taken : Option Taken) (value : Data) (a b : Option Meant) → IsHintAt path taken value a → IsHintAt path taken value b → a ≡ b
+meant_at_once path (Some Duration) value a b h k = duration_once (digits_of value) a b h k
+meant_at_once path (Some ShortDuration) value a b h k = short_once (digits_of value) a b h k
+meant_at_once path (Some Boolean) value a b h k = h ∙ sym k
+meant_at_once path (Some FailFast) value a b h k = h ∙ sym k
+meant_at_once path (Some Tables) value a b h k = h ∙ sym k
+meant_at_once path (Some (Integer range)) value a b h k = integer_once range (as_str value) a b h k
+meant_at_once path None value a b h k = h ∙ sym k
 
-beside_once : (unknown : Option (List ℕ × List (List ℕ))) (steps : List PathStep) (setting : SettingView) (a b : Option Meant) → IsHintBeside unknown steps setting a → IsHintBeside unknown steps setting b → a ≡ b
-beside_once (Some (name, known)) steps setting a b h k = meant_once known name a b h k
-beside_once None steps setting a b h k = meant_at_once setting.path (taken_to setting.reader steps) (found_below steps setting.value) a b h k
+value_hint_once : (unknown_word : Option (List ℕ × List (List ℕ))) (path : List PathStep) (shape : Shape) (value : Data) (a b : Option Meant)
+    → IsValueHint unknown_word path shape value a → IsValueHint unknown_word path shape value b → a ≡ b
+value_hint_once (Some (name, known)) path shape value a b h k = meant_once known name a b h k
+value_hint_once None path shape value a b h k = meant_at_once path (taken_of shape) value a b h k
+
+hint_of_once : (path : List PathStep) (subject : Subject) (fault : Fault) (a b : Option Meant) → IsHintOf path subject fault a → IsHintOf path subject fault b → a ≡ b
+hint_of_once path (a_value shape parts value) fault a b h k = value_hint_once (unknown_word_in fault.cause) path shape value a b h k
+hint_of_once path (refused_key name expected known) fault a b h k = meant_once known name a b h k
+hint_of_once path (absent_key name) fault a b h k = h ∙ sym k
+hint_of_once path (between rules value) fault a b h k = h ∙ sym k
+hint_of_once path (features_at value) fault a b h k = h ∙ sym k
 
 one_kind : (setting : SettingView) (fault : Fault) (reason : Reason) (a b : FoundKind) → IsFoundKind setting fault reason a → IsFoundKind setting fault reason b → a ≡ b
 one_kind setting fault reason a b (severity, hint, grave, meant, is) (other, hint_too, grave_too, meant_too, is_too) =
     is ∙ ap₂ (λ (s : FindingSeverity) (h : Option Meant). refused reason s h) (severity_once setting fault severity other grave grave_too)
-    (beside_once (hints.unknown_name fault.cause) fault.steps setting hint hint_too meant meant_too) ∙ sym is_too
+    (hint_of_once setting.path setting.subject fault hint hint_too meant meant_too) ∙ sym is_too
 
 one_found : (setting : SettingView) (fault : Fault) (a b : Found) → IsFoundOf setting fault a → IsFoundOf setting fault b → a ≡ b
 one_found setting fault a b h k =
@@ -150,7 +156,7 @@ one_found setting fault a b h k =
 
 faults_once : (setting : SettingView) (outcome : Outcome) (a b : List Found) → AreFaults setting outcome a → AreFaults setting outcome b → a ≡ b
 faults_once setting accepted a b h k = h ∙ sym k
-faults_once setting (names_features named) a b h k = h ∙ sym k
+faults_once setting (names_features value named) a b h k = h ∙ sym k
 faults_once setting (faulty fault) a b (found, is, whole) (other, also, too) = whole ∙ ap (λ (it : Found). it ∷ []) (one_found setting fault found other is also) ∙ sym too
 faults_once setting (left_open fault) a b h k = h ∙ sym k
 
@@ -179,10 +185,10 @@ step_once value name (index i) (key text) h k = absurd (k.0 i h.0)
 step_once value name (key text) (index j) h k = absurd (h.0 j k.0)
 step_once value name (key text) (key other) h k = ap key (h.1 ∙ sym k.1)
 
-name_once : (setting : SettingView) (name : List ℕ) (a b : Option Found) → IsNameFound setting name a → IsNameFound setting name b → a ≡ b
-name_once setting name a b (step, hint, leads, nearest, is) (other, hint_too, leads_too, nearest_too, is_too) =
-    is ∙ ap₂ (λ (s : PathStep) (h : Option Meant). Some (found_at (setting.path ++ (s ∷ [])) (unknown_name name h)))
-    (step_once setting.value name step other leads leads_too) (meant_once (map word_of all_features) name hint hint_too nearest nearest_too) ∙ sym is_too
+name_once : (path : List PathStep) (value : Data) (name : List ℕ) (a b : Option Found) → IsNameFound path value name a → IsNameFound path value name b → a ≡ b
+name_once path value name a b (step, hint, leads, nearest, is) (other, hint_too, leads_too, nearest_too, is_too) =
+    is ∙ ap₂ (λ (s : PathStep) (h : Option Meant). Some (found_at (path ++ (s ∷ [])) (unknown_name name h)))
+    (step_once value name step other leads leads_too) (meant_once (map word_of all_features) name hint hint_too nearest nearest_too) ∙ sym is_too
 
 tools_once : (path : List PathStep) (features : Features) (a b : List Found) → AreToolsFound path features a → AreToolsFound path features b → a ≡ b
 tools_once path features a b (inl h) (inl k) = h.1 ∙ sym k.1
@@ -192,13 +198,13 @@ tools_once path features a b (inr (some, (names, are, is))) (inr (also, (others,
     let same : names ≡ others = texts_in_one_order names others are.in_order are_too.in_order (λ text. iff.trans (are.of_both text) (iff.symm (are_too.of_both text))) in
     is ∙ ap (λ (n : List (List ℕ)). found_at path (tool_names n) ∷ []) same ∙ sym is_too
 
-named_once : (kind : ConfigSourceKind) (setting : SettingView) (features : Features) (a b : List Found) → AreNamedFound kind setting features a → AreNamedFound kind setting features b → a ≡ b
-named_once (Tool name) setting features a b h k = tools_once setting.path features a b h k
-named_once kind setting features a b h k = found_once (IsNameFound setting) (name_once setting) features.unknown a b h k
+all_named_once : (kind : ConfigSourceKind) (path : List PathStep) (value : Data) (features : Features) (a b : List Found) → AreNamedFound kind path value features a → AreNamedFound kind path value features b → a ≡ b
+all_named_once (Tool name) path value features a b h k = tools_once path features a b h k
+all_named_once kind path value features a b h k = found_once (IsNameFound path value) (name_once path value) features.unknown a b h k
 
 features_once : (kind : ConfigSourceKind) (setting : SettingView) (outcome : Outcome) (a b : List Found) → AreFeatures kind setting outcome a → AreFeatures kind setting outcome b → a ≡ b
 features_once kind setting accepted a b h k = h ∙ sym k
-features_once kind setting (names_features named) a b h k = named_once kind setting named.features a b h k
+features_once kind setting (names_features value named) a b h k = all_named_once kind setting.path value named.features a b h k
 features_once kind setting (faulty fault) a b h k = h ∙ sym k
 features_once kind setting (left_open fault) a b h k = h ∙ sym k
 

@@ -1,22 +1,23 @@
 -- What is told of a fault.
-use Rattle.std.proofs.Common.{◌≡◌, ◌↔◌, ◌++◌, [], ◌∷◌, Bool, true, false, IfSome, inl, inr, is_none, IsTrue, List, Option, None, Some, option_map, refl, subst}
+use Rattle.std.proofs.Common.{◌≡◌, ◌↔◌, ◌++◌, [], ◌∷◌, Bool, true, false, IfSome, inl, inr, is_none, IsTrue, List, Option, None, Some, option_map, refl, Result, Ok, Err, subst, MatchResult, OnOk, IfErr, IfOk}
+use Rattle.std.specs.declared.alloc.AllocError.{AllocError}
 use Rattle.std.proofs.lemmas.Option.{same_Some}
-use Rattle.nextest_config_values.specs.Read.Fault.{Cause, Fault}
+use Rattle.std.proofs.lemmas.Result.{IfOk-weaker}
+use Rattle.nextest_config_values.specs.Read.Fault.{Always, Cause, Fault, fault_of, Refuses}
+use Rattle.nextest_config_values.specs.declared.read.value_fault.ValueFault.{ValueFault}
 use Rattle.nextest_config_values.specs.Read.{FaultOrMemory, fault_with, Reason, reason_at}
 use Rattle.toml_spans.specs.Step.{PathStep, printed_path}
-use Rattle.nextest_config.specs.NextestVersion.{features_under}
 use Rattle.nextest_config.specs.declared.nextest_version.edition.Edition.{Edition}
 use Rattle.nextest_config.specs.declared.nextest_version.source.ConfigSourceKind.{ConfigSourceKind}
-use Rattle.nextest_config_lint.specs.Faults.{IsFoundOf, IsUnjudged}
+use Rattle.nextest_config_lint.specs.Faults.{IsFoundOf}
 use Rattle.nextest_config_lint.specs.Found.{Found, found_at, FoundKind, found_of, Meant, refused, unjudged}
 use Rattle.nextest_config_lint.specs.Meant.{IsFaultHint}
-use Rattle.nextest_config_lint.specs.Reader.{reader_check}
 use Rattle.nextest_config_lint.specs.Settings.{SettingView}
 use Rattle.nextest_config_lint.specs.Severity.{IsSeverity}
-use Rattle.nextest_config_lint.specs.Values.{faulty, left_open, TellsFault, TellsValue}
+use Rattle.nextest_config_lint.specs.Subjects.{IsLeftOpen, IsRight, IsWrong}
+use Rattle.nextest_config_lint.specs.Values.{accepted, faulty, IsEmpty, left_open, TellsFault, TellsValue}
 use Rattle.nextest_config_lint.specs.declared.finding.Finding.{Finding}
 use Rattle.nextest_config_lint.specs.declared.finding.FindingSeverity.{FindingSeverity}
-use Rattle.nextest_config_lint.specs.declared.reader.Reader.TheVariants.{Experimental}
 use Rattle.nextest_config_lint.specs.declared.values.ValueFindings.{ValueFindings}
 
 -- what is found of a refusal is told, from its cause and what is told of that at its path
@@ -45,7 +46,7 @@ unjudged_told setting steps found_path (Some cause) path_is = rw path_is refl
 
 -- a duration that isn't judged
 pub note_told : (setting : SettingView) (told : Option Fault) (answer : Bool) (finding : Finding) (found : ValueFindings)
-    → false ≡ is_none told → IfSome told (λ fault. IsTrue answer ↔ IsUnjudged setting.value fault) → answer ≡ true
+    → false ≡ is_none told → IfSome told (λ fault. IsTrue answer ↔ IsLeftOpen setting.subject fault) → answer ≡ true
     → IfSome told (λ fault. found_of finding ≡ Some (found_at (setting.path ++ fault.steps) unjudged))
     → found.faults.items ≡ [] → found.features.items ≡ [] → found.notes.items ≡ finding ∷ [] → TellsFault setting told found
 note_told setting None answer finding found some decides so tells no_faults no_features note = absurd (cc some)
@@ -63,7 +64,7 @@ note_told setting (Some fault) answer finding found some decides so tells no_fau
 
 -- any other fault
 pub fault_told : (setting : SettingView) (told : Option Fault) (answer : Bool) (finding : Finding) (found : ValueFindings)
-    → false ≡ is_none told → IfSome told (λ fault. IsTrue answer ↔ IsUnjudged setting.value fault) → answer ≡ false
+    → false ≡ is_none told → IfSome told (λ fault. IsTrue answer ↔ IsLeftOpen setting.subject fault) → answer ≡ false
     → IfSome told (λ fault. (it : Found) × IsFoundOf setting fault it × (found_of finding ≡ Some it))
     → found.faults.items ≡ finding ∷ [] → found.features.items ≡ [] → found.notes.items ≡ [] → TellsFault setting told found
 fault_told setting None answer finding found some decides so tells fault_item no_features no_notes = absurd (cc some)
@@ -79,18 +80,38 @@ fault_told setting (Some fault) answer finding found some decides so (it, is, te
   },
 )
 
--- the findings of a fault of the value are those of the value
+-- the findings of a fault of what is judged are those of what is judged
 pub of_fault : (edition : Edition) (kind : ConfigSourceKind) (setting : SettingView) (told : Option Fault) (memory : Type 0) (found : ValueFindings)
-    → FaultOrMemory told memory ((reader_check edition setting.reader).faults setting.value) → TellsFault setting told found → TellsValue edition kind setting found
+    → FaultOrMemory told memory (IsWrong edition setting.subject) → TellsFault setting told found → TellsValue edition kind setting found
 of_fault edition kind setting None memory found refuses (fault, outcome, is, comes, tells) = absurd (cc is)
 of_fault edition kind setting (Some this) memory found refuses (fault, outcome, is, inl (left, so), tells) =
-    let faulty_too = subst ((reader_check edition setting.reader).faults setting.value) (same_Some this fault is) refuses in
-    (outcome, rw so (faulty_too, left), tells kind)
+    let wrong = subst (IsWrong edition setting.subject) (same_Some this fault is) refuses in
+    (outcome, rw so (wrong, left), tells kind)
 of_fault edition kind setting (Some this) memory found refuses (fault, outcome, is, inr (other, so), tells) =
-    let faulty_too = subst ((reader_check edition setting.reader).faults setting.value) (same_Some this fault is) refuses in
-    (outcome, rw so (faulty_too, other), tells kind)
+    let wrong = subst (IsWrong edition setting.subject) (same_Some this fault is) refuses in
+    (outcome, rw so (wrong, other), tells kind)
 
--- and so where the value names features
-pub of_experimental : (edition : Edition) (kind : ConfigSourceKind) (setting : SettingView) (told : Option Fault) (memory : Type 0) (found : ValueFindings) → setting.reader ≡ Experimental
-    → FaultOrMemory told memory ((features_under edition).faults setting.value) → TellsFault setting told found → TellsValue edition kind setting found
-of_experimental edition kind setting told memory found reads refuses tells = of_fault edition kind setting told memory found (rw reads refuses) tells
+-- where nothing is wrong, nothing is found
+pub of_nothing : (edition : Edition) (kind : ConfigSourceKind) (setting : SettingView) (found : ValueFindings) → IsRight edition setting.subject → IsEmpty found
+    → TellsValue edition kind setting found
+of_nothing edition kind setting found right empty = (
+  accepted,
+  right,
+  record {
+    faults = ([], refl, rw empty.faults refl);
+    features = ([], refl, rw empty.features refl);
+    notes = rw empty.notes refl;
+  },
+)
+
+-- what is found of what is checked
+pub of_checked : (edition : Edition) (kind : ConfigSourceKind) (setting : SettingView) (checked : Result (Unit {0}) ValueFault) (told : Result ValueFindings AllocError)
+    → OnOk checked (IsRight edition setting.subject) → IfErr checked (Refuses (IsWrong edition setting.subject) Always)
+    → MatchResult checked (λ it. IfOk told IsEmpty) (λ fault. IfOk told (TellsFault setting (fault_of fault))) → IfOk told (TellsValue edition kind setting)
+of_checked edition kind setting (Ok it) told right wrong empty = IfOk-weaker told _ _ (λ found. of_nothing edition kind setting found right) empty
+of_checked edition kind setting (Err fault) told right wrong tells = IfOk-weaker told _ _ (λ found. of_fault edition kind setting (fault_of fault) _ found wrong) tells
+
+-- what is found of a fault that is made
+pub of_made : (edition : Edition) (kind : ConfigSourceKind) (setting : SettingView) (made : ValueFault) (told : Result ValueFindings AllocError)
+    → Refuses (IsWrong edition setting.subject) Always made → IfOk told (TellsFault setting (fault_of made)) → IfOk told (TellsValue edition kind setting)
+of_made edition kind setting made told wrong tells = IfOk-weaker told _ _ (λ found. of_fault edition kind setting (fault_of made) _ found wrong) tells

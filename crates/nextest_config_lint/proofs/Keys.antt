@@ -1,9 +1,9 @@
 -- The keys of tables, and the words that they may be meant for.
-use Rattle.std.proofs.Common.{◌≡◌, ℕ, zero, suc, ◌+◌, ◌<◌, Bool, true, false, ⊎_elim, MatchOption, None, arith, option_map, Equal, Greater, IsSome, Less, List, [], ◌∷◌, Option, Ordering, Some, Bor, Global, String, ap, drop, get_or, is_some, length, map, nat_cmp, nat_eq, refl, string_bytes, sym, ◌∙◌}
+use Rattle.std.proofs.Common.{◌≡◌, ℕ, zero, suc, ◌+◌, ◌<◌, Bool, true, false, ⊎_elim, MatchOption, None, arith, option_map, Equal, Greater, IsSome, Less, List, [], ◌∷◌, ◌++◌, Option, Ordering, Some, Bor, Global, String, ap, if◌then◌else◌, drop, flat_map, get_or, is_some, length, map, nat_cmp, nat_eq, refl, string_bytes, sym, ◌∙◌}
 use mathlib.Core.List.{map-map}
 use Rattle.std.proofs.lemmas.Cmp.{nat_list_cmp_total}
 use Rattle.std.proofs.lemmas.Bool.{cases_Bool}
-use Rattle.std.proofs.lemmas.List.{drop_more}
+use Rattle.std.proofs.lemmas.List.{drop_more, map-id}
 use Rattle.std.proofs.lemmas.List.Elements.{All-from_all_within, recursion_from_All}
 use Rattle.std.specs.Bool.{MatchBool}
 use Rattle.std.specs.Cmp.{tied_itself}
@@ -17,12 +17,12 @@ use Rattle.toml.specs.Data.{Data, get_member, member, Members, no_members}
 use Rattle.toml.specs.View.{members_view}
 use Rattle.toml_spans.proofs.Elements.{all_weaker}
 use Rattle.nextest_config_values.specs.Read.{value_of, words_of}
-use Rattle.nextest_config_lint.specs.Settings.{names_of}
-use Rattle.nextest_config_lint.specs.Schema.{row_words, rows_view}
-use Rattle.nextest_config_lint.specs.Unknown.{is_known}
-use Rattle.nextest_config_lint.specs.declared.finding.FindingSeverity.{FindingSeverity}
-use Rattle.nextest_config_lint.specs.declared.reader.Reader.{Reader}
-use Rattle.nextest_config_lint.specs.declared.schema.Below as declared
+use Rattle.nextest_config_lint.specs.Conversion.{field_named}
+use Rattle.nextest_config_lint.specs.Settings.{is_known, names_of, seen_field}
+use Rattle.nextest_config_elements.proofs.Levels.{first_field}
+use Rattle.nextest_config_elements.specs.Fields.{field_words, fields_view, KeyRule, Parts}
+use Rattle.nextest_config_elements.specs.declared.field.Field as declared
+use Rattle.nextest_config_elements.specs.declared.field.Field.{out-Field}
 
 -- ---- the search for a key
 
@@ -75,16 +75,41 @@ module _ {X : Type 0} (test : X → Bool) where
   found_first xs None none = sym (find_none xs (recursion_from_All (λ y. test y ≡ false) xs (All-from_all_within (λ y. test y ≡ false) xs none)))
   found_first xs (Some x) (passes, i, within, here, none) = sym (find_here xs x i passes within here none)
 
+-- and of `find` that yields elements as they are lent
+pub found_lent : {X : Type 0} (test : X → Bool) (xs : List X) (r : Option (Bor X))
+    → MatchOption r (AllWithin (λ y. test y ≡ false) xs 0 (length xs)) (λ x. (test x.now ≡ true) × (i : ℕ) × (i < length xs) × HoldsAt (λ y. y ≡ x.now) xs i × AllWithin (λ y. test y ≡ false) xs 0 i)
+    → option_map (λ x. x.now) r ≡ find test xs
+found_lent test xs None none = found_first test xs None none
+found_lent test xs (Some x) first = found_first test xs (Some x.now) first
+
+-- what is seen of what is lent
+pub seen_through : {X Y : Type 0} (seen : X → Y) (r : Option (Bor X)) → option_map (λ x. seen x.now) r ≡ option_map seen (option_map (λ x. x.now) r)
+seen_through seen None = refl
+seen_through seen (Some x) = refl
+
 -- a test of what is seen of elements
 pub find_seen : {X Y : Type 0} (seen : X → Y) (test : Y → Bool) (xs : List X) → option_map seen (find (λ x. test (seen x)) xs) ≡ find test (map seen xs)
 find_seen seen test [] = refl
 find_seen seen test (x ∷ xs) =
     ⊎_elim (λ passes. rw passes refl) (λ fails. rw fails (find_seen seen test xs)) (cases_Bool (test (seen x)))
 
--- the words of rows
-pub words_of_rows : (known : List (Bor (List ℕ) × Reader × FindingSeverity × declared.Below)) → map (λ row. row.0.now) known ≡ row_words (rows_view known)
-words_of_rows [] = refl
-words_of_rows (row ∷ known) = ap (λ (words : List (List ℕ)). row.0.now ∷ words) (words_of_rows known)
+-- the keys of fields
+pub words_of_fields : (known : List declared.Field) → map (λ f. (out-Field f).key.now) known ≡ field_words (fields_view known)
+words_of_fields [] = refl
+words_of_fields (first ∷ known) =
+    ap (λ (words : List (List ℕ)). (out-Field first).key.now ∷ words) (words_of_fields known) ∙ ap field_words (sym (first_field first known))
+
+-- the field with a key is the first of the slice that has it
+by_test : (here : Bool) (first : declared.Field) (rest : Option declared.Field) (others : Option (KeyRule × Parts)) → option_map seen_field rest ≡ others
+    → option_map seen_field (if here then Some first else rest) ≡ (if here then Some (seen_field first) else others)
+by_test true first rest others same = refl
+by_test false first rest others same = same
+
+pub field_found : (name : List ℕ) (known : List declared.Field) → option_map seen_field (find (λ f. pointwise nat_eq (out-Field f).key.now name) known) ≡ field_named name (fields_view known)
+field_found name [] = refl
+field_found name (first ∷ known) =
+    by_test (pointwise nat_eq (out-Field first).key.now name) first (find (λ f. pointwise nat_eq (out-Field f).key.now name) known) (field_named name (fields_view known)) (field_found name known)
+    ∙ ap (field_named name) (sym (first_field first known))
 
 -- ---- lists of keys
 
@@ -116,3 +141,14 @@ all_names entries yielded f all =
 -- all names of a set that were yielded
 pub all_texts : (names : List (String Global)) (yielded : List (Bor (String Global))) → map deref yielded ≡ names → map (λ name. string_bytes name.now) yielded ≡ map string_bytes names
 all_texts names yielded all = sym (map-map string_bytes deref yielded) ∙ ap (map string_bytes) all
+
+flat_map_map : {A B C : Type 0} (f : B → List C) (g : A → B) (xs : List A) → flat_map (λ x. f (g x)) xs ≡ flat_map f (map g xs)
+flat_map_map f g [] = refl
+flat_map_map f g (x ∷ xs) = ap (λ more. f (g x) ++ more) (flat_map_map f g xs)
+
+-- what comes of all keys of a table that were yielded
+pub of_all_names : {C : Type 0} (entries : List Entry) (yielded : List (Bor (String Global))) (f : List ℕ → List C) → map deref yielded ≡ keys_of entries
+    → flat_map (λ name. f (string_bytes name.now)) yielded ≡ flat_map f (names_of (members_view entries))
+of_all_names entries yielded f all =
+    flat_map_map f (λ name. string_bytes name.now) yielded
+    ∙ ap (flat_map f) (all_names entries yielded (λ name. name) all ∙ map-id (names_of (members_view entries)))

@@ -1,34 +1,46 @@
 -- The path of what is found leads to a value of the document.
-use Rattle.std.specs.Prelude.{◌≡◌, ℕ, suc, ◌+◌, Bool, true, false, List, [], ◌∷◌, ◌++◌, Contains, flat_map, if◌then◌else◌, IsSome, map, Option, Some, None, option_and_then, option_to_list}
-use Rattle.std.proofs.Common.{ap, arith, inl, inr, refl, rules, subst, sym, zero-add, ◌∙◌}
+use Rattle.std.specs.Prelude.{◌≡◌, ℕ, suc, ◌+◌, ◌&&◌, Bool, true, false, not, List, [], ◌∷◌, ◌++◌, codes, Contains, flat_map, if◌then◌else◌, IsSome, map, nat_eq, Option, Some, None, option_and_then, option_to_list}
+use Rattle.std.proofs.Common.{ap, append-nil, arith, inl, inr, refl, rules, subst, sym, zero-add, ◌∙◌}
+use Rattle.std.specs.Cmp.Lexicographic.{pointwise}
 use Rattle.std.proofs.lemmas.List.Elements.{All-contains_itself, recursion_from_All}
 use Rattle.std.proofs.lemmas.Option.{none-some, same_Some}
 use Rattle.std.specs.List.{AllByRecursion}
+use Rattle.nextest_config_values.specs.Read.Fault.{Fault}
+use Rattle.nextest_config_values.specs.Read.{reason_at}
 use Rattle.toml.specs.Data.{array, as_str, Data, get, get_item, get_member, item, Items, Members, no_items, table}
 use Rattle.toml_spans.specs.Line.{found_below, found_in, step_from}
-use Rattle.toml_spans.specs.Step.{index, key, PathStep}
+use Rattle.toml_spans.specs.Step.{index, key, PathStep, printed_path}
 use Rattle.nextest_config.specs.NextestVersion.{feature_array, Features, FeatureSetting, features_of_table, feature_table, features_under, text_in}
 use Rattle.nextest_config.specs.declared.nextest_version.edition.Edition.{Edition}
 use Rattle.nextest_config.specs.declared.nextest_version.edition.Edition.TheVariants.{ArrayAllowed, TableOnly}
 use Rattle.nextest_config.specs.declared.nextest_version.source.ConfigSourceKind.{ConfigSourceKind}
 use Rattle.nextest_config.specs.declared.nextest_version.source.ConfigSourceKind.TheVariants.{Tool}
 use Rattle.toml_spans.proofs.Elements.{all_joined}
-use Rattle.nextest_config_lint.proofs.FaultSteps.{reader_leads}
+use Rattle.nextest_config_lint.proofs.FaultsHere.{IsAtKey, IsHere, rules_at_key, shape_here}
 use Rattle.nextest_config_lint.proofs.ReferencesFound.{reference_at}
 use Rattle.nextest_config_lint.proofs.Keys.{names_have}
 use Rattle.nextest_config_lint.specs.Defined.{ListFile}
 use Rattle.nextest_config_lint.specs.Document.{AreFindings, keys_of_document}
 use Rattle.nextest_config_lint.specs.Features.{AreToolsFound, features_text, IsNameAt, IsNameFound, IsStepTo}
-use Rattle.nextest_config_lint.specs.File.{whole_path}
+use Rattle.nextest_config_lint.specs.File.{key_in, reason_key}
 use Rattle.nextest_config_lint.specs.FindingsLaws.{LeadsToValue}
-use Rattle.nextest_config_lint.specs.Found.{AreFoundIn, AreFoundOf, deprecated_array, Found, found_at}
-use Rattle.nextest_config_lint.specs.References.{IsReferenceFound}
-use Rattle.nextest_config_lint.specs.Settings.{at_items, at_names, settings_of, if_there, in_array, in_table, settings_below, settings_in, settings_of_rows, SettingView, Collecting, names_of, with_below}
-use Rattle.nextest_config_lint.specs.Schema.{Below, elements, file_rows, file_table, keys, known_words, names, no_rows, nothing, row, rows, Rows}
-use Rattle.nextest_config_lint.specs.Unknown.{IsKeyFound, IsKeyFoundFor, is_known, TableKey, key_at, keys_among, keys_below, keys_in}
+use Rattle.nextest_config_lint.specs.Found.{AreFoundIn, AreFoundOf, deprecated_array, Found, found_at, FoundKind}
+use Rattle.nextest_config_lint.specs.References.{IsReferenceFound, IsSubjectTold}
+use Rattle.nextest_config_lint.specs.Settings.{a_value, absent_key, and_rules, at_items, at_key, at_names, between, by_kind, Collecting, expected_by, features_at, has_default_period, if_there, in_array, in_table, is_known, names_of, of_name, of_retries, setting_at, settings_below, settings_in, settings_of, settings_of_fields, SettingView, Subject, refused_key, with_parts}
+use Rattle.nextest_config_lint.specs.Subjects.{IsLeftOpen, IsWrong, NamesFeatures}
+use Rattle.nextest_config_elements.specs.Fields.{field, field_words, Fields, KeyRule, no_fields, nothing, Parts}
+use Rattle.nextest_config_elements.specs.Fields as inside
+use Rattle.nextest_config_elements.specs.Keys.{file_fields, file_table}
+use Rattle.nextest_config_elements.specs.RetryRules.{backoff_in}
+use Rattle.nextest_config_elements.specs.declared.field.FaultSeverity.{FaultSeverity}
+use Rattle.nextest_config_elements.specs.declared.field.Shape.{Shape}
+use Rattle.nextest_config_elements.specs.declared.field.Shape.TheVariants.{FeatureName}
+use Rattle.nextest_config_elements.specs.declared.retry_policy.Backoff.{Backoff}
+use Rattle.nextest_config_elements.specs.declared.retry_policy.Backoff.TheVariants.{Exponential, Fixed}
+use Rattle.nextest_config_lint.specs.declared.settings.Rules.{Rules}
+use Rattle.nextest_config_lint.specs.declared.settings.Rules.TheVariants as rules_of
+use Rattle.nextest_config_lint.specs.Unknown.{IsKeyFound, IsKeyFoundFor, TableKey, key_at, keys_among, keys_below, keys_of_subject, keys_in, known_words}
 use Rattle.nextest_config_lint.specs.Values.{accepted, AreFaultsFound, AreFeaturesFound, AreNotesFound, faulty, left_open, names_features}
-use Rattle.nextest_config_lint.specs.declared.reader.Reader.{Reader}
-use Rattle.nextest_config_lint.specs.declared.finding.FindingSeverity.{FindingSeverity}
 
 -- ---- lists
 
@@ -87,11 +99,18 @@ one_step top (index place ∷ rest) step value inner is steps = absurd (none-som
 first_step : (top : Members) (name : List ℕ) (value : Data) → get_member name top ≡ Some value → found_in top (key name ∷ []) ≡ Some value
 first_step top name value is = rw is refl
 
--- ---- judged values
+-- ---- what is judged
 
--- the path of a judged value leads to it
+-- what is judged at a path stands there
+abbrev IsPlacedAt : Members → List PathStep → Subject → Type 0
+IsPlacedAt top path (a_value shape parts value) = found_in top path ≡ Some value
+IsPlacedAt top path (absent_key name) = IsSome (found_in top path)
+IsPlacedAt top path (refused_key name expected known) = IsSome (found_in top (path ++ (key name ∷ [])))
+IsPlacedAt top path (between rules value) = found_in top path ≡ Some value
+IsPlacedAt top path (features_at value) = found_in top path ≡ Some value
+
 abbrev IsPlaced : Members → SettingView → Type 0
-IsPlaced top setting = found_in top setting.path ≡ Some setting.value
+IsPlaced top setting = IsPlacedAt top setting.path setting.subject
 
 -- what is at each key of a table is led to by the path with the key
 abbrev LeadOn : Members → List PathStep → Members → Type 0
@@ -126,67 +145,169 @@ items_placed top collecting places path all leads first (item value rest) from =
     (items_placed top collecting places path all leads (suc first) rest
     (λ i. let next : suc i + first ≡ i + suc first = omega arith in subst (λ n. get_item i rest ≡ get_item n all) next (from (suc i))))
 
-in_table_placed : (top : Members) (setting : List PathStep → Members → List SettingView) → ((path : List PathStep) (held : Members) → LeadOn top path held → AllByRecursion (IsPlaced top) (setting path held))
-    → PlacesAll top (in_table setting)
-in_table_placed top setting places path (table held) is = places path held (λ name value at. one_step top path (key name) (table held) value is at)
-in_table_placed top setting places path value is = tt
+in_table_placed : (top : Members) (collecting : List PathStep → Members → List SettingView)
+    → ((path : List PathStep) (held : Members) → found_in top path ≡ Some (table held) → AllByRecursion (IsPlaced top) (collecting path held)) → PlacesAll top (in_table collecting)
+in_table_placed top collecting places path (table held) is = places path held is
+in_table_placed top collecting places path value is = tt
 
 in_array_placed : (top : Members) (collecting : Collecting) → PlacesAll top collecting → PlacesAll top (in_array (λ path. at_items collecting path 0))
 in_array_placed top collecting places path (array held) is =
     items_placed top collecting places path held (λ i value at. one_step top path (index i) (array held) value is at) 0 held (from_first held)
 in_array_placed top collecting places path value is = tt
 
-with_below_placed : (top : Members) (reader : Reader) (severity : FindingSeverity) (below : Below) (collecting : Collecting) → PlacesAll top collecting → PlacesAll top (with_below reader severity below collecting)
-with_below_placed top reader severity below collecting places path value is = (is, places path value is)
+with_parts_placed : (top : Members) (shape : Shape) (severity : FaultSeverity) (parts : Parts) (collecting : Collecting) → PlacesAll top collecting → PlacesAll top (with_parts shape severity parts collecting)
+with_parts_placed top shape severity parts collecting places path value is = (is, places path value is)
+
+-- the keys of a table that a path leads to
+leads_on : (top : Members) (path : List PathStep) (held : Members) → found_in top path ≡ Some (table held) → LeadOn top path held
+leads_on top path held is name value at = one_step top path (key name) (table held) value is at
+
+key_placed : (top : Members) (path : List PathStep) (held : Members) → LeadOn top path held → (name : List ℕ) → IsSome (get_member name held)
+    → IsSome (found_in top (path ++ (key name ∷ [])))
+key_placed top path held leads name some = from_some (get_member name held) some (λ value is. some_is _ value (leads name value is))
+
+-- ---- keys that are absent, or refused
+
+-- a path leads to what may lack keys of these
+abbrev MayLack : Members → List PathStep → Fields → Type 0
+MayLack top path no_fields = Unit {0}
+MayLack top path (field rule parts rest) = (rule.required ≡ true → IsSome (found_in top path)) × MayLack top path rest
+
+may_lack : (known : Fields) (top : Members) (path : List PathStep) → IsSome (found_in top path) → MayLack top path known
+may_lack no_fields top path there = tt
+may_lack (field rule parts rest) top path there = (λ required. there, may_lack rest top path there)
+
+wanted_there : (top : Members) (path : List PathStep) (severity : FaultSeverity) (name : List ℕ) (required other : Bool) → (required ≡ true → IsSome (found_in top path))
+    → AllByRecursion (IsPlaced top) (if required && other then setting_at severity path (absent_key name) ∷ [] else [])
+wanted_there top path severity name true true there = (there refl, tt)
+wanted_there top path severity name true false there = tt
+wanted_there top path severity name false other there = tt
+
+at_key_placed : (top : Members) (rule : KeyRule) (collecting : Collecting) → PlacesAll top collecting → (path : List PathStep) (found : Option Data)
+    → ((value : Data) → found ≡ Some value → found_in top (path ++ (key rule.key ∷ [])) ≡ Some value) → (rule.required ≡ true → IsSome (found_in top path))
+    → AllByRecursion (IsPlaced top) (at_key rule collecting path found)
+at_key_placed top rule collecting places path None leads there =
+    wanted_there top path rule.severity rule.key rule.required (not (pointwise nat_eq rule.key (codes "period") && has_default_period path)) there
+at_key_placed top rule collecting places path (Some value) leads there = places (path ++ (key rule.key ∷ [])) value (leads value refl)
+
+name_placed : (top : Members) (severity : FaultSeverity) (expected known : List (List ℕ)) (path : List PathStep) (name : List ℕ) (is_one : Bool) → IsSome (found_in top (path ++ (key name ∷ [])))
+    → AllByRecursion (IsPlaced top) (if is_one then [] else setting_at severity path (refused_key name expected known) ∷ [])
+name_placed top severity expected known path name true there = tt
+name_placed top severity expected known path name false there = (there, tt)
+
+unknown_placed : (top : Members) (severity : FaultSeverity) (expected known : List (List ℕ)) (path : List PathStep) (held : Members) → LeadOn top path held
+    → AllByRecursion (IsPlaced top) (flat_map (of_name severity expected known path) (names_of held))
+unknown_placed top severity expected known path held leads =
+    all_of_each (IsPlaced top) (λ name. IsSome (get_member name held)) (of_name severity expected known path)
+    (λ name some. name_placed top severity expected known path name (is_known known name) (key_placed top path held leads name some)) (names_of held) (names_have held)
+
+rules_placed : (top : Members) (severity : FaultSeverity) (rules : Rules) (path : List PathStep) (held : Members) (of_fields : List SettingView) → found_in top path ≡ Some (table held)
+    → AllByRecursion (IsPlaced top) of_fields → AllByRecursion (IsPlaced top) (and_rules severity rules path held of_fields)
+rules_placed top severity rules path held of_fields is placed = all_joined (IsPlaced top) of_fields (setting_at severity path (between rules (table held)) ∷ []) placed (is, tt)
+
+retries_placed : (top : Members) (severity : FaultSeverity) (known : List (List ℕ)) (path : List PathStep) (held : Members) (of_fields : List SettingView) → found_in top path ≡ Some (table held)
+    → AllByRecursion (IsPlaced top) of_fields → AllByRecursion (IsPlaced top) (of_retries severity known path held of_fields)
+retries_placed top severity known path held of_fields is placed =
+    let expected = expected_by (backoff_in held) in
+    rules_placed top severity rules_of.Retries path held (of_fields ++ flat_map (of_name severity expected known path) (names_of held)) is
+    (all_joined (IsPlaced top) of_fields (flat_map (of_name severity expected known path) (names_of held)) placed
+    (unknown_placed top severity expected known path held (leads_on top path held is)))
+
+by_kind_placed : (top : Members) (fixed exponential without : List SettingView) (backoff : Option Backoff) → AllByRecursion (IsPlaced top) fixed → AllByRecursion (IsPlaced top) exponential
+    → AllByRecursion (IsPlaced top) without → AllByRecursion (IsPlaced top) (by_kind fixed exponential without backoff)
+by_kind_placed top fixed exponential without (Some Fixed) h k l = h
+by_kind_placed top fixed exponential without (Some Exponential) h k l = k
+by_kind_placed top fixed exponential without None h k l = l
+
+-- ---- the table of keys
 
 mutual
-  below_placed : (below : Below) (top : Members) → PlacesAll top (settings_below below)
-  below_placed nothing top = λ path value is. tt
-  below_placed (keys words) top = λ path value is. tt
-  below_placed (rows known) top = in_table_placed top (settings_of_rows known) (rows_placed known top)
-  below_placed (names reader severity below) top =
-      in_table_placed top (at_names (settings_in reader severity below))
-      (names_placed top (settings_in reader severity below) (with_below_placed top reader severity below (settings_below below) (below_placed below top)))
-  below_placed (elements reader severity below) top =
-      in_array_placed top (settings_in reader severity below) (with_below_placed top reader severity below (settings_below below) (below_placed below top))
+  parts_placed : (parts : Parts) (top : Members) (severity : FaultSeverity) → PlacesAll top (settings_below parts severity)
+  parts_placed nothing top severity = λ path value is. tt
+  parts_placed (inside.fields known) top severity = in_table_placed top (settings_of_fields known) (λ path held is. fields_placed known top path held (leads_on top path held is) (may_lack known top path (some_is _ (table held) is)))
+  parts_placed (inside.versions known) top severity =
+      in_table_placed top (λ path held. and_rules severity rules_of.Versions path held (settings_of_fields known path held))
+      (λ path held is. rules_placed top severity rules_of.Versions path held (settings_of_fields known path held) is
+      (fields_placed known top path held (leads_on top path held is) (may_lack known top path (some_is _ (table held) is))))
+  parts_placed (inside.features known) top severity = λ path value is.
+      all_joined (IsPlaced top) (in_table (settings_of_fields known) path value) _
+      (in_table_placed top (settings_of_fields known) (λ path held is. fields_placed known top path held (leads_on top path held is) (may_lack known top path (some_is _ (table held) is))) path value is)
+      (all_joined (IsPlaced top) (in_array (λ path. at_items (with_parts FeatureName severity nothing (λ path value. [])) path 0) path value) (setting_at severity path (features_at value) ∷ [])
+      (in_array_placed top (with_parts FeatureName severity nothing (λ path value. [])) (with_parts_placed top FeatureName severity nothing (λ path value. []) (λ path value is. tt)) path value is)
+      (is, tt))
+  parts_placed (inside.by_backoff fixed exponential without) top severity =
+      in_table_placed top (λ path held. by_kind (of_retries severity (field_words fixed) path held (settings_of_fields fixed path held))
+      (of_retries severity (field_words exponential) path held (settings_of_fields exponential path held))
+      (of_retries severity (field_words without) path held (settings_of_fields without path held)) (backoff_in held))
+      (λ path held is. by_kind_placed top _ _ _ (backoff_in held)
+      (retries_placed top severity (field_words fixed) path held (settings_of_fields fixed path held) is (fields_placed fixed top path held (leads_on top path held is) (may_lack fixed top path (some_is _ (table held) is))))
+      (retries_placed top severity (field_words exponential) path held (settings_of_fields exponential path held) is (fields_placed exponential top path held (leads_on top path held is) (may_lack exponential top path (some_is _ (table held) is))))
+      (retries_placed top severity (field_words without) path held (settings_of_fields without path held) is (fields_placed without top path held (leads_on top path held is) (may_lack without top path (some_is _ (table held) is)))))
+  parts_placed (inside.names shape parts) top severity =
+      in_table_placed top (at_names (settings_in shape severity parts))
+      (λ path held is. names_placed top (settings_in shape severity parts)
+      (with_parts_placed top shape severity parts (settings_below parts severity) (parts_placed parts top severity)) path held (leads_on top path held is))
+  parts_placed (inside.elements shape parts) top severity =
+      in_array_placed top (settings_in shape severity parts) (with_parts_placed top shape severity parts (settings_below parts severity) (parts_placed parts top severity))
 
-  rows_placed : (known : Rows) (top : Members) (path : List PathStep) (held : Members) → LeadOn top path held → AllByRecursion (IsPlaced top) (settings_of_rows known path held)
-  rows_placed no_rows top = λ path held leads. tt
-  rows_placed (row word reader severity below rest) top = λ path held leads.
-      all_joined (IsPlaced top) (if_there (settings_in reader severity below) path (key word) (get_member word held)) (settings_of_rows rest path held)
-      (there_placed top (settings_in reader severity below) (with_below_placed top reader severity below (settings_below below) (below_placed below top)) path (key word) (get_member word held) (leads word))
-      (rows_placed rest top path held leads)
+  fields_placed : (known : Fields) (top : Members) (path : List PathStep) (held : Members) → LeadOn top path held → MayLack top path known → AllByRecursion (IsPlaced top) (settings_of_fields known path held)
+  fields_placed no_fields top = λ path held leads lacks. tt
+  fields_placed (field rule parts rest) top = λ path held leads lacks.
+      all_joined (IsPlaced top) (at_key rule (settings_in rule.shape rule.severity parts) path (get_member rule.key held)) (settings_of_fields rest path held)
+      (at_key_placed top rule (settings_in rule.shape rule.severity parts)
+      (with_parts_placed top rule.shape rule.severity parts (settings_below parts rule.severity) (parts_placed parts top rule.severity)) path (get_member rule.key held) (leads rule.key) lacks.0)
+      (fields_placed rest top path held leads lacks.1)
+
+-- no key is required at the top of a file
+none_required : (top : Members) → MayLack top [] file_fields
+none_required top = (λ e. cc e, (λ e. cc e, (λ e. cc e, (λ e. cc e, (λ e. cc e, (λ e. cc e, (λ e. cc e, tt)))))))
 
 all_placed : (top : Members) → AllByRecursion (IsPlaced top) (settings_of top)
-all_placed top = rows_placed file_rows top [] top (first_step top)
+all_placed top = fields_placed file_fields top [] top (first_step top) (none_required top)
 
 -- ---- of faults
 
--- what a path and steps after it lead to
-from_option : (rest steps : List PathStep) (found : Option Data)
-    → ((from : Data) → found_below (rest ++ steps) from ≡ option_and_then (found_below steps) (found_below rest from))
-    → option_and_then (found_below (rest ++ steps)) found ≡ option_and_then (found_below steps) (option_and_then (found_below rest) found)
-from_option rest steps None on = refl
-from_option rest steps (Some from) on = on from
+-- a step from a value that a path leads to
+step_leads : (top : Members) (path : List PathStep) (step : PathStep) (value : Data) → found_in top path ≡ Some value → IsSome (step_from value step)
+    → IsSome (found_in top (path ++ (step ∷ [])))
+step_leads top path step value is some = from_some (step_from value step) some (λ inner steps. some_is _ inner (one_step top path step value inner is steps))
 
-below_along : (path steps : List PathStep) (from : Data) → found_below (path ++ steps) from ≡ option_and_then (found_below steps) (found_below path from)
-below_along [] steps from = refl
-below_along (step ∷ rest) steps from = from_option rest steps (step_from from step) (below_along rest steps)
+-- what is found of a fault of the value at a path, and of no key of it, stands there
+here_leads : (top : Members) (path : List PathStep) (fault : Fault) (found : Found) → IsSome (found_in top path) → IsHere fault → found.path ≡ path ++ fault.steps
+    → key_in found.kind ≡ reason_key (reason_at (printed_path (path ++ fault.steps)) fault.cause) → LeadsToValue top found
+here_leads top path fault found there is path_is key_is =
+    let none : key_in found.kind ≡ None = key_is ∙ is.1 (printed_path (path ++ fault.steps)) in
+    let whole : found.path ≡ path = path_is ∙ ap (λ (steps : List PathStep). path ++ steps) is.0 ∙ append-nil path in
+    rw (none, whole) there
 
-along : (top : Members) (path steps : List PathStep) (value : Data) → found_in top path ≡ Some value → found_in top (path ++ steps) ≡ found_below steps value
-along top [] steps value is = absurd (none-some value is)
-along top (key text ∷ rest) steps value is = from_option rest steps (get_member text top) (below_along rest steps) ∙ ap (option_and_then (found_below steps)) is
-along top (index place ∷ rest) steps value is = absurd (none-some value is)
+-- and of a key of it at that key
+at_key_leads : (top : Members) (path : List PathStep) (name : List ℕ) (fault : Fault) (found : Found) → IsSome (found_in top (path ++ (key name ∷ []))) → IsAtKey name fault
+    → found.path ≡ path ++ fault.steps → key_in found.kind ≡ reason_key (reason_at (printed_path (path ++ fault.steps)) fault.cause) → LeadsToValue top found
+at_key_leads top path name fault found there is path_is key_is =
+    let at : key_in found.kind ≡ Some name = key_is ∙ is.1 (printed_path (path ++ fault.steps)) in
+    let whole : found.path ≡ path = path_is ∙ ap (λ (steps : List PathStep). path ++ steps) is.0 ∙ append-nil path in
+    rw (at, whole) there
+
+wrong_leads : (edition : Edition) (top : Members) (path : List PathStep) (subject : Subject) (fault : Fault) (found : Found) → IsPlacedAt top path subject → IsWrong edition subject fault
+    → found.path ≡ path ++ fault.steps → key_in found.kind ≡ reason_key (reason_at (printed_path (path ++ fault.steps)) fault.cause) → LeadsToValue top found
+wrong_leads edition top path (a_value shape parts value) fault found placed wrong path_is key_is =
+    here_leads top path fault found (some_is _ value placed) (shape_here edition shape value fault wrong) path_is key_is
+wrong_leads edition top path (absent_key name) fault found placed wrong path_is key_is =
+    here_leads top path fault found placed (subst IsHere (sym wrong) (refl, λ at. refl)) path_is key_is
+wrong_leads edition top path (refused_key name expected known) fault found placed wrong path_is key_is =
+    at_key_leads top path name fault found placed (subst (IsAtKey name) (sym wrong) (refl, λ at. refl)) path_is key_is
+wrong_leads edition top path (between rules value) fault found placed wrong path_is key_is =
+    let (name, at, there) = rules_at_key rules value fault wrong in
+    at_key_leads top path name fault found (step_leads top path (key name) value placed there) at path_is key_is
+wrong_leads edition top path (features_at value) fault found placed wrong path_is key_is = absurd wrong
 
 faults_lead : (edition : Edition) (top : Members) (setting : SettingView) (here : List Found) → IsPlaced top setting → AreFaultsFound edition setting here
     → AllByRecursion (LeadsToValue top) here
 faults_lead edition top setting here is (accepted, so, are) = rw are tt
-faults_lead edition top setting here is (names_features named, so, are) = rw are tt
+faults_lead edition top setting here is (names_features value named, so, are) = rw are tt
 faults_lead edition top setting here is (left_open fault, so, are) = rw are tt
 faults_lead edition top setting here is (faulty fault, so, (found, of_fault, are)) =
-    let leads = reader_leads edition setting.reader setting.value fault so.0 in
-    let of_path : whole_path found ≡ found.path = rw of_fault.kind_is.4 refl in
-    rw are (rw (of_path, of_fault.path_is, along top setting.path fault.steps setting.value is) leads, tt)
+    rw are (wrong_leads edition top setting.path setting.subject fault found is so.0 of_fault.path_is (ap key_in of_fault.kind_is.4), tt)
 
 -- ---- of features
 
@@ -226,30 +347,32 @@ step_there : (edition : Edition) (value : Data) (named : FeatureSetting) (name :
 step_there edition value named name (index place) means there is = some_before as_str (step_from value (index place)) name is.0
 step_there edition value named name (key text) means there is = rw is.1 (name_there edition value named name means there is.0)
 
--- a step from a value that a path leads to
-step_leads : (top : Members) (path : List PathStep) (step : PathStep) (value : Data) → found_in top path ≡ Some value → IsSome (step_from value step)
-    → IsSome (found_in top (path ++ (step ∷ [])))
-step_leads top path step value is some = from_some (step_from value step) some (λ inner steps. some_is _ inner (one_step top path step value inner is steps))
-
 tools_lead : (top : Members) (path : List PathStep) (features : Features) (here : List Found) → IsSome (found_in top path) → AreToolsFound path features here
     → AllByRecursion (LeadsToValue top) here
 tools_lead top path features here leads (inl (none, are)) = rw are tt
 tools_lead top path features here leads (inr (some, (found_names, of_names, are))) = rw are (leads, tt)
 
-names_lead : (edition : Edition) (top : Members) (setting : SettingView) (named : FeatureSetting) → IsPlaced top setting → (features_under edition).means setting.value named
-    → (here : List Found) → AreFoundIn (IsNameFound setting) named.features.unknown here → AllByRecursion (LeadsToValue top) here
-names_lead edition top setting named is means here are =
-    each_found (LeadsToValue top) (Contains named.features.unknown) (IsNameFound setting)
-    (λ name found there (step, hint, leads, nearest, so). rw so (step_leads top setting.path step setting.value is (step_there edition setting.value named name step means there leads), tt))
+names_lead : (edition : Edition) (top : Members) (path : List PathStep) (value : Data) (named : FeatureSetting) → found_in top path ≡ Some value → (features_under edition).means value named
+    → (here : List Found) → AreFoundIn (IsNameFound path value) named.features.unknown here → AllByRecursion (LeadsToValue top) here
+names_lead edition top path value named is means here are =
+    each_found (LeadsToValue top) (Contains named.features.unknown) (IsNameFound path value)
+    (λ name found there (step, hint, leads, nearest, so). rw so (step_leads top path step value is (step_there edition value named name step means there leads), tt))
     named.features.unknown here (recursion_from_All (Contains named.features.unknown) named.features.unknown (All-contains_itself named.features.unknown)) are
+
+-- a value that names features stands at its path
+named_there : (edition : Edition) (top : Members) (path : List PathStep) (subject : Subject) (value : Data) (named : FeatureSetting) → IsPlacedAt top path subject
+    → NamesFeatures edition subject value named → found_in top path ≡ Some value
+named_there edition top path subject value named placed (is, means) = subst (IsPlacedAt top path) is placed
 
 features_lead : (edition : Edition) (kind : ConfigSourceKind) (top : Members) (setting : SettingView) (here : List Found) → IsPlaced top setting
     → AreFeaturesFound edition kind setting here → AllByRecursion (LeadsToValue top) here
 features_lead edition kind top setting here is (accepted, so, are) = rw are tt
 features_lead edition kind top setting here is (faulty fault, so, are) = rw are tt
 features_lead edition kind top setting here is (left_open fault, so, are) = rw are tt
-features_lead edition (Tool name) top setting here is (names_features named, so, are) = tools_lead top setting.path named.features here (some_is _ setting.value is) are
-features_lead edition kind top setting here is (names_features named, so, are) = names_lead edition top setting named is so.1 here are
+features_lead edition (Tool name) top setting here is (names_features value named, so, are) =
+    tools_lead top setting.path named.features here (some_is _ value (named_there edition top setting.path setting.subject value named is so)) are
+features_lead edition kind top setting here is (names_features value named, so, are) =
+    names_lead edition top setting.path value named (named_there edition top setting.path setting.subject value named is so) so.1 here are
 
 -- ---- of notes
 
@@ -258,26 +381,28 @@ array_leads : (top : Members) (path : List PathStep) (is_array : Bool) (named : 
 array_leads top path true named leads = (leads, tt)
 array_leads top path false named leads = tt
 
+-- what isn't judged of a value stands at its path
+open_leads : (edition : Edition) (top : Members) (path : List PathStep) (subject : Subject) (fault : Fault) → IsPlacedAt top path subject → IsWrong edition subject fault → IsLeftOpen subject fault
+    → IsSome (found_in top (path ++ fault.steps))
+open_leads edition top path (a_value shape parts value) fault placed wrong left =
+    rw (ap (λ (steps : List PathStep). path ++ steps) (shape_here edition shape value fault wrong).0 ∙ append-nil path) (some_is _ value placed)
+open_leads edition top path subject fault placed wrong left = absurd left
+
 notes_lead : (edition : Edition) (kind : ConfigSourceKind) (top : Members) (setting : SettingView) (here : List Found) → IsPlaced top setting
     → AreNotesFound edition kind setting here → AllByRecursion (LeadsToValue top) here
 notes_lead edition kind top setting here is (accepted, so, are) = rw are tt
 notes_lead edition kind top setting here is (faulty fault, so, are) = rw are tt
 notes_lead edition kind top setting here is (left_open fault, so, are) =
-    let leads = reader_leads edition setting.reader setting.value fault so.0 in
-    rw are (rw (along top setting.path fault.steps setting.value is) leads, tt)
-notes_lead edition (Tool name) top setting here is (names_features named, so, are) = rw are tt
-notes_lead edition kind top setting here is (names_features named, so, are) =
-    rw are (array_leads top setting.path named.array (features_text named.features.known) (some_is _ setting.value is))
+    rw are (open_leads edition top setting.path setting.subject fault is so.0 so.1, tt)
+notes_lead edition (Tool name) top setting here is (names_features value named, so, are) = rw are tt
+notes_lead edition kind top setting here is (names_features value named, so, are) =
+    rw are (array_leads top setting.path named.array (features_text named.features.known) (some_is _ value (named_there edition top setting.path setting.subject value named is so)))
 
 -- ---- of keys
 
 -- the key is one of a table that its path leads to
 abbrev IsKeyPlaced : Members → TableKey → Type 0
 IsKeyPlaced top setting = IsSome (found_in top (setting.path ++ (key setting.name ∷ [])))
-
-key_placed : (top : Members) (path : List PathStep) (held : Members) → LeadOn top path held → (name : List ℕ) → IsSome (get_member name held)
-    → IsSome (found_in top (path ++ (key name ∷ [])))
-key_placed top path held leads name some = from_some (get_member name held) some (λ value is. some_is _ value (leads name value is))
 
 all_keys : {X A : Type 0} (P : X → Type 0) (Q : A → Type 0) (f : X → A) → ((x : X) → P x → Q (f x)) → (xs : List X) → AllByRecursion P xs → AllByRecursion Q (map f xs)
 all_keys P Q f each [] h = tt
@@ -289,15 +414,19 @@ among_placed top None path held leads = tt
 among_placed top (Some known) path held leads =
     all_keys (λ name. IsSome (get_member name held)) (IsKeyPlaced top) (key_at known path) (key_placed top path held leads) (names_of held) (names_have held)
 
-keys_below_placed : (top : Members) (below : Below) (path : List PathStep) (value : Data) → found_in top path ≡ Some value → AllByRecursion (IsKeyPlaced top) (keys_below below path value)
-keys_below_placed top below path (table held) is = among_placed top (known_words below) path held (λ name value at. one_step top path (key name) (table held) value is at)
-keys_below_placed top below path value is = tt
+keys_below_placed : (top : Members) (parts : Parts) (path : List PathStep) (value : Data) → found_in top path ≡ Some value → AllByRecursion (IsKeyPlaced top) (keys_below parts path value)
+keys_below_placed top parts path (table held) is = among_placed top (known_words parts) path held (λ name value at. one_step top path (key name) (table held) value is at)
+keys_below_placed top parts path value is = tt
+
+keys_in_placed : (top : Members) (path : List PathStep) (subject : Subject) → IsPlacedAt top path subject → AllByRecursion (IsKeyPlaced top) (keys_of_subject subject path)
+keys_in_placed top path (a_value shape parts value) placed = keys_below_placed top parts path value placed
+keys_in_placed top path subject placed = tt
 
 all_keys_placed : (top : Members) → AllByRecursion (IsKeyPlaced top) (keys_of_document top)
 all_keys_placed top =
     all_joined (IsKeyPlaced top) (keys_below file_table [] (table top)) (flat_map keys_in (settings_of top))
     (among_placed top (known_words file_table) [] top (first_step top))
-    (all_of_each (IsKeyPlaced top) (IsPlaced top) keys_in (λ setting is. keys_below_placed top setting.below setting.path setting.value is) (settings_of top) (all_placed top))
+    (all_of_each (IsKeyPlaced top) (IsPlaced top) keys_in (λ setting is. keys_in_placed top setting.path setting.subject is) (settings_of top) (all_placed top))
 
 key_leads : (top : Members) (is_one : Bool) (setting : TableKey) (here : Option Found) → IsKeyPlaced top setting → IsKeyFoundFor is_one setting here
     → AllByRecursion (LeadsToValue top) (option_to_list here)
@@ -306,12 +435,19 @@ key_leads top false setting here placed (hint, meant, is) = rw is (placed, tt)
 
 -- ---- of references
 
+-- what is told of stands at its path
+told_there : (files : List ListFile) (kind : ConfigSourceKind) (position : ℕ) (top : Members) (path : List PathStep) (subject : Subject) (told : FoundKind)
+    → IsSubjectTold files kind position path subject (Some told) → IsPlacedAt top path subject → IsSome (found_in top path)
+told_there files kind position top path (a_value shape parts value) told is placed = some_is _ value placed
+told_there files kind position top path subject told is placed = absurd (cc is)
+
 references_lead : (files : List ListFile) (kind : ConfigSourceKind) (position : ℕ) (top : Members) (setting : SettingView) (here : Option Found) → IsPlaced top setting
     → IsReferenceFound files kind position setting here → AllByRecursion (LeadsToValue top) (option_to_list here)
 references_lead files kind position top setting None placed is = tt
-references_lead files kind position top setting (Some found) placed is =
-    let at = reference_at files kind position setting (Some found) is in
-    (rw at.2 (some_is _ setting.value placed), tt)
+references_lead files kind position top setting (Some found) placed (None, told, is) = absurd (cc is)
+references_lead files kind position top setting (Some found) placed (Some said, told, is) =
+    let at = reference_at files kind position setting (Some found) (Some said, told, is) in
+    (rw at.2 (told_there files kind position top setting.path setting.subject said told placed), tt)
 
 -- ---- of all
 

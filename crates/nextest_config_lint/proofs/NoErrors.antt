@@ -3,7 +3,7 @@ use mathlib.Core.Logic.Iff as iff
 use Rattle.std.specs.Prelude.{◌≡◌, ◌≢◌, ◌↔◌, ℕ, Bool, List, [], ◌∷◌, ◌++◌, true, false, if◌then◌else◌, Option, Some, None, option_to_list}
 use Rattle.std.proofs.Common.{refl, subst, sym, ◌∙◌, inl, inr}
 use Rattle.std.specs.List.{AllByRecursion}
-use Rattle.toml.specs.Data.{Members}
+use Rattle.toml.specs.Data.{Data, Members}
 use Rattle.nextest_config_values.specs.Read.Fault.{Fault}
 use Rattle.toml_spans.proofs.Elements.{all_always, all_joined, all_left, all_right}
 use Rattle.nextest_config.specs.NextestVersion.{Features, ObeysToolRule}
@@ -20,8 +20,8 @@ use Rattle.nextest_config_lint.specs.Features.{AreNamedFound, features_text, IsN
 use Rattle.nextest_config_lint.specs.FindingsLaws.{HasNoErrorAt, IsNoError, IsNoErrorBy, IsNoErrorOf, IsWithoutError}
 use Rattle.nextest_config_lint.specs.Found.{AreFoundIn, AreFoundOf, deprecated_array, Found, found_at}
 use Rattle.nextest_config_lint.specs.References.{IsReferenceFound}
-use Rattle.nextest_config_lint.specs.Settings.{settings_of, SettingView}
-use Rattle.nextest_config_lint.specs.Unknown.{IsKeyFound, IsKeyFoundFor, is_known, TableKey}
+use Rattle.nextest_config_lint.specs.Settings.{is_known, settings_of, SettingView}
+use Rattle.nextest_config_lint.specs.Unknown.{IsKeyFound, IsKeyFoundFor, TableKey}
 use Rattle.nextest_config_lint.specs.Severity.{IsSeverity}
 use Rattle.nextest_config_lint.specs.declared.finding.FindingSeverity.{FindingSeverity}
 use Rattle.nextest_config_lint.specs.declared.finding.FindingSeverity.TheVariants.{Error}
@@ -59,16 +59,16 @@ key_warned false setting here (hint, meant, found) = rw found ((λ same. cc same
 
 -- ---- of features
 
-name_warned : (setting : SettingView) (name : List ℕ) (here : Option Found) → IsNameFound setting name here → AreNoErrors (option_to_list here)
-name_warned setting name here (step, hint, leads, meant, found) = rw found ((λ same. cc same), tt)
+name_warned : (path : List PathStep) (value : Data) (name : List ℕ) (here : Option Found) → IsNameFound path value name here → AreNoErrors (option_to_list here)
+name_warned path value name here (step, hint, leads, meant, found) = rw found ((λ same. cc same), tt)
 
-named_warned : (kind : ConfigSourceKind) (setting : SettingView) (features : Features) (all_found : List Found) → AreNamedFound kind setting features all_found
+named_warned : (kind : ConfigSourceKind) (path : List PathStep) (value : Data) (features : Features) (all_found : List Found) → AreNamedFound kind path value features all_found
     → AreNoErrors all_found ↔ ObeysToolRule kind features
-named_warned (Tool name) setting features all_found (inl (none, is)) = (λ h. none, λ h. rw is tt)
-named_warned (Tool name) setting features all_found (inr (some, (names, are, is))) =
+named_warned (Tool name) path value features all_found (inl (none, is)) = (λ h. none, λ h. rw is tt)
+named_warned (Tool name) path value features all_found (inr (some, (names, are, is))) =
     (λ h. absurd ((subst AreNoErrors is h).0 refl), λ none. absurd (some none))
-named_warned ExplicitRepository setting features all_found are = (λ h. tt, λ h. always_warned (IsNameFound setting) (name_warned setting) features.unknown all_found are)
-named_warned DiscoveredRepository setting features all_found are = (λ h. tt, λ h. always_warned (IsNameFound setting) (name_warned setting) features.unknown all_found are)
+named_warned ExplicitRepository path value features all_found are = (λ h. tt, λ h. always_warned (IsNameFound path value) (name_warned path value) features.unknown all_found are)
+named_warned DiscoveredRepository path value features all_found are = (λ h. tt, λ h. always_warned (IsNameFound path value) (name_warned path value) features.unknown all_found are)
 
 -- ---- of values
 
@@ -96,8 +96,8 @@ by_outcome_warned : (kind : ConfigSourceKind) (setting : SettingView) (outcome :
     → AreFaults setting outcome faults → AreFeatures kind setting outcome features → AreBothNoErrors faults features ↔ IsNoErrorBy kind setting outcome
 by_outcome_warned kind setting accepted faults features h k = (λ none. tt, λ none. both_empty faults features h k)
 by_outcome_warned kind setting (left_open fault) faults features h k = (λ none. tt, λ none. both_empty faults features h k)
-by_outcome_warned kind setting (names_features named) faults features h k =
-    let warned = named_warned kind setting named.features features k in
+by_outcome_warned kind setting (names_features value named) faults features h k =
+    let warned = named_warned kind setting.path value named.features features k in
     (λ none. warned.0 none.1, λ obeys. (rw h tt, warned.1 obeys))
 by_outcome_warned kind setting (faulty fault) faults features (found, is, whole) k =
     let warned = fault_warned setting fault found is in
@@ -136,8 +136,8 @@ notes_warned : (kind : ConfigSourceKind) (setting : SettingView) (outcome : Outc
 notes_warned kind setting accepted = tt
 notes_warned kind setting (faulty fault) = tt
 notes_warned kind setting (left_open fault) = ((λ same. cc same), tt)
-notes_warned (Tool name) setting (names_features named) = tt
-notes_warned kind setting (names_features named) = array_warned setting.path named.array (features_text named.features.known)
+notes_warned (Tool name) setting (names_features value named) = tt
+notes_warned kind setting (names_features value named) = array_warned setting.path named.array (features_text named.features.known)
 
 all_notes_warned : (edition : Edition) (kind : ConfigSourceKind) (settings : List SettingView) (all_found : List Found)
     → AreFoundOf (AreNotesFound edition kind) settings all_found → AreNoErrors all_found

@@ -11,12 +11,12 @@ use Rattle.nextest_config.specs.declared.nextest_version.source.ConfigSourceKind
 use Rattle.nextest_config.specs.declared.nextest_version.source.ConfigSourceKind.TheVariants.{DiscoveredRepository, ExplicitRepository, Tool}
 use Rattle.toml_spans.specs.Step.{PathStep}
 use Rattle.nextest_config_lint.specs.Defined.{AreNamesOf, DefinesGroup, DefinesProfile, ListFile}
-use Rattle.nextest_config_lint.specs.File.{path_after}
+use Rattle.nextest_config_lint.specs.File.{key_in, path_after, whole_path}
 use Rattle.nextest_config_lint.specs.FindingsLaws.{is_reference}
 use Rattle.nextest_config_lint.specs.Found.{Found, found_at, FoundKind, found_severity, group_of_tool, group_outside_tool, IsNearestMeant, Meant, no_group_name, override_of_all, reserved_profile, the_word, undefined_group, undefined_profile}
 use Rattle.nextest_config_values.specs.NearestWord.{nearest_once}
-use Rattle.nextest_config_lint.specs.References.{another, an_override, a_group, a_group_of, a_parent, a_profile, IsGroupTextTold, IsGroupTold, IsKeptTold, IsNameTold, IsOtherProfile, IsParentNameTold, IsParentTold, IsPlaceTold, IsReferenceFound, IsSought, IsTextTold, IsToldIf, IsUndefinedTold, Place, place_of, tool_mark_of}
-use Rattle.nextest_config_lint.specs.Settings.{SettingView}
+use Rattle.nextest_config_lint.specs.References.{another, an_override, a_group, a_group_of, a_parent, a_profile, IsGroupTextTold, IsGroupTold, IsKeptTold, IsNameTold, IsOtherProfile, IsParentNameTold, IsParentTold, IsPlaceTold, IsReferenceFound, IsSought, IsSubjectTold, IsTextTold, IsToldIf, IsUndefinedTold, Place, place_of, tool_mark_of}
+use Rattle.nextest_config_lint.specs.Settings.{a_value, SettingView, Subject}
 use Rattle.nextest_config_lint.specs.declared.finding.FindingSeverity.TheVariants.{Warning}
 
 -- ---- what is told of references
@@ -24,7 +24,7 @@ use Rattle.nextest_config_lint.specs.declared.finding.FindingSeverity.TheVariant
 -- it is a warning, stands at its own path, and is what it is called
 abbrev pub IsOfReference : Option FoundKind → Type 0
 IsOfReference None = Unit {0}
-IsOfReference (Some kind) = (found_severity kind ≡ Warning) × ((path : List PathStep) → path_after path kind ≡ path)
+IsOfReference (Some kind) = (found_severity kind ≡ Warning) × (key_in kind ≡ None)
     × (is_reference kind ≡ true)
 
 told_if : (Holds : Type 0) (kind : FoundKind) (told : Option FoundKind) → IsOfReference (Some kind) → IsToldIf Holds kind told → IsOfReference told
@@ -42,11 +42,11 @@ text_or_memory IsTold (Some text) told so is = so text told is
 
 told_name : (IsKept : List ℕ → Option FoundKind → Type 0) (text : List ℕ) (told : Option FoundKind)
     → ((name : List ℕ) (told : Option FoundKind) → IsKept name told → IsOfReference told) → IsNameTold IsKept text told → IsOfReference told
-told_name IsKept text told so (inl (fault, of_text, is)) = rw is (refl, (λ path. refl), refl)
+told_name IsKept text told so (inl (fault, of_text, is)) = rw is (refl, refl, refl)
 told_name IsKept text told so (inr (name, of_text, kept)) = so name told kept
 
 told_kept : (files : List ListFile) (name : List ℕ) (told : Option FoundKind) → IsKeptTold files name told → IsOfReference told
-told_kept files name told (inl (undefined, is)) = told_undefined undefined_group (DefinesGroup files) (DefinesGroup files) name told (λ name hint. (refl, (λ path. refl), refl)) is
+told_kept files name told (inl (undefined, is)) = told_undefined undefined_group (DefinesGroup files) (DefinesGroup files) name told (λ name hint. (refl, refl, refl)) is
 told_kept files name told (inr (defined, is)) = rw is tt
 
 told_group_text : (files : List ListFile) (text : List ℕ) (told : Option FoundKind) → IsGroupTextTold files text told → IsOfReference told
@@ -54,42 +54,47 @@ told_group_text files text told (inl (global, is)) = rw is tt
 told_group_text files text told (inr (other, named)) = told_name (IsKeptTold files) text told (told_kept files) named
 
 told_group : (kind : ConfigSourceKind) (name : List ℕ) (told : Option FoundKind) → IsGroupTold kind name told → IsOfReference told
-told_group (Tool tool) name told is = told_if _ (group_outside_tool (tool_mark_of tool)) told (refl, (λ path. refl), refl) is
-told_group ExplicitRepository name told is = told_if _ group_of_tool told (refl, (λ path. refl), refl) is
-told_group DiscoveredRepository name told is = told_if _ group_of_tool told (refl, (λ path. refl), refl) is
+told_group (Tool tool) name told is = told_if _ (group_outside_tool (tool_mark_of tool)) told (refl, refl, refl) is
+told_group ExplicitRepository name told is = told_if _ group_of_tool told (refl, refl, refl) is
+told_group DiscoveredRepository name told is = told_if _ group_of_tool told (refl, refl, refl) is
 
 told_parent_name : (files : List ListFile) (profile parent : List ℕ) (told : Option FoundKind) → IsParentNameTold files profile parent told → IsOfReference told
-told_parent_name files profile parent told (inl (undefined, is)) = told_undefined undefined_profile (DefinesProfile files) (IsOtherProfile files profile) parent told (λ name hint. (refl, (λ path. refl), refl)) is
+told_parent_name files profile parent told (inl (undefined, is)) = told_undefined undefined_profile (DefinesProfile files) (IsOtherProfile files profile) parent told (λ name hint. (refl, refl, refl)) is
 told_parent_name files profile parent told (inr (defined, is)) = rw is tt
 
 told_parent : (files : List ListFile) (position : ℕ) (profile parent : List ℕ) (told : Option FoundKind) → IsParentTold files position profile parent told → IsOfReference told
-told_parent files position profile parent told (inl (default, is)) = rw is (refl, (λ path. refl), refl)
-told_parent files position profile parent told (inr (other, inl (comes_back, is))) = rw is (refl, (λ path. refl), refl)
+told_parent files position profile parent told (inl (default, is)) = rw is (refl, refl, refl)
+told_parent files position profile parent told (inr (other, inl (comes_back, is))) = rw is (refl, refl, refl)
 told_parent files position profile parent told (inr (other, inr (leads_on, named))) = told_parent_name files profile parent told named
 
 told_place : (files : List ListFile) (kind : ConfigSourceKind) (position : ℕ) (place : Place) (value : Data) (told : Option FoundKind)
     → IsPlaceTold files kind position place value told → IsOfReference told
-told_place files kind position (a_profile name) value told is = told_if _ reserved_profile told (refl, (λ path. refl), refl) is
+told_place files kind position (a_profile name) value told is = told_if _ reserved_profile told (refl, refl, refl) is
 told_place files kind position (a_parent name) value told is = text_or_memory (IsParentTold files position name) (as_str value) told (told_parent files position name) is
-told_place files kind position an_override value told is = told_if _ override_of_all told (refl, (λ path. refl), refl) is
+told_place files kind position an_override value told is = told_if _ override_of_all told (refl, refl, refl) is
 told_place files kind position a_group_of value told is = text_or_memory (IsGroupTextTold files) (as_str value) told (told_group_text files) is
 told_place files kind position (a_group name) value told is = told_name (IsGroupTold kind) name told (told_group kind) is
 told_place files kind position another value told is = rw is tt
 
+told_subject : (files : List ListFile) (kind : ConfigSourceKind) (position : ℕ) (path : List PathStep) (subject : Subject) (told : Option FoundKind)
+    → IsSubjectTold files kind position path subject told → IsOfReference told
+told_subject files kind position path (a_value shape parts value) told is = told_place files kind position (place_of path) value told is
+told_subject files kind position path subject told is = rw is tt
+
 -- what is found, as it is told at a path
 abbrev pub IsAtPath : List PathStep → Option Found → Type 0
 IsAtPath path None = Unit {0}
-IsAtPath path (Some found) = (found.path ≡ path) × (found_severity found.kind ≡ Warning) × (path_after found.path found.kind ≡ path)
+IsAtPath path (Some found) = (found.path ≡ path) × (found_severity found.kind ≡ Warning) × (whole_path found ≡ path)
     × (is_reference found.kind ≡ true)
 
 at_path : (path : List PathStep) (told : Option FoundKind) → IsOfReference told → IsAtPath path (option_map (found_at path) told)
 at_path path None is = tt
-at_path path (Some kind) is = (refl, is.0, is.1 path, is.2)
+at_path path (Some kind) is = (refl, is.0, ap (path_after path) is.1, is.2)
 
 pub reference_at : (files : List ListFile) (kind : ConfigSourceKind) (position : ℕ) (setting : SettingView) (here : Option Found)
     → IsReferenceFound files kind position setting here → IsAtPath setting.path here
 reference_at files kind position setting here (told, is, found) =
-    rw found (at_path setting.path told (told_place files kind position (place_of setting.path) setting.value told is))
+    rw found (at_path setting.path told (told_subject files kind position setting.path setting.subject told is))
 
 -- ---- it is found once
 
@@ -175,7 +180,12 @@ place_once files kind position a_group_of value a b h k = text_once (IsGroupText
 place_once files kind position (a_group name) value a b h k = name_once (IsGroupTold kind) name a b (group_once kind) h k
 place_once files kind position another value a b h k = h ∙ sym k
 
+subject_once : (files : List ListFile) (kind : ConfigSourceKind) (position : ℕ) (path : List PathStep) (subject : Subject) (a b : Option FoundKind)
+    → IsSubjectTold files kind position path subject a → IsSubjectTold files kind position path subject b → a ≡ b
+subject_once files kind position path (a_value shape parts value) a b h k = place_once files kind position (place_of path) value a b h k
+subject_once files kind position path subject a b h k = h ∙ sym k
+
 pub reference_once : (files : List ListFile) (kind : ConfigSourceKind) (position : ℕ) (setting : SettingView) (a b : Option Found)
     → IsReferenceFound files kind position setting a → IsReferenceFound files kind position setting b → a ≡ b
 reference_once files kind position setting a b (told, is, found) (other, also, found_too) =
-    found ∙ ap (option_map (found_at setting.path)) (place_once files kind position (place_of setting.path) setting.value told other is also) ∙ sym found_too
+    found ∙ ap (option_map (found_at setting.path)) (subject_once files kind position setting.path setting.subject told other is also) ∙ sym found_too

@@ -1,13 +1,17 @@
 -- How grave findings are.
-use Rattle.std.proofs.Common.{◌≡◌, List, map, None, Option, Some, ap, option_map}
+use Rattle.std.proofs.Common.{◌≡◌, List, map, None, Option, Some, ap, option_map, sym}
 use Rattle.toml_spans.specs.Step.{PathStep, step_of}
 use Rattle.nextest_config_lint.specs.Finding.{told_severity, finding_severity}
 use Rattle.nextest_config_lint.specs.Found.{Found, found_at, FoundKind, found_of, found_severity, kind_view}
 use Rattle.nextest_config_lint.specs.declared.finding.Finding.{Finding}
 
-told_kind : (path : List PathStep) (told : Option FoundKind) (found : Found) → option_map (found_at path) told ≡ Some found → told ≡ Some found.kind
+pub told_kind : (path : List PathStep) (told : Option FoundKind) (found : Found) → option_map (found_at path) told ≡ Some found → told ≡ Some found.kind
 told_kind path None found is = ap (option_map (λ (f : Found). f.kind)) is
 told_kind path (Some kind) found is = ap (option_map (λ (f : Found). f.kind)) is
+
+pub told_path : (path : List PathStep) (told : Option FoundKind) (found : Found) → option_map (found_at path) told ≡ Some found → found.path ≡ path
+told_path path None found is = cc is
+told_path path (Some kind) found is = let same : found_at path kind ≡ found = cc is in ap (λ (f : Found). f.path) (sym same)
 
 -- a finding is as grave as what it tells
 pub severity_told : (finding : Finding) (found : Found) → found_of finding ≡ Some found → finding_severity finding.kind ≡ found_severity found.kind

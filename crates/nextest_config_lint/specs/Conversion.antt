@@ -1,16 +1,17 @@
 -- The values that nextest makes of others, by the crate `config`, before its readers see them.
-use Rattle.std.specs.Prelude.{◌⊎◌, ◌||◌, ◌&&◌, ℕ, ℤ, Bool, List, [], ◌∷◌, codes, if◌then◌else◌, IsSome, IsTrue, nat_eq, Option, Some, None}
+use Rattle.std.specs.Prelude.{◌⊎◌, ◌||◌, ℕ, ℤ, Bool, List, [], ◌∷◌, codes, if◌then◌else◌, IsSome, IsTrue, nat_eq, Option, Some, None, option_and_then}
 use Rattle.std.specs.Cmp.Lexicographic.{pointwise}
 use Rattle.std.specs.Str.{str_eq_ignore_ascii_case}
 use Rattle.toml.specs.Data.{as_bool, as_float, as_integer, as_str, Data}
-use Rattle.nextest_config_elements.specs.Junit.{path_key, report_name_key, store_failure_output_key, store_success_output_key}
+use Rattle.nextest_config_elements.specs.Fields.{field, Fields, fields_in, KeyRule, no_fields, Parts}
+use Rattle.nextest_config_elements.specs.Keys.{profile_fields}
 use Rattle.nextest_config_elements.specs.MaxFail.{HasInteger}
-use Rattle.nextest_config_elements.specs.SlowTimeout.{terminate_after_key}
-use Rattle.toml_spans.specs.Step.{key, PathStep}
+use Rattle.nextest_config_elements.specs.declared.field.FaultSeverity.{FaultSeverity}
+use Rattle.nextest_config_elements.specs.declared.field.FaultSeverity.TheVariants.{ErrorUnlessConverted}
+use Rattle.nextest_config_elements.specs.declared.field.Shape.{Shape}
+use Rattle.nextest_config_elements.specs.declared.field.Shape.TheVariants as shapes
 use Rattle.nextest_config_lint.specs.declared.conversion.Wanted.{Wanted}
 use Rattle.nextest_config_lint.specs.declared.conversion.Wanted.TheVariants.{Boolean, Number, Text}
-use Rattle.nextest_config_lint.specs.declared.reader.Reader.{Reader}
-use Rattle.nextest_config_lint.specs.declared.reader.Reader.TheVariants as readers
 
 -- ---- where a value is wanted that may be made of another
 
@@ -18,36 +19,13 @@ use Rattle.nextest_config_lint.specs.declared.reader.Reader.TheVariants as reade
 abbrev pub is_word : List ℕ → List ℕ → Bool
 is_word name word = pointwise nat_eq name word
 
--- what is wanted of a value itself: of a priority a number, of a switch of an override's `junit` a
--- boolean
-abbrev pub wanted_here : Reader → Option Wanted
-wanted_here readers.Priority = Some Number
-wanted_here readers.Boolean = Some Boolean
-wanted_here reader = None
-
--- what is wanted at a key of `slow-timeout`: a number at `terminate-after`
-abbrev pub wanted_in_timeout : List ℕ → Option Wanted
-wanted_in_timeout name = if is_word name terminate_after_key then Some Number else None
-
--- what is wanted at a key of a report: a text or a boolean, where it holds no word of an enum
-abbrev pub wanted_in_report : List ℕ → Option Wanted
-wanted_in_report name =
-    if is_word name path_key || is_word name report_name_key then Some Text
-    else if is_word name store_success_output_key || is_word name store_failure_output_key
-    then Some Boolean
-    else None
-
--- what is wanted at a key of the table that a reader reads
-abbrev pub wanted_at : Reader → List ℕ → Option Wanted
-wanted_at readers.SlowTimeout name = wanted_in_timeout name
-wanted_at readers.Junit name = wanted_in_report name
-wanted_at reader name = None
-
--- what is wanted where steps lead to in the value that a reader reads
-abbrev pub wanted_to : Reader → List PathStep → Option Wanted
-wanted_to reader [] = wanted_here reader
-wanted_to reader (key name ∷ []) = wanted_at reader name
-wanted_to reader steps = None
+-- what is wanted of a value of a shape that may be made of another
+abbrev pub wanted_of : Shape → Option Wanted
+wanted_of shapes.Text = Some Text
+wanted_of shapes.Boolean = Some Boolean
+wanted_of shapes.Count = Some Number
+wanted_of shapes.Priority = Some Number
+wanted_of shape = None
 
 -- ---- what may be made of a value
 
@@ -89,25 +67,26 @@ MayBecome Boolean value = IsSome (as_integer value)
 
 -- ---- what is wanted at keys of a profile
 
--- what is wanted at a key of a table in a profile: of its `slow-timeout` or its `junit`
-abbrev pub wanted_in_table : List ℕ → List ℕ → Option Wanted
-wanted_in_table inner name =
-    if is_word inner (codes "slow-timeout") then wanted_in_timeout name
-    else if is_word inner (codes "junit") then wanted_in_report name
-    else None
+-- what is wanted of a value that nextest converts
+abbrev pub if_converted : FaultSeverity → Option Wanted → Option Wanted
+if_converted ErrorUnlessConverted wanted = wanted
+if_converted severity wanted = None
 
--- what is wanted at a key of a table in a table of a profile: of `slow-timeout` in `bench`
-abbrev pub wanted_in_bench : List ℕ → List ℕ → List ℕ → Option Wanted
-wanted_in_bench bench inner name =
-    if is_word bench (codes "bench") && is_word inner (codes "slow-timeout")
-    then wanted_in_timeout name
-    else None
+-- the field with this key, with what stands in its value
+abbrev pub field_named : List ℕ → Fields → Option (KeyRule × Parts)
+field_named name no_fields = None
+field_named name (field rule parts rest) =
+    if is_word rule.key name then Some (rule, parts) else field_named name rest
 
--- what is wanted at keys of a profile
-abbrev pub wanted_below : List (List ℕ) → Option Wanted
-wanted_below (inner ∷ name ∷ []) = wanted_in_table inner name
-wanted_below (bench ∷ inner ∷ name ∷ []) = wanted_in_bench bench inner name
-wanted_below keys = None
+-- what is wanted at keys, one below the other, of a table with these fields
+abbrev pub wanted_among : List (List ℕ) → Fields → Option Wanted
+wanted_among [] known = None
+wanted_among (name ∷ []) known = option_and_then
+    (λ (found : KeyRule × Parts). if_converted found.0.severity (wanted_of found.0.shape))
+    (field_named name known)
+wanted_among (name ∷ next ∷ rest) known = option_and_then
+    (λ (found : KeyRule × Parts). wanted_among (next ∷ rest) (fields_in found.1))
+    (field_named name known)
 
 -- something is wanted, and may be made of the value
 abbrev pub MayBecomeIf : Option Wanted → Data → Type 0
@@ -116,4 +95,4 @@ MayBecomeIf (Some wanted) value = MayBecome wanted value
 
 -- nextest may make of the value at these keys of a profile what is wanted there
 abbrev pub IsConvertedAt : List (List ℕ) → Data → Type 0
-IsConvertedAt keys value = MayBecomeIf (wanted_below keys) value
+IsConvertedAt keys value = MayBecomeIf (wanted_among keys profile_fields) value

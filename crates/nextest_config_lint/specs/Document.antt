@@ -7,7 +7,7 @@ use Rattle.nextest_config_lint.specs.Defined.{ListFile}
 use Rattle.nextest_config_lint.specs.Found.{AreFoundIn, AreFoundOf, Found}
 use Rattle.nextest_config_lint.specs.References.{IsReferenceFound}
 use Rattle.nextest_config_lint.specs.Settings.{settings_of}
-use Rattle.nextest_config_lint.specs.Schema.{file_table}
+use Rattle.nextest_config_elements.specs.Keys.{file_table}
 use Rattle.nextest_config_lint.specs.Unknown.{IsKeyFound, TableKey, keys_below, keys_in}
 use Rattle.nextest_config_lint.specs.Values.{AreFaultsFound, AreFeaturesFound, AreNotesFound}
 
@@ -16,7 +16,7 @@ abbrev pub keys_of_document : Members → List TableKey
 keys_of_document members =
     keys_below file_table [] (table members) ++ flat_map keys_in (settings_of members)
 
--- the findings of a source of this kind: the faults of its values, then what it says of features,
+-- the findings of a source of this kind: what is wrong, then what it says of features,
 -- then its unknown keys, then what is found of references and rules between keys, as in the file at
 -- this position of the list, and then the notes on its values
 pub record AreFindings (edition : Edition) (kind : ConfigSourceKind) (files : List ListFile)

@@ -26,13 +26,13 @@ abbrev pub IsUnjudged : Data → Fault → Type 0
 IsUnjudged value fault = IsNoDuration fault.cause
     × ((text : List ℕ) × (text_along value fault.steps ≡ Some text) × MayBeDuration text)
 
--- how a fault of a setting is told, for this reason
+-- how a fault is told, for this reason
 abbrev pub IsFoundKind : SettingView → Fault → Reason → FoundKind → Type 0
 IsFoundKind setting fault reason kind = (severity : FindingSeverity) × (hint : Option Meant)
     × IsSeverity setting fault severity × IsFaultHint setting fault hint
     × (kind ≡ refused reason severity hint)
 
--- what is found of a fault of a setting: its path and the steps of the fault, and the cause, as it
+-- what is found of a fault of what is judged: its path and the steps of the fault, and the cause, as it
 -- is told there
 pub record IsFoundOf (setting : SettingView) (fault : Fault) (found : Found) : Type 0 where
   pub path_is : found.path ≡ setting.path ++ fault.steps

@@ -1,4 +1,4 @@
--- What is found of the experimental features that the value of a setting names.
+-- What is found of the experimental features that a value names.
 use Rattle.std.specs.Prelude.{◌≡◌, ◌≢◌, ◌⊎◌, ◌<◌, ℕ, List, [], ◌∷◌, ◌++◌, codes, if◌then◌else◌, map, Option, Some, None, option_and_then}
 use Rattle.toml.specs.Data.{as_str, Data}
 use Rattle.nextest_config_values.specs.Read.{comma_list}
@@ -9,7 +9,6 @@ use Rattle.nextest_config.specs.declared.nextest_version.source.ConfigSourceKind
 use Rattle.toml_spans.specs.Line.{step_from}
 use Rattle.toml_spans.specs.Step.{index, key, PathStep}
 use Rattle.nextest_config_lint.specs.Found.{AreFoundIn, deprecated_array, Found, found_at, IsNearestMeant, Meant, tool_names, unknown_name}
-use Rattle.nextest_config_lint.specs.Settings.{SettingView}
 
 -- ---- where a name stands
 
@@ -31,11 +30,11 @@ IsStepTo value name (key text) = IsFirstAt value name None × (text ≡ name)
 -- ---- what is found
 
 -- an unknown feature name, which may be meant for the nearest feature
-abbrev pub IsNameFound : SettingView → List ℕ → Option Found → Type 0
-IsNameFound setting name found =
-    (step : PathStep) × (hint : Option Meant) × IsStepTo setting.value name step
+abbrev pub IsNameFound : List PathStep → Data → List ℕ → Option Found → Type 0
+IsNameFound path value name found =
+    (step : PathStep) × (hint : Option Meant) × IsStepTo value name step
     × IsNearestMeant (map word_of all_features) name hint
-    × (found ≡ Some (found_at (setting.path ++ (step ∷ [])) (unknown_name name hint)))
+    × (found ≡ Some (found_at (path ++ (step ∷ [])) (unknown_name name hint)))
 
 -- a tool's file that names features, known or not
 abbrev pub AreToolsFound : List PathStep → Features → List Found → Type 0
@@ -45,13 +44,13 @@ AreToolsFound path features all_found =
     × ((names : List (List ℕ)) × AreNames features names
     × (all_found ≡ found_at path (tool_names names) ∷ [])))
 
--- what is found of the features that a file of this kind names
-abbrev pub AreNamedFound : ConfigSourceKind → SettingView → Features → List Found → Type 0
-AreNamedFound (Tool name) setting features all_found = AreToolsFound setting.path features all_found
-AreNamedFound ExplicitRepository setting features all_found =
-    AreFoundIn (IsNameFound setting) features.unknown all_found
-AreNamedFound DiscoveredRepository setting features all_found =
-    AreFoundIn (IsNameFound setting) features.unknown all_found
+-- what is found of the features that a value at a path names, in a file of this kind
+abbrev pub AreNamedFound : ConfigSourceKind → List PathStep → Data → Features → List Found → Type 0
+AreNamedFound (Tool name) path value features all_found = AreToolsFound path features all_found
+AreNamedFound ExplicitRepository path value features all_found =
+    AreFoundIn (IsNameFound path value) features.unknown all_found
+AreNamedFound DiscoveredRepository path value features all_found =
+    AreFoundIn (IsNameFound path value) features.unknown all_found
 
 -- ---- their form
 

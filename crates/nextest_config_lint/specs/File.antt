@@ -12,6 +12,10 @@ use Rattle.toml.specs.Errors.{IsMemory, IsWithin, span_end, span_start}
 use Rattle.toml.specs.Parse.{parse_document}
 use Rattle.toml.specs.View.{table_view}
 use Rattle.toml.specs.declared.de.error.Error.{Error}
+use Rattle.nextest_config_values.specs.Read.{BrokenRule, count_zero, custom, delay_zero, jitter_without_delay, max_delay_below_delay, max_delay_zero, Reason, required_above_recommended}
+use Rattle.nextest_config_values.specs.Read.Fault.{unknown_field}
+use Rattle.nextest_config.specs.NextestVersion.{recommended_key}
+use Rattle.nextest_config_elements.specs.RetryPolicy.{count_key, delay_key, jitter_key, max_delay_key}
 use Rattle.nextest_config.specs.declared.nextest_version.edition.Edition.{Edition}
 use Rattle.nextest_config.specs.declared.nextest_version.source.ConfigSourceKind.{ConfigSourceKind}
 use Rattle.toml_spans.specs.Index.{IsIndexOf, IsSpanOf, ranges_in}
@@ -21,7 +25,7 @@ use Rattle.toml_spans.specs.Ranges.{Range, Ranges}
 use Rattle.toml_spans.specs.Step.{key, PathStep}
 use Rattle.nextest_config_lint.specs.Defined.{ListFile}
 use Rattle.nextest_config_lint.specs.Document.{AreFindings}
-use Rattle.nextest_config_lint.specs.Found.{Found, found_at, FoundKind, found_of, group_of_tool, group_outside_tool, Mistaken, no_group_name, not_toml, not_utf8, reserved_profile, unknown_key, unknown_name}
+use Rattle.nextest_config_lint.specs.Found.{Found, found_at, FoundKind, found_of, group_of_tool, group_outside_tool, Mistaken, no_group_name, not_toml, not_utf8, refused, reserved_profile, unknown_key, unknown_name}
 use Rattle.nextest_config_lint.specs.Mistake.{IsMistake}
 use Rattle.toml_spans.specs.declared.index.Index.{Index}
 use Rattle.toml_spans.specs.declared.place.Place.{Place}
@@ -91,14 +95,36 @@ pub record IsNotToml (contents : List ℕ) (located : List LocatedFinding) : Typ
 
 -- ---- the range of a finding
 
--- the path that a finding is located by: for an unknown key that of the key
-abbrev pub path_after : List PathStep → FoundKind → List PathStep
-path_after path (unknown_key name hint) = path ++ (key name ∷ [])
-path_after path kind = path
+-- the key whose value breaks a rule between the keys of a table
+abbrev pub rule_key : BrokenRule → Option (List ℕ)
+rule_key (required_above_recommended required recommended) = Some recommended_key
+rule_key jitter_without_delay = Some jitter_key
+rule_key count_zero = Some count_key
+rule_key delay_zero = Some delay_key
+rule_key max_delay_zero = Some max_delay_key
+rule_key max_delay_below_delay = Some max_delay_key
+rule_key rule = None
 
--- the path that a finding is located by, which for an unknown key ends in that key
+-- the key of a table at which a reason of its refusal stands
+abbrev pub reason_key : Reason → Option (List ℕ)
+reason_key (unknown_field name expected) = Some name
+reason_key (custom rule) = rule_key rule
+reason_key reason = None
+
+-- the key of a table at which what is found of the table stands
+abbrev pub key_in : FoundKind → Option (List ℕ)
+key_in (unknown_key name hint) = Some name
+key_in (refused reason severity hint) = reason_key reason
+key_in kind = None
+
+-- the path that a finding is located by: where it stands at a key of a table, that of the key
+abbrev pub path_after : List PathStep → Option (List ℕ) → List PathStep
+path_after path (Some name) = path ++ (key name ∷ [])
+path_after path None = path
+
+-- the path that a finding is located by, which may end in a key of the table that it is found of
 abbrev pub whole_path : Found → List PathStep
-whole_path found = path_after found.path found.kind
+whole_path found = path_after found.path (key_in found.kind)
 
 -- the path is that of a test group
 abbrev pub is_group : List PathStep → Bool
@@ -106,7 +132,13 @@ is_group (key table ∷ key group ∷ []) = pointwise nat_eq table (codes "test-
 is_group path = false
 
 -- a key is wrong, and not its value
+abbrev pub is_key_refused : Reason → Bool
+is_key_refused (unknown_field name expected) = true
+is_key_refused reason = false
+
+-- what is found is that a key is wrong, and not its value
 abbrev pub is_key_wrong : List PathStep → FoundKind → Bool
+is_key_wrong path (refused reason severity hint) = is_key_refused reason
 is_key_wrong path (unknown_name name hint) = true
 is_key_wrong path (unknown_key name hint) = true
 is_key_wrong path reserved_profile = true

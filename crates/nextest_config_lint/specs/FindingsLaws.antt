@@ -1,9 +1,14 @@
 -- Words of the laws of findings.
-use Rattle.std.specs.Prelude.{◌≡◌, ◌≢◌, ◌⊎◌, ℕ, Bool, true, false, IsSome, IsUtf8, List, not, Some}
+use Rattle.std.specs.Prelude.{◌≡◌, ◌≢◌, ◌↔◌, ◌⊎◌, ◌++◌, ℕ, Bool, true, false, IsSome, IsUtf8, List, [], ◌∷◌, not, Some}
 use Rattle.std.specs.List.{AllByRecursion, filter}
-use Rattle.toml.specs.Data.{Members}
+use Rattle.toml.specs.Data.{Data, Members}
 use Rattle.toml.specs.Parse.{parse_document}
 use Rattle.nextest_config_values.specs.Read.Fault.{Fault}
+use Rattle.nextest_config_values.specs.Read.{meaning, Reading}
+use Rattle.nextest_config_elements.specs.Fields.{Parts}
+use Rattle.nextest_config_elements.specs.declared.field.FaultSeverity.TheVariants as of_field
+use Rattle.nextest_config_elements.specs.declared.field.Shape.{Shape}
+use Rattle.toml_spans.specs.Step.{PathStep}
 use Rattle.nextest_config.specs.NextestVersion.{ObeysToolRule}
 use Rattle.nextest_config.specs.declared.nextest_version.edition.Edition.{Edition}
 use Rattle.nextest_config.specs.declared.nextest_version.source.ConfigSourceKind.{ConfigSourceKind}
@@ -11,8 +16,9 @@ use Rattle.toml_spans.specs.Line.{found_in}
 use Rattle.nextest_config_lint.specs.File.{whole_path}
 use Rattle.nextest_config_lint.specs.Finding.{finding_severity}
 use Rattle.nextest_config_lint.specs.Found.{default_inherits, Found, found_severity, FoundKind, group_of_tool, group_outside_tool, inherits_itself, no_group_name, override_of_all, reserved_profile, undefined_group, undefined_profile}
-use Rattle.nextest_config_lint.specs.Settings.{settings_of, SettingView}
-use Rattle.nextest_config_lint.specs.Severity.{MayBeTaken}
+use Rattle.nextest_config_lint.specs.Settings.{settings_in, settings_of, SettingView}
+use Rattle.nextest_config_lint.specs.Subjects.{IsWrong}
+use Rattle.nextest_config_lint.specs.Severity.{IsConverted, plain_severity}
 use Rattle.nextest_config_lint.specs.Values.{accepted, faulty, IsOutcome, left_open, names_features, Outcome}
 use Rattle.nextest_config_lint.specs.declared.file.LocatedFinding.{LocatedFinding}
 use Rattle.nextest_config_lint.specs.declared.finding.FindingSeverity.TheVariants.{Error}
@@ -46,32 +52,70 @@ IsNoLocatedError located = finding_severity located.finding.kind ≢ Error
 abbrev pub LeadsToValue : Members → Found → Type 0
 LeadsToValue members found = IsSome (found_in members (whole_path found))
 
--- the fault of the setting is no error: nextest may take the value all the same, or may by its
--- place
+-- the fault is no error: nextest may take the value all the same, or may by its place
 abbrev pub IsNoErrorOf : SettingView → Fault → Type 0
-IsNoErrorOf setting fault = MayBeTaken setting fault ⊎ (setting.severity ≢ Error)
+IsNoErrorOf setting fault =
+    IsConverted setting fault ⊎ (plain_severity setting.severity ≢ Error)
 
--- what comes of a setting in a file of this kind is no error: it names no feature, if the file is a
--- tool's, and has no fault that is one
+-- what comes of what is judged in a file of this kind is no error: no feature is named, if the file
+-- is a tool's, and there is no fault that is one
 abbrev pub IsNoErrorBy : ConfigSourceKind → SettingView → Outcome → Type 0
 IsNoErrorBy kind setting accepted = Unit {0}
-IsNoErrorBy kind setting (names_features named) = ObeysToolRule kind named.features
+IsNoErrorBy kind setting (names_features value named) = ObeysToolRule kind named.features
 IsNoErrorBy kind setting (faulty fault) = IsNoErrorOf setting fault
 IsNoErrorBy kind setting (left_open fault) = Unit {0}
 
--- what comes of the setting under this edition, in a file of this kind, is no error
+-- what comes of what is judged under this edition, in a file of this kind, is no error
 abbrev pub HasNoErrorAt : Edition → ConfigSourceKind → SettingView → Type 0
 HasNoErrorAt edition kind setting = (outcome : Outcome) × IsOutcome edition setting outcome
     × IsNoErrorBy kind setting outcome
 
--- no setting of the document has an error
+-- nothing that is judged in the document has an error
 abbrev pub IsWithoutError : Edition → ConfigSourceKind → Members → Type 0
 IsWithoutError edition kind members =
     AllByRecursion (HasNoErrorAt edition kind) (settings_of members)
 
--- the file is UTF-8, and a document of which no setting has an error
+-- the file is UTF-8, and a document in which nothing that is judged has an error
 abbrev pub IsFileWithoutError : Edition → ConfigSourceKind → List ℕ → Type 0
 IsFileWithoutError edition kind contents =
     IsUtf8 contents
     × ((members : Members) × (parse_document contents ≡ Some members)
     × IsWithoutError edition kind members)
+
+-- ---- of a setting
+
+-- nothing is wrong with what is judged
+abbrev pub HasNoFault : Edition → SettingView → Type 0
+HasNoFault edition setting = (fault : Fault) → IsWrong edition setting.subject fault → ⊥
+
+-- nothing is wrong with any of these
+abbrev pub HaveNoFault : Edition → List SettingView → Type 0
+HaveNoFault edition = AllByRecursion (HasNoFault edition)
+
+-- key by key, nothing is wrong with a value exactly where a reading takes it
+abbrev pub IsTakenWhole : {X : Type 0} → Reading Data X → Edition → Shape → Parts → List PathStep
+    → Data → Type 0
+IsTakenWhole reading edition shape parts path value =
+    HaveNoFault edition (settings_in shape of_field.Error parts path value)
+    ↔ (meaning reading).passes value
+
+-- what is wrong with what is judged is this fault of the value at a path: at the same place, for the
+-- same cause
+pub record IsFaultAt (edition : Edition) (path : List PathStep) (fault : Fault)
+    (setting : SettingView) : Type 0 where
+  pub told : Fault
+  pub is_wrong : IsWrong edition setting.subject told
+  pub same_place : setting.path ++ told.steps ≡ path ++ fault.steps
+  pub same_cause : told.cause ≡ fault.cause
+
+-- one of these has this fault of the value at a path
+abbrev pub HasFaultAmong : Edition → List PathStep → Fault → List SettingView → Type 0
+HasFaultAmong edition path fault [] = ⊥
+HasFaultAmong edition path fault (setting ∷ rest) =
+    IsFaultAt edition path fault setting ⊎ HasFaultAmong edition path fault rest
+
+-- key by key, the fault that a reading finds in a value is found, too
+abbrev pub FindsItsFault : {X : Type 0} → Reading Data X → Edition → Shape → Parts
+    → List PathStep → Data → Type 0
+FindsItsFault reading edition shape parts path value = (fault : Fault) → reading.faults value fault
+    → HasFaultAmong edition path fault (settings_in shape of_field.Error parts path value)

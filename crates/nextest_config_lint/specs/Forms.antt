@@ -1,11 +1,13 @@
--- Forms of values of which only the faults count: threads, an array of texts, a platform, and a
--- group of tests.
-use Rattle.std.specs.Prelude.{◌≡◌, ◌≢◌, ℕ, zero, suc, ℤ, pos, negsuc, List, codes}
+-- Forms of values of which only the faults count: threads, and a platform.
+use Rattle.std.specs.Prelude.{◌≡◌, ◌≢◌, zero, suc, ℕ, ℤ, pos, negsuc, List, codes}
 use Rattle.std.proofs.Common.{inl, inr, refl}
-use Rattle.toml.specs.Data.{as_array, as_integer, as_str, as_table, Data}
+use Rattle.toml.specs.Data.{as_integer, as_str, as_table, Data}
 use Rattle.nextest_config_values.specs.Decisions.{IsDecided, IsFoundOrNone, same_text_decided}
-use Rattle.nextest_config_values.specs.Read.{inner, kind, one_that, only, Reading, required, text_reading, wrong_kind, wrong_value}
-use Rattle.nextest_config_lint.specs.Items.{Acceptance, each_item}
+use Rattle.nextest_config_values.specs.Read.{kind, one_that, only, Reading, wrong_kind, wrong_value}
+
+-- a value is accepted, and nothing is made of it
+abbrev pub Acceptance : Type 0
+Acceptance = Unit {0}
 
 -- any value is accepted
 abbrev pub any_value : {D : Type 0} → Reading D Acceptance
@@ -47,24 +49,10 @@ abbrev pub threads_form : Reading Data Acceptance
 threads_form =
     kind as_integer threads_number (kind as_str threads_word (wrong_kind threads_expected))
 
--- ---- the others
-
--- an array of texts (TOML 1.1, "Array" and "String")
-abbrev pub texts_form : Reading Data Acceptance
-texts_form =
-    kind as_array (inner (each_item text_reading)) (wrong_kind (codes "an array of strings"))
+-- ---- platforms
 
 -- a text, or a table (TOML 1.1, "String" and "Table")
 abbrev pub platform_form : Reading Data Acceptance
 platform_form = kind as_str (λ text. any_value)
     (kind as_table (λ members. any_value)
     (wrong_kind (codes "a string or a table ({ host = \"..\", target = \"..\" })")))
-
--- the key of a test group that says how many of its tests run at a time
-abbrev pub max_threads_key : List ℕ
-max_threads_key = codes "max-threads"
-
--- a table with the key `max-threads`, whatever its value is (TOML 1.1, "Table")
-abbrev pub group_form : Reading Data Acceptance
-group_form =
-    kind as_table (inner (required max_threads_key any_value)) (wrong_kind (codes "a table"))

@@ -12,14 +12,14 @@ pub mod Found
 pub mod RingProfiles
 pub mod Inheritance
 pub mod Integers
-pub mod Items
 pub mod Meant
 pub mod Mistake
-pub mod Reader
 pub mod References
-pub mod Schema
+pub mod Rules
 pub mod Settings
 pub mod Severity
+pub mod Shapes
+pub mod Subjects
 pub mod Unknown
 pub mod Values
 pub mod Words

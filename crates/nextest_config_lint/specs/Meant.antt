@@ -1,87 +1,38 @@
--- What may be meant by a value that is refused.
-use Rattle.std.specs.Prelude.{◌≡◌, ◌≤◌, ◌⊎◌, ◌||◌, ℕ, zero, suc, ℤ, pos, negsuc, List, [], ◌∷◌, ◌++◌, codes, decimal, if◌then◌else◌, Option, Some, None, option_and_then}
+-- What may be meant by what is refused.
+use Rattle.std.specs.Prelude.{◌≡◌, ◌≤◌, ◌⊎◌, ◌||◌, ℕ, zero, suc, ℤ, pos, negsuc, List, ◌++◌, codes, decimal, if◌then◌else◌, Option, Some, None, option_and_then}
 use Rattle.std.specs.Char.{is_ascii_digit}
 use Rattle.std.specs.List.{list_all}
 use Rattle.toml.specs.Data.{as_integer, as_str, as_table, Data, Members}
 use Rattle.nextest_config_values.specs.Duration.{IsDuration}
-use Rattle.nextest_config_values.specs.Read.Fault.{for_reason, Cause, Fault, unknown_field, unknown_variant}
-use Rattle.nextest_config_elements.specs.Junit.{store_failure_output_key, store_success_output_key}
-use Rattle.nextest_config_elements.specs.MaxFail.{max_fail_key}
-use Rattle.nextest_config_elements.specs.RetryPolicy.{count_key, delay_key, jitter_key, max_delay_key}
-use Rattle.nextest_config_elements.specs.SlowTimeout.{grace_period_key, period_key, terminate_after_key}
-use Rattle.toml_spans.specs.Line.{found_below}
-use Rattle.toml_spans.specs.Step.{key, PathStep, printed_path}
+use Rattle.nextest_config_values.specs.Read.Fault.{for_reason, Cause, Fault, unknown_variant}
+use Rattle.nextest_config_elements.specs.declared.field.Shape.{Shape}
+use Rattle.nextest_config_elements.specs.declared.field.Shape.TheVariants as shapes
+use Rattle.toml_spans.specs.Step.{PathStep, printed_path}
 use Rattle.nextest_config_lint.specs.Conversion.{is_word}
 use Rattle.nextest_config_lint.specs.Found.{IsNearestMeant, Meant, the_toml, the_word}
 use Rattle.nextest_config_lint.specs.Integers.{IsIntegerHint}
-use Rattle.nextest_config_lint.specs.Settings.{SettingView}
+use Rattle.nextest_config_lint.specs.Settings.{a_value, SettingView, Subject, refused_key}
 use Rattle.nextest_config_lint.specs.declared.meant.Taken.{Taken}
 use Rattle.nextest_config_lint.specs.declared.meant.Taken.TheVariants.{Boolean, Duration, FailFast, Integer, ShortDuration, Tables}
 use Rattle.nextest_config_lint.specs.declared.integers.IntegerRange.TheVariants as ranges
-use Rattle.nextest_config_lint.specs.declared.reader.Reader.{Reader}
-use Rattle.nextest_config_lint.specs.declared.reader.Reader.TheVariants as readers
 
--- ---- what is taken where steps lead to
-
--- what is taken as the value itself, by what reads it
-abbrev pub taken_here : Reader → Option Taken
-taken_here readers.SlowTimeout = Some Duration
-taken_here readers.LeakTimeout = Some ShortDuration
-taken_here readers.GlobalTimeout = Some Duration
-taken_here readers.FailFast = Some FailFast
-taken_here readers.Retries = Some (Integer ranges.U32)
-taken_here readers.ThreadsRequired = Some (Integer ranges.Count)
-taken_here readers.Threads = Some (Integer ranges.Threads)
-taken_here readers.Priority = Some (Integer ranges.Priority)
-taken_here readers.Boolean = Some Boolean
-taken_here readers.Array = Some Tables
-taken_here reader = None
-
--- what is taken at a key of `slow-timeout`
-abbrev pub taken_in_timeout : List ℕ → Option Taken
-taken_in_timeout name =
-    if is_word name period_key || is_word name grace_period_key then Some Duration
-    else if is_word name terminate_after_key then Some (Integer ranges.Count)
-    else None
-
--- what is taken at a key of `leak-timeout`
-abbrev pub taken_in_leak : List ℕ → Option Taken
-taken_in_leak name = if is_word name period_key then Some ShortDuration else None
-
--- what is taken at a key of `fail-fast`
-abbrev pub taken_in_limit : List ℕ → Option Taken
-taken_in_limit name = if is_word name max_fail_key then Some (Integer ranges.Count) else None
-
--- what is taken at a key of `retries`
-abbrev pub taken_in_retries : List ℕ → Option Taken
-taken_in_retries name =
-    if is_word name delay_key || is_word name max_delay_key then Some Duration
-    else if is_word name jitter_key then Some Boolean
-    else if is_word name count_key then Some (Integer ranges.U32)
-    else None
-
--- what is taken at a key of a profile's `junit`
-abbrev pub taken_in_report : List ℕ → Option Taken
-taken_in_report name =
-    if is_word name store_success_output_key || is_word name store_failure_output_key
-    then Some Boolean
-    else None
-
--- what is taken at a key of the table that a reader reads
-abbrev pub taken_at : Reader → List ℕ → Option Taken
-taken_at readers.SlowTimeout name = taken_in_timeout name
-taken_at readers.LeakTimeout name = taken_in_leak name
-taken_at readers.Retries name = taken_in_retries name
-taken_at readers.FailFast name = taken_in_limit name
-taken_at readers.Junit name = taken_in_report name
-taken_at readers.Experimental name = Some Boolean
-taken_at reader name = None
-
--- what is taken where steps lead to in the value that a reader reads
-abbrev pub taken_to : Reader → List PathStep → Option Taken
-taken_to reader [] = taken_here reader
-taken_to reader (key name ∷ []) = taken_at reader name
-taken_to reader steps = None
+-- what is taken as a value of a shape, where something may be meant by another one
+abbrev pub taken_of : Shape → Option Taken
+taken_of shapes.SlowTimeout = Some Duration
+taken_of shapes.Duration = Some Duration
+taken_of shapes.LeakTimeout = Some ShortDuration
+taken_of shapes.ShortDuration = Some ShortDuration
+taken_of shapes.FailFast = Some FailFast
+taken_of shapes.Retries = Some (Integer ranges.U32)
+taken_of shapes.U32 = Some (Integer ranges.U32)
+taken_of shapes.ThreadsRequired = Some (Integer ranges.Count)
+taken_of shapes.MaxFail = Some (Integer ranges.Count)
+taken_of shapes.Count = Some (Integer ranges.Count)
+taken_of shapes.Threads = Some (Integer ranges.Threads)
+taken_of shapes.Priority = Some (Integer ranges.Priority)
+taken_of shapes.Boolean = Some Boolean
+taken_of shapes.Array = Some Tables
+taken_of shape = None
 
 -- ---- durations
 
@@ -175,35 +126,35 @@ tables_meant path (Some held) =
 -- ---- the hint
 
 -- what may be meant by a value in place of what is taken there
-abbrev pub IsHintAt : List PathStep → Option Taken → Option Data → Option Meant → Type 0
-IsHintAt path (Some Duration) (Some value) hint = IsDurationHint (digits_of value) hint
-IsHintAt path (Some ShortDuration) (Some value) hint = IsShortHint (digits_of value) hint
-IsHintAt path (Some Boolean) (Some value) hint = hint ≡ truth_meant (as_str value)
-IsHintAt path (Some FailFast) (Some value) hint =
-    hint ≡ limit_by (as_integer value) (as_str value)
-IsHintAt path (Some Tables) (Some value) hint = hint ≡ tables_meant path (as_table value)
-IsHintAt path (Some (Integer range)) (Some value) hint =
-    IsIntegerHint range (as_str value) hint
-IsHintAt path taken value hint = hint ≡ None
+abbrev pub IsHintAt : List PathStep → Option Taken → Data → Option Meant → Type 0
+IsHintAt path (Some Duration) value hint = IsDurationHint (digits_of value) hint
+IsHintAt path (Some ShortDuration) value hint = IsShortHint (digits_of value) hint
+IsHintAt path (Some Boolean) value hint = hint ≡ truth_meant (as_str value)
+IsHintAt path (Some FailFast) value hint = hint ≡ limit_by (as_integer value) (as_str value)
+IsHintAt path (Some Tables) value hint = hint ≡ tables_meant path (as_table value)
+IsHintAt path (Some (Integer range)) value hint = IsIntegerHint range (as_str value) hint
+IsHintAt path None value hint = hint ≡ None
 
--- ---- unknown names
+-- the word that is refused as unknown, and the known ones
+abbrev pub unknown_word_in : Cause → Option (List ℕ × List (List ℕ))
+unknown_word_in (for_reason (unknown_variant name known)) = Some (name, known)
+unknown_word_in cause = None
 
--- the word or key that is refused as unknown, and the known ones
-abbrev pub unknown_name : Cause → Option (List ℕ × List (List ℕ))
-unknown_name (for_reason (unknown_variant name known)) = Some (name, known)
-unknown_name (for_reason (unknown_field name known)) = Some (name, known)
-unknown_name cause = None
-
--- ---- the fault
-
--- what may be meant by what is refused: the known name that an unknown one comes nearest to, or
--- something in place of what is taken where the steps lead
-abbrev pub IsHintBeside : Option (List ℕ × List (List ℕ)) → List PathStep → SettingView
+-- what may be meant by a value: the known word that an unknown one comes nearest to, or something
+-- in place of what is taken
+abbrev pub IsValueHint : Option (List ℕ × List (List ℕ)) → List PathStep → Shape → Data
     → Option Meant → Type 0
-IsHintBeside (Some (name, known)) steps setting hint = IsNearestMeant known name hint
-IsHintBeside None steps setting hint = IsHintAt setting.path (taken_to setting.reader steps)
-    (found_below steps setting.value) hint
+IsValueHint (Some (name, known)) path shape value hint = IsNearestMeant known name hint
+IsValueHint None path shape value hint = IsHintAt path (taken_of shape) value hint
 
--- what may be meant by what a fault of a setting refuses
+-- what may be meant by what is refused: by a value, or by a key the nearest of those that the table
+-- may have
+abbrev pub IsHintOf : List PathStep → Subject → Fault → Option Meant → Type 0
+IsHintOf path (a_value shape parts value) fault hint =
+    IsValueHint (unknown_word_in fault.cause) path shape value hint
+IsHintOf path (refused_key name expected known) fault hint = IsNearestMeant known name hint
+IsHintOf path subject fault hint = hint ≡ None
+
+-- what may be meant by what a fault refuses
 abbrev pub IsFaultHint : SettingView → Fault → Option Meant → Type 0
-IsFaultHint setting fault = IsHintBeside (unknown_name fault.cause) fault.steps setting
+IsFaultHint setting = IsHintOf setting.path setting.subject

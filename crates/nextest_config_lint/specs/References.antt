@@ -1,6 +1,6 @@
 -- What is found of names that refer to others, and of rules between keys, after nextest's
 -- documentation.
-use Rattle.std.specs.Prelude.{◌≡◌, ◌≢◌, ◌<◌, ◌≤◌, ◌⊎◌, ℕ, length, Bool, false, cond, ◌&&◌, List, [], ◌∷◌, ◌++◌, codes, nat_eq, not, IsSome, Option, Some, None, option_map}
+use Rattle.std.specs.Prelude.{◌≡◌, ◌≢◌, ◌<◌, ◌≤◌, ◌⊎◌, ℕ, length, Bool, cond, ◌&&◌, List, [], ◌∷◌, ◌++◌, codes, nat_eq, not, IsSome, Option, Some, None, option_map}
 use Rattle.std.specs.Cmp.Lexicographic.{pointwise}
 use Rattle.toml.specs.Data.{as_str, as_table, Data, get_member, Members}
 use Rattle.toml_spans.specs.Step.{index, key, PathStep}
@@ -10,7 +10,7 @@ use Rattle.nextest_config.specs.declared.nextest_version.source.ConfigSourceKind
 use Rattle.nextest_config.specs.declared.nextest_version.source.ConfigSourceKind.TheVariants.{DiscoveredRepository, ExplicitRepository, Tool}
 use Rattle.nextest_config_lint.specs.Defined.{AreDocuments, AreNamesOf, ComesBackAt, default_miri, default_profile, DefinesGroup, DefinesProfile, groups_key, HasTool, inherits_key, ListFile, profiles_key}
 use Rattle.nextest_config_lint.specs.Found.{default_inherits, Found, found_at, FoundKind, group_of_tool, group_outside_tool, inherits_itself, IsNearestMeant, kind_view, Meant, no_group_name, override_of_all, reserved_profile, undefined_group, undefined_profile}
-use Rattle.nextest_config_lint.specs.Settings.{SettingView}
+use Rattle.nextest_config_lint.specs.Settings.{a_value, is_key, SettingView, Subject}
 use Rattle.nextest_config_lint.specs.declared.finding.FindingKind.{FindingKind}
 use Rattle.nextest_config_lint.specs.declared.references.Place as declared
 use Rattle.nextest_config_lint.specs.declared.references.Place.TheVariants as places
@@ -26,11 +26,6 @@ pub data Place : Type 0 where
   a_group_of : Place
   a_group : List ℕ → Place
   another : Place
-
--- the step is this key
-abbrev pub is_key : List ℕ → PathStep → Bool
-is_key wanted (key text) = pointwise nat_eq text wanted
-is_key wanted (index number) = false
 
 -- a place of the name that a step is
 abbrev pub named : (List ℕ → Place) → PathStep → Place
@@ -192,11 +187,18 @@ IsPlaceTold files kind position (a_group name) value told =
     IsNameTold (IsGroupTold kind) name told
 IsPlaceTold files kind position another value told = told ≡ None
 
--- what is found of a setting, at its path
+-- what is told of what is judged at a path, if it is a value
+abbrev pub IsSubjectTold : List ListFile → ConfigSourceKind → ℕ → List PathStep → Subject
+    → Option FoundKind → Type 0
+IsSubjectTold files kind position path (a_value shape parts value) told =
+    IsPlaceTold files kind position (place_of path) value told
+IsSubjectTold files kind position path subject told = told ≡ None
+
+-- what is found of what is judged, at its path
 abbrev pub IsReferenceFound : List ListFile → ConfigSourceKind → ℕ → SettingView → Option Found
     → Type 0
 IsReferenceFound files kind position setting found = (told : Option FoundKind)
-    × IsPlaceTold files kind position (place_of setting.path) setting.value told
+    × IsSubjectTold files kind position setting.path setting.subject told
     × (found ≡ option_map (found_at setting.path) told)
 
 -- ---- places and findings as they are kept

@@ -1,16 +1,16 @@
 -- The keys of a document that aren't known where they stand, and what they may be meant for.
-use Rattle.std.specs.Prelude.{◌≡◌, ℕ, ◌==◌, ◌||◌, Bool, true, false, if◌then◌else◌, List, [], ◌∷◌, find, is_some, map, Option, Some, None, option_map}
+use Rattle.std.specs.Prelude.{◌≡◌, ℕ, ◌==◌, ◌||◌, Bool, true, false, if◌then◌else◌, List, [], ◌∷◌, find, map, Option, Some, None, option_map}
 use Rattle.std.specs.List.{slice_split}
 use Rattle.std.specs.Option.{option_or}
 use Rattle.toml.specs.Data.{Data, Members, table}
-use Rattle.nextest_config_values.specs.Read.{value_of}
 use Rattle.toml_spans.specs.Step.{PathStep}
 use Rattle.nextest_config_lint.specs.Found.{Found, found_at, Meant, the_key, the_word, unknown_key}
 use Rattle.nextest_config_values.specs.NearestWord.{dash, distance, IsNearest, is_same}
-use Rattle.nextest_config_lint.specs.Settings.{SettingView, names_of}
+use Rattle.nextest_config_lint.specs.Settings.{a_value, is_known, names_of, SettingView, Subject}
 use Rattle.nextest_config_lint.specs.declared.finding.Scope.{Scope}
 use Rattle.nextest_config_lint.specs.declared.finding.Scope.TheVariants.{Junit, Override, Profile, Top}
-use Rattle.nextest_config_lint.specs.Schema.{Below, file_rows, known_words, override_junit_table, override_table, profile_table, row_words, rows_in}
+use Rattle.nextest_config_elements.specs.Fields.{field_words, fields, Parts, versions}
+use Rattle.nextest_config_elements.specs.Keys.{file_fields, override_fields, override_junit_fields, profile_fields}
 
 -- a key of a table: the keys that are known there, and the path to the table
 pub record TableKey : Type 0 where
@@ -29,20 +29,28 @@ abbrev pub keys_among : Option (List (List ℕ)) → List PathStep → Members �
 keys_among None path held = []
 keys_among (Some known) path held = map (key_at known path) (names_of held)
 
--- the keys of a value, if it is a table
-abbrev pub keys_below : Below → List PathStep → Data → List TableKey
-keys_below below path (table members) = keys_among (known_words below) path members
-keys_below below path value = []
+-- the keys that are known in a table, where one that isn't is only told: a table of retries refuses
+-- such keys, and those of `experimental` name features
+abbrev pub known_words : Parts → Option (List (List ℕ))
+known_words (fields known) = Some (field_words known)
+known_words (versions known) = Some (field_words known)
+known_words parts = None
 
--- the keys of a judged value, if it is a table
+-- the keys of a value, if it is a table
+abbrev pub keys_below : Parts → List PathStep → Data → List TableKey
+keys_below parts path (table members) = keys_among (known_words parts) path members
+keys_below parts path value = []
+
+-- the keys of what is judged, if it is a value that is a table
+abbrev pub keys_of_subject : Subject → List PathStep → List TableKey
+keys_of_subject (a_value shape parts value) path = keys_below parts path value
+keys_of_subject subject path = []
+
+-- the keys of what is judged
 abbrev pub keys_in : SettingView → List TableKey
-keys_in setting = keys_below setting.below setting.path setting.value
+keys_in setting = keys_of_subject setting.subject setting.path
 
 -- ---- what is found
-
--- the name is one of these words
-abbrev pub is_known : List (List ℕ) → List ℕ → Bool
-is_known known name = is_some (value_of (λ word. word) known name)
 
 -- the tables that know keys, in the order in which a key is looked for
 abbrev pub scopes : List Scope
@@ -50,22 +58,22 @@ scopes = Top ∷ Profile ∷ Override ∷ Junit ∷ []
 
 -- the keys that a table of this kind knows
 abbrev pub scope_words : Scope → List (List ℕ)
-scope_words Top = row_words file_rows
-scope_words Profile = row_words (rows_in profile_table)
-scope_words Override = row_words (rows_in override_table)
-scope_words Junit = row_words (rows_in override_junit_table)
+scope_words Top = field_words file_fields
+scope_words Profile = field_words profile_fields
+scope_words Override = field_words override_fields
+scope_words Junit = field_words override_junit_fields
 
 -- the first table that knows a key of this name
 abbrev pub scope_of : List ℕ → Option Scope
 scope_of name = find (λ scope. is_known (scope_words scope) name) scopes
 
 -- what stands between the dashes of a word
-abbrev pub parts_of : List ℕ → List (List ℕ)
-parts_of word = slice_split (λ b. b == dash) word
+abbrev pub pieces_of : List ℕ → List (List ℕ)
+pieces_of word = slice_split (λ b. b == dash) word
 
 -- the first word that has the name as one of its parts
 abbrev pub word_with_part : List (List ℕ) → List ℕ → Option (List ℕ)
-word_with_part words name = find (λ word. is_known (parts_of word) name) words
+word_with_part words name = find (λ word. is_known (pieces_of word) name) words
 
 -- the word, if the name is the same or one edit away
 abbrev pub slip_of : List ℕ → Option (List ℕ) → Option (List ℕ)

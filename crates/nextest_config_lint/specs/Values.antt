@@ -1,107 +1,110 @@
--- What a reader makes of the value of a setting, and what is found by that.
-use Rattle.std.specs.Prelude.{◌≡◌, ◌≢◌, ◌⊎◌, List, [], ◌∷◌, ◌++◌, Option, Some}
+-- What comes of what is judged, and what is found by that.
+use Rattle.std.specs.Prelude.{◌≡◌, ◌⊎◌, List, [], ◌∷◌, ◌++◌, Option, Some}
+use Rattle.toml.specs.Data.{Data}
 use Rattle.nextest_config_values.specs.Read.Fault.{Fault}
-use Rattle.nextest_config.specs.NextestVersion.{FeatureSetting, features_under}
+use Rattle.nextest_config.specs.NextestVersion.{FeatureSetting}
 use Rattle.nextest_config.specs.declared.nextest_version.edition.Edition.{Edition}
 use Rattle.nextest_config.specs.declared.nextest_version.source.ConfigSourceKind.{ConfigSourceKind}
-use Rattle.nextest_config_lint.specs.Faults.{IsFoundOf, IsUnjudged}
+use Rattle.nextest_config_lint.specs.Faults.{IsFoundOf}
 use Rattle.nextest_config_lint.specs.Features.{AreNamedFound, array_notes}
 use Rattle.nextest_config_lint.specs.Found.{AreFoundOf, Found, found_at, Tells, TellsSome, unjudged}
-use Rattle.nextest_config_lint.specs.Reader.{reader_check}
 use Rattle.nextest_config_lint.specs.Settings.{SettingView}
-use Rattle.nextest_config_lint.specs.declared.reader.Reader.TheVariants.{Experimental}
+use Rattle.nextest_config_lint.specs.Subjects.{IsLeftOpen, IsRight, IsWrong, NamesFeatures}
 use Rattle.nextest_config_lint.specs.declared.values.ValueFindings.{ValueFindings}
 
--- what comes of a value: it means something; it names features; it has a fault; or a duration that
--- isn't judged
+-- what comes of what is judged: nothing is wrong; a value names features; something is wrong; or it
+-- is a duration that isn't judged
 pub data Outcome : Type 0 where
   accepted : Outcome
-  names_features : FeatureSetting → Outcome
+  names_features : Data → FeatureSetting → Outcome
   faulty : Fault → Outcome
   left_open : Fault → Outcome
 
--- this comes of the value of a setting, by what its reader makes of it under an edition
+-- this comes of what is judged under an edition
 abbrev pub IsOutcome : Edition → SettingView → Outcome → Type 0
-IsOutcome edition setting accepted = (setting.reader ≢ Experimental)
-    × (reader_check edition setting.reader).passes setting.value
-IsOutcome edition setting (names_features named) = (setting.reader ≡ Experimental)
-    × (features_under edition).means setting.value named
+IsOutcome edition setting accepted = IsRight edition setting.subject
+IsOutcome edition setting (names_features value named) =
+    NamesFeatures edition setting.subject value named
 IsOutcome edition setting (faulty fault) =
-    (reader_check edition setting.reader).faults setting.value fault
-    × (IsUnjudged setting.value fault → ⊥)
+    IsWrong edition setting.subject fault × (IsLeftOpen setting.subject fault → ⊥)
 IsOutcome edition setting (left_open fault) =
-    (reader_check edition setting.reader).faults setting.value fault
-    × IsUnjudged setting.value fault
+    IsWrong edition setting.subject fault × IsLeftOpen setting.subject fault
 
 -- ---- what is found by an outcome
 
--- what is wrong with the value
+-- what is wrong
 abbrev pub AreFaults : SettingView → Outcome → List Found → Type 0
 AreFaults setting (faulty fault) all_found =
     (found : Found) × IsFoundOf setting fault found × (all_found ≡ found ∷ [])
 AreFaults setting outcome all_found = all_found ≡ []
 
--- what is found of the features that the value names
+-- what is found of the features that a value names
 abbrev pub AreFeatures : ConfigSourceKind → SettingView → Outcome → List Found → Type 0
-AreFeatures kind setting (names_features named) all_found =
-    AreNamedFound kind setting named.features all_found
+AreFeatures kind setting (names_features value named) all_found =
+    AreNamedFound kind setting.path value named.features all_found
 AreFeatures kind setting outcome all_found = all_found ≡ []
 
--- what isn't judged of the value, or is to change one day
+-- what isn't judged, or is to change one day
 abbrev pub notes_of : ConfigSourceKind → SettingView → Outcome → List Found
 notes_of kind setting (left_open fault) = found_at (setting.path ++ fault.steps) unjudged ∷ []
-notes_of kind setting (names_features named) = array_notes kind setting.path named
+notes_of kind setting (names_features value named) = array_notes kind setting.path named
 notes_of kind setting outcome = []
 
--- the notes on the value are these
+-- the notes are these
 abbrev pub AreNotes : ConfigSourceKind → SettingView → Outcome → List Found → Type 0
 AreNotes kind setting outcome all_found = all_found ≡ notes_of kind setting outcome
 
--- ---- what is found of a value
+-- ---- what is found of what is judged
 
--- this is found of the value by what comes of it
+-- this is found by what comes of it
 abbrev pub AreFoundBy : Edition → SettingView → (Outcome → List Found → Type 0) → List Found
     → Type 0
 AreFoundBy edition setting Are all_found = (outcome : Outcome) × IsOutcome edition setting outcome
     × Are outcome all_found
 
--- what is wrong with the value of a setting
+-- what is wrong
 abbrev pub AreFaultsFound : Edition → SettingView → List Found → Type 0
 AreFaultsFound edition setting = AreFoundBy edition setting (AreFaults setting)
 
--- what is found of the features that the value of a setting names
+-- what is found of the features that are named
 abbrev pub AreFeaturesFound : Edition → ConfigSourceKind → SettingView → List Found → Type 0
 AreFeaturesFound edition kind setting = AreFoundBy edition setting (AreFeatures kind setting)
 
--- the notes on the value of a setting
+-- the notes
 abbrev pub AreNotesFound : Edition → ConfigSourceKind → SettingView → List Found → Type 0
 AreNotesFound edition kind setting = AreFoundBy edition setting (AreNotes kind setting)
 
--- the findings of a value tell what is found by this outcome
+-- the findings tell what is found by this outcome
 pub record TellsOutcome (kind : ConfigSourceKind) (setting : SettingView) (outcome : Outcome)
     (found : ValueFindings) : Type 0 where
   pub faults : TellsSome (AreFaults setting outcome) found.faults
   pub features : TellsSome (AreFeatures kind setting outcome) found.features
   pub notes : Tells found.notes.items (notes_of kind setting outcome)
 
--- the findings of a value tell what is found of it
+-- nothing is found
+pub record IsEmpty (found : ValueFindings) : Type 0 where
+  pub faults : found.faults.items ≡ []
+  pub features : found.features.items ≡ []
+  pub notes : found.notes.items ≡ []
+
+-- the findings tell what is found of what is judged
 abbrev pub TellsValue : Edition → ConfigSourceKind → SettingView → ValueFindings → Type 0
 TellsValue edition kind setting found = (outcome : Outcome) × IsOutcome edition setting outcome
     × TellsOutcome kind setting outcome found
 
--- what a fault of the value comes to
+-- what a fault comes to
 abbrev pub IsFaultOutcome : SettingView → Fault → Outcome → Type 0
 IsFaultOutcome setting fault outcome =
-    (IsUnjudged setting.value fault × (outcome ≡ left_open fault))
-    ⊎ ((IsUnjudged setting.value fault → ⊥) × (outcome ≡ faulty fault))
+    (IsLeftOpen setting.subject fault × (outcome ≡ left_open fault))
+    ⊎ ((IsLeftOpen setting.subject fault → ⊥) × (outcome ≡ faulty fault))
 
--- the findings of a value tell what is found of this fault of it
+-- the findings tell what is found of this fault
 abbrev pub TellsFault : SettingView → Option Fault → ValueFindings → Type 0
 TellsFault setting told found = (fault : Fault) × (outcome : Outcome) × (told ≡ Some fault)
     × IsFaultOutcome setting fault outcome
     × ((kind : ConfigSourceKind) → TellsOutcome kind setting outcome found)
 
--- the findings of values tell what is found of each
+-- the findings tell what is found of each
 pub record TellsValues (edition : Edition) (kind : ConfigSourceKind) (settings : List SettingView)
     (found : ValueFindings) : Type 0 where
   pub faults : TellsSome (AreFoundOf (AreFaultsFound edition) settings) found.faults

@@ -1,15 +1,16 @@
 //! The values that nextest makes of others, before its readers see them.
 
-ghost use Rattle.std.specs.Prelude.{◌≡◌, ◌↔◌, IsTrue, map};
+ghost use Rattle.std.specs.Prelude.{◌≡◌, ◌↔◌, IsTrue, option_map};
 ghost use Rattle.toml.specs.View.{view};
-ghost use Rattle.toml_spans.specs.Step.{step_of};
-ghost use Rattle.nextest_config_lint.specs.Conversion.{IsConvertedAt, IsIntegerText, is_boolean_text, is_false_text, is_true_text, MayBecome, MayBecomeIf, wanted_at, wanted_below, wanted_here, wanted_in_bench, wanted_in_report, wanted_in_table, wanted_in_timeout, wanted_to};
+ghost use Rattle.nextest_config_elements.specs.Fields.{fields_in, fields_view, parts_of};
+ghost use Rattle.nextest_config_lint.specs.Conversion.{field_named, if_converted, IsConvertedAt, IsIntegerText, is_boolean_text, is_false_text, is_true_text, MayBecome, MayBecomeIf, wanted_among, wanted_of};
+ghost use Rattle.nextest_config_lint.specs.Settings.{seen_field};
 ghost use Rattle.nextest_config_values.specs.Read.{words_of};
 ghost use Rattle.nextest_config_lint.specs.declared.conversion.Wanted.TheVariants.{Boolean, Number, Text};
 
-use crate::reader::Reader;
+use nextest_config_elements::field::{FaultSeverity, Field, Parts, Shape};
+use nextest_config_elements::keys::profile_fields;
 use toml::Value;
-use toml_spans::Step;
 
 /// A kind of value that is wanted in place of another.
 #[derive(Clone, Copy, Debug, PartialEq, Eq)]
@@ -19,70 +20,67 @@ pub(crate) enum Wanted {
     Boolean,
 }
 
-/// What is wanted where steps lead to in the value that a reader reads, if nextest may make it of
-/// another value.
-pub(crate) fn wanted_to(reader: Reader, steps: &[Step]) -> Option<Wanted>
-    ensures { result ≡ wanted_to reader (map step_of steps.now) }
+/// What is wanted of a value of a shape that may be made of another.
+pub(crate) fn wanted_of(shape: Shape) -> Option<Wanted>
+    ensures { result ≡ wanted_of shape }
 {
-    match steps {
-        [] => wanted_here(reader),
-        [Step::Key(name)] => wanted_at(reader, name.as_str()),
-        [Step::Index(_)] | [_, _, ..] => None,
-    }
-}
-
-// What is wanted of the value itself.
-fn wanted_here(reader: Reader) -> Option<Wanted>
-    ensures { result ≡ wanted_here reader }
-{
-    match reader {
-        Reader::Priority => Some(Wanted::Number),
-        Reader::Boolean => Some(Wanted::Boolean),
+    match shape {
+        Shape::Text => Some(Wanted::Text),
+        Shape::Boolean => Some(Wanted::Boolean),
+        Shape::Count | Shape::Priority => Some(Wanted::Number),
         _ => None,
     }
-}
-
-// What is wanted of the value at a key.
-fn wanted_at(reader: Reader, name: &str) -> Option<Wanted>
-    ensures { result ≡ wanted_at reader name.now }
-{
-    match reader {
-        Reader::SlowTimeout => wanted_in_timeout(name),
-        Reader::Junit => wanted_in_report(name),
-        _ => None,
-    }
-}
-
-fn wanted_in_timeout(name: &str) -> Option<Wanted>
-    ensures { result ≡ wanted_in_timeout name.now }
-{
-    if name == "terminate-after" {
-        return Some(Wanted::Number);
-    }
-    None
-}
-
-// No word of an enum is made of another value.
-fn wanted_in_report(name: &str) -> Option<Wanted>
-    ensures { result ≡ wanted_in_report name.now }
-{
-    if (name == "path") | (name == "report-name") {
-        return Some(Wanted::Text);
-    }
-    if (name == "store-success-output") | (name == "store-failure-output") {
-        return Some(Wanted::Boolean);
-    }
-    None
 }
 
 /// Whether nextest may make of the value at these keys of a profile what is wanted there.
 pub fn is_converted_at(keys: &[&str], value: &Value) -> bool
     ensures { IsTrue result ↔ IsConvertedAt (words_of keys.now) (view value.now) }
 {
-    may_become_if(wanted_below(keys), value)
+    may_become_if(wanted_among(keys, profile_fields()), value)
 }
 
-fn may_become_if(wanted: Option<Wanted>, value: &Value) -> bool
+// What is wanted at keys, one below the other, of a table with these fields.
+fn wanted_among(keys: &[&str], fields: &'static [Field]) -> Option<Wanted>
+    ensures { result ≡ wanted_among (words_of keys.now) (fields_view fields.now) }
+{
+    match keys {
+        [] => None,
+        [name] => wanted_by(field_named(name, fields)?),
+        [name, rest @ ..] => wanted_among(rest, fields_in(&field_named(name, fields)?.parts)),
+    }
+}
+
+// What is wanted of the value of a field that nextest converts.
+fn wanted_by(field: &Field) -> Option<Wanted>
+    ensures { let rule = (seen_field field.now).0 in
+        result ≡ if_converted rule.severity (wanted_of rule.shape) }
+{
+    match field.severity {
+        FaultSeverity::ErrorUnlessConverted => wanted_of(field.shape),
+        FaultSeverity::Error | FaultSeverity::Warning => None,
+    }
+}
+
+// The field with this key.
+fn field_named(name: &str, fields: &'static [Field]) -> Option<&'static Field>
+    ensures { option_map (λ field. seen_field field.now) result
+        ≡ field_named name.now (fields_view fields.now) }
+{
+    fields.iter().find(|field| field.key == name)
+}
+
+// The fields of a table; none of what isn't judged field by field.
+fn fields_in(parts: &Parts) -> &'static [Field]
+    ensures { fields_view result.now ≡ fields_in (parts_of parts.now) }
+{
+    match parts {
+        Parts::Fields(fields) => fields,
+        _ => &[],
+    }
+}
+
+/// Whether nextest may make what is wanted of the value, if anything is.
+pub(crate) fn may_become_if(wanted: Option<Wanted>, value: &Value) -> bool
     ensures { IsTrue result ↔ MayBecomeIf wanted (view value.now) }
 {
     match wanted {
@@ -91,40 +89,8 @@ fn may_become_if(wanted: Option<Wanted>, value: &Value) -> bool
     }
 }
 
-// What is wanted at these keys of a profile, if nextest may make it of another value.
-fn wanted_below(keys: &[&str]) -> Option<Wanted>
-    ensures { result ≡ wanted_below (words_of keys.now) }
-{
-    match keys {
-        [table, name] => wanted_in_table(table, name),
-        [table, inner, name] => wanted_in_bench(table, inner, name),
-        [] | [_] | [_, _, _, _, ..] => None,
-    }
-}
-
-fn wanted_in_table(table: &str, name: &str) -> Option<Wanted>
-    ensures { result ≡ wanted_in_table table.now name.now }
-{
-    if table == "slow-timeout" {
-        return wanted_in_timeout(name);
-    }
-    if table == "junit" {
-        return wanted_in_report(name);
-    }
-    None
-}
-
-fn wanted_in_bench(table: &str, inner: &str, name: &str) -> Option<Wanted>
-    ensures { result ≡ wanted_in_bench table.now inner.now name.now }
-{
-    if (table == "bench") & (inner == "slow-timeout") {
-        return wanted_in_timeout(name);
-    }
-    None
-}
-
-/// Whether nextest may make what is wanted of the value.
-pub(crate) fn may_become(wanted: Wanted, value: &Value) -> bool
+// Whether nextest may make what is wanted of the value.
+fn may_become(wanted: Wanted, value: &Value) -> bool
     ensures { IsTrue result ↔ MayBecome wanted (view value.now) }
 {
     match wanted {

@@ -8,12 +8,13 @@ ghost use Rattle.toml_spans.specs.Line.{found_below, step_from};
 ghost use Rattle.toml_spans.specs.Step.{printed_path, step_of};
 ghost use Rattle.nextest_config_lint.specs.Faults.{IsFoundOf, IsUnjudged, text_along};
 ghost use Rattle.nextest_config_lint.specs.Found.{Found, found_at, found_of, unjudged};
-ghost use Rattle.nextest_config_lint.specs.Settings.{setting_view};
+ghost use Rattle.nextest_config_lint.specs.Settings.{setting_view, subject_view};
+ghost use Rattle.nextest_config_lint.specs.Subjects.{IsLeftOpen};
 ghost use Rattle.nextest_config_lint.specs.Values.{TellsFault};
 
 use crate::finding::{Finding, FindingKind};
 use crate::meant::hint_of;
-use crate::settings::Setting;
+use crate::settings::{Setting, Subject};
 use crate::severity::severity_of;
 use crate::values::ValueFindings;
 use nextest_config_values::duration::may_be_duration;
@@ -22,7 +23,7 @@ use std::alloc::{AllocError, Global};
 use toml::Value;
 use toml_spans::{PathText, Step};
 
-/// What is found of a fault of the value: what is wrong, or that it isn't judged.
+/// What is found of a fault of what is judged: what is wrong, or that it isn't judged here.
 pub(crate) fn find_of_fault(
     alloc: Global,
     setting: &Setting,
@@ -33,7 +34,7 @@ pub(crate) fn find_of_fault(
     if fault.is_memory() {
         return Err(AllocError);
     }
-    if is_unjudged(alloc, setting.value, &fault)? {
+    if is_left_open(alloc, setting.subject, &fault)? {
         let finding = unjudged_at(alloc, setting, fault)?;
         let found = ValueFindings::of_note(alloc, finding)?;
         return Ok(found);
@@ -100,6 +101,17 @@ fn written_kind(alloc: Global, path: &[Step], cause: FaultCause) -> Result<Fault
     Ok(kind)
 }
 
+// Whether what is wrong is a duration of a form that isn't judged here.
+fn is_left_open(alloc: Global, subject: Subject, fault: &ValueFault) -> Result<bool, AllocError>
+    ensures { IfOk result (λ answer. IfSome (fault_of fault.now) (λ told.
+        IsTrue answer ↔ IsLeftOpen (subject_view subject.entry) told)) }
+{
+    match subject {
+        Subject::Value { value, .. } => is_unjudged(alloc, value, fault),
+        _ => Ok(false),
+    }
+}
+
 /// Whether what is wrong with a value is a text that isn't taken for a duration, and may be one for
 /// nextest.
 pub fn is_unjudged(alloc: Global, value: &Value, fault: &ValueFault) -> Result<bool, AllocError>
@@ -126,8 +138,8 @@ fn text_along<'v>(value: &'v Value, steps: &[Step]) -> Option<&'v str>
     }
 }
 
-/// The value that steps lead to from a value.
-pub(crate) fn value_along<'v>(value: &'v Value, steps: &[Step]) -> Option<&'v Value>
+// The value that steps lead to from a value.
+fn value_along<'v>(value: &'v Value, steps: &[Step]) -> Option<&'v Value>
     ensures { option_map (λ inner. view inner.now) result
         ≡ found_below (map step_of steps.now) (view value.now) }
 {

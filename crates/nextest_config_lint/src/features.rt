@@ -27,15 +27,16 @@ use toml_spans::Step;
 // The words of the features.
 const FEATURES: &[&str] = &["setup-scripts", "wrapper-scripts", "benchmarks"];
 
-/// What is found of the features that the value of a setting names, in a file of this kind.
+/// What is found of the features that a value names, in a file of this kind.
 pub(crate) fn find_of_features(
     alloc: Global,
     source: &ConfigSourceKind,
     setting: &Setting,
+    value: &Value,
     named: ExperimentalDeserialize,
 ) -> Result<ValueFindings, AllocError>
     ensures { IfOk result (TellsOutcome source.now (setting_view setting.now)
-        (names_features (feature_setting_of named))) }
+        (names_features (view value.now) (feature_setting_of named))) }
 {
     let mut findings = ValueFindings::new(alloc);
     match source {
@@ -43,7 +44,7 @@ pub(crate) fn find_of_features(
             findings.features = tool_features(alloc, setting, &named)?;
         }
         ConfigSourceKind::ExplicitRepository | ConfigSourceKind::DiscoveredRepository => {
-            findings.features = unknown_features(alloc, setting, &named.unknown)?;
+            findings.features = unknown_features(alloc, setting, value, &named.unknown)?;
             findings.notes = array_note(alloc, setting, &named)?;
         }
     }
@@ -74,14 +75,16 @@ fn tool_features(
 fn unknown_features(
     alloc: Global,
     setting: &Setting,
+    value: &Value,
     unknown: &BTreeSet<String>,
 ) -> Result<Vec<Finding>, AllocError>
-    ensures { IfOk result (TellsSome (AreFoundIn (IsNameFound (setting_view setting.now))
+    ensures { IfOk result (TellsSome (AreFoundIn
+        (IsNameFound (setting_view setting.now).path (view value.now))
         (map string_bytes unknown.now.keys))) }
 {
     let mut findings = Vec::new(alloc);
     for name in unknown {
-        add_feature(alloc, setting, name.as_str(), &mut findings)?;
+        add_feature(alloc, setting, value, name.as_str(), &mut findings)?;
     }
     Ok(findings)
 }
@@ -90,14 +93,15 @@ fn unknown_features(
 fn add_feature(
     alloc: Global,
     setting: &Setting,
+    value: &Value,
     name: &str,
     findings: &mut Vec<Finding>,
 ) -> Result<(), AllocError>
-    ensures { OnOk result (AddsOne (IsNameFound (setting_view setting.now)) name.now
-        findings.old.items findings.new.items) }
+    ensures { OnOk result (AddsOne (IsNameFound (setting_view setting.now).path (view value.now))
+        name.now findings.old.items findings.new.items) }
 {
     let hint = nearest_hint(alloc, name, FEATURES)?;
-    let path = path_to(alloc, setting, name)?;
+    let path = path_to(alloc, setting, value, name)?;
     let name = String::from_str(alloc, name)?;
     let kind = FindingKind::UnknownFeature { name, hint };
     findings.push(Finding { path, kind })?;
@@ -105,12 +109,16 @@ fn add_feature(
 }
 
 // The path to a name.
-fn path_to(alloc: Global, setting: &Setting, name: &str) -> Result<Vec<Step>, AllocError>
-    ensures { IfOk result (λ path. (step : PathStep)
-        × IsStepTo (setting_view setting.now).value name.now step
+fn path_to(
+    alloc: Global,
+    setting: &Setting,
+    value: &Value,
+    name: &str,
+) -> Result<Vec<Step>, AllocError>
+    ensures { IfOk result (λ path. (step : PathStep) × IsStepTo (view value.now) name.now step
         × (map step_of path.items ≡ (setting_view setting.now).path ++ (step ∷ []))) }
 {
-    let step = step_to(alloc, setting.value, name)?;
+    let step = step_to(alloc, value, name)?;
     let mut path = setting.steps(alloc)?;
     path.push(step)?;
     Ok(path)

@@ -1,21 +1,23 @@
 //! All that is found in a file, and where each finding stands.
 
-ghost use Rattle.std.specs.Prelude.{◌≡◌, ℕ, [], ◌∷◌, ◌++◌, IfOk, List, MatchOption, OnOk, Some, false, map, option_map, take, true};
+ghost use Rattle.std.specs.Prelude.{◌≡◌, ℕ, [], ◌∷◌, ◌++◌, IfOk, List, OnOk, Some, false, map, option_map, take, true};
 ghost use Rattle.std.specs.List.{AllByRecursion, AllZip};
 ghost use Rattle.toml.specs.Errors.{IsMemory, IsWithin};
 ghost use Rattle.toml.specs.Parse.{parse_document};
 ghost use Rattle.toml.specs.View.{table_view};
 ghost use Rattle.toml_spans.specs.Index.{IsIndexOf, IsSpanOf, ranges_in};
 ghost use Rattle.toml_spans.specs.Step.{key, step_of};
+ghost use Rattle.nextest_config_values.specs.Read.{broken_rule, Reason, reason_of};
 ghost use Rattle.nextest_config_lint.specs.Defined.{IsDefinedBy, ListFile};
-ghost use Rattle.nextest_config_lint.specs.File.{AreIn, AreLocated, AreLocatedIn, AreSorted, HasRange, IsAlone, IsDocument, IsLocated, IsLocatedBy, IsReadOf, IsToldBy, is_group, is_of_key, located_view, range_at, range_of, whole_path};
-ghost use Rattle.nextest_config_lint.specs.Found.{Found, found_at, found_of, kind_view, not_utf8};
+ghost use Rattle.nextest_config_lint.specs.File.{AreIn, AreLocated, AreLocatedIn, AreSorted, HasRange, IsAlone, IsDocument, IsLocated, IsLocatedBy, IsReadOf, IsToldBy, is_group, is_key_refused, is_of_key, key_in, located_view, range_at, range_of, reason_key, rule_key};
+ghost use Rattle.nextest_config_lint.specs.Found.{Found, found_at, FoundKind, found_of, kind_view, not_utf8};
 
 use crate::defined::Defined;
 use crate::document::findings;
 use crate::finding::{Finding, FindingKind};
 use crate::mistake::mistake;
 use nextest_config::nextest_version::{ConfigSourceKind, Edition};
+use nextest_config_values::read::{FaultKind, Rule};
 use std::alloc::{AllocError, Global};
 use toml::Table;
 use toml::de::Error;
@@ -246,15 +248,15 @@ fn span_of(alloc: Global, index: &Index, finding: &Finding) -> Result<Span, Allo
     }
 }
 
-// The range of a finding, if the text has one: of an unknown key that of the key. Other paths are
-// looked up as they are, and not copied.
+// The range of a finding, if the text has one, at a key of its table where it stands there. Other
+// paths are looked up as they are, and not copied.
 fn range_in(alloc: Global, index: &Index, finding: &Finding) -> Result<Option<Span>, AllocError>
     ensures { IfOk result (λ span. (text : List ℕ) (found : Found) → IsIndexOf text index.now
         → found_of finding.now ≡ Some found
         → IsSpanOf text (range_of (ranges_in index.now) found) span) }
 {
     let of_key = is_of_key(finding);
-    match unknown_key(finding) {
+    match key_in(&finding.kind) {
         Some(name) => {
             let path = path_of_key(alloc, finding.path.as_slice(), name)?;
             Ok(span_at(index, path.as_slice(), of_key))
@@ -302,6 +304,7 @@ fn is_of_key(finding: &Finding) -> bool
     ensures { (found : Found) → found_of finding.now ≡ Some found → result ≡ is_of_key found }
 {
     match &finding.kind {
+        FindingKind::Fault { fault, .. } => is_unknown_field(fault),
         FindingKind::UnknownFeature { .. }
         | FindingKind::UnknownKey { .. }
         | FindingKind::ReservedProfile
@@ -310,6 +313,14 @@ fn is_of_key(finding: &Finding) -> bool
         FindingKind::NoGroupName(_) => is_group(finding.path.as_slice()),
         _ => false,
     }
+}
+
+// Whether a key is refused.
+fn is_unknown_field(fault: &FaultKind) -> bool
+    ensures { (reason : Reason) → reason_of fault.now ≡ Some reason
+        → result ≡ is_key_refused reason }
+{
+    matches!(fault, FaultKind::UnknownField { .. })
 }
 
 // Whether the path is that of a test group.
@@ -322,15 +333,45 @@ fn is_group(path: &[Step]) -> bool
     }
 }
 
-// The key that isn't known, where that is what is found: the finding is located by its path.
-fn unknown_key(finding: &Finding) -> Option<&str>
-    ensures { (found : Found) → found_of finding.now ≡ Some found → MatchOption result
-        (whole_path found ≡ map step_of finding.now.path.items)
-        (λ name. whole_path found ≡ map step_of finding.now.path.items ++ (key name.now ∷ [])) }
+// The key of a table at which what is found of the table stands.
+fn key_in(kind: &FindingKind) -> Option<&str>
+    ensures { (told : FoundKind) → kind_view kind.now ≡ Some told
+        → option_map (λ name. name.now) result ≡ key_in told }
 {
-    match &finding.kind {
+    match kind {
         FindingKind::UnknownKey { key, .. } => Some(key.as_str()),
+        FindingKind::Fault { fault, .. } => reason_key(fault),
         _ => None,
+    }
+}
+
+// The key of a table at which a reason of its refusal stands.
+fn reason_key(fault: &FaultKind) -> Option<&str>
+    ensures { (reason : Reason) → reason_of fault.now ≡ Some reason
+        → option_map (λ name. name.now) result ≡ reason_key reason }
+{
+    match fault {
+        FaultKind::UnknownField { found, .. } => Some(found.as_str()),
+        FaultKind::Custom(rule) => rule_key(rule),
+        _ => None,
+    }
+}
+
+// The key whose value breaks a rule between the keys of a table.
+fn rule_key(rule: &Rule) -> Option<&'static str>
+    ensures { option_map (λ name. name.now) result ≡ rule_key (broken_rule rule.now) }
+{
+    match rule {
+        Rule::RequiredAboveRecommended { .. } => Some("recommended"),
+        Rule::JitterWithoutDelay => Some("jitter"),
+        Rule::CountZero => Some("count"),
+        Rule::DelayZero => Some("delay"),
+        Rule::MaxDelayZero | Rule::MaxDelayBelowDelay => Some("max-delay"),
+        Rule::PreRelease
+        | Rule::BuildMetadata
+        | Rule::NotVersion { .. }
+        | Rule::ArrayForm
+        | Rule::Priority { .. } => None,
     }
 }
 

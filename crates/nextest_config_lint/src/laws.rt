@@ -1,20 +1,30 @@
 //! Laws of the definitions, for every document. They call nothing.
 
-ghost use Rattle.std.specs.Prelude.{◌≡◌, ◌↔◌, ℕ, List, Option, Some};
+ghost use Rattle.std.specs.Prelude.{◌≡◌, ◌↔◌, ℕ, false, List, Option, Some};
 ghost use Rattle.std.specs.List.{AllByRecursion};
 ghost use Rattle.std.specs.Ordering.{nat_cmp};
-ghost use Rattle.toml.specs.Data.{Members};
+ghost use Rattle.toml.specs.Data.{Data, Members};
 ghost use Rattle.toml.specs.Parse.{parse_document};
 ghost use Rattle.nextest_config_values.specs.Equality.{IsCopy, IsEquality};
-ghost use Rattle.nextest_config.specs.NextestVersion.{Ask, TextAsks};
+ghost use Rattle.toml_spans.specs.Step.{PathStep};
+ghost use Rattle.nextest_config.specs.NextestVersion.{Ask, features_under, TextAsks, versions_reading};
 ghost use Rattle.nextest_config.specs.declared.nextest_version.edition.Edition.{Edition};
 ghost use Rattle.nextest_config.specs.declared.nextest_version.source.ConfigSourceKind.{ConfigSourceKind};
+ghost use Rattle.nextest_config_elements.specs.Fields.{features, fields, versions};
+ghost use Rattle.nextest_config_elements.specs.Junit.{junit_fields, junit_reading};
+ghost use Rattle.nextest_config_elements.specs.Keys.{feature_fields, version_fields};
+ghost use Rattle.nextest_config_elements.specs.LeakTimeout.{leak_timeout_fields, leak_timeout_reading};
+ghost use Rattle.nextest_config_elements.specs.MaxFail.{fail_fast_fields, fail_fast_reading};
+ghost use Rattle.nextest_config_elements.specs.RetryPolicy.{retries_parts, retry_policy_reading};
+ghost use Rattle.nextest_config_elements.specs.SlowTimeout.{slow_timeout_fields, slow_timeout_reading};
+ghost use Rattle.nextest_config_elements.specs.declared.field.Shape.TheVariants as shapes;
 ghost use Rattle.nextest_config_lint.specs.Defined.{ListFile};
 ghost use Rattle.nextest_config_lint.specs.Document.{AreFindings};
 ghost use Rattle.nextest_config_lint.specs.File.{AreLocated};
 ghost use Rattle.nextest_config_lint.specs.Finding.{rank};
-ghost use Rattle.nextest_config_lint.specs.FindingsLaws.{IsFileWithoutError, IsNoLocatedError, IsNoError, IsWithoutError, LeadsToValue, own_findings};
+ghost use Rattle.nextest_config_lint.specs.FindingsLaws.{FindsItsFault, IsFileWithoutError, IsNoLocatedError, IsNoError, IsTakenWhole, IsWithoutError, LeadsToValue, own_findings};
 ghost use Rattle.nextest_config_lint.specs.Found.{Found};
+ghost use Rattle.nextest_config_lint.specs.Settings.{has_default_period};
 ghost use Rattle.nextest_config_lint.specs.declared.file.LocatedFinding.{LocatedFinding};
 ghost use Rattle.nextest_config_lint.specs.declared.finding.FindingSeverity.{FindingSeverity};
 
@@ -46,8 +56,8 @@ pub fn law_own_findings()
         → own_findings a ≡ own_findings b }
 {}
 
-/// No finding of a document is an error exactly where each setting means something to its reader,
-/// and names no feature if the file is a tool's, or has a fault that is no error.
+/// No finding of a document is an error exactly where nothing that is judged in it has a fault that
+/// is one, and no feature is named if the file is a tool's.
 pub fn law_no_error()
     ensures { (edition : Edition) (kind : ConfigSourceKind) (files : List ListFile)
         (position : ℕ) (members : Members)
@@ -81,4 +91,52 @@ pub fn law_no_error_reads()
         → AreFindings edition kind files position members all_found
         → AllByRecursion IsNoError all_found
         → (ask : Ask) × TextAsks edition kind (Some text) ask }
+{}
+
+/// Key by key, nothing is wrong with a value of a setting exactly where its reader takes it whole:
+/// of a timeout, where nextest's own configuration doesn't supply the period.
+pub fn law_taken_key_by_key()
+    ensures versions { (edition : Edition) (path : List PathStep) (value : Data)
+        → IsTakenWhole versions_reading edition shapes.NextestVersion (versions version_fields)
+        path value }
+    ensures features { (edition : Edition) (path : List PathStep) (value : Data)
+        → IsTakenWhole (features_under edition) edition shapes.Experimental
+        (features feature_fields) path value }
+    ensures slow_timeout { (edition : Edition) (path : List PathStep) (value : Data)
+        → has_default_period path ≡ false → IsTakenWhole slow_timeout_reading edition
+        shapes.SlowTimeout (fields slow_timeout_fields) path value }
+    ensures leak_timeout { (edition : Edition) (path : List PathStep) (value : Data)
+        → has_default_period path ≡ false → IsTakenWhole leak_timeout_reading edition
+        shapes.LeakTimeout (fields leak_timeout_fields) path value }
+    ensures retries { (edition : Edition) (path : List PathStep) (value : Data)
+        → IsTakenWhole retry_policy_reading edition shapes.Retries retries_parts path value }
+    ensures fail_fast { (edition : Edition) (path : List PathStep) (value : Data)
+        → IsTakenWhole fail_fast_reading edition shapes.FailFast (fields fail_fast_fields)
+        path value }
+    ensures junit { (edition : Edition) (path : List PathStep) (value : Data)
+        → IsTakenWhole junit_reading edition shapes.Table (fields junit_fields) path value }
+{}
+
+/// Key by key, the one fault that the reader of a setting finds in a value is found, too: at the same
+/// place, for the same cause.
+pub fn law_reader_fault_found()
+    ensures versions { (edition : Edition) (path : List PathStep) (value : Data)
+        → FindsItsFault versions_reading edition shapes.NextestVersion (versions version_fields)
+        path value }
+    ensures features { (edition : Edition) (path : List PathStep) (value : Data)
+        → FindsItsFault (features_under edition) edition shapes.Experimental
+        (features feature_fields) path value }
+    ensures retries { (edition : Edition) (path : List PathStep) (value : Data)
+        → FindsItsFault retry_policy_reading edition shapes.Retries retries_parts path value }
+    ensures slow_timeout { (edition : Edition) (path : List PathStep) (value : Data)
+        → has_default_period path ≡ false → FindsItsFault slow_timeout_reading edition
+        shapes.SlowTimeout (fields slow_timeout_fields) path value }
+    ensures leak_timeout { (edition : Edition) (path : List PathStep) (value : Data)
+        → has_default_period path ≡ false → FindsItsFault leak_timeout_reading edition
+        shapes.LeakTimeout (fields leak_timeout_fields) path value }
+    ensures fail_fast { (edition : Edition) (path : List PathStep) (value : Data)
+        → FindsItsFault fail_fast_reading edition shapes.FailFast (fields fail_fast_fields)
+        path value }
+    ensures junit { (edition : Edition) (path : List PathStep) (value : Data)
+        → FindsItsFault junit_reading edition shapes.Table (fields junit_fields) path value }
 {}

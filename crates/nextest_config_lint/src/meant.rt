@@ -1,28 +1,26 @@
-//! What may be meant by a value that is refused.
+//! What may be meant by what is refused.
 
-ghost use Rattle.std.specs.Prelude.{◌≡◌, ◌↔◌, IfOk, IfSome, IsTrue, map, option_and_then, option_map, Some, string_bytes};
+ghost use Rattle.std.specs.Prelude.{◌≡◌, ◌↔◌, IfOk, IfSome, IsTrue, option_map, string_bytes};
 ghost use Rattle.std.specs.Char.{is_ascii_digit};
 ghost use Rattle.std.specs.List.{list_all};
 ghost use Rattle.toml.specs.Data.{as_integer, as_str, as_table};
 ghost use Rattle.toml.specs.View.{view};
 ghost use Rattle.nextest_config_values.specs.Read.{cause_of, fault_of, words_of};
-ghost use Rattle.toml_spans.specs.Line.{found_below};
-ghost use Rattle.toml_spans.specs.Step.{step_of};
-ghost use Rattle.nextest_config_lint.specs.Found.{meant_of};
-ghost use Rattle.nextest_config_lint.specs.Meant.{digits_of, digits_of_number, digits_of_text, IsDurationHint, IsDurationText, IsFaultHint, IsEitherHint, IsHintAt, IsLongText, IsSecondsHint, IsShortHint, limit_by, limit_of_count, seconds_text, tables_meant, taken_at, taken_here, taken_in_leak, taken_in_limit, taken_in_report, taken_in_retries, taken_in_timeout, taken_to, truth_meant, unknown_name};
+ghost use Rattle.nextest_config_elements.specs.Fields.{field_words, fields_view};
+ghost use Rattle.nextest_config_lint.specs.Found.{IsNearestMeant, meant_of};
+ghost use Rattle.nextest_config_lint.specs.Meant.{digits_of, digits_of_number, digits_of_text, IsDurationHint, IsDurationText, IsFaultHint, IsEitherHint, IsHintAt, IsLongText, IsSecondsHint, IsShortHint, IsValueHint, limit_by, limit_of_count, seconds_text, tables_meant, taken_of, truth_meant, unknown_word_in};
 ghost use Rattle.nextest_config_lint.specs.Settings.{setting_view};
 
-use crate::faults::value_along;
 use crate::finding::Hint;
 use crate::hints::nearest_hint;
 use crate::integers::{IntegerRange, integer_hint};
-use crate::reader::Reader;
-use crate::settings::Setting;
+use crate::settings::{Setting, Subject, keys_of};
+use nextest_config_elements::field::{Field, Shape};
 use nextest_config_values::duration::parse_duration;
 use nextest_config_values::read::{FaultCause, FaultKind, ValueFault};
 use std::alloc::{AllocError, Global};
 use toml::Value;
-use toml_spans::{PathText, Step};
+use toml_spans::PathText;
 
 // From how many nanoseconds on a duration is long: a hundred seconds.
 const LONG: u128 = 100_000_000_000;
@@ -40,7 +38,7 @@ pub(crate) enum Taken {
     Tables,
 }
 
-/// What may be meant by what is refused of a setting.
+/// What may be meant by what is refused.
 pub(crate) fn hint_of(
     alloc: Global,
     setting: &Setting,
@@ -49,60 +47,94 @@ pub(crate) fn hint_of(
     ensures { IfOk result (λ hint. IfSome (fault_of fault.now) (λ told.
         IsFaultHint (setting_view setting.now) told (option_map meant_of hint))) }
 {
-    match unknown_name(&fault.cause) {
-        Some((name, known)) => nearest_hint(alloc, name, known),
-        None => hint_to(alloc, setting, fault.steps.as_slice()),
+    match setting.subject {
+        Subject::Value { shape, value, .. } => {
+            hint_of_value(alloc, setting, shape, value, &fault.cause)
+        }
+        Subject::RefusedKey { name, known, .. } => hint_among(alloc, name, known),
+        Subject::AbsentKey(_) | Subject::Between(_, _) | Subject::Features(_) => Ok(None),
     }
 }
 
-// The word or key that is refused as unknown, and the known ones.
-fn unknown_name(cause: &FaultCause) -> Option<(&str, &'static [&'static str])>
+// What may be meant by a value that is refused.
+fn hint_of_value(
+    alloc: Global,
+    setting: &Setting,
+    shape: Shape,
+    value: &Value,
+    cause: &FaultCause,
+) -> Result<Option<Hint>, AllocError>
+    ensures { IfOk result (λ hint. IfSome (cause_of cause.now) (λ told.
+        IsValueHint (unknown_word_in told) (setting_view setting.now).path shape (view value.now)
+        (option_map meant_of hint))) }
+{
+    match unknown_word_in(cause) {
+        Some((name, known)) => nearest_hint(alloc, name, known),
+        None => hint_at(alloc, setting, shape, value),
+    }
+}
+
+// The key that an unknown one may be meant for.
+fn hint_among(alloc: Global, name: &str, known: &[Field]) -> Result<Option<Hint>, AllocError>
+    ensures { IfOk result (λ hint. IsNearestMeant (field_words (fields_view known.now)) name.now
+        (option_map meant_of hint)) }
+{
+    let words = keys_of(alloc, known)?;
+    nearest_hint(alloc, name, words.as_slice())
+}
+
+// The word that is refused as unknown, and the known ones.
+fn unknown_word_in(cause: &FaultCause) -> Option<(&str, &'static [&'static str])>
     ensures { IfSome (cause_of cause.now) (λ told.
         option_map (λ unknown. (unknown.0.now, words_of unknown.1.now)) result
-        ≡ unknown_name told) }
+        ≡ unknown_word_in told) }
 {
     match cause {
-        FaultCause::Kind(
-            FaultKind::UnknownVariant { found, expected }
-            | FaultKind::UnknownField { found, expected },
-        ) => Some((found.as_str(), expected)),
+        FaultCause::Kind(FaultKind::UnknownVariant { found, expected }) => {
+            Some((found.as_str(), expected))
+        }
         _ => None,
     }
 }
 
-// What may be meant by the value that steps lead to.
-fn hint_to(alloc: Global, setting: &Setting, steps: &[Step]) -> Result<Option<Hint>, AllocError>
-    ensures { IfOk result (λ hint. IsHintAt (setting_view setting.now).path
-        (taken_to setting.now.reader (map step_of steps.now))
-        (found_below (map step_of steps.now) (setting_view setting.now).value)
-        (option_map meant_of hint)) }
-{
-    let Some(taken) = taken_to(setting.reader, steps) else {
-        return Ok(None);
-    };
-    let Some(value) = value_along(setting.value, steps) else {
-        return Ok(None);
-    };
-    hint_at(alloc, setting, taken, value)
-}
-
-// What may be meant by a value in place of what is taken.
+// What may be meant by a value in place of one of its shape.
 fn hint_at(
     alloc: Global,
     setting: &Setting,
-    taken: Taken,
+    shape: Shape,
     value: &Value,
 ) -> Result<Option<Hint>, AllocError>
-    ensures { IfOk result (λ hint. IsHintAt (setting_view setting.now).path (Some taken)
-        (Some (view value.now)) (option_map meant_of hint)) }
+    ensures { IfOk result (λ hint. IsHintAt (setting_view setting.now).path (taken_of shape)
+        (view value.now) (option_map meant_of hint)) }
 {
-    match taken {
-        Taken::Duration => duration_hint(alloc, value),
-        Taken::ShortDuration => short_duration_hint(alloc, value),
-        Taken::Boolean => truth_hint(alloc, value),
-        Taken::FailFast => limit_hint(alloc, value),
-        Taken::Integer(range) => integer_hint(alloc, range, value),
-        Taken::Tables => tables_hint(alloc, setting, value),
+    match taken_of(shape) {
+        Some(Taken::Duration) => duration_hint(alloc, value),
+        Some(Taken::ShortDuration) => short_duration_hint(alloc, value),
+        Some(Taken::Boolean) => truth_hint(alloc, value),
+        Some(Taken::FailFast) => limit_hint(alloc, value),
+        Some(Taken::Integer(range)) => integer_hint(alloc, range, value),
+        Some(Taken::Tables) => tables_hint(alloc, setting, value),
+        None => Ok(None),
+    }
+}
+
+// What is taken as a value of a shape, where something may be meant by another one.
+fn taken_of(shape: Shape) -> Option<Taken>
+    ensures { result ≡ taken_of shape }
+{
+    match shape {
+        Shape::SlowTimeout | Shape::Duration => Some(Taken::Duration),
+        Shape::LeakTimeout | Shape::ShortDuration => Some(Taken::ShortDuration),
+        Shape::FailFast => Some(Taken::FailFast),
+        Shape::Retries | Shape::U32 => Some(Taken::Integer(IntegerRange::U32)),
+        Shape::ThreadsRequired | Shape::MaxFail | Shape::Count => {
+            Some(Taken::Integer(IntegerRange::Count))
+        }
+        Shape::Threads => Some(Taken::Integer(IntegerRange::Threads)),
+        Shape::Priority => Some(Taken::Integer(IntegerRange::Priority)),
+        Shape::Boolean => Some(Taken::Boolean),
+        Shape::Array => Some(Taken::Tables),
+        _ => None,
     }
 }
 
@@ -267,102 +299,4 @@ fn tables_hint(alloc: Global, setting: &Setting, value: &Value) -> Result<Option
         }
         None => Ok(None),
     }
-}
-
-// What is taken where steps lead to in the value that a reader reads.
-fn taken_to(reader: Reader, steps: &[Step]) -> Option<Taken>
-    ensures { result ≡ taken_to reader (map step_of steps.now) }
-{
-    match steps {
-        [] => taken_here(reader),
-        [Step::Key(name)] => taken_at(reader, name.as_str()),
-        [Step::Index(_)] | [_, _, ..] => None,
-    }
-}
-
-// What is taken as the value itself.
-fn taken_here(reader: Reader) -> Option<Taken>
-    ensures { result ≡ taken_here reader }
-{
-    match reader {
-        Reader::SlowTimeout | Reader::GlobalTimeout => Some(Taken::Duration),
-        Reader::LeakTimeout => Some(Taken::ShortDuration),
-        Reader::FailFast => Some(Taken::FailFast),
-        Reader::Retries => Some(Taken::Integer(IntegerRange::U32)),
-        Reader::ThreadsRequired => Some(Taken::Integer(IntegerRange::Count)),
-        Reader::Threads => Some(Taken::Integer(IntegerRange::Threads)),
-        Reader::Priority => Some(Taken::Integer(IntegerRange::Priority)),
-        Reader::Boolean => Some(Taken::Boolean),
-        Reader::Array => Some(Taken::Tables),
-        _ => None,
-    }
-}
-
-// What is taken at a key.
-fn taken_at(reader: Reader, name: &str) -> Option<Taken>
-    ensures { result ≡ taken_at reader name.now }
-{
-    match reader {
-        Reader::SlowTimeout => taken_in_timeout(name),
-        Reader::LeakTimeout => taken_in_leak(name),
-        Reader::Retries => taken_in_retries(name),
-        Reader::FailFast => taken_in_limit(name),
-        Reader::Junit => taken_in_report(name),
-        Reader::Experimental => Some(Taken::Boolean),
-        _ => None,
-    }
-}
-
-fn taken_in_timeout(name: &str) -> Option<Taken>
-    ensures { result ≡ taken_in_timeout name.now }
-{
-    if (name == "period") | (name == "grace-period") {
-        return Some(Taken::Duration);
-    }
-    if name == "terminate-after" {
-        return Some(Taken::Integer(IntegerRange::Count));
-    }
-    None
-}
-
-fn taken_in_leak(name: &str) -> Option<Taken>
-    ensures { result ≡ taken_in_leak name.now }
-{
-    if name == "period" {
-        return Some(Taken::ShortDuration);
-    }
-    None
-}
-
-fn taken_in_limit(name: &str) -> Option<Taken>
-    ensures { result ≡ taken_in_limit name.now }
-{
-    if name == "max-fail" {
-        return Some(Taken::Integer(IntegerRange::Count));
-    }
-    None
-}
-
-fn taken_in_retries(name: &str) -> Option<Taken>
-    ensures { result ≡ taken_in_retries name.now }
-{
-    if (name == "delay") | (name == "max-delay") {
-        return Some(Taken::Duration);
-    }
-    if name == "jitter" {
-        return Some(Taken::Boolean);
-    }
-    if name == "count" {
-        return Some(Taken::Integer(IntegerRange::U32));
-    }
-    None
-}
-
-fn taken_in_report(name: &str) -> Option<Taken>
-    ensures { result ≡ taken_in_report name.now }
-{
-    if (name == "store-success-output") | (name == "store-failure-output") {
-        return Some(Taken::Boolean);
-    }
-    None
 }

@@ -8,7 +8,7 @@ ghost use Rattle.nextest_config_values.specs.Read.Fault.{identifier};
 ghost use Rattle.nextest_config_lint.specs.Defined.{IsDefinedBy, ListFile};
 ghost use Rattle.nextest_config_lint.specs.Found.{AddsOne, AreFoundIn, TellsSome, group_of_tool, group_outside_tool, kind_view, meant_of, no_group_name, override_of_all, reserved_profile};
 ghost use Rattle.nextest_config_values.specs.Read.{words_of};
-ghost use Rattle.nextest_config_lint.specs.References.{BeginsWith, IsGroupTextTold, IsGroupTold, IsKeptTold, IsNameTold, IsOverrideOfAll, IsParentNameTold, IsParentTold, IsPlaceTold, IsReferenceFound, IsReserved, IsSought, IsToldIf, a_group, a_parent, a_profile, is_key, is_other, named, place_below, place_in_override, place_of, place_view, TellsIfAny, tool_mark_of};
+ghost use Rattle.nextest_config_lint.specs.References.{BeginsWith, IsGroupTextTold, IsGroupTold, IsKeptTold, IsNameTold, IsOverrideOfAll, IsParentNameTold, IsParentTold, IsPlaceTold, IsReferenceFound, IsReserved, IsSought, IsSubjectTold, IsToldIf, a_group, a_parent, a_profile, is_other, named, place_below, place_in_override, place_of, place_view, TellsIfAny, tool_mark_of};
 ghost use Rattle.nextest_config_lint.specs.Settings.{mark_step, setting_view};
 
 use crate::defined::{
@@ -16,7 +16,7 @@ use crate::defined::{
 };
 use crate::finding::{Finding, FindingKind, Hint};
 use crate::hints::nearest_hint;
-use crate::settings::{Mark, Setting, steps_of};
+use crate::settings::{Mark, Setting, Subject, is_key, steps_of};
 use nextest_config::nextest_version::ConfigSourceKind;
 use nextest_config_values::identifier::{ConfigIdentifier, InvalidIdentifier, ToolName};
 use nextest_config_values::read::value_at;
@@ -77,7 +77,7 @@ fn add_reference(
         → AddsOne (IsReferenceFound files source.now position) (setting_view setting.now)
         findings.old.items findings.new.items) }
 {
-    match find_at(alloc, source, setting, defined, position)? {
+    match find_of(alloc, source, setting, defined, position)? {
         Some(kind) => {
             let path = steps_of(alloc, setting.path.as_slice())?;
             findings.push(Finding { path, kind })?;
@@ -87,8 +87,8 @@ fn add_reference(
     }
 }
 
-// What is found of the value.
-fn find_at(
+// What is found of what is judged, if it is a value.
+fn find_of(
     alloc: Global,
     source: &ConfigSourceKind,
     setting: &Setting,
@@ -96,18 +96,41 @@ fn find_at(
     position: usize,
 ) -> Result<Option<FindingKind>, AllocError>
     ensures told { IfOk result (λ told. (files : List ListFile) → IsDefinedBy files defined.now
-        → IsPlaceTold files source.now position (place_of (setting_view setting.now).path)
-        (setting_view setting.now).value (option_and_then kind_view told)) }
+        → IsSubjectTold files source.now position (setting_view setting.now).path
+        (setting_view setting.now).subject (option_and_then kind_view told)) }
     ensures tells { IfOk result TellsIfAny }
 {
-    match place_of(setting.path.as_slice()) {
+    match setting.subject {
+        Subject::Value { value, .. } => {
+            let place = place_of(setting.path.as_slice());
+            find_at(alloc, source, place, value, defined, position)
+        }
+        _ => Ok(None),
+    }
+}
+
+// What is found of the value at a place.
+fn find_at(
+    alloc: Global,
+    source: &ConfigSourceKind,
+    place: Place,
+    value: &Value,
+    defined: &Defined,
+    position: usize,
+) -> Result<Option<FindingKind>, AllocError>
+    ensures told { IfOk result (λ told. (files : List ListFile) → IsDefinedBy files defined.now
+        → IsPlaceTold files source.now position (place_view place.entry) (view value.now)
+        (option_and_then kind_view told)) }
+    ensures tells { IfOk result TellsIfAny }
+{
+    match place {
         Place::Profile(name) => Ok(of_profile(name)),
-        Place::Parent(name) => match setting.value.as_str() {
+        Place::Parent(name) => match value.as_str() {
             Some(parent) => of_parent(alloc, defined, position, name, parent),
             None => Ok(None),
         },
-        Place::Override => Ok(of_override(setting.value)),
-        Place::GroupOf => match setting.value.as_str() {
+        Place::Override => Ok(of_override(value)),
+        Place::GroupOf => match value.as_str() {
             Some(text) => of_group_text(alloc, defined, text),
             None => Ok(None),
         },
@@ -193,16 +216,6 @@ fn group_place<'a>(name: &Mark<'a>) -> Place<'a>
     match name {
         Mark::Key(name) => Place::Group(name),
         Mark::Index(_) => Place::Another,
-    }
-}
-
-// Whether a step is this key.
-fn is_key(step: &Mark, key: &str) -> bool
-    ensures { result ≡ is_key key.now (mark_step step.now) }
-{
-    match step {
-        Mark::Key(text) => *text == key,
-        Mark::Index(_) => false,
     }
 }
 

@@ -2,26 +2,30 @@
 
 ghost use Rattle.std.specs.Prelude.{◌≡◌, ◌++◌, [], IfOk, OnOk, flat_map, map, option_map, Some};
 ghost use Rattle.toml.specs.Data.{table};
-ghost use Rattle.toml.specs.View.{table_view};
+ghost use Rattle.toml.specs.View.{table_view, view};
+ghost use Rattle.nextest_config_elements.specs.Fields.{field_words, fields_view, parts_of};
+ghost use Rattle.nextest_config_elements.specs.Keys.{file_table};
 ghost use Rattle.nextest_config_lint.specs.Found.{AddsFound, AddsOne, AreFoundIn, meant_of, TellsSome};
-ghost use Rattle.nextest_config_lint.specs.Settings.{setting_view, mark_step, names_of};
+ghost use Rattle.nextest_config_lint.specs.Settings.{is_known, setting_view, mark_step, names_of};
 ghost use Rattle.nextest_config_values.specs.Read.{words_of};
-ghost use Rattle.nextest_config_lint.specs.Schema.{below_of, file_table, row_words, rows_view};
-ghost use Rattle.nextest_config_lint.specs.Unknown.{scope_of, scope_words, is_known, IsHintFor, IsKeyFound, key_at, keys_among, keys_below, keys_in, parts_of, slip_of, word_with_part};
+ghost use Rattle.nextest_config_lint.specs.Unknown.{scope_of, scope_words, IsHintFor, IsKeyFound, key_at, keys_among, keys_below, keys_in, pieces_of, slip_of, word_with_part};
 
 use crate::finding::{Finding, FindingKind, Hint, Scope};
 use crate::hints::word_hint;
-use crate::schema::{Below, Row, keys_of, override_junit_keys, override_keys, profile_keys, top};
-use crate::settings::{Mark, Setting, steps_of};
+use crate::settings::{Mark, Setting, Subject, is_among, keys_of, steps_of};
+use nextest_config_elements::field::{Field, Parts};
+use nextest_config_elements::keys::{
+    file_fields, override_fields, override_junit_fields, profile_fields,
+};
 use nextest_config_values::nearest_word::{is_same, nearest};
 use std::alloc::{AllocError, Global};
 use strsim::levenshtein;
-use toml::Table;
+use toml::{Table, Value};
 
 // The tables that know keys, in the order in which a key is looked for.
 const SCOPES: &[Scope] = &[Scope::Top, Scope::Profile, Scope::Override, Scope::Junit];
 
-/// The unknown keys of a document, those of the top first and then those of its judged values.
+/// The unknown keys of a document, those of the top first and then those of the values in it.
 pub(crate) fn find_unknown(
     alloc: Global,
     document: &Table,
@@ -32,7 +36,7 @@ pub(crate) fn find_unknown(
         ++ flat_map keys_in (map setting_view settings.now)))) }
 {
     let mut findings = Vec::new(alloc);
-    add_beside_rows(alloc, top(), &[], document, &mut findings)?;
+    add_beside(alloc, file_fields(), &[], document, &mut findings)?;
     for setting in settings {
         add_keys_in(alloc, setting, &mut findings)?;
     }
@@ -48,31 +52,55 @@ fn add_keys_in(
     ensures { OnOk result (AddsFound IsKeyFound (keys_in (setting_view setting.now))
         findings.old.items findings.new.items) }
 {
-    let Some(table) = setting.value.as_table() else {
-        return Ok(());
-    };
-    let path = setting.path.as_slice();
-    match setting.below {
-        Below::Keys(known) => add_unknown(alloc, known, path, table, findings),
-        Below::Rows(rows) => add_beside_rows(alloc, rows, path, table, findings),
-        Below::Nothing | Below::Names(_, _, _) | Below::Elements(_, _, _) => Ok(()),
+    match setting.subject {
+        Subject::Value { parts, value, .. } => {
+            add_keys_below(alloc, &parts, setting.path.as_slice(), value, findings)
+        }
+        _ => Ok(()),
     }
 }
 
-// Adds the keys of a table that are in none of these rows.
-fn add_beside_rows(
+// Adds the unknown keys of a value with these parts.
+fn add_keys_below(
     alloc: Global,
-    rows: &[Row],
+    parts: &Parts,
+    path: &[Mark],
+    value: &Value,
+    findings: &mut Vec<Finding>,
+) -> Result<(), AllocError>
+    ensures { OnOk result (AddsFound IsKeyFound
+        (keys_below (parts_of parts.now) (map mark_step path.now) (view value.now))
+        findings.old.items findings.new.items) }
+{
+    let Some(table) = value.as_table() else {
+        return Ok(());
+    };
+    match parts {
+        Parts::Fields(fields) | Parts::Versions(fields) => {
+            add_beside(alloc, fields, path, table, findings)
+        }
+        Parts::Nothing
+        | Parts::Features(_)
+        | Parts::Retries { .. }
+        | Parts::Names(_, _)
+        | Parts::Elements(_, _) => Ok(()),
+    }
+}
+
+// Adds the keys of a table that are those of none of these fields.
+fn add_beside(
+    alloc: Global,
+    fields: &[Field],
     path: &[Mark],
     table: &Table,
     findings: &mut Vec<Finding>,
 ) -> Result<(), AllocError>
     ensures { OnOk result (AddsFound IsKeyFound
-        (keys_among (Some (row_words (rows_view rows.now))) (map mark_step path.now)
+        (keys_among (Some (field_words (fields_view fields.now))) (map mark_step path.now)
         (table_view table.now))
         findings.old.items findings.new.items) }
 {
-    let known = keys_of(alloc, rows)?;
+    let known = keys_of(alloc, fields)?;
     add_unknown(alloc, known.as_slice(), path, table, findings)
 }
 
@@ -160,26 +188,19 @@ fn scope_of(name: &str) -> Option<Scope>
     SCOPES
         .iter()
         .copied()
-        .find(|scope| is_among(rows_of(*scope), name))
+        .find(|scope| is_among(fields_of(*scope), name))
 }
 
-// The rows of the keys that a table of this kind knows.
-fn rows_of(scope: Scope) -> &'static [Row]
-    ensures { row_words (rows_view result.now) ≡ scope_words scope }
+// The fields that a table of this kind has.
+fn fields_of(scope: Scope) -> &'static [Field]
+    ensures { field_words (fields_view result.now) ≡ scope_words scope }
 {
     match scope {
-        Scope::Top => top(),
-        Scope::Profile => profile_keys(),
-        Scope::Override => override_keys(),
-        Scope::Junit => override_junit_keys(),
+        Scope::Top => file_fields(),
+        Scope::Profile => profile_fields(),
+        Scope::Override => override_fields(),
+        Scope::Junit => override_junit_fields(),
     }
-}
-
-// Whether the key is that of one of these rows.
-fn is_among(rows: &[Row], name: &str) -> bool
-    ensures { result ≡ is_known (row_words (rows_view rows.now)) name.now }
-{
-    rows.iter().any(|(key, _, _, _)| *key == name)
 }
 
 // The first word that has the name as one of its parts between dashes.
@@ -191,7 +212,7 @@ fn word_with_part<'w>(words: &[&'w str], name: &str) -> Option<&'w str>
 
 // Whether the name is one of the parts of a word between dashes.
 fn has_part(word: &str, name: &str) -> bool
-    ensures { result ≡ is_known (parts_of word.now) name.now }
+    ensures { result ≡ is_known (pieces_of word.now) name.now }
 {
     word.split('-').any(|part| part == name)
 }

@@ -1,17 +1,21 @@
-//! What is found of the values of a document by their readers.
+//! What is found of all that is judged in a document.
 
-ghost use Rattle.std.specs.Prelude.{◌≡◌, ◌++◌, [], ◌∷◌, IfOk, OnOk, map};
-ghost use Rattle.nextest_config_lint.specs.Settings.{setting_view};
-ghost use Rattle.nextest_config_lint.specs.Values.{TellsValue, TellsValues};
-ghost use Rattle.nextest_config_lint.specs.declared.reader.Reader.TheVariants.{Experimental};
+ghost use Rattle.std.specs.Prelude.{◌≡◌, ◌++◌, [], ◌∷◌, IfOk, IsSome, MatchResult, OnOk, map};
+ghost use Rattle.toml.specs.View.{view};
+ghost use Rattle.nextest_config_values.specs.Read.{fault_of};
+ghost use Rattle.nextest_config_lint.specs.Settings.{features_at, setting_view};
+ghost use Rattle.nextest_config_lint.specs.Values.{IsEmpty, TellsFault, TellsValue, TellsValues};
 
 use crate::faults::find_of_fault;
 use crate::features::find_of_features;
 use crate::finding::Finding;
-use crate::reader::Reader;
-use crate::settings::Setting;
+use crate::rules::check_rules;
+use crate::settings::{Setting, Subject};
+use crate::shapes::check_shape;
 use nextest_config::nextest_version::{ConfigSourceKind, Edition, ExperimentalDeserialize};
+use nextest_config_values::read::ValueFault;
 use std::alloc::{AllocError, Global};
+use toml::Value;
 
 /// What is found of values, by kind.
 #[derive(Drop)]
@@ -81,7 +85,7 @@ impl ValueFindings {
     }
 }
 
-/// What is found of each of the values, in their order.
+/// What is found of all that is judged, in its order.
 pub(crate) fn find_in_values(
     alloc: Global,
     source: &ConfigSourceKind,
@@ -98,7 +102,7 @@ pub(crate) fn find_in_values(
     Ok(findings)
 }
 
-// What is found of a value.
+// What is found of what is judged at a path.
 fn find_in_value(
     alloc: Global,
     source: &ConfigSourceKind,
@@ -107,27 +111,66 @@ fn find_in_value(
 ) -> Result<ValueFindings, AllocError>
     ensures { IfOk result (TellsValue edition source.now (setting_view setting.now)) }
 {
-    if setting.reader == Reader::Experimental {
-        return find_in_experimental(alloc, source, edition, setting);
+    match setting.subject {
+        Subject::Value { shape, value, .. } => {
+            find_by(alloc, setting, check_shape(alloc, edition, shape, value))
+        }
+        Subject::AbsentKey(name) => {
+            find_of_fault(alloc, setting, ValueFault::missing_field(alloc, name))
+        }
+        Subject::RefusedKey { name, expected, .. } => {
+            find_of_fault(
+                alloc,
+                setting,
+                ValueFault::unknown_field(alloc, name, expected),
+            )
+        }
+        Subject::Between(rules, value) => {
+            find_by(alloc, setting, check_rules(alloc, rules, value))
+        }
+        Subject::Features(value) => find_features(alloc, source, edition, setting, value),
     }
-    match setting.reader.check(alloc, edition, setting.value) {
+}
+
+// What is found of what is judged, by the fault that it has, if it has one.
+fn find_by(
+    alloc: Global,
+    setting: &Setting,
+    checked: Result<(), ValueFault>,
+) -> Result<ValueFindings, AllocError>
+    ensures { MatchResult checked (λ _. IfOk result IsEmpty)
+        (λ fault. IfOk result (TellsFault (setting_view setting.now) (fault_of fault))) }
+{
+    match checked {
         Ok(()) => Ok(ValueFindings::new(alloc)),
         Err(fault) => find_of_fault(alloc, setting, fault),
     }
 }
 
-// What is found of a value that names experimental features.
-fn find_in_experimental(
+// What is found of the features that a value names; where it doesn't read, that is told where it is
+// wrong.
+fn find_features(
     alloc: Global,
     source: &ConfigSourceKind,
     edition: Edition,
     setting: &Setting,
+    value: &Value,
 ) -> Result<ValueFindings, AllocError>
-    requires { setting.now.reader ≡ Experimental }
+    requires { (setting_view setting.now).subject ≡ features_at (view value.now) }
     ensures { IfOk result (TellsValue edition source.now (setting_view setting.now)) }
 {
-    match ExperimentalDeserialize::read_under(alloc, edition, setting.value) {
-        Ok(named) => find_of_features(alloc, source, setting, named),
-        Err(fault) => find_of_fault(alloc, setting, fault),
+    match ExperimentalDeserialize::read_under(alloc, edition, value) {
+        Ok(named) => find_of_features(alloc, source, setting, value, named),
+        Err(fault) => none_of(alloc, fault),
     }
+}
+
+// Nothing is found of a fault, unless memory was refused.
+fn none_of(alloc: Global, fault: ValueFault) -> Result<ValueFindings, AllocError>
+    ensures { IfOk result (λ found. IsEmpty found × IsSome (fault_of fault)) }
+{
+    if fault.is_memory() {
+        return Err(AllocError);
+    }
+    Ok(ValueFindings::new(alloc))
 }

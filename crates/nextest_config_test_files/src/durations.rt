@@ -101,37 +101,48 @@ slow-timeout = { period = "5s", grace-period = "5" }
 > 13:75: error: profile.b.retries.max-delay: invalid value: string "5", expected a duration, did you mean "5s" [invalid-value]
 > 15:48: error: profile.c.slow-timeout.grace-period: invalid value: string "5", expected a duration, did you mean "5s" [invalid-value]
 
-=== the rest of the value isn't judged | repository
+=== the rest of the value is judged | repository
 [profile.a]
 slow-timeout = { period = "1.5h", terminate-after = 0, on-timeout = 1 }
 retries = { backoff = "exponential", count = 0, delay = "0", jitter = 1, zone = 1 }
 leak-timeout = { period = "0", result = 1 }
 > 2:27: note: profile.a.slow-timeout.period: not judged here: a duration other than whole numbers, each with a unit [unjudged-duration]
+> 2:53: error: profile.a.slow-timeout.terminate-after: invalid value: integer `0`, expected a nonzero usize [invalid-value]
+> 2:69: error: profile.a.slow-timeout.on-timeout: invalid type: integer `1`, expected a string [invalid-type]
+> 3:46: error: profile.a.retries: `count` cannot be zero with exponential backoff [count-zero]
 > 3:57: note: profile.a.retries.delay: not judged here: a duration other than whole numbers, each with a unit [unjudged-duration]
+> 3:71: error: profile.a.retries.jitter: invalid type: integer `1`, expected a boolean [invalid-type]
+> 3:74: error: profile.a.retries: unknown field `zone`, expected one of `count`, `delay`, `jitter`, `max-delay` [unknown-field]
 > 4:27: note: profile.a.leak-timeout.period: not judged here: a duration other than whole numbers, each with a unit [unjudged-duration]
+> 4:41: error: profile.a.leak-timeout.result: invalid type: integer `1`, expected a string [invalid-type]
 
-=== its unknown keys are | repository
+=== and so are its unknown keys | repository
 [profile.a]
 slow-timeout = { period = "1.5h", grace = 1 }
 leak-timeout = { period = "0", result = 1, resul = 1 }
 > 2:27: note: profile.a.slow-timeout.period: not judged here: a duration other than whole numbers, each with a unit [unjudged-duration]
 > 2:35: warning: profile.a.slow-timeout: unknown key "grace", did you mean "grace-period" [unknown-key]
 > 3:27: note: profile.a.leak-timeout.period: not judged here: a duration other than whole numbers, each with a unit [unjudged-duration]
+> 3:41: error: profile.a.leak-timeout.result: invalid type: integer `1`, expected a string [invalid-type]
 > 3:44: warning: profile.a.leak-timeout: unknown key "resul", did you mean "result" [unknown-key]
 
-=== what comes first in the value stays an error | repository
+=== behind faults of the same value | repository
 [profile.a]
 slow-timeout = { period = "60s", terminate-after = 0, grace-period = "1.5s" }
 retries = { backoff = "fixed", count = -1, delay = "0" }
 [profile.b]
 retries = { count = 1, delay = "0" }
 > 2:52: error: profile.a.slow-timeout.terminate-after: invalid value: integer `0`, expected a nonzero usize [invalid-value]
+> 2:70: note: profile.a.slow-timeout.grace-period: not judged here: a duration other than whole numbers, each with a unit [unjudged-duration]
 > 3:40: error: profile.a.retries.count: invalid value: integer `-1`, expected u32 [invalid-value]
+> 3:52: note: profile.a.retries.delay: not judged here: a duration other than whole numbers, each with a unit [unjudged-duration]
 > 5:11: error: profile.b.retries: missing configuration field "profile.b.retries.backoff" [missing-field]
+> 5:32: note: profile.b.retries.delay: not judged here: a duration other than whole numbers, each with a unit [unjudged-duration]
 
-=== of two in one value the first | repository
+=== two in one value | repository
 [profile.a]
 slow-timeout = { grace-period = "0", period = "1.5s" }
+> 2:33: note: profile.a.slow-timeout.grace-period: not judged here: a duration other than whole numbers, each with a unit [unjudged-duration]
 > 2:47: note: profile.a.slow-timeout.period: not judged here: a duration other than whole numbers, each with a unit [unjudged-duration]
 
 === texts at other places stay errors | repository

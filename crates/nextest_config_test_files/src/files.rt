@@ -332,9 +332,9 @@ repository | nextest-version = {}\nexperimental = {}\nprofile = {}\n |  |
 repository | [profile.ci]\noverrides = 1\n | 2:13: error: profile.ci.overrides: invalid type: integer `1`, expected an array [invalid-type]
 repository | [profile.ci.overrides]\nfilter = "all()"\n | 1:13: error: profile.ci.overrides: invalid type: map, expected an array, did you mean [[profile.ci.overrides]] [invalid-type]
 
-# two faults in one table are one finding, the first, also where they are written the other way round
-repository | [profile.ci]\njunit = { path = 1, report-name = 2 }\n | 2:18: warning: profile.ci.junit.path: invalid type: integer `1`, expected a string [invalid-type]
-repository | [profile.ci.junit]\nreport-name = 2\npath = 1\n | 3:8: warning: profile.ci.junit.path: invalid type: integer `1`, expected a string [invalid-type]
+# two faults in one table, also where they are written the other way round
+repository | [profile.ci]\njunit = { path = 1, report-name = 2 }\n | 2:18: warning: profile.ci.junit.path: invalid type: integer `1`, expected a string [invalid-type] && 2:35: warning: profile.ci.junit.report-name: invalid type: integer `2`, expected a string [invalid-type]
+repository | [profile.ci.junit]\nreport-name = 2\npath = 1\n | 2:15: warning: profile.ci.junit.report-name: invalid type: integer `2`, expected a string [invalid-type] && 3:8: warning: profile.ci.junit.path: invalid type: integer `1`, expected a string [invalid-type]
 
 # a fault and an unknown key in one table, and of the version
 repository | [profile.ci]\nslow-timeout = { period = 60, grace = "1s" }\n | 2:27: error: profile.ci.slow-timeout.period: invalid type: integer `60`, expected a duration, did you mean "60s" [invalid-type] && 2:31: warning: profile.ci.slow-timeout: unknown key "grace", did you mean "grace-period" [unknown-key]

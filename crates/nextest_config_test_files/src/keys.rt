@@ -94,6 +94,8 @@ global-timeout = { zone = 1 }
 priority = { zone = 1 }
 junit = { store-success-output = { zone = 1 }, flaky-fail-status = { zone = 1 } }
 > 2:11: error: profile.ci.retries: missing configuration field "profile.ci.retries.backoff" [missing-field]
+> 2:11: error: profile.ci.retries: missing configuration field "profile.ci.retries.count" [missing-field]
+> 2:13: error: profile.ci.retries: unknown field `zone`, expected one of `count`, `delay`, `jitter`, `max-delay` [unknown-field]
 > 3:16: error: profile.ci.flaky-result: invalid type: map, expected a string [invalid-type]
 > 4:20: error: profile.ci.threads-required: invalid type: map, expected an integer, the string "num-cpus" or the string "num-test-threads" [invalid-type]
 > 5:18: error: profile.ci.global-timeout: invalid type: map, expected a duration [invalid-type]

@@ -9,6 +9,7 @@ pub mod features;
 pub mod files;
 pub mod findings;
 pub mod forms;
+pub mod inside;
 pub mod keys;
 pub mod lines;
 pub mod meant;
@@ -32,6 +33,7 @@ pub fn tables(tables: &mut impl Tables) {
     files::tables(tables);
     findings::tables(tables);
     forms::tables(tables);
+    inside::tables(tables);
     keys::tables(tables);
     lines::tables(tables);
     meant::tables(tables);

@@ -213,12 +213,12 @@ retries = { backoff = "fixed", count = 1, max_delay = "5s" }
 retries = { backoff = "fixed", count = 1, jiter = true }
 [profile.f]
 retries = { backoff = "exponential", count = 1, delay = "1s", max-dalay = "5s" }
-> 2:11: error: profile.a.retries: unknown field `Delay`, expected one of `count`, `delay`, `jitter`, did you mean "delay" [unknown-field]
-> 4:11: error: profile.b.retries: unknown field `delya`, expected one of `count`, `delay`, `jitter` [unknown-field]
-> 6:11: error: profile.c.retries: unknown field `max_delay`, expected one of `count`, `delay`, `jitter`, `max-delay`, did you mean "max-delay" [unknown-field]
-> 8:11: error: profile.d.retries: unknown field `max_delay`, expected one of `count`, `delay`, `jitter` [unknown-field]
-> 10:11: error: profile.e.retries: unknown field `jiter`, expected one of `count`, `delay`, `jitter`, did you mean "jitter" [unknown-field]
-> 12:11: error: profile.f.retries: unknown field `max-dalay`, expected one of `count`, `delay`, `jitter`, `max-delay`, did you mean "max-delay" [unknown-field]
+> 2:43: error: profile.a.retries: unknown field `Delay`, expected one of `count`, `delay`, `jitter`, did you mean "delay" [unknown-field]
+> 4:43: error: profile.b.retries: unknown field `delya`, expected one of `count`, `delay`, `jitter` [unknown-field]
+> 6:63: error: profile.c.retries: unknown field `max_delay`, expected one of `count`, `delay`, `jitter`, `max-delay`, did you mean "max-delay" [unknown-field]
+> 8:43: error: profile.d.retries: unknown field `max_delay`, expected one of `count`, `delay`, `jitter` [unknown-field]
+> 10:43: error: profile.e.retries: unknown field `jiter`, expected one of `count`, `delay`, `jitter`, did you mean "jitter" [unknown-field]
+> 12:63: error: profile.f.retries: unknown field `max-dalay`, expected one of `count`, `delay`, `jitter`, `max-delay`, did you mean "max-delay" [unknown-field]
 
 === an array of tables | repository
 [profile.ci.overrides]

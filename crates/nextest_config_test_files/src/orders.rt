@@ -29,6 +29,69 @@ retries = "two"
 > warning: profile.ci: unknown key "zone"
 > note: experimental: the array form is deprecated, use a table: { }
 
+=== in a table its keys in their order, then unknown ones of retries in that of bytes, then a rule | repository
+[profile.ci]
+leak-timeout = { result = 1, period = 1 }
+junit = { report-skipped = 1, store-failure-output = [], path = [] }
+slow-timeout = { on-timeout = 1, grace-period = "0", terminate-after = 0 }
+fail-fast = { terminate = 1 }
+retries = { zone = 1, "é" = 1, max-delay = "0s", jitter = 1, Zone = 1, delay = "x", backoff = "exponential" }
+[profile.a]
+retries = {}
+[profile.b]
+retries = { jitter = true, "" = 1, count = "1", backoff = "fixed" }
+[profile.c]
+retries = { count = "x", backoff = "exponential" }
+[nextest-version]
+recommended = 1
+required = 1
+[experimental]
+benchmarks = 1
+wrapper-scripts = 1
+setup-scripts = 1
+> error: nextest-version.required: invalid type: integer `1`, expected a string
+> error: nextest-version.recommended: invalid type: integer `1`, expected a string
+> error: experimental.setup-scripts: invalid type: integer `1`, expected a boolean
+> error: experimental.wrapper-scripts: invalid type: integer `1`, expected a boolean
+> error: experimental.benchmarks: invalid type: integer `1`, expected a boolean
+> error: profile.a.retries: missing configuration field "profile.a.retries.backoff"
+> error: profile.a.retries: missing configuration field "profile.a.retries.count"
+> error: profile.b.retries.count: invalid type: string "1", expected u32, did you mean 1
+> error: profile.b.retries: unknown field ``, expected one of `count`, `delay`, `jitter`
+> error: profile.b.retries: `jitter` cannot be true if `delay` isn't specified or is zero
+> error: profile.c.retries.count: invalid type: string "x", expected u32
+> error: profile.c.retries: missing configuration field "profile.c.retries.delay"
+> error: profile.ci.retries: missing configuration field "profile.ci.retries.count"
+> error: profile.ci.retries.delay: invalid value: string "x", expected a duration
+> error: profile.ci.retries.jitter: invalid type: integer `1`, expected a boolean
+> error: profile.ci.retries: unknown field `Zone`, expected one of `count`, `delay`, `jitter`, `max-delay`
+> error: profile.ci.retries: unknown field `zone`, expected one of `count`, `delay`, `jitter`, `max-delay`
+> error: profile.ci.retries: unknown field `é`, expected one of `count`, `delay`, `jitter`, `max-delay`
+> error: profile.ci.retries: `max-delay` cannot be zero with exponential backoff
+> error: profile.ci.fail-fast: missing configuration field "profile.ci.fail-fast.max-fail"
+> error: profile.ci.fail-fast.terminate: invalid type: integer `1`, expected a string
+> error: profile.ci.slow-timeout: missing configuration field "profile.ci.slow-timeout.period"
+> error: profile.ci.slow-timeout.terminate-after: invalid value: integer `0`, expected a nonzero usize
+> error: profile.ci.slow-timeout.on-timeout: invalid type: integer `1`, expected a string
+> error: profile.ci.leak-timeout.period: invalid type: integer `1`, expected a duration, did you mean "1s"
+> error: profile.ci.leak-timeout.result: invalid type: integer `1`, expected a string
+> error: profile.ci.junit.path: invalid type: sequence, expected a string
+> error: profile.ci.junit.store-failure-output: invalid type: sequence, expected a boolean
+> error: profile.ci.junit.report-skipped: invalid type: integer `1`, expected a string
+> note: profile.ci.slow-timeout.grace-period: not judged here: a duration other than whole numbers, each with a unit
+
+=== what isn't judged in a table, in the order of its keys | repository
+[profile.ci]
+slow-timeout = { grace-period = "0", on-timeout = 1, period = "1.5s", zone = 1 }
+retries = { max-delay = "0", delay = "1 0s", backoff = "exponential", count = 0 }
+> error: profile.ci.retries: `count` cannot be zero with exponential backoff
+> error: profile.ci.slow-timeout.on-timeout: invalid type: integer `1`, expected a string
+> warning: profile.ci.slow-timeout: unknown key "zone"
+> note: profile.ci.retries.delay: not judged here: a duration other than whole numbers, each with a unit
+> note: profile.ci.retries.max-delay: not judged here: a duration other than whole numbers, each with a unit
+> note: profile.ci.slow-timeout.period: not judged here: a duration other than whole numbers, each with a unit
+> note: profile.ci.slow-timeout.grace-period: not judged here: a duration other than whole numbers, each with a unit
+
 === values, then a tool's features, then keys | tool
 zone = 1
 experimental = ["future"]

@@ -25,6 +25,7 @@ nextest-version = "0.9.x"
 [nextest-version]
 recommended = 1
 required = "0.9.20-rc.1"
+> 2:15: error: nextest-version.recommended: invalid type: integer `1`, expected a string [invalid-type]
 > 3:12: error: nextest-version.required: pre-release identifiers are not supported in nextest-version [pre-release]
 
 === the recommended version | tool
@@ -37,7 +38,7 @@ recommended = 1
 [nextest-version]
 required = "0.9.20"
 recommended = "0.9.10"
-> 1:2: error: nextest-version: required version (0.9.20) must not be greater than recommended version (0.9.10) [required-above-recommended]
+> 3:15: error: nextest-version: required version (0.9.20) must not be greater than recommended version (0.9.10) [required-above-recommended]
 
 === features | repository
 experimental = 1
@@ -50,6 +51,7 @@ experimental = "benchmarks"
 === an element of features | repository
 experimental = ["benchmarks", true, 1]
 > 1:31: error: experimental[1]: invalid type: boolean `true`, expected a string [invalid-type]
+> 1:37: error: experimental[2]: invalid type: integer `1`, expected a string [invalid-type]
 
 === the first element of features | tool
 experimental = [[]]
@@ -59,6 +61,7 @@ experimental = [[]]
 [experimental]
 benchmarks = 1
 wrapper-scripts = "yes"
+> 2:14: error: experimental.benchmarks: invalid type: integer `1`, expected a boolean [invalid-type]
 > 3:19: error: experimental.wrapper-scripts: invalid type: string "yes", expected a boolean [invalid-type]
 
 === profiles | repository
@@ -238,6 +241,7 @@ junit = { flaky-fail-status = "x", report-skipped = 1 }
 > 8:34: warning: profile.d.junit.store-failure-output: invalid type: integer `1`, expected a boolean [invalid-type]
 > 10:28: error: profile.e.junit.report-skipped: unknown variant `some`, expected one of `none`, `ignored`, `all` [unknown-variant]
 > 12:31: error: profile.f.junit.flaky-fail-status: unknown variant `fail`, expected `failure` or `success` [unknown-variant]
+> 14:31: error: profile.g.junit.flaky-fail-status: unknown variant `x`, expected `failure` or `success` [unknown-variant]
 > 14:53: error: profile.g.junit.report-skipped: invalid type: integer `1`, expected a string [invalid-type]
 
 === each key of a slow timeout | repository
@@ -327,7 +331,7 @@ retries = { backoff = "fixed", count = -1 }
 > 8:66: error: profile.d.retries.jitter: invalid type: integer `1`, expected a boolean [invalid-type]
 > 9:13: warning: profile.e.overrides[0]: an override needs a "filter" or a "platform" [override-of-all]
 > 10:75: error: profile.e.overrides[0].retries.max-delay: invalid value: string "x", expected a duration [invalid-value]
-> 12:11: error: profile.f.retries: `max-delay` cannot be less than delay with exponential backoff [max-delay-below-delay]
+> 12:75: error: profile.f.retries: `max-delay` cannot be less than delay with exponential backoff [max-delay-below-delay]
 > 13:13: warning: profile.g.overrides[0]: an override needs a "filter" or a "platform" [override-of-all]
 > 14:11: error: profile.g.overrides[0].retries: missing configuration field "profile.g.overrides[0].retries.backoff" [missing-field]
 > 16:40: error: profile.h.retries.count: invalid value: integer `-1`, expected u32 [invalid-value]
@@ -339,7 +343,7 @@ retries = { backoff = "fixed", count = 1, 'x"y' = 1 }
 [[profile.ci.overrides]]
 priority = 0x65
 > 2:16: error: profile.ci.flaky-result: unknown variant `a"b\c`, expected `fail` or `pass` [unknown-variant]
-> 3:11: error: profile.ci.retries: unknown field `x"y`, expected one of `count`, `delay`, `jitter` [unknown-field]
+> 3:43: error: profile.ci.retries: unknown field `x"y`, expected one of `count`, `delay`, `jitter` [unknown-field]
 > 4:14: warning: profile.ci.overrides[0]: an override needs a "filter" or a "platform" [override-of-all]
 > 5:12: error: profile.ci.overrides[0].priority: priority 101 must be between -100 and 100 [priority]
 
@@ -350,10 +354,11 @@ retries = { backoff = "fixed", count = 1, dealy = "1s" }
 retries = { backoff = "exponential", count = 1, delay = "1s", profile = 1, cuont = 1 }
 [[profile.c.overrides]]
 retries = { backoff = "fixed", count = 1, max-delay = "1s" }
-> 2:11: error: profile.a.retries: unknown field `dealy`, expected one of `count`, `delay`, `jitter` [unknown-field]
-> 4:11: error: profile.b.retries: unknown field `cuont`, expected one of `count`, `delay`, `jitter`, `max-delay` [unknown-field]
+> 2:43: error: profile.a.retries: unknown field `dealy`, expected one of `count`, `delay`, `jitter` [unknown-field]
+> 4:63: error: profile.b.retries: unknown field `profile`, expected one of `count`, `delay`, `jitter`, `max-delay` [unknown-field]
+> 4:76: error: profile.b.retries: unknown field `cuont`, expected one of `count`, `delay`, `jitter`, `max-delay` [unknown-field]
 > 5:13: warning: profile.c.overrides[0]: an override needs a "filter" or a "platform" [override-of-all]
-> 6:11: error: profile.c.overrides[0].retries: unknown field `max-delay`, expected one of `count`, `delay`, `jitter` [unknown-field]
+> 6:43: error: profile.c.overrides[0].retries: unknown field `max-delay`, expected one of `count`, `delay`, `jitter` [unknown-field]
 
 === faults of every profile and override | repository
 [profile.default]

@@ -377,9 +377,6 @@ junit = 1
 slow-timeout = { terminate-after = 2 }
 leak-timeout = { result = "fail" }
 bench.slow-timeout = {}
-> 2:16: warning: profile.default.slow-timeout: missing configuration field "profile.default.slow-timeout.period" [missing-field]
-> 3:16: warning: profile.default.leak-timeout: missing configuration field "profile.default.leak-timeout.period" [missing-field]
-> 4:22: warning: profile.default.bench.slow-timeout: missing configuration field "profile.default.bench.slow-timeout.period" [missing-field]
 
 === a period that nothing stands below | repository
 [[profile.default.overrides]]
@@ -410,13 +407,16 @@ leak-timeout = 1.5
 > 4:27: error: profile.default.slow-timeout.period: invalid value: string "1", expected a duration, did you mean "1s" [invalid-value]
 > 5:16: error: profile.default.leak-timeout: invalid type: floating point, expected a table ({ period = "500ms", result = "fail" }) or a string ("100ms") [invalid-type]
 
-=== the rest of a value whose one fault is a warning | repository
+=== a fault beside one that is a warning | repository
 [profile.default]
 junit = { path = 1, report-name = [], store-success-output = 1.5 }
 > 2:18: warning: profile.default.junit.path: invalid type: integer `1`, expected a string [invalid-type]
+> 2:35: error: profile.default.junit.report-name: invalid type: sequence, expected a string [invalid-type]
+> 2:62: error: profile.default.junit.store-success-output: invalid type: floating point, expected a boolean [invalid-type]
 
-=== a sure fault that comes first | repository
+=== a fault that is a warning beside a sure one | repository
 [profile.default]
 junit = { report-name = 1, path = [] }
+> 2:25: warning: profile.default.junit.report-name: invalid type: integer `1`, expected a string [invalid-type]
 > 2:35: error: profile.default.junit.path: invalid type: sequence, expected a string [invalid-type]
 "#;

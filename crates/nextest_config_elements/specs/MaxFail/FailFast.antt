@@ -8,11 +8,14 @@ use Rattle.nextest_config_values.specs.Decisions.{IsDecided, same_text_decided}
 use Rattle.nextest_config_values.specs.Once.{HasMeaningOrFault}
 use Rattle.nextest_config_values.specs.Read.Plain.{count_decided}
 use Rattle.nextest_config_values.specs.Read.{in_range, IsCount, kind, made_of, only, or_default, Reading, required, then, value_of, word_reading, wrong_kind, wrong_value}
+use Rattle.nextest_config_elements.specs.Fields.{allowed, field, Fields, needed, no_fields, nothing}
 use Rattle.nextest_config_elements.specs.FromTable.{set_by_table}
 use Rattle.nextest_config_elements.specs.IntegerLaws.{fits_decided, not_both}
 use Rattle.nextest_config_elements.specs.MaxFail.Limit.{fail_fast_limit, mode_word}
 use Rattle.nextest_config_elements.specs.MaxFail.NumberText.{IsNumberText}
 use Rattle.nextest_config_elements.specs.MaxFail.NumberTextLaws.{number_or_none, one_number}
+use Rattle.nextest_config_elements.specs.declared.field.FaultSeverity.TheVariants.{Error}
+use Rattle.nextest_config_elements.specs.declared.field.Shape.TheVariants as shapes
 use Rattle.nextest_config_elements.specs.declared.max_fail.MaxFail.{MaxFail}
 use Rattle.nextest_config_elements.specs.declared.max_fail.MaxFail.TheVariants as limits
 use Rattle.nextest_config_elements.specs.declared.max_fail.fail_fast.MaxFailCount.{MaxFailCount}
@@ -28,9 +31,11 @@ max_fail_key = codes "max-fail"
 abbrev pub terminate_key : List ℕ
 terminate_key = codes "terminate"
 
--- the keys of the table `fail-fast`
-abbrev pub fail_fast_keys : List (List ℕ)
-fail_fast_keys = max_fail_key ∷ terminate_key ∷ []
+-- the fields of the table `fail-fast`
+abbrev pub fail_fast_fields : Fields
+fail_fast_fields =
+    field (needed max_fail_key shapes.MaxFail Error) nothing
+    (field (allowed terminate_key shapes.TerminateMode Error) nothing no_fields)
 
 -- what `fail-fast` takes, as a refusal says it
 abbrev pub fail_fast_expected : List ℕ

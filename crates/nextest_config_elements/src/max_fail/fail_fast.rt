@@ -6,6 +6,8 @@ ghost use Rattle.nextest_config_values.specs.Read.{RefusesAt, RefusesBy};
 ghost use Rattle.nextest_config_elements.specs.MaxFail.{fail_fast_reading, fail_fast_table, IsExpected, limit_of, max_fail_reading};
 
 use super::{MaxFail, TerminateMode};
+use crate::field::FaultSeverity::Error;
+use crate::field::{Field, Parts, Shape};
 use crate::from_table::{FromTable, read_set};
 use nextest_config_values::read::{FromToml, ReadFault, ValueFault, or_default, required};
 use std::alloc::Global;
@@ -47,8 +49,23 @@ pub fn read_fail_fast(alloc: Global, value: &Value) -> Result<Option<MaxFail>, V
 }
 
 impl MaxFail {
-    /// The keys that the table `fail-fast` may have.
-    pub const KEYS: &'static [&'static str] = &[MAX_FAIL_KEY, TERMINATE_KEY];
+    /// The fields of the table `fail-fast`.
+    pub const FIELDS: &'static [Field] = &[
+        Field {
+            key: MAX_FAIL_KEY,
+            shape: Shape::MaxFail,
+            parts: Parts::Nothing,
+            severity: Error,
+            required: true,
+        },
+        Field {
+            key: TERMINATE_KEY,
+            shape: Shape::TerminateMode,
+            parts: Parts::Nothing,
+            severity: Error,
+            required: false,
+        },
+    ];
 }
 
 impl FromTable for MaxFail {
@@ -65,10 +82,12 @@ impl FromTable for MaxFail {
     }
 }
 
-// What the key `max-fail` holds.
+/// The value of `max-fail`: how many failures a run may have.
 #[derive(Clone, Copy)]
-enum MaxFailCount {
+pub enum MaxFailCount {
+    /// This many.
     Count(usize),
+    /// As many as there are.
     All,
 }
 

@@ -3,7 +3,8 @@ use Rattle.std.specs.Prelude.{◌≡◌, ◌⊎◌, ℕ, Bool, not, List, [], �
 use Rattle.std.specs.Cmp.Lexicographic.{pointwise}
 use Rattle.std.specs.List.{AllByRecursion, list_any}
 use Rattle.toml.specs.Data.{Data}
-use Rattle.nextest_config_lint.specs.Schema.{profile_table, row_words, rows_in}
+use Rattle.nextest_config_elements.specs.Fields.{field_words}
+use Rattle.nextest_config_elements.specs.Keys.{profile_fields}
 use Rattle.nextest_config_profiles.specs.Merged.{HasNoValue, IsMergedOver}
 use Rattle.nextest_config_profiles.specs.Profile.{chain_in, layers_in}
 use Rattle.nextest_config_profiles.specs.declared.last_value.LayerValue.{LayerValue}
@@ -26,7 +27,7 @@ is_none_of words word = not (list_any (λ other. pointwise nat_eq other word) wo
 
 -- the other keys that are known in a profile
 abbrev pub other_keys : List (List ℕ)
-other_keys = filter (is_none_of keys_told) (row_words (rows_in profile_table))
+other_keys = filter (is_none_of keys_told) (field_words profile_fields)
 
 -- what a profile has at a key, as the layers are merged, and which layer said so last
 pub record IsOtherOf (effective : EffectiveProfile) (key : List ℕ) (profile : List ℕ)

@@ -2,7 +2,8 @@
 use Rattle.std.specs.Prelude.{◌≡◌, ℕ, List, [], ◌∷◌, codes, filter, Option, Some, None, option_and_then}
 use Rattle.std.specs.List.{AllZip}
 use Rattle.toml.specs.Data.{as_table, Data, get_member}
-use Rattle.nextest_config_lint.specs.Schema.{override_table, row_words, rows_in}
+use Rattle.nextest_config_elements.specs.Fields.{field_words}
+use Rattle.nextest_config_elements.specs.Keys.{override_fields}
 use Rattle.toml_spans.specs.Step.{index, key, PathStep}
 use Rattle.toml_spans.specs.declared.place.Span.{Span}
 use Rattle.nextest_config_profiles.specs.Layer.{IsSpanAt}
@@ -23,7 +24,7 @@ use Rattle.nextest_config_profiles.specs.declared.report.parts.Source.{Source}
 abbrev pub override_keys : List (List ℕ)
 override_keys =
     filter (is_none_of (codes "filter" ∷ codes "platform" ∷ []))
-    (row_words (rows_in override_table))
+    (field_words override_fields)
 
 -- what a value has at a key
 abbrev pub member_at : List ℕ → Data → Option Data

@@ -344,10 +344,10 @@ $ lint --config-file=a:b,c%d.toml --format=github = 1
 > ::error file=a%3Ab%2Cc%25d.toml,line=2,endLine=2,col=13,endColumn=23,title=invalid-type::a:b,c%25d.toml:2:13: profile."x%25y".overrides: invalid type: string "50%25: a,b", expected an array
 $ lint --config-file=a←¶b.toml = 1
 > a\r\nb.toml:1:42: warning: nextest-version: unknown key "zone" [unknown-key]
-> a\r\nb.toml:3:11: error: profile.ci.retries: unknown field `a\r\nb%:,`, expected one of `count`, `delay`, `jitter` [unknown-field]
+> a\r\nb.toml:3:43: error: profile.ci.retries: unknown field `a\r\nb%:,`, expected one of `count`, `delay`, `jitter` [unknown-field]
 $ lint --config-file=a←¶b.toml --format=github = 1
 > ::warning file=a\r\nb.toml,line=1,endLine=1,col=42,endColumn=46,title=unknown-key::a\r\nb.toml:1:42: nextest-version: unknown key "zone"
-> ::error file=a\r\nb.toml,line=3,endLine=3,col=11,endColumn=60,title=unknown-field::a\r\nb.toml:3:11: profile.ci.retries: unknown field `a\r\nb%25:,`, expected one of `count`, `delay`, `jitter`
+> ::error file=a\r\nb.toml,line=3,endLine=3,col=43,endColumn=54,title=unknown-field::a\r\nb.toml:3:43: profile.ci.retries: unknown field `a\r\nb%25:,`, expected one of `count`, `delay`, `jitter`
 $ show --config-file=a←¶b.toml = 0
 > required: 0.9.50 by explicit a\r\nb.toml
 > recommended: none

@@ -1,6 +1,7 @@
 use Rattle.std.proofs.Common.{[], ap, map, refl, string_bytes}
 use Rattle.std.proofs.lemmas.Map.Iter.{iter_end}
 use Rattle.std.specs.Map.Iter.{deref}
+use Rattle.toml.specs.View.{view}
 use Rattle.nextest_config_lint.specs.Features.{IsNameFound}
 use Rattle.nextest_config_lint.specs.Found.{found_of}
 use Rattle.nextest_config_lint.specs.Settings.{setting_view}
@@ -12,7 +13,7 @@ pub loop-name-init : goal.loop-name-init
 loop-name-init c = ([], refl, ap (map found_of) c.new-findings.ensures.items)
 
 pub loop-name-preserved : goal.loop-name-preserved
-loop-name-preserved c = adds_next (IsNameFound (setting_view c.args.setting.now)) (λ name. string_bytes name.now) c.loop-name.yielded c.in-Some.name [] _ _
+loop-name-preserved c = adds_next (IsNameFound (setting_view c.args.setting.now).path (view c.args.value.now)) (λ name. string_bytes name.now) c.loop-name.yielded c.in-Some.name [] _ _
     c.loop-name.invariant (rw c.as_str.ensures.value at c.in_ok-add_feature.ensures)
 
 pub returns : goal.returns

@@ -2,7 +2,7 @@ use Rattle.std.proofs.Common.{◌≡◌, ◌++◌, ◌∷◌, [], IsSome, List, 
 use Rattle.std.proofs.lemmas.List.{map-append}
 use Rattle.toml_spans.specs.Step.{PathStep, step_of}
 use Rattle.nextest_config_lint.specs.Found.{found_at, FoundKind, found_of, kind_view}
-use Rattle.nextest_config_lint.specs.References.{IsPlaceTold, place_of, TellsIfAny}
+use Rattle.nextest_config_lint.specs.References.{IsSubjectTold, TellsIfAny}
 use Rattle.nextest_config_lint.specs.Settings.{setting_view}
 use Rattle.nextest_config_lint.specs.declared.finding.Finding.{Finding}
 use Rattle.nextest_config_lint.proofs.references.add_reference.Goals as goal
@@ -15,7 +15,7 @@ pushed_told path (Some kind) old new finding some pushed is = rw (pushed, map-ap
 pub returns-in_ok-push-in-Some : goal.returns-in_ok-push-in-Some
 returns-in_ok-push-in-Some c files by =
     let setting = setting_view c.args.setting.now in
-    let told : IsPlaceTold files c.args.source.now c.args.position (place_of setting.path) setting.value (kind_view c.in-Some.kind) =
+    let told : IsSubjectTold files c.args.source.now c.args.position setting.path setting.subject (kind_view c.in-Some.kind) =
     rw c.in-Some.is at (c.in_ok-kind.ensures.told files by) in
     let some : TellsIfAny (Some c.in-Some.kind) = rw c.in-Some.is at c.in_ok-kind.ensures.tells in
     let finding : Finding = record { path = c.in_ok-path-in-Some.path; kind = c.in-Some.kind } in

@@ -3,7 +3,7 @@ use Rattle.toml.specs.Data.{table}
 use Rattle.toml.specs.View.{table_view}
 use Rattle.nextest_config_lint.specs.Found.{AddsFound}
 use Rattle.nextest_config_lint.specs.Settings.{setting_view}
-use Rattle.nextest_config_lint.specs.Schema.{file_table}
+use Rattle.nextest_config_elements.specs.Keys.{file_table}
 use Rattle.nextest_config_lint.specs.Unknown.{IsKeyFound, keys_below, keys_in}
 use Rattle.nextest_config_lint.proofs.unknown.find_unknown.Given as goal
 

@@ -2,7 +2,8 @@ use Rattle.std.proofs.Common.{◌≡◌, false, rules, tests, true}
 use Rattle.std.proofs.lemmas.Iterator.{first_from_find, YieldsList-from_slice}
 use Rattle.std.proofs.lemmas.Iterator.Consumers.{YieldsList-at, YieldsList-from_copied}
 use Rattle.nextest_config_lint.proofs.Keys.{found_first}
-use Rattle.nextest_config_lint.specs.Unknown.{scope_words, scopes, is_known}
+use Rattle.nextest_config_lint.specs.Unknown.{scope_words, scopes}
+use Rattle.nextest_config_lint.specs.Settings.{is_known}
 use Rattle.nextest_config_lint.proofs.unknown.scope_of.Goals as goal
 
 pub returns : goal.returns

@@ -1,0 +1,100 @@
+-- The keys that are known in a table, as plain data: what the value of each has to be, and what
+-- stands in that.
+use Rattle.std.specs.Prelude.{ℕ, Bool, true, false, List, [], ◌∷◌, map}
+use Rattle.nextest_config_elements.specs.declared.field.FaultSeverity.{FaultSeverity}
+use Rattle.nextest_config_elements.specs.declared.field.Field as declared_field
+use Rattle.nextest_config_elements.specs.declared.field.Field.{fold-Field}
+use Rattle.nextest_config_elements.specs.declared.field.Parts as declared_parts
+use Rattle.nextest_config_elements.specs.declared.field.Parts.{fold-Parts}
+use Rattle.nextest_config_elements.specs.declared.field.Parts.TheOpen.{Field-F, Parts-F}
+use Rattle.nextest_config_elements.specs.declared.field.Shape.{Shape}
+
+-- a key: what its value has to be, but for what stands in it; how grave a fault of that is; and
+-- whether a table has to have the key
+pub record KeyRule : Type 0 where
+  pub key : List ℕ
+  pub shape : Shape
+  pub severity : FaultSeverity
+  pub required : Bool
+
+-- a key that a table may have
+abbrev pub allowed : List ℕ → Shape → FaultSeverity → KeyRule
+allowed key shape severity =
+    record { key = key; shape = shape; severity = severity; required = false }
+
+-- a key that a table has to have
+abbrev pub needed : List ℕ → Shape → FaultSeverity → KeyRule
+needed key shape severity =
+    record { key = key; shape = shape; severity = severity; required = true }
+
+mutual
+  -- what stands in a value has to be: nothing is said; the fields of a table; those of
+  -- `nextest-version`; those of `experimental`, or the texts of its array; those of `retries`, with
+  -- a fixed backoff, an exponential one, and none; what each key of a table leads to, as a name; or
+  -- each element of an array
+  pub data Parts : Type 0 where
+    nothing : Parts
+    fields : Fields → Parts
+    versions : Fields → Parts
+    features : Fields → Parts
+    by_backoff : Fields → Fields → Fields → Parts
+    names : Shape → Parts → Parts
+    elements : Shape → Parts → Parts
+
+  -- the fields of a table, in their order: keys, each with what stands in its value
+  pub data Fields : Type 0 where
+    no_fields : Fields
+    field : KeyRule → Parts → Fields → Fields
+
+-- the keys of fields, in their order
+abbrev pub field_words : Fields → List (List ℕ)
+field_words no_fields = []
+field_words (field rule parts rest) = rule.key ∷ field_words rest
+
+-- the fields of a plain table; none of anything else
+abbrev pub fields_in : Parts → Fields
+fields_in (fields known) = known
+fields_in parts = no_fields
+
+-- ---- what the code's values say
+
+-- fields, each of which is put before those behind it
+abbrev pub fields_of : List (Fields → Fields) → Fields
+fields_of [] = no_fields
+fields_of (first ∷ rest) = first (fields_of rest)
+
+-- what a field says of its key
+abbrev pub rule_of : {P F : Type 0} → Field-F P F → KeyRule
+rule_of known = record {
+  key = known.key.now;
+  shape = known.shape;
+  severity = known.severity;
+  required = known.required;
+}
+
+-- one level of a field, put before others
+abbrev pub level_of_field : Field-F Parts (Fields → Fields) → Fields → Fields
+level_of_field known rest = field (rule_of known) known.parts rest
+
+-- one level of what stands in a value
+abbrev pub level_of_parts : Parts-F Parts (Fields → Fields) → Parts
+level_of_parts Parts-F.Nothing = nothing
+level_of_parts (Parts-F.Fields known) = fields (fields_of known.now)
+level_of_parts (Parts-F.Versions known) = versions (fields_of known.now)
+level_of_parts (Parts-F.Features known) = features (fields_of known.now)
+level_of_parts (Parts-F.Retries fixed exponential without) =
+    by_backoff (fields_of fixed.now) (fields_of exponential.now) (fields_of without.now)
+level_of_parts (Parts-F.Names shape each) = names shape each.now
+level_of_parts (Parts-F.Elements shape each) = elements shape each.now
+
+-- a field, as the code says it, put before others
+abbrev pub field_before : declared_field.Field → Fields → Fields
+field_before = fold-Field Parts (Fields → Fields) level_of_parts level_of_field
+
+-- what stands in a value, as the code says it
+abbrev pub parts_of : declared_parts.Parts → Parts
+parts_of = fold-Parts Parts (Fields → Fields) level_of_parts level_of_field
+
+-- fields, as the code says them
+abbrev pub fields_view : List declared_field.Field → Fields
+fields_view known = fields_of (map field_before known)

@@ -1,0 +1,120 @@
+-- The keys of nextest's configuration file: what the value of each has to be, and what stands in
+-- that. What a user writes in a file stands here by itself, and the code's table is proved to be
+-- this one.
+use Rattle.std.specs.Prelude.{ℕ, List, [], ◌∷◌, codes}
+use Rattle.nextest_config_elements.specs.Fields.{allowed, elements, features, field, Fields, fields, names, needed, no_fields, nothing, Parts, versions}
+use Rattle.nextest_config_elements.specs.Junit.{junit_fields}
+use Rattle.nextest_config_elements.specs.LeakTimeout.{leak_timeout_fields}
+use Rattle.nextest_config_elements.specs.MaxFail.{fail_fast_fields}
+use Rattle.nextest_config_elements.specs.RetryPolicy.{retries_parts}
+use Rattle.nextest_config_elements.specs.SlowTimeout.{slow_timeout_fields}
+use Rattle.nextest_config_elements.specs.declared.field.FaultSeverity.TheVariants.{Error, ErrorUnlessConverted, Warning}
+use Rattle.nextest_config_elements.specs.declared.field.Shape.TheVariants.{Any, Array, Boolean, Duration, Experimental, FailFast, FinalStatusLevel, FlakyFailStatus, FlakyResult, LeakTimeout, NextestVersion, Output, Platform, Priority, Retries, SlowTimeout, StatusLevel, Table, Text, Texts, Threads, ThreadsRequired, VersionText}
+
+-- keys that are known, and of whose values nothing is said
+abbrev pub unread : List (List ℕ) → Fields
+unread [] = no_fields
+unread (key ∷ keys) = field (allowed key Any Warning) nothing (unread keys)
+
+-- what stands in an array of texts
+abbrev pub each_text : Parts
+each_text = elements Text nothing
+
+-- the fields of the table `bench` of a profile
+abbrev pub bench_fields : Fields
+bench_fields =
+    field (allowed (codes "slow-timeout") SlowTimeout Error) (fields slow_timeout_fields)
+    (field (allowed (codes "global-timeout") Duration Error) nothing no_fields)
+
+-- the fields of the table `junit` of an override
+abbrev pub override_junit_fields : Fields
+override_junit_fields =
+    field (allowed (codes "store-success-output") Boolean ErrorUnlessConverted) nothing
+    (field (allowed (codes "store-failure-output") Boolean ErrorUnlessConverted) nothing
+    (field (allowed (codes "flaky-fail-status") FlakyFailStatus Error) nothing
+    (unread (codes "path" ∷ codes "report-name" ∷ codes "report-skipped" ∷ []))))
+
+-- the fields of the table `platform` of an override
+abbrev pub platform_fields : Fields
+platform_fields =
+    field (allowed (codes "host") Text Warning) nothing
+    (field (allowed (codes "target") Text Warning) nothing no_fields)
+
+-- the fields of an override
+abbrev pub override_fields : Fields
+override_fields =
+    field (allowed (codes "priority") Priority ErrorUnlessConverted) nothing
+    (field (allowed (codes "threads-required") ThreadsRequired Error) nothing
+    (field (allowed (codes "retries") Retries Error) retries_parts
+    (field (allowed (codes "flaky-result") FlakyResult Error) nothing
+    (field (allowed (codes "slow-timeout") SlowTimeout Error) (fields slow_timeout_fields)
+    (field (allowed (codes "leak-timeout") LeakTimeout Error) (fields leak_timeout_fields)
+    (field (allowed (codes "junit") Table Error) (fields override_junit_fields)
+    (field (allowed (codes "filter") Text Warning) nothing
+    (field (allowed (codes "platform") Platform Warning) (fields platform_fields)
+    (field (allowed (codes "default-filter") Text Warning) nothing
+    (field (allowed (codes "test-group") Text Warning) nothing
+    (field (allowed (codes "run-extra-args") Texts Warning) each_text
+    (field (allowed (codes "success-output") Output Warning) nothing
+    (field (allowed (codes "failure-output") Output Warning) nothing
+    (unread (codes "bench" ∷ [])))))))))))))))
+
+-- the fields of a profile
+abbrev pub profile_fields : Fields
+profile_fields =
+    field (allowed (codes "retries") Retries Error) retries_parts
+    (field (allowed (codes "flaky-result") FlakyResult Error) nothing
+    (field (allowed (codes "threads-required") ThreadsRequired Error) nothing
+    (field (allowed (codes "fail-fast") FailFast Error) (fields fail_fast_fields)
+    (field (allowed (codes "slow-timeout") SlowTimeout Error) (fields slow_timeout_fields)
+    (field (allowed (codes "leak-timeout") LeakTimeout Error) (fields leak_timeout_fields)
+    (field (allowed (codes "global-timeout") Duration Error) nothing
+    (field (allowed (codes "junit") Table Error) (fields junit_fields)
+    (field (allowed (codes "bench") Table Error) (fields bench_fields)
+    (field (allowed (codes "overrides") Array Error) (elements Table (fields override_fields))
+    (field (allowed (codes "inherits") Text Warning) nothing
+    (field (allowed (codes "default-filter") Text Warning) nothing
+    (field (allowed (codes "test-threads") Threads Warning) nothing
+    (field (allowed (codes "run-extra-args") Texts Warning) each_text
+    (field (allowed (codes "status-level") StatusLevel Warning) nothing
+    (field (allowed (codes "final-status-level") FinalStatusLevel Warning) nothing
+    (field (allowed (codes "success-output") Output Warning) nothing
+    (field (allowed (codes "failure-output") Output Warning) nothing
+    (unread (codes "archive" ∷ codes "scripts" ∷ [])))))))))))))))))))
+
+-- the fields of the table `store`
+abbrev pub store_fields : Fields
+store_fields =
+    field (allowed (codes "dir") Text Warning) nothing no_fields
+
+-- the fields of a test group
+abbrev pub group_fields : Fields
+group_fields =
+    field (needed (codes "max-threads") Threads Warning) nothing no_fields
+
+-- the fields of the table `nextest-version`
+abbrev pub version_fields : Fields
+version_fields =
+    field (allowed (codes "required") VersionText Error) nothing
+    (field (allowed (codes "recommended") VersionText Error) nothing no_fields)
+
+-- the fields of the table `experimental`
+abbrev pub feature_fields : Fields
+feature_fields =
+    field (allowed (codes "setup-scripts") Boolean Error) nothing
+    (field (allowed (codes "wrapper-scripts") Boolean Error) nothing
+    (field (allowed (codes "benchmarks") Boolean Error) nothing no_fields))
+
+-- the fields of a file
+abbrev pub file_fields : Fields
+file_fields =
+    field (allowed (codes "nextest-version") NextestVersion Error) (versions version_fields)
+    (field (allowed (codes "experimental") Experimental Error) (features feature_fields)
+    (field (allowed (codes "profile") Table Error) (names Table (fields profile_fields))
+    (field (allowed (codes "store") Table Warning) (fields store_fields)
+    (field (allowed (codes "test-groups") Table Warning) (names Table (fields group_fields))
+    (unread (codes "scripts" ∷ codes "script" ∷ []))))))
+
+-- what stands in a file
+abbrev pub file_table : Parts
+file_table = fields file_fields

@@ -1,0 +1,126 @@
+//! What a key is: what its value has to be, and what stands in it.
+
+/// A key that is known in a table.
+#[cycle(fields)]
+#[derive(Clone, Copy)]
+pub struct Field {
+    pub key: &'static str,
+    /// What its value has to be.
+    pub shape: Shape,
+    /// What stands in its value.
+    pub parts: Parts,
+    /// How grave a fault of its value is.
+    pub severity: FaultSeverity,
+    /// Whether a table has to have the key.
+    pub required: bool,
+}
+
+/// How grave a fault is.
+#[derive(Clone, Copy, Debug, PartialEq, Eq)]
+pub enum FaultSeverity {
+    /// nextest refuses the value.
+    Error,
+    /// nextest refuses the value, unless it can make the wanted kind of it.
+    ErrorUnlessConverted,
+    /// The value breaks a rule that is known from nextest's documentation alone.
+    Warning,
+}
+
+/// What a value has to be, but for what stands in it.
+#[derive(Clone, Copy, Debug, PartialEq, Eq)]
+pub enum Shape {
+    /// Anything.
+    Any,
+    /// A table.
+    Table,
+    /// An array.
+    Array,
+    /// The value of `nextest-version`: a version text, or a table.
+    NextestVersion,
+    /// A version text.
+    VersionText,
+    /// The value of `experimental`: a table of features, or an array of their names.
+    Experimental,
+    /// The name of an experimental feature.
+    FeatureName,
+    /// The value of `retries`: a number of retries, or a table.
+    Retries,
+    /// The kind of backoff, by its word.
+    Backoff,
+    /// What becomes of a flaky test, by its word.
+    FlakyResult,
+    /// How many threads a test takes: an integer, or a word.
+    ThreadsRequired,
+    /// The value of `fail-fast`: a boolean, or a table.
+    FailFast,
+    /// The number of failures that a run may have: an integer, or a word.
+    MaxFail,
+    /// What happens to running tests once that number is reached, by its word.
+    TerminateMode,
+    /// The value of `slow-timeout`: a text, or a table.
+    SlowTimeout,
+    /// What becomes of a slow test that is terminated, by its word.
+    SlowTimeoutResult,
+    /// The value of `leak-timeout`: a text, or a table.
+    LeakTimeout,
+    /// What becomes of a leaky test, by its word.
+    LeakTimeoutResult,
+    /// A duration text.
+    Duration,
+    /// A duration text, usually below a second.
+    ShortDuration,
+    /// The priority of a test.
+    Priority,
+    /// A boolean.
+    Boolean,
+    /// An integer that fits a `u32`.
+    U32,
+    /// A positive integer that fits a `usize`.
+    Count,
+    /// Which skipped tests are reported, by its word.
+    ReportSkipPolicy,
+    /// How a flaky test that is to fail is reported, by its word.
+    FlakyFailStatus,
+    /// A text.
+    Text,
+    /// An array of texts.
+    Texts,
+    /// A number of threads: an integer, or a word.
+    Threads,
+    /// A platform: a text, or a table of two.
+    Platform,
+    /// From which status on tests are printed while they run, by its word.
+    StatusLevel,
+    /// From which status on tests are printed at the end, by its word.
+    FinalStatusLevel,
+    /// When the output of a test is printed, by its word.
+    Output,
+}
+
+/// What stands in a value, where it is judged by itself.
+#[cycle(fields)]
+#[derive(Clone, Copy)]
+pub enum Parts {
+    /// Nothing is said of it.
+    Nothing,
+    /// The fields of a table, in the order in which they are judged; other keys are unknown.
+    Fields(&'static [Field]),
+    /// The fields of `nextest-version`, and the rule between them.
+    Versions(&'static [Field]),
+    /// Of `experimental`: the fields of a table, whose other keys are names of no feature, or the
+    /// texts of an array.
+    Features(&'static [Field]),
+    /// Of `retries`: the fields of a table by its backoff. A table refuses other keys.
+    Retries {
+        /// The fields with a fixed backoff.
+        fixed: &'static [Field],
+        /// The fields with an exponential backoff.
+        exponential: &'static [Field],
+        /// The fields where there is no backoff.
+        open: &'static [Field],
+    },
+    /// Each key of a table is a name: what its value has to be, and what stands in that.
+    Names(Shape, &'static Parts),
+    /// Each element of an array: what it has to be, and what stands in it.
+    Elements(Shape, &'static Parts),
+}
