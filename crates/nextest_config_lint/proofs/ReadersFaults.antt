@@ -1,5 +1,5 @@
 -- Key by key, the one fault that the reader of a setting finds is found, too.
-use Rattle.std.specs.Prelude.{◌≡◌, ℕ, zero, suc, Bool, true, false, List, [], ◌∷◌, ◌++◌, codes, flat_map, if◌then◌else◌, IsSome, Option, Some, None}
+use Rattle.std.specs.Prelude.{◌≡◌, ℕ, zero, suc, Bool, true, false, List, [], ◌∷◌, ◌++◌, codes, if◌then◌else◌, IsSome, Option, Some, None}
 use Rattle.std.proofs.Common.{◌+◌, arith, ap, append_assoc, inl, inr, nat_cmp, refl, subst, sym, ◌∙◌}
 use Rattle.std.proofs.lemmas.Option.{same_Some}
 use Rattle.std.specs.Cmp.Lexicographic.{slice_cmp}
@@ -21,7 +21,7 @@ use Rattle.nextest_config_elements.specs.LeakTimeout as leak
 use Rattle.nextest_config_elements.specs.LeakTimeout.{leak_timeout_fields, leak_timeout_reading, leak_timeout_table}
 use Rattle.nextest_config_elements.specs.MaxFail.{fail_fast_fields, fail_fast_reading, fail_fast_table, max_fail_key, max_fail_reading, terminate_key, terminate_reading}
 use Rattle.nextest_config_elements.specs.ReportSkipPolicy.{report_skip_reading}
-use Rattle.nextest_config_elements.specs.RetryPolicy.{backoff_key, backoff_reads_back, backoff_word, backoffs_in_order, count_key, delay_key, exponential_fields, exponential_table, fixed_fields, fixed_table, jitter_key, keys_beside, max_delay_key, open_fields, retries_parts, retry_policy_reading, retry_table, table_with_backoff}
+use Rattle.nextest_config_elements.specs.RetryPolicy.{backoff_key, count_key, delay_key, exponential_fields, exponential_table, fixed_fields, fixed_table, jitter_key, keys_beside, max_delay_key, open_fields, retries_parts, retry_policy_reading, retry_table, table_with_backoff}
 use Rattle.nextest_config_elements.specs.RetryRules.{backoff_in, rules_by}
 use Rattle.nextest_config_elements.specs.SlowTimeout as slow
 use Rattle.nextest_config_elements.specs.SlowTimeout.{slow_timeout_fields, slow_timeout_reading, slow_timeout_table}
@@ -36,7 +36,7 @@ use Rattle.nextest_config_elements.specs.declared.retry_policy.Backoff.TheVarian
 use Rattle.nextest_config_elements.specs.declared.slow_timeout.SlowTimeoutResult.TheVariants.{Fail}
 use Rattle.nextest_config_elements.specs.UnknownKeys.{IsOneOf, IsUnknownKey}
 use Rattle.nextest_config_elements.specs.UnknownKeysLaws.{found_at}
-use Rattle.nextest_config_lint.proofs.RetriesRead.{backoff_is, exponential_broken, fixed_broken, known_one}
+use Rattle.nextest_config_lint.proofs.RetriesRead.{backoff_is, backoff_reading, exponential_broken, fixed_broken, known_one, of_plain, refused_in}
 use Rattle.nextest_config_lint.specs.Rules.{IsOutOfOrder}
 use Rattle.nextest_config_lint.specs.FindingsLaws.{FindsItsFault, HasFaultAmong, IsFaultAt}
 use Rattle.nextest_config_lint.specs.Settings.{absent_key, at_items, at_key, between, by_kind, expected_by, features_at, in_retries, is_known, is_wanted, names_of, of_name, refused_key, setting_at, settings_in, settings_of_fields, SettingView, with_parts}
@@ -81,10 +81,6 @@ module _ (edition : Edition) (path : List PathStep) where
 
   -- ---- of a key
 
-  -- what is judged of a key, whose value has nothing in it
-  abbrev of_key : KeyRule → Members → List SettingView
-  of_key rule held = at_key rule (settings_in rule.shape rule.severity nothing) path (get_member rule.key held)
-
   module _ {X : Type 0} (name : List ℕ) (shape : Shape) (severity : FaultSeverity) (reading : Reading Data X)
       (same : (value : Data) (fault : Fault) → reading.faults value fault → (shape_check edition shape).faults value fault) where
     -- a fault of the value at the key
@@ -116,13 +112,13 @@ module _ (edition : Edition) (path : List PathStep) where
         }))
     needed_found wanted (Some value) fault wrong = value_found value fault wrong
 
-    optional_at : (held : Members) → AreFound (of_key (allowed name shape severity) held) (optional name reading) held
+    optional_at : (held : Members) → AreFound (of_plain (allowed name shape severity) path held) (optional name reading) held
     optional_at held = record { finds = allowed_found (get_member name held) }
 
-    default_at : (held : Members) (default : X) → AreFound (of_key (allowed name shape severity) held) (or_default name default reading) held
+    default_at : (held : Members) (default : X) → AreFound (of_plain (allowed name shape severity) path held) (or_default name default reading) held
     default_at held default = record { finds = allowed_found (get_member name held) }
 
-    required_at : is_wanted (needed name shape severity) path ≡ true → (held : Members) → AreFound (of_key (needed name shape severity) held) (required name reading) held
+    required_at : is_wanted (needed name shape severity) path ≡ true → (held : Members) → AreFound (of_plain (needed name shape severity) path held) (required name reading) held
     required_at wanted held = record { finds = needed_found wanted (get_member name held) }
 
   -- a value of another kind than a table
@@ -201,8 +197,8 @@ module _ (edition : Edition) (path : List PathStep) where
   versions_table_found : (held : Members) (fault : Fault) → version_table.faults held fault
       → HasFaultAmong edition path fault (settings_of_fields version_fields path held ++ (setting_at Error path (between rules_of.Versions (table held)) ∷ []))
   versions_table_found held fault wrong =
-      let first = of_key (allowed required_key shapes.VersionText Error) held in
-      let second = of_key (allowed recommended_key shapes.VersionText Error) held in
+      let first = of_plain (allowed required_key shapes.VersionText Error) path held in
+      let second = of_plain (allowed recommended_key shapes.VersionText Error) path held in
       let rules = setting_at Error path (between rules_of.Versions (table held)) ∷ [] in
       elim wrong [
         | inl here ↦ in_left fault (first ++ (second ++ [])) rules (in_left fault first (second ++ []) ((optional_at required_key shapes.VersionText Error version_reading (λ v f w. w) held).finds fault here))
@@ -219,13 +215,7 @@ module _ (edition : Edition) (path : List PathStep) where
 
   -- ---- retries
 
-  abbrev backoff_reading : Reading Data Backoff
-  backoff_reading = word_reading backoffs_in_order backoff_word backoff_reads_back
-
   module _ (held : Members) where
-    abbrev refused_in : List (List ℕ) → List (List ℕ) → List (List ℕ) → List SettingView
-    refused_in expected known = flat_map (of_name Error expected known path)
-
     module _ (expected known : List (List ℕ)) (name : List ℕ) (unknown : IsUnknownKey known held name) (fault : Fault) (is : fault ≡ unknown_key name expected) where
       refused_by : (other : List ℕ) (here : Bool) → is_known known other ≡ here → name ≡ other
           → HasFaultAmong edition path fault (if here then [] else setting_at Error path (refused_key other expected known) ∷ [])
@@ -239,38 +229,38 @@ module _ (edition : Edition) (path : List PathStep) where
             same_cause = ap (λ (f : Fault). f.cause) told;
           })
 
-      refused_among : (members : Members) → IsSome (get_member name members) → HasFaultAmong edition path fault (refused_in expected known (names_of members))
+      refused_among : (members : Members) → IsSome (get_member name members) → HasFaultAmong edition path fault (refused_in Error path expected known (names_of members))
       refused_among no_members some = cc some
       refused_among (member other value rest) some =
-          found_at (slice_cmp nat_cmp name other) name other value (get_member name rest) (HasFaultAmong edition path fault (refused_in expected known (other ∷ names_of rest))) refl
-          (λ same. in_left fault (of_name Error expected known path other) (refused_in expected known (names_of rest)) (refused_by other (is_known known other) refl same))
-          (λ later. in_right fault (of_name Error expected known path other) (refused_in expected known (names_of rest)) (refused_among rest later)) some
+          found_at (slice_cmp nat_cmp name other) name other value (get_member name rest) (HasFaultAmong edition path fault (refused_in Error path expected known (other ∷ names_of rest))) refl
+          (λ same. in_left fault (of_name Error expected known path other) (refused_in Error path expected known (names_of rest)) (refused_by other (is_known known other) refl same))
+          (λ later. in_right fault (of_name Error expected known path other) (refused_in Error path expected known (names_of rest)) (refused_among rest later)) some
 
     abbrev rules : List SettingView
     rules = setting_at Error path (between rules_of.Retries (table held)) ∷ []
 
     abbrev backoff_at : List SettingView
-    backoff_at = of_key (needed backoff_key shapes.Backoff Error) held
+    backoff_at = of_plain (needed backoff_key shapes.Backoff Error) path held
 
     abbrev count_at : List SettingView
-    count_at = of_key (needed count_key shapes.U32 Error) held
+    count_at = of_plain (needed count_key shapes.U32 Error) path held
 
     abbrev allowed_delay : List SettingView
-    allowed_delay = of_key (allowed delay_key shapes.Duration Error) held
+    allowed_delay = of_plain (allowed delay_key shapes.Duration Error) path held
 
     abbrev needed_delay : List SettingView
-    needed_delay = of_key (needed delay_key shapes.Duration Error) held
+    needed_delay = of_plain (needed delay_key shapes.Duration Error) path held
 
     abbrev jitter_at : List SettingView
-    jitter_at = of_key (allowed jitter_key shapes.Boolean Error) held
+    jitter_at = of_plain (allowed jitter_key shapes.Boolean Error) path held
 
     abbrev max_at : List SettingView
-    max_at = of_key (allowed max_delay_key shapes.Duration Error) held
+    max_at = of_plain (allowed max_delay_key shapes.Duration Error) path held
 
     -- what is found of the fields, of the other keys, and of the rules
     module _ (fault : Fault) (known : Fields) where
       abbrev others : List SettingView
-      others = refused_in (expected_by (backoff_in held)) (field_words known) (names_of held)
+      others = refused_in Error path (expected_by (backoff_in held)) (field_words known) (names_of held)
 
       of_fields : HasFaultAmong edition path fault (settings_of_fields known path held) → HasFaultAmong edition path fault (in_retries Error known path held)
       of_fields found = in_left fault (settings_of_fields known path held ++ others) rules (in_left fault (settings_of_fields known path held) others found)

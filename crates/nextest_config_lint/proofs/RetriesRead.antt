@@ -1,5 +1,5 @@
 -- What a table of retries says of its backoff, its keys and its rules, key by key and whole.
-use Rattle.std.specs.Prelude.{◌≡◌, ◌↔◌, ◌<◌, ℕ, Bool, true, false, List, [], ◌∷◌, Option, Some, None, IsSome, nat_eq, option_and_then}
+use Rattle.std.specs.Prelude.{◌≡◌, ◌↔◌, ◌<◌, flat_map, ℕ, Bool, true, false, List, [], ◌∷◌, Option, Some, None, IsSome, nat_eq, option_and_then}
 use Rattle.std.proofs.Common.{◌∙◌, ap, inl, inr, nat_cmp, refl, subst, sym}
 use Rattle.std.proofs.lemmas.Bool.{cases_Bool}
 use Rattle.std.proofs.lemmas.Option.{same_Some}
@@ -9,14 +9,29 @@ use Rattle.std.specs.List.{AllByRecursion}
 use Rattle.toml.specs.Data.{as_str, Data, get_member, member, Members, no_members}
 use Rattle.nextest_config_values.specs.Duration.{duration_reading}
 use Rattle.nextest_config_values.specs.Read.Fault.{Fault}
-use Rattle.nextest_config_values.specs.Read.{bool_reading, Check, either, made_of, optional, or_default, required, u32_reading, value_of, word_reading}
+use Rattle.nextest_config_values.specs.Read.{bool_reading, Check, either, made_of, optional, or_default, Reading, required, u32_reading, value_of, word_reading}
+use Rattle.toml_spans.specs.Step.{PathStep}
+use Rattle.nextest_config_elements.specs.Fields.{KeyRule, nothing}
+use Rattle.nextest_config_elements.specs.declared.field.FaultSeverity.{FaultSeverity}
 use Rattle.nextest_config_elements.specs.RetryPolicy.{backoff_key, backoff_reads_back, backoff_word, backoffs_in_order, count_key, delay_key, exponential_rules, IsJitterAlone, jitter_key, max_delay_key}
 use Rattle.nextest_config_elements.specs.RetryRules.{backoff_in, LacksDelay, rules_by}
 use Rattle.nextest_config_elements.specs.UnknownKeys.{IsOneOf}
 use Rattle.nextest_config_elements.specs.UnknownKeysLaws.{found_at}
 use Rattle.nextest_config_elements.specs.declared.retry_policy.Backoff.{Backoff}
 use Rattle.nextest_config_elements.specs.declared.retry_policy.Backoff.TheVariants.{Exponential}
-use Rattle.nextest_config_lint.specs.Settings.{is_known, names_of}
+use Rattle.nextest_config_lint.specs.Settings.{is_known, names_of, of_field, of_name, SettingView}
+
+-- what is judged of a key, whose value has nothing in it
+abbrev pub of_plain : KeyRule → List PathStep → Members → List SettingView
+of_plain rule = of_field (rule, nothing)
+
+-- the keys of a table that are refused
+abbrev pub refused_in : FaultSeverity → List PathStep → List (List ℕ) → List (List ℕ) → List (List ℕ) → List SettingView
+refused_in severity path expected known = flat_map (of_name severity expected known path)
+
+-- the reading of `backoff`
+abbrev pub backoff_reading : Reading Data Backoff
+backoff_reading = word_reading backoffs_in_order backoff_word backoff_reads_back
 
 -- a check finds nothing exactly where a value passes
 pub checked_none : {D : Type 0} (check : Check D) (value : D) → ((fault : Fault) → check.faults value fault → ⊥) ↔ check.passes value
@@ -60,13 +75,13 @@ backoff_text : (text : Option (List ℕ)) (backoff : Backoff) → either {A = Ba
 backoff_text (Some text) backoff is = ap (value_of backoff_word backoffs_in_order) (sym is) ∙ backoff_reads_back backoff
 backoff_text None backoff is = absurd is
 
-backoff_found : (found : Option Data) (backoff : Backoff) → either found (λ value. (word_reading backoffs_in_order backoff_word backoff_reads_back).means value) (λ kind. ⊥) backoff
+backoff_found : (found : Option Data) (backoff : Backoff) → either found (λ value. backoff_reading.means value) (λ kind. ⊥) backoff
     → option_and_then (value_of backoff_word backoffs_in_order) (option_and_then as_str found) ≡ Some backoff
 backoff_found None backoff means = absurd means
 backoff_found (Some value) backoff means = backoff_text (as_str value) backoff means
 
 -- a backoff that is read is the one that the table names
-pub backoff_is : (held : Members) (backoff : Backoff) → (required backoff_key (word_reading backoffs_in_order backoff_word backoff_reads_back)).means held backoff
+pub backoff_is : (held : Members) (backoff : Backoff) → (required backoff_key backoff_reading).means held backoff
     → backoff_in held ≡ Some backoff
 backoff_is held backoff means = backoff_found (get_member backoff_key held) backoff means
 

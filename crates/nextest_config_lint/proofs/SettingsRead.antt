@@ -2,7 +2,7 @@
 use mathlib.Core.Logic.Iff as iff
 use Rattle.std.proofs.lemmas.Option.{same_Some}
 use Rattle.std.specs.List.{AllByRecursion}
-use Rattle.std.specs.Prelude.{◌≡◌, ◌↔◌, ℕ, zero, suc, Bool, true, false, List, [], ◌∷◌, ◌++◌, codes, if◌then◌else◌, IsSome, Option, Some, None, flat_map}
+use Rattle.std.specs.Prelude.{◌≡◌, ◌↔◌, ℕ, zero, suc, Bool, true, false, List, [], ◌∷◌, ◌++◌, codes, if◌then◌else◌, IsSome, Option, Some, None}
 use Rattle.std.proofs.Common.{inl, inr, refl, subst, sym, ◌∙◌}
 use Rattle.semver.specs.Parse.{Parts as VersionParts}
 use Rattle.toml.specs.Data.{array, as_str, Data, get_item, get_member, item, Items, Members, no_items, string, table}
@@ -23,7 +23,7 @@ use Rattle.nextest_config_elements.specs.LeakTimeout as leak
 use Rattle.nextest_config_elements.specs.LeakTimeout.{leak_timeout_fields, leak_timeout_reading, leak_timeout_table}
 use Rattle.nextest_config_elements.specs.MaxFail.{fail_fast_fields, fail_fast_reading, fail_fast_table, max_fail_key, max_fail_reading, terminate_key, terminate_reading}
 use Rattle.nextest_config_elements.specs.ReportSkipPolicy.{report_skip_reading}
-use Rattle.nextest_config_elements.specs.RetryPolicy.{backoff_key, backoff_reads_back, backoff_word, backoffs_in_order, count_key, delay_key, exponential_fields, fixed_fields, jitter_key, max_delay_key, open_fields, retries_parts, retry_policy_reading, retry_table, table_with_backoff}
+use Rattle.nextest_config_elements.specs.RetryPolicy.{backoff_key, count_key, delay_key, exponential_fields, fixed_fields, jitter_key, max_delay_key, open_fields, retries_parts, retry_policy_reading, retry_table, table_with_backoff}
 use Rattle.nextest_config_elements.specs.RetryRules.{backoff_in, rules_by}
 use Rattle.nextest_config_elements.specs.SlowTimeout as slow
 use Rattle.nextest_config_elements.specs.SlowTimeout.{slow_timeout_fields, slow_timeout_reading, slow_timeout_table}
@@ -38,7 +38,7 @@ use Rattle.nextest_config_elements.specs.declared.retry_policy.Backoff.{Backoff}
 use Rattle.nextest_config_elements.specs.declared.retry_policy.Backoff.TheVariants.{Exponential, Fixed}
 use Rattle.nextest_config_elements.specs.declared.slow_timeout.SlowTimeoutResult.TheVariants.{Fail}
 use Rattle.nextest_config_lint.proofs.Keys.{names_have}
-use Rattle.nextest_config_lint.proofs.RetriesRead.{backoff_is, checked_none, exponential_kept, fixed_rules, known_one, of_names, one_known}
+use Rattle.nextest_config_lint.proofs.RetriesRead.{backoff_is, backoff_reading, checked_none, exponential_kept, fixed_rules, known_one, of_names, of_plain, one_known, refused_in}
 use Rattle.nextest_config_lint.specs.FindingsLaws.{HasNoFault, HaveNoFault, IsTakenWhole}
 use Rattle.nextest_config_lint.specs.Rules.{IsOutOfOrder}
 use Rattle.nextest_config_lint.specs.Settings.{absent_key, and_rules, at_items, at_key, between, features_at, is_wanted, setting_at, settings_in, settings_of_fields, SettingView, with_parts, by_kind, expected_by, in_retries, is_known, names_of, of_name, refused_key}
@@ -111,10 +111,6 @@ module _ (edition : Edition) where
   last_made : {X Y : Type 0} {here : List SettingView} {make : X → Y} {reading : Reading Members X} {held : Members} → AreTakenBy here reading held → AreTakenBy (here ++ []) (made_of make reading) held
   last_made {here = here} {make = make} {reading = reading} {held = held} same = record { both = made_taken make reading held (last_field same).both }
 
-  -- what is judged of a key, whose value has nothing in it
-  abbrev of_key : KeyRule → List PathStep → Members → List SettingView
-  of_key rule path held = at_key rule (settings_in rule.shape rule.severity nothing) path (get_member rule.key held)
-
   module _ {X : Type 0} (name : List ℕ) (shape : Shape) (severity : FaultSeverity) (path : List PathStep) (reading : Reading Data X) (same : IsShapeOf shape reading) where
     optional_taken : (held : Members) (found : Option Data)
         → HaveNoFault edition (at_key (allowed name shape severity) (settings_in shape severity nothing) path found)
@@ -142,15 +138,15 @@ module _ (edition : Edition) where
     required_taken wanted (Some value) = one_alone (same value)
 
   optional_key : {X : Type 0} (name : List ℕ) (shape : Shape) (severity : FaultSeverity) (path : List PathStep) (held : Members) (reading : Reading Data X) → IsShapeOf shape reading
-      → AreTakenBy (of_key (allowed name shape severity) path held) (optional name reading) held
+      → AreTakenBy (of_plain (allowed name shape severity) path held) (optional name reading) held
   optional_key name shape severity path held reading same = record { both = optional_taken name shape severity path reading same held (get_member name held) }
 
   default_key : {X : Type 0} (name : List ℕ) (shape : Shape) (severity : FaultSeverity) (path : List PathStep) (held : Members) (default : X) (reading : Reading Data X) → IsShapeOf shape reading
-      → AreTakenBy (of_key (allowed name shape severity) path held) (or_default name default reading) held
+      → AreTakenBy (of_plain (allowed name shape severity) path held) (or_default name default reading) held
   default_key name shape severity path held default reading same = record { both = default_taken name shape severity path reading same default (get_member name held) }
 
   required_key_taken : {X : Type 0} (name : List ℕ) (shape : Shape) (severity : FaultSeverity) (path : List PathStep) (held : Members) (reading : Reading Data X) → IsShapeOf shape reading
-      → is_wanted (needed name shape severity) path ≡ true → AreTakenBy (of_key (needed name shape severity) path held) (required name reading) held
+      → is_wanted (needed name shape severity) path ≡ true → AreTakenBy (of_plain (needed name shape severity) path held) (required name reading) held
   required_key_taken name shape severity path held reading same wanted = record { both = required_taken name shape severity path reading same wanted (get_member name held) }
 
   -- a value of another kind than a table, of which nothing is judged by itself
@@ -239,7 +235,7 @@ module _ (edition : Edition) where
   no_more : (held : Members) → AreTakenBy [] table_names held
   no_more held = record { both = names_taken held }
 
-  switch_at : (name : List ℕ) (path : List PathStep) (held : Members) → AreTakenBy (of_key (allowed name shapes.Boolean Error) path held) (or_default name false bool_reading) held
+  switch_at : (name : List ℕ) (path : List PathStep) (held : Members) → AreTakenBy (of_plain (allowed name shapes.Boolean Error) path held) (or_default name false bool_reading) held
   switch_at name path held = default_key name shapes.Boolean Error path held false bool_reading truth_shape
 
   feature_table_taken : (path : List PathStep) (held : Members) → AreTakenBy (settings_of_fields feature_fields path held) (switches all_features) held
@@ -362,10 +358,10 @@ module _ (edition : Edition) where
 
   -- ---- the report
 
-  text_at : (name : List ℕ) (path : List PathStep) (held : Members) → AreTakenBy edition (of_key edition (allowed name shapes.Text ErrorUnlessConverted) path held) (optional name text_reading) held
+  text_at : (name : List ℕ) (path : List PathStep) (held : Members) → AreTakenBy edition (of_plain (allowed name shapes.Text ErrorUnlessConverted) path held) (optional name text_reading) held
   text_at name path held = optional_key edition name shapes.Text ErrorUnlessConverted path held text_reading (shape_of text_reading)
 
-  truth_at : (name : List ℕ) (path : List PathStep) (held : Members) → AreTakenBy edition (of_key edition (allowed name shapes.Boolean ErrorUnlessConverted) path held) (optional name bool_reading) held
+  truth_at : (name : List ℕ) (path : List PathStep) (held : Members) → AreTakenBy edition (of_plain (allowed name shapes.Boolean ErrorUnlessConverted) path held) (optional name bool_reading) held
   truth_at name path held = optional_key edition name shapes.Boolean ErrorUnlessConverted path held bool_reading (shape_of bool_reading)
 
   junit_table_taken : (path : List PathStep) (held : Members) → AreTakenBy edition (settings_of_fields junit_fields path held) junit_table held
@@ -384,17 +380,14 @@ module _ (edition : Edition) where
   -- ---- retries
 
   module _ (severity : FaultSeverity) (path : List PathStep) (expected known : List (List ℕ)) where
-    abbrev refused_in : List (List ℕ) → List SettingView
-    refused_in = flat_map (of_name severity expected known path)
-
     known_by : (name : List ℕ) (here : Bool) → HaveNoFault edition (if here then [] else setting_at severity path (refused_key name expected known) ∷ []) → here ≡ true
     known_by name true none = refl
     known_by name false none = absurd (none.0 (unknown_key name expected) refl)
 
-    all_known : (names : List (List ℕ)) → HaveNoFault edition (refused_in names) → AllByRecursion (λ name. is_known known name ≡ true) names
+    all_known : (names : List (List ℕ)) → HaveNoFault edition (refused_in severity path expected known names) → AllByRecursion (λ name. is_known known name ≡ true) names
     all_known [] none = tt
     all_known (name ∷ names) none =
-        let parts = (in_both edition (of_name severity expected known path name) (refused_in names)).0 none in
+        let parts = (in_both edition (of_name severity expected known path name) (refused_in severity path expected known names)).0 none in
         (known_by name (is_known known name) parts.0, all_known names parts.1)
 
     passed_by : (name : List ℕ) (here : Bool) → (here ≡ false → ⊥) → HaveNoFault edition (if here then [] else setting_at severity path (refused_key name expected known) ∷ [])
@@ -402,14 +395,14 @@ module _ (edition : Edition) where
     passed_by name false never = absurd (never refl)
 
     module _ (held : Members) where
-      none_refused : HasOnlyKeys known held → (names : List (List ℕ)) → AllByRecursion (λ name. IsSome (get_member name held)) names → HaveNoFault edition (refused_in names)
+      none_refused : HasOnlyKeys known held → (names : List (List ℕ)) → AllByRecursion (λ name. IsSome (get_member name held)) names → HaveNoFault edition (refused_in severity path expected known names)
       none_refused alone [] some = tt
       none_refused alone (name ∷ names) some =
-          all_joined (HasNoFault edition) (of_name severity expected known path name) (refused_in names)
+          all_joined (HasNoFault edition) (of_name severity expected known path name) (refused_in severity path expected known names)
           (passed_by name (is_known known name) (λ other. alone name (some.0, λ one. absurd (cc (one_known known name one, other)))))
           (none_refused alone names some.1)
 
-      keys_taken : HaveNoFault edition (refused_in (names_of held)) ↔ HasOnlyKeys known held
+      keys_taken : HaveNoFault edition (refused_in severity path expected known (names_of held)) ↔ HasOnlyKeys known held
       keys_taken = (
         λ none name unknown. unknown.1 (known_one known name (of_names (λ key. is_known known key ≡ true) held (all_known (names_of held) none) name unknown.0)),
         λ alone. none_refused alone (names_of held) (names_have held),
@@ -433,10 +426,7 @@ module _ (edition : Edition) where
           λ parts. (in_both edition (first ++ other) rules).1 ((in_both edition first other).1 parts.0, parts.1),
         )
 
-    abbrev backoff_reading : Reading Data Backoff
-    backoff_reading = word_reading backoffs_in_order backoff_word backoff_reads_back
-
-    backoff_at : AreTakenBy edition (of_key edition (needed backoff_key shapes.Backoff Error) path held) (required backoff_key backoff_reading) held
+    backoff_at : AreTakenBy edition (of_plain (needed backoff_key shapes.Backoff Error) path held) (required backoff_key backoff_reading) held
     backoff_at = required_key_taken edition backoff_key shapes.Backoff Error path held backoff_reading (shape_of backoff_reading) refl
 
     -- a backoff that is read is the one that the table names
@@ -530,7 +520,7 @@ module _ (edition : Edition) where
     open_taken named = (
       λ none.
           let parts = (all_of_retries open_fields).0 none in
-          let first = (in_both edition (of_key edition (needed backoff_key shapes.Backoff Error) path held) _).0 parts.0.0 in
+          let first = (in_both edition (of_plain (needed backoff_key shapes.Backoff Error) path held) _).0 parts.0.0 in
           let (backoff, there) = backoff_at.both.0 first.0 in
           absurd (cc (backoff_is held backoff there, named)),
       λ (policy, (backoff, there, means)). absurd (cc (backoff_is held backoff there, named)),
