@@ -25,7 +25,7 @@ Repository = collections.namedtuple("Repository", "words path contents kind", de
 def values_of(path, place):
     """What is written at a place: the values of its key, and tables with each value of one of their keys, and with
     values of several."""
-    yield from settings.VALUES[path[-1]]
+    yield from settings.written_at(path)
     fields = place.reader.fields
     for field in fields:
         beside = {"count": "3"} if field == "backoff" else settings.BESIDE.get(path[-1], {})
@@ -58,11 +58,15 @@ def by_key(turns):
     return tables
 
 
-ALL = [(*it, value) for it in places.places_in(settings.TOP) if it[0] != ("profile",) for value in values_of(*it)]
+# Tables of names, beside which no others stand in a document that has such a table as a value.
+WHOLE = {("profile",), ("scripts",), ("scripts", "setup"), ("scripts", "wrapper"), ("script",)}
+ALL = [(*it, value) for it in places.places_in(settings.TOP) if it[0] not in WHOLE for value in values_of(*it)]
 # Each place with each value that is written there, and with each that means something there.
 TURNS = [(path, value) for path, _, value in ALL]
 RIGHT_TURNS = [(path, value) for path, place, value in ALL if is_right(place, value)]
 KNOWN = [by_key(TURNS), by_key(RIGHT_TURNS)]
+# What scripts are written in place of their tables, in a file that has no others.
+SCRIPTS = {key: settings.written_at((key,)) for key in ("scripts", "script")}
 # Tables and arrays in each other's place, and others beside them.
 SHAPES = [
     *["[profile.ci.overrides]\nfilter = 'a'\n", "[[profile.nightly]]\nretries = 1\n", "[[profile]]\n", "profile = 1\n"],
@@ -73,6 +77,8 @@ SHAPES = [
     *["[[experimental]]\n", "[nextest-version]\nrequired = 'a'\n", "[scripts.x]\n", "[profil.ci]\n[profil.x]\n"],
     *["[[profile.ci.overrides.platform]]\nhost = 1\n", "[profile.ci.overrides.junit]\n", "[[profile.ci.overrides]]\n"],
     *["[profile.ci]\nfail-fast = True\n", "[store]\ndir = target\n", "[profile.x]\nretries = 1\nretries = 2\n"],
+    *["[profile.ci.scripts]\nfilter = 'a'\n", "[profile.ci.archive.include]\n", "[[scripts.wrapper]]\n"],
+    *["[script.a.junit]\npath = 1\nreport-names = 1\n", "[scripts.setup.a.command]\nenv.A = [ ]\nrelative = ''\n"],
 ]
 UNKNOWN = [
     *["retry", "RETRIES", "max_threads", "timeout", "filters", "slow_timeout", "nextest-version", "priorty", "colour"],
@@ -83,6 +89,14 @@ PROFILES = [
     *["''", "'tab\there'", '"\\u001b"', "'\u202ea'", "10", '"😀\u0301"'],
 ]
 DEFINED = ["serial", "db", '"1 a"', "'@tool:my-tool:g'", '"@tool:x"', "'é'", '"日本"', '"e\u0301"', "''"]
+SCRIPT_NAMES = [
+    *["db", "db", "wrap", "'wrap'", "'é'", '"e\u0301"', '"日本"', "'@tool:my-tool:s'", '"@tool:x:s"', "'a b'", "''"],
+]
+# Features that scripts need.
+ENABLED = [
+    *["experimental.setup-scripts = true\n", "experimental = { setup-scripts = true, wrapper-scripts = true }\n"],
+    *['experimental = ["wrapper-scripts"]\n', 'experimental = ["setup-scripts", "wrapper-scripts"]\n'],
+]
 COMMENTS = [
     *["", " a comment", " wie früher", " 日本語 😀 e\u0301", "\t[a]", " = 1", " \x85", " \u2028", "#" * 210, " é" * 99],
 ]
@@ -105,6 +119,8 @@ USUAL = ".config/nextest.toml"
 # Of two files they may be none together.
 APART = ['{ backoff = "fixed", count = 1 }', '{ backoff = "exponential", count = 2, delay = "2s", max-delay = "5s" }']
 PROFILE, OVERRIDE, GROUP = ("profile", "*"), ("profile", "*", "overrides", 0), ("test-groups", "*")
+# Arrays of tables in a profile beside its overrides.
+ARRAYS = {"scripts": (*PROFILE, "scripts", 0), "archive.include": (*PROFILE, "archive", "include", 0)}
 # Keys of tables, with dots.
 DOTTED = [f"{key}.{field}" for key, place in settings.PROFILE.items() for field in place.reader.fields]
 DOTTED += ["bench.slow-timeout.period", "bench.slow-timeout.on-timeout", "bench.global-timeout", "bench.colour"]
@@ -163,11 +179,16 @@ def some_profile(random, name, values):
         pairs.append(("overrides", some_overrides(random, values)))
     if chance(random, 0.05):
         return pair(random, f"profile.{name}", inline(random, pairs))
+    keys = {key for key, _ in pairs}
     text = f"[profile.{name}]\n" + lines_of_pairs(random, pairs)
     while chance(random, 0.4):
         word = "overrides" if not is_inline else random.choice(["override", "scripts", "overrides"])
         pairs = some_pairs(random, values[OVERRIDE], 4)
         text += f"\n[[profile.{name}.{word}]]\n" + lines_of_pairs(random, pairs)
+    for word, path in ARRAYS.items():
+        count = 0 if word.split(".")[0] in keys else random.choice([0, 0, 0, 1, 2])
+        tables = [lines_of_pairs(random, some_pairs(random, values[path], 4)) for _ in range(count)]
+        text += "".join(f"\n[[profile.{name}.{word}]]\n{lines}" for lines in tables)
     return text
 
 
@@ -180,6 +201,22 @@ def some_group(random, name, values):
     return f"[test-groups]\n{pair(random, name, inline(random, pairs))}"
 
 
+def some_scripts(random, values):
+    """Scripts of each kind, which mostly have a command, and what names them."""
+    names = ['"db"']
+    for path in (("scripts", "setup"), ("scripts", "wrapper"), ("script",)):
+        for name in dict.fromkeys(random.choice(SCRIPT_NAMES) for _ in range(random.choice([0, 1, 2]))):
+            pairs = dict(some_pairs(random, values[(*path, "*")], 2))
+            pairs |= {} if chance(random, 0.1) else {"command": some_written(random, values[(*path, "*")]["command"])}
+            yield f"[{'.'.join(path)}.{name}]\n{lines_of_pairs(random, pairs.items())}"
+            names.append(name if name[0] in "'\"" else f'"{name}"')
+    for _ in range(random.choice([0, 1, 2])):
+        used = [name[:-1] + random.choice(["", "", "s"]) + name[-1] for name in random.choices(names, k=3)]
+        pairs = [("setup", random.choice([used[0], array(used)])), ("list-wrapper", used[1]), ("run-wrapper", used[2])]
+        pairs = [*random.sample(pairs, random.randint(1, 3)), *random.choice([[], [("filter", "'a'")]])]
+        yield f"[[profile.scripted.scripts]]\n{lines_of_pairs(random, pairs)}"
+
+
 def some_head(random, values):
     """What stands at the top of a file."""
     pairs = []
@@ -189,9 +226,10 @@ def some_head(random, values):
         pairs += [(f"nextest-version.{role}", some_version(random)) for role in ("required", "recommended")]
     if chance(random, 0.25):
         pairs.append(("experimental", some_features(random)))
-    for key in ("store", "test-groups", "script"):
+    known = {**values[()], **SCRIPTS}
+    for key in ("store", "test-groups", *SCRIPTS):
         if chance(random, 0.1):
-            pairs.append((key, some_written(random, values[()][key])))
+            pairs.append((key, some_written(random, known[key])))
     if chance(random, 0.15):
         pairs.append((random.choice([*UNKNOWN, "profil", "test-group"]), some_value(random)))
     random.shuffle(pairs)
@@ -209,23 +247,32 @@ def some_document(random):
         parts.append(some_group(random, random.choice(DEFINED), values))
     if chance(random, 0.15):
         parts.append(random.choice(SHAPES))
+    head = some_head(random, values)
+    if "script" not in head and chance(random, 0.3):
+        parts += some_scripts(random, values)
+        head += random.choice(ENABLED) if "experimental" not in head and chance(random, 0.5) else ""
     random.shuffle(parts)
     comment = f"#{random.choice(COMMENTS)}\n" if chance(random, 0.3) else ""
-    return comment + "\n".join([some_head(random, values), *parts])
+    return comment + "\n".join([head, *parts])
 
 
-def setting(random, path, value):
-    """A setting at a path, with dotted keys and inline tables as they come."""
-    while 0 in path or len(path) > 2 and chance(random, 0.5):
+def setting(random, path, value, least=2):
+    """A setting at a path, with dotted keys, at least so many, and inline tables as they come."""
+    while 0 in path or len(path) > least and chance(random, 0.5):
         *path, last = path
         value = f"[{value}]" if last == 0 else f"{{ {last} = {value} }}"
     return pair(random, ".".join(path), value)
 
 
-def statement(random, path, value):
+def named(path, name):
+    """A path with a name in the place of each, and how many steps lead through the first."""
+    return [name if step == "*" else step for step in path], path.index("*") + 1 if "*" in path else 1
+
+
+def statement(random, path, name, value):
     """The same, with the headers of the tables above it, or without."""
-    ends = [at for at in range(1, len(path)) if path[at] != 0 and (at > 1 or path[0] not in ("profile", "test-groups"))]
-    at = random.choice([0, *ends])
+    path, front = named(path, name)
+    at = random.choice([0, *(at for at in range(front, len(path)) if path[at] != 0)])
     headers = ""
     for end in range(1, at + 1):
         name = ".".join(step for step in path[:end] if step != 0)
@@ -233,16 +280,14 @@ def statement(random, path, value):
             headers += f"[[{name}]]\n"
         elif end == at:
             headers += f"[{name}]\n"
-    return headers + setting(random, path[at:], value)
+    return headers + setting(random, path[at:], value, 2 if at else max(front, 2))
 
 
 def document_in_turn(random, number):
     """A document of settings in the turn of all that are written, each in a profile or a group of its own."""
     turns = TURNS[number % 80 :: 80]
     names = random.sample(["default", *(f"t{at}" for at in range(len(turns)))], len(turns))
-    texts = []
-    for name, (path, value) in zip(names, turns):
-        texts.append(statement(random, [name if step == "*" else step for step in path], value))
+    texts = [statement(random, path, name, value) for name, (path, value) in zip(names, turns)]
     return "\n".join(sorted(texts, key=lambda text: text.startswith("[")))
 
 
@@ -259,7 +304,8 @@ def right_document_in_turn(random, number, is_tools):
             line = setting(random, path[2:], value)
             sections[name][path[2]] = random.choice([line, sections[name].get(path[2], line)])
         elif path[0] != "profile" and not is_tools:
-            heads.append(setting(random, ["t" if step == "*" else step for step in path], value))
+            path, front = named(path, f"t{len(heads)}")
+            heads.append(setting(random, path, value, max(front, 2)))
     if chance(random, 0.5):
         sections["t"]["inherits"] = pair(random, "inherits", random.choice(['"u"', '"u"', '"default-miri"', '"x"', "1"]))
     for name, share in (("t", 0.3), ("u", 0.6)):

@@ -13,11 +13,11 @@ import documents
 import rules
 from reports import WORDS, Ask
 from rules import Fault, meant, nearest, path_text, printed
-from settings import HOMES, TOP, VERSIONS
+from settings import HOMES, OVERRIDE_JUNIT, SCRIPT_JUNIT, TOP, VERSIONS
 
 # The code's table of keys, by which it is known that none is left out here.
 KEYS = pathlib.Path(__file__).resolve().parent.parent / "crates/nextest_config_elements/src/keys.rt"
-# The most names of a list among which the nearest is sought.
+# The most names among which the nearest is sought.
 MOST_NAMES = 100
 # Booleans of which two letters have changed places.
 SWAPPED = {
@@ -45,7 +45,19 @@ def places_in(rows, front=()):
         if place.each:
             path = (*front, key, 0 if place.reader is rules.ARRAY else "*")
             yield path, place.each
-            yield from places_in(place.each.rows, path)
+            yield from places_in(place.each.rows or {}, path)
+
+
+# The tables of which each key is a name.
+OF_NAMES = {path[:-1] for path, _ in places_in(TOP) if path[-1] == "*"}
+
+
+def general(path):
+    """A path with `*` for each name, and 0 for each index."""
+    steps = ()
+    for step in path:
+        steps += (0 if isinstance(step, int) else "*" if steps in OF_NAMES else step,)
+    return steps
 
 
 def met_at(reader, path, value, faults):
@@ -67,9 +79,7 @@ def met_at(reader, path, value, faults):
 def met_in(settings, tables_only):
     """The same of the settings of a file, with `*` for each name, and 0 for each index."""
     for path, place, value in settings:
-        names = [at == 1 and path[0] in ("profile", "test-groups") for at in range(len(path))]
-        steps = ["*" if is_name else 0 if isinstance(step, int) else step for step, is_name in zip(path, names)]
-        yield from met_at(place.reader, tuple(steps), value, faults_at(path, place, value, tables_only))
+        yield from met_at(place.reader, general(path), value, faults_at(path, place, value, tables_only))
 
 
 def all_forms(reader, path):
@@ -93,12 +103,18 @@ def keys_of_code():
     return collections.Counter(rows + [shared[name] for name in re.findall(r"\w+", tables) if name in shared])
 
 
+def keys_here():
+    """How often the tables of places have each key: a table that stands at several places counts once."""
+    places = [place for _, place in places_in(TOP)]
+    tables = {id(rows): rows for rows in [TOP, *(place.rows for place in places if place.rows)]}
+    return collections.Counter([key for rows in tables.values() for key in rows] + [*VERSIONS, *WORDS])
+
+
 def lacking(met, keys=None):
     """What isn't met of the settings below these keys of a file, or below all."""
     rows = {key: place for key, place in TOP.items() if keys is None or key in keys}
     wanted = {form for path, place in places_in(rows) for form in all_forms(place.reader, path)}
-    said = keys_of_code()
-    here = collections.Counter([path[-1] for path, _ in places_in(TOP) if path[-1] not in (0, "*")] + [*VERSIONS, *WORDS])
+    said, here = keys_of_code(), keys_here()
     others = [f"the key {key}, as {KEYS.name} has it" for key in said.keys() | here.keys() if said[key] != here[key]]
     return others + sorted(f"{path_text(path)}, {form}, {how}" for path, form, how in wanted - met)
 
@@ -144,6 +160,28 @@ def is_supplied(path, fault):
 # Findings.
 
 
+# What names stand for: what one of them and several are called, the tables whose keys define them, and the codes of a
+# name that is wrong and of one that nothing defines.
+Named = collections.namedtuple("Named", "what several tables wrong undefined")
+GROUP = Named("test group", "test groups", (("test-groups",),), "group-name", "undefined-group")
+SETUP = Named("setup script", "scripts", (("scripts", "setup"), ("script",)), "script-name", "undefined-script")
+WRAPPER = Named("wrapper script", "scripts", (("scripts", "wrapper"),), "script-name", "undefined-script")
+# The scripts, with the feature that each needs, and of which other kind a name may be.
+SCRIPTS = {SETUP: ("setup-scripts", WRAPPER), WRAPPER: ("wrapper-scripts", SETUP)}
+# The kinds by the tables that define them.
+NAMED = {table: named for named in (GROUP, SETUP, WRAPPER) for table in named.tables}
+
+
+def defined_in(value, named):
+    """The names that a document defines, by their kept texts."""
+    for keys in named.tables if value is not None else ():
+        table = value
+        for key in keys:
+            table = table.get(key) if isinstance(table, dict) else None
+        names = table if isinstance(table, dict) else ()
+        yield from (unicodedata.normalize("NFC", name) for name in names if not rules.name_fault(name))
+
+
 class Listed:
     """The files of a list with their documents, and what they define together."""
 
@@ -154,9 +192,7 @@ class Listed:
         self.values = [root and root.value for root in self.roots]
         self.all_read = None not in self.roots
         self.tools = {file.tool for file in files}
-        tables = [value.get("test-groups") for value in self.values if value is not None]
-        names = [name for it in tables if isinstance(it, dict) for name in it if not rules.name_fault(name)]
-        self.groups = by_bytes({unicodedata.normalize("NFC", name) for name in names})
+        self.defined = {it: by_bytes({name for one in self.values for name in defined_in(one, it)}) for it in NAMED.values()}
         # Of each profile the last file that says what it inherits from, and what.
         self.parents = {}
         self.profiles = {"default", "default-miri"}
@@ -184,6 +220,16 @@ class Listed:
             if at == name or not isinstance(at, str):
                 return at == name
         return False
+
+    @functools.cached_property
+    def features(self):
+        """The features that the files of no tool have, None where that isn't known."""
+        values = [value for value, file in zip(self.values, self.files) if file.tool is None]
+        asked = [value["experimental"] for value in values if value and "experimental" in value]
+        place = TOP["experimental"]
+        if not self.all_read or any(faults_at(("experimental",), place, it, self.tables_only) for it in asked):
+            return None
+        return {word for it in asked for word in place.reader.means(it)[0]}
 
     def ask(self, position):
         """What a file asks, or a text that says why it is refused as a source."""
@@ -343,7 +389,7 @@ class Judge:
         for path, words, value in tables:
             names = [name for name in value if name not in words] if words and isinstance(value, dict) else []
             for name in by_bytes(names):
-                said = f"unknown key {printed(name)}{key_hint(name, list(words)) or ''}"
+                said = f"unknown key {printed(name)}{key_hint(name, words) or ''}"
                 yield self.found(path, "warning", "unknown-key", said, of_key=True, key=name)
 
     # References.
@@ -356,12 +402,32 @@ class Judge:
                     yield self.found(path, "warning", "reserved-profile", said, of_key=True)
                 case ("profile", name, "inherits") if isinstance(value, str):
                     yield from self.parent(path, name, value)
-                case ("profile", _, "overrides", _) if isinstance(value, dict) and not {"filter", "platform"} & set(value):
-                    yield self.found(path, "warning", "override-of-all", 'an override needs a "filter" or a "platform"')
-                case ("profile", _, "overrides", _, "test-group") if isinstance(value, str) and value != "@global":
-                    yield from self.group_of(path, value)
-                case ("test-groups", name):
-                    yield from self.group(path, name)
+                case ("profile", _, "overrides", _) if isinstance(value, dict):
+                    yield from self.conditions(path, set(value))
+                case ("profile", _, "overrides", _, "test-group") if value != "@global":
+                    yield from self.name_of(path, value, GROUP)
+                case ("profile", _, "scripts", _) if isinstance(value, dict) and not {"filter", "platform"} & set(value):
+                    yield self.found(path, "warning", "override-of-all", 'a script needs a "filter" or a "platform"')
+                case ("profile", _, "scripts", _, "setup"):
+                    texts = enumerate(value) if isinstance(value, list) else []
+                    for steps, text in [(path, value), *(((*path, at), text) for at, text in texts)]:
+                        yield from self.name_of(steps, text, SETUP)
+                case ("profile", _, "scripts", _, "list-wrapper" | "run-wrapper"):
+                    yield from self.name_of(path, value, WRAPPER)
+                case _ if path in NAMED:
+                    yield from self.feature(path, value, NAMED[path])
+                case (*table, name) if tuple(table) in NAMED:
+                    yield from self.name(path, name, NAMED[tuple(table)])
+
+    def conditions(self, path, keys):
+        """What says to which tests an override applies."""
+        if "default-filter" in keys:
+            said = 'an override has a "filter" or a "default-filter", and not both'
+            said = said if "filter" in keys else 'a "default-filter" needs a "platform"'
+            if keys & {"filter"} or not keys & {"platform"}:
+                yield self.found((*path, "default-filter"), "warning", "override-default-filter", said)
+        elif not keys & {"filter", "platform"}:
+            yield self.found(path, "warning", "override-of-all", 'an override needs a "filter" or a "platform"')
 
     def parent(self, path, name, parent):
         if name == "default":
@@ -371,41 +437,58 @@ class Judge:
             yield self.found(path, "warning", "inherits-itself", said)
         elif self.listed.all_read and parent not in self.listed.profiles:
             others = [it for it in self.listed.profiles if it != name]
-            said = f"no file defines the profile {printed(parent)}{name_hint(parent, others, self.listed.profiles)}"
+            said = f"no file defines the profile {printed(parent)}{name_hint(parent, others)}"
             yield self.found(path, "warning", "undefined-profile", said)
 
-    def group_of(self, path, text):
-        fault = rules.name_fault(text)
+    def name_of(self, path, text, named):
+        """What a text names, which some file has to define."""
+        if not isinstance(text, str):
+            return
+        fault, defined = rules.name_fault(text), self.listed.defined
         name = unicodedata.normalize("NFC", text)
         tool = name.split(":")[1] if name.startswith("@tool:") and not fault else None
         if fault:
-            yield self.found(path, "warning", "group-name", fault)
-        elif self.listed.all_read and name not in self.listed.groups and (tool is None or tool in self.listed.tools):
-            hint = name_hint(name, self.listed.groups, self.listed.groups)
-            said = f"no file defines the test group {printed(name)}{hint}"
-            yield self.found(path, "warning", "undefined-group", said)
+            yield self.found(path, "warning", named.wrong, fault)
+        elif self.listed.all_read and name not in defined[named] and (tool is None or tool in self.listed.tools):
+            other = SCRIPTS[named][1] if named in SCRIPTS else None
+            said = f"no file defines the {named.what} {printed(name)}{name_hint(name, defined[named])}"
+            said = f"{printed(name)} is a {other.what}" if other and name in defined[other] else said
+            yield self.found(path, "warning", named.undefined, said)
 
-    def group(self, path, text):
+    def name(self, path, text, named):
+        """A name that a table defines."""
         fault = rules.name_fault(text)
         name = unicodedata.normalize("NFC", text)
         if self.tool is None and name.startswith("@"):
-            fault = fault or 'only a tool\'s test groups begin with "@"'
+            fault = fault or f'only a tool\'s {named.several} begin with "@"'
         elif self.tool is not None and not name.startswith(f"@tool:{self.tool}:"):
-            fault = fault or f"a tool's test groups begin with {printed(f'@tool:{self.tool}:')}"
+            fault = fault or f"a tool's {named.several} begin with {printed(f'@tool:{self.tool}:')}"
+        if not fault and named is WRAPPER and name in defined_in(self.listed.values[self.position], SETUP):
+            fault = f"{printed(name)} is a setup script, too"
         if fault:
-            yield self.found(path, "warning", "group-name", fault, of_key=True)
+            yield self.found(path, "warning", named.wrong, fault, of_key=True)
+
+    def feature(self, path, value, named):
+        """A table of scripts, which need a feature."""
+        word = SCRIPTS[named][0] if named in SCRIPTS else None
+        features = self.listed.features if self.tool is None and isinstance(value, dict) and value else None
+        if word and features is not None and word not in features:
+            said = f"{named.what}s need the experimental feature {printed(word)}"
+            yield self.found(path, "warning", "feature-not-enabled", said, of_key=True)
 
 
-def name_hint(name, words, names):
-    """What an undefined name may be meant for, where the list defines few names."""
-    return meant(nearest(name, words)) or "" if len(names) <= MOST_NAMES else ""
+def name_hint(name, words):
+    """What an undefined name may be meant for, where the words are few."""
+    return meant(nearest(name, words)) or "" if len(words) <= MOST_NAMES else ""
 
 
 def key_hint(name, words):
-    """What an unknown key may be meant for."""
-    near = nearest(name, words)
+    """What a key may be meant for that a table doesn't know."""
+    near = nearest(name, list(words))
     if near and (rules.plain(name) == rules.plain(near) or rules.distance(name, near) == 1):
         return meant(near)
-    home = next((home for home, rows in HOMES.items() if name in rows), None)
+    # The report of a script is called junit, too.
+    others = {home: rows for home, rows in HOMES.items() if (words, rows) != (SCRIPT_JUNIT, OVERRIDE_JUNIT)}
+    home = next((home for home, rows in others.items() if name in rows), None)
     part = next((word for word in words if name in word.split("-")), None)
     return f", which belongs {home}" if home else meant(near or part)

@@ -188,10 +188,15 @@ def faults_below(reader, value, step):
         yield fault
 
 
-def faults_of_texts(value):
-    yield from of_kind(list, "an array of strings").faults(value)
+def faults_of_elements(reader, value):
+    """What is wrong with the elements of an array; nothing, where the value is none."""
     for index in range(len(value)) if isinstance(value, list) else []:
-        yield from faults_below(TEXT, value, index)
+        yield from faults_below(reader, value, index)
+
+
+def faults_of_texts(value, expected="an array of strings"):
+    yield from of_kind(list, expected).faults(value)
+    yield from faults_of_elements(TEXT, value)
 
 
 TEXTS = Reader(faults_of_texts, ("array",), ("array",))
@@ -218,6 +223,11 @@ def table_of(fields, required=()):
         yield from faults_of_keys(value, fields, required)
 
     return Reader(faults, ("table",), ("table",), fields=fields)
+
+
+def having(*keys):
+    """A table that has these keys, each of which is judged at a place of its own."""
+    return table_of(dict.fromkeys(keys, UNREAD), keys)._replace(fields={})
 
 
 # Durations.

@@ -10,8 +10,8 @@ import re
 from reports import GREATEST, NUMBER, WORDS, dotted, printed
 from rules import (
     ARRAY, BOOLEAN, DURATION, MADE_BOOLEAN, MADE_TEXT, SHORT_DURATION, TABLE, TEXT, TEXTS, UNREAD, Fault, Reader,
-    faults_of_keys, integer, integer_hint, is_integer, listed, meant, means_of_keys, nearest, of_kind, short_hint,
-    table_of, timeout, truth_hint, words, wrong_type, wrong_value,
+    faults_of_elements, faults_of_keys, faults_of_texts, having, integer, integer_hint, is_integer, listed, meant,
+    means_of_keys, nearest, of_kind, short_hint, table_of, timeout, truth_hint, words, wrong_type, wrong_value,
 )
 
 # What reads them.
@@ -150,7 +150,7 @@ REPORT = {
     "flaky-fail-status": FLAKY_STATUS,
 }
 JUNIT = table_of(REPORT)
-GROUP = table_of({"max-threads": UNREAD}, ["max-threads"])._replace(fields={})
+GROUP = having("max-threads")
 
 
 def faults_of_platform(value):
@@ -159,6 +159,57 @@ def faults_of_platform(value):
 
 
 PLATFORM = Reader(faults_of_platform, ("text", "table"))
+
+
+def faults_of_scalar(value):
+    if type(value) not in (str, bool, int, float):
+        yield wrong_type(value, "a string")
+
+
+SCALAR = Reader(faults_of_scalar, ("text", "boolean", "number", "float"))
+LINE_EXPECTED = "a string or an array of strings"
+WRITTEN = ("text", "array")
+
+
+def faults_of_line(value):
+    if type(value) not in (str, list):
+        yield wrong_type(value, LINE_EXPECTED)
+    elif not value:
+        yield wrong_value(value, "a command")
+    yield from faults_of_elements(SCALAR, value)
+
+
+LINE = Reader(faults_of_line, WRITTEN, WRITTEN)
+
+
+def faults_of_command(value):
+    if type(value) in (str, list):
+        yield from LINE.faults(value)
+    else:
+        yield from of_kind(dict, 'a string, an array of strings or a table ({ command-line = ".." })').faults(value)
+        yield from faults_of_keys(value, {"command-line": UNREAD}, ["command-line"])
+
+
+COMMAND = Reader(faults_of_command, (*WRITTEN, "table"), (*WRITTEN, "table"))
+
+
+def faults_of_names(value):
+    if not isinstance(value, str):
+        yield from faults_of_texts(value, LINE_EXPECTED)
+
+
+NAMES = Reader(faults_of_names, WRITTEN, ("array",))
+RUNNER = words("ignore", "overrides-wrapper", "within-wrapper", "around-wrapper")
+
+
+def faults_of_path(value):
+    yield from TEXT.faults(value)
+    if isinstance(value, str) and (value.startswith("/") or ".." in value.split("/")):
+        yield wrong_value(value, "a relative path with no parent components")
+
+
+PATH = Reader(faults_of_path, ("text",), ("text",))
+DEPTH = integer(lambda it: it >= 0, 'a non-negative integer or the string "infinite"', "infinite")
 
 
 def faults_of_version(value):
@@ -236,15 +287,50 @@ def warning(reader, **below):
     return Place(reader, "warning", **below)
 
 
-def known(reader):
+def known(reader, severity="error"):
     """A value with keys that its own reader reads."""
-    return error(reader, keys=list(reader.fields))
+    return Place(reader, severity, keys=list(reader.fields))
 
 
-A_TEXT, NOT_READ = warning(TEXT), warning(UNREAD)
+def each_of(place):
+    """An array of what stands at a place."""
+    return warning(ARRAY, each=place)
+
+
+A_TEXT, A_SWITCH, NOT_READ = warning(TEXT), warning(BOOLEAN), warning(UNREAD)
 SWITCH = error(MADE_BOOLEAN)
 BENCH = {"slow-timeout": known(SLOW_TIMEOUT), "global-timeout": error(DURATION)}
 OUTPUTS = {"success-output": warning(OUTPUT), "failure-output": warning(OUTPUT)}
+A_PLATFORM = warning(PLATFORM, rows={"host": A_TEXT, "target": A_TEXT})
+COMMAND_TABLE = {"command-line": warning(LINE), "env": warning(TABLE, each=warning(SCALAR)), "relative-to": A_TEXT}
+A_COMMAND = warning(COMMAND, rows=COMMAND_TABLE)
+SCRIPT_JUNIT = {"store-success-output": A_SWITCH, "store-failure-output": A_SWITCH}
+SETUP_SCRIPT = {
+    "command": A_COMMAND,
+    "slow-timeout": known(SLOW_TIMEOUT, "warning"),
+    "leak-timeout": known(LEAK_TIMEOUT, "warning"),
+    "capture-stdout": A_SWITCH,
+    "capture-stderr": A_SWITCH,
+    "junit": warning(TABLE, rows=SCRIPT_JUNIT),
+}
+WRAPPER_SCRIPT = {"command": A_COMMAND, "target-runner": warning(RUNNER)}
+SETUP_SCRIPTS = warning(TABLE, each=warning(having("command"), rows=SETUP_SCRIPT))
+WRAPPER_SCRIPTS = warning(TABLE, each=warning(having("command"), rows=WRAPPER_SCRIPT))
+# Which scripts are for which tests.
+SCRIPTS = {
+    "filter": A_TEXT,
+    "platform": A_PLATFORM,
+    "setup": warning(NAMES),
+    "list-wrapper": A_TEXT,
+    "run-wrapper": A_TEXT,
+}
+INCLUDED = {
+    "path": warning(PATH),
+    "relative-to": warning(words("target")),
+    "depth": warning(DEPTH),
+    "on-missing": warning(words("ignore", "warn", "error")),
+}
+ARCHIVE = {"include": each_of(warning(having("path", "relative-to"), rows=INCLUDED))}
 OVERRIDE_JUNIT = {
     **{"store-success-output": SWITCH, "store-failure-output": SWITCH, "flaky-fail-status": error(FLAKY_STATUS)},
     **dict.fromkeys(["path", "report-name", "report-skipped"], NOT_READ),
@@ -258,7 +344,7 @@ OVERRIDE = {
     "leak-timeout": known(LEAK_TIMEOUT),
     "junit": error(TABLE, rows=OVERRIDE_JUNIT),
     "filter": A_TEXT,
-    "platform": warning(PLATFORM, rows={"host": A_TEXT, "target": A_TEXT}),
+    "platform": A_PLATFORM,
     "default-filter": A_TEXT,
     "test-group": A_TEXT,
     "run-extra-args": warning(TEXTS),
@@ -283,8 +369,8 @@ PROFILE = {
     "status-level": warning(STATUS_LEVEL),
     "final-status-level": warning(FINAL_LEVEL),
     **OUTPUTS,
-    "archive": NOT_READ,
-    "scripts": NOT_READ,
+    "scripts": each_of(warning(TABLE, rows=SCRIPTS)),
+    "archive": warning(TABLE, rows=ARCHIVE),
 }
 TOP = {
     "nextest-version": known(NEXTEST_VERSION),
@@ -292,8 +378,8 @@ TOP = {
     "profile": error(TABLE, each=error(TABLE, rows=PROFILE)),
     "store": warning(TABLE, rows={"dir": A_TEXT}),
     "test-groups": warning(TABLE, each=warning(GROUP, rows={"max-threads": warning(THREADS)})),
-    "scripts": NOT_READ,
-    "script": NOT_READ,
+    "scripts": warning(TABLE, rows={"setup": SETUP_SCRIPTS, "wrapper": WRAPPER_SCRIPTS}),
+    "script": SETUP_SCRIPTS,
 }
 HOMES = {
     "at the top of the file": TOP,
@@ -344,18 +430,27 @@ SOME_LEVELS = [
 SOME_TEXTS = [
     *["'test(a)'", '"all()"', "'日本語'", "'''\ntest(a)\n  | test(b)'''", '"""\nnot \\\n  test(b)"""', "1", "['a']", "true"],
 ]
-SOME_UNREAD = ["{ include = [] }", '[{ filter = "a", setup = "b" }]', "1.5", "1979-05-27", "true", "'x'", "[1e3, 07:32:00]"]
+SOME_NAMES = [
+    *['"db"', '"wrap"', "'e\u0301'", '"日本"', '"dbb"', '"DB"', '"@tool:my-tool:s"', '"@tool:x:s"', '"a b"', '"@global"'],
+    *['""', '"@tool:gone:s"', '"wrapp"', "['db', 'wrap', 'dbb']", "1", "['db', 1, [ ]]", "true", "{ }"],
+]
+SOME_LINES = [
+    *['"cargo run"', "['a', 'b']", "['a', 1, true, 1.5]", '""', "[ ]", "['a', [ ]]", "[{ }, 'a', 1979-05-27]"],
+    *["1", "true", "1.5", "07:32:00"],
+]
+SOME_SCALARS = ['"x"', '""', "true", "1", "-1.5", "[ ]", "{ }", "1979-05-27"]
 SOME_VERSIONS = ['"0.9.50"', '"0.9"', '"0.9.50-rc.1"', '"0.9.50+b"', '"0.9.5O"', "1", "[ ]"]
 SAME = {
     "delay max-delay period grace-period global-timeout": SOME_TIMEOUTS,
     "count terminate-after": SOME_COUNTS,
     "jitter store-success-output store-failure-output setup-scripts wrapper-scripts benchmarks": SOME_SWITCHES,
+    "capture-stdout capture-stderr": SOME_SWITCHES,
     "flaky-result on-timeout result": SOME_RESULTS,
     "threads-required test-threads max-threads": SOME_THREADS,
     "status-level final-status-level": SOME_LEVELS,
     "success-output failure-output": SOME_OUTPUTS,
     "path report-name filter default-filter host target dir": SOME_TEXTS,
-    "archive scripts script": SOME_UNREAD,
+    "setup list-wrapper run-wrapper": SOME_NAMES,
     "required recommended": SOME_VERSIONS,
 }
 VALUES = {
@@ -401,10 +496,41 @@ VALUES = {
     "experimental": [
         *["[ ]", '["benchmarks", "x"]', '["setup-scripts", 1]', "{ }", "{ benchmark = true }", "1", '[1, "x", true]'],
     ],
-    # A name of a profile or of a test group, and an override.
-    "*": ["{ max-threads = 2 }", "{ retries = 2 }", "1", "[ ]"],
-    0: ["{ filter = 'a', retries = 2 }", "1", "'a'"],
+    "archive": ["{ include = [ ] }", "{ includes = [ ] }", "{ }", "1", "[ ]"],
+    "include": ["[ ]", "{ path = 'a' }", "[1]", "'a'"],
+    "relative-to": ['"target"', '"traget"', '"none"', "1"],
+    "depth": ["0", "4", '"infinite"', "-1", '"5"', '"Infinite"', "true", "1.5"],
+    "on-missing": ['"ignore"', '"warn"', '"error"', '"skip"', '"Warn"', "1"],
+    "script": ["{ }", "{ db = { command = 'x' } }", "[ ]", "{ wrap = 1 }"],
+    "command": [*SOME_LINES, "{ command-line = 'x' }", "{ command-lines = 'x' }", "{ relative = 1 }"],
+    "command-line": SOME_LINES,
+    "env": ["{ A = 'x', B = 1 }", "{ }", '["A=x"]', "1"],
+    "target-runner": [
+        *['"ignore"', '"overrides-wrapper"', '"within-wrapper"', '"around-wrapper"', '"within"', '"Ignore"', "1"],
+    ],
+    # A name of a profile, of a test group or of a script, and an element of an array.
+    "*": ["{ max-threads = 2 }", "{ retries = 2 }", "{ command = 'x' }", "1", "[ ]"],
+    0: [
+        *["{ filter = 'a', retries = 2 }", "{ filter = 'a', default-filter = 'b' }", "{ filter = 'a', setup = 'db' }"],
+        *["{ path = 'a', relative-to = 'target' }", "1", "'a'"],
+    ],
+    # Where a key has other values than elsewhere.
+    ("*", "scripts"): ["[ ]", "{ filter = 'a' }", '[{ filter = "a", setup = "db" }]', "[{ setup = 'db' }]", "1"],
+    ("scripts",): [
+        *["{ setup = { db = { command = 'x' } }, wrapper = { db = { command = 'y' } } }", "{ setup = 1, wrapper = [ ] }"],
+        *["{ wrapper = { wrap = { command = 'x' } } }", "{ }", "{ setup = { }, wrapper = { }, wraper = { } }", "1", "[ ]"],
+    ],
+    (0, "path"): ["'fixtures'", "'a/../b'", "'/a'", "''", "'..a'", "1"],
+    ("command", "relative-to"): SOME_TEXTS,
+    ("env", "*"): SOME_SCALARS,
 }
+
+
+def written_at(path):
+    """What is written for the key at the end of a path."""
+    return VALUES.get(path[-2:], VALUES.get(path[-1]))
+
+
 # What a key's table needs beside it.
 BESIDE = {
     "retries": {"backoff": '"exponential"', "count": "3", "delay": '"1s"'},

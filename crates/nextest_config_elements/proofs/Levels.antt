@@ -1,7 +1,7 @@
 -- What fields say, and what stands in a value, one level at a time.
 use Rattle.std.proofs.Common.{◌≡◌, List, ◌∷◌, sym, ap, ◌∙◌}
 use Rattle.std.specs.Borrow.{Bor}
-use Rattle.nextest_config_elements.specs.Fields.{by_backoff, elements, features, field, field_before, Fields, fields, fields_view, level_of_field, level_of_parts, names, nothing, Parts, parts_of, rule_of, versions}
+use Rattle.nextest_config_elements.specs.Fields.{by_backoff, elements, elements_or_fields, features, field, field_before, Fields, fields, fields_view, level_of_field, level_of_parts, names, nothing, Parts, parts_of, rule_of, versions}
 use Rattle.nextest_config_elements.specs.declared.field.Field as declared_field
 use Rattle.nextest_config_elements.specs.declared.field.Field.{fold-roll-Field, out-Field, roll-Field, roll-out-Field}
 use Rattle.nextest_config_elements.specs.declared.field.Parts as declared_parts
@@ -44,6 +44,10 @@ parts_names shape each = ap parts_of (sym (views.rolls-Names shape each)) ∙ fo
 pub parts_elements : (shape : Shape) (each : Bor declared_parts.Parts) → parts_of (views.Elements shape each) ≡ elements shape (parts_of each.now)
 parts_elements shape each = ap parts_of (sym (views.rolls-Elements shape each)) ∙ fold-roll-Parts Parts (Fields → Fields) level_of_parts level_of_field (Parts-F.Elements shape each)
 
+pub parts_elements_or_fields : (shape : Shape) (known : Bor (List declared_field.Field)) → parts_of (views.ElementsOrFields shape known) ≡ elements_or_fields shape (fields_view known.now)
+parts_elements_or_fields shape known = ap parts_of (sym (views.rolls-ElementsOrFields shape known))
+    ∙ fold-roll-Parts Parts (Fields → Fields) level_of_parts level_of_field (Parts-F.ElementsOrFields shape known)
+
 -- ---- a whole table, row by row
 
 pub row : (known : Field-F declared_parts.Parts declared_field.Field) (parts : Parts) (rest others : Fields) → parts_of known.parts ≡ parts → rest ≡ others → field_before (roll-Field known) rest ≡ field (rule_of known) parts others
@@ -69,3 +73,7 @@ each_name shape each parts of_each = parts_names shape each ∙ ap (names shape)
 
 pub each_element : (shape : Shape) (each : Bor declared_parts.Parts) (parts : Parts) → parts_of each.now ≡ parts → parts_of (views.Elements shape each) ≡ elements shape parts
 each_element shape each parts of_each = parts_elements shape each ∙ ap (elements shape) of_each
+
+pub elements_or_table : (shape : Shape) (known : Bor (List declared_field.Field)) (all : Fields) → fields_view known.now ≡ all
+    → parts_of (views.ElementsOrFields shape known) ≡ elements_or_fields shape all
+elements_or_table shape known all of_fields = parts_elements_or_fields shape known ∙ ap (elements_or_fields shape) of_fields

@@ -2,6 +2,7 @@
 -- stands in that.
 use Rattle.std.specs.Prelude.{ℕ, Bool, true, false, List, [], ◌∷◌, map}
 use Rattle.nextest_config_elements.specs.declared.field.FaultSeverity.{FaultSeverity}
+use Rattle.nextest_config_elements.specs.declared.field.FaultSeverity.TheVariants.{Error, ErrorUnlessConverted, Warning}
 use Rattle.nextest_config_elements.specs.declared.field.Field as declared_field
 use Rattle.nextest_config_elements.specs.declared.field.Field.{fold-Field}
 use Rattle.nextest_config_elements.specs.declared.field.Parts as declared_parts
@@ -27,11 +28,18 @@ abbrev pub needed : List ℕ → Shape → FaultSeverity → KeyRule
 needed key shape severity =
     record { key = key; shape = shape; severity = severity; required = true }
 
+-- how grave a fault is in a value whose own faults are as grave as the outer one: in what is known
+-- from nextest's documentation alone, nothing is graver than that
+abbrev pub within : FaultSeverity → FaultSeverity → FaultSeverity
+within Warning severity = Warning
+within Error severity = severity
+within ErrorUnlessConverted severity = severity
+
 mutual
   -- what stands in a value has to be: nothing is said; the fields of a table; those of
   -- `nextest-version`; those of `experimental`, or the texts of its array; those of `retries`, with
-  -- a fixed backoff, an exponential one, and none; what each key of a table leads to, as a name; or
-  -- each element of an array
+  -- a fixed backoff, an exponential one, and none; what each key of a table leads to, as a name;
+  -- each element of an array; or each element of an array, or the fields of a table
   pub data Parts : Type 0 where
     nothing : Parts
     fields : Fields → Parts
@@ -40,6 +48,7 @@ mutual
     by_backoff : Fields → Fields → Fields → Parts
     names : Shape → Parts → Parts
     elements : Shape → Parts → Parts
+    elements_or_fields : Shape → Fields → Parts
 
   -- the fields of a table, in their order: keys, each with what stands in its value
   pub data Fields : Type 0 where
@@ -86,6 +95,8 @@ level_of_parts (Parts-F.Retries fixed exponential without) =
     by_backoff (fields_of fixed.now) (fields_of exponential.now) (fields_of without.now)
 level_of_parts (Parts-F.Names shape each) = names shape each.now
 level_of_parts (Parts-F.Elements shape each) = elements shape each.now
+level_of_parts (Parts-F.ElementsOrFields shape known) =
+    elements_or_fields shape (fields_of known.now)
 
 -- a field, as the code says it, put before others
 abbrev pub field_before : declared_field.Field → Fields → Fields

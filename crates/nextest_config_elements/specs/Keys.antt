@@ -2,14 +2,15 @@
 -- that. What a user writes in a file stands here by itself, and the code's table is proved to be
 -- this one.
 use Rattle.std.specs.Prelude.{ℕ, List, [], ◌∷◌, codes}
-use Rattle.nextest_config_elements.specs.Fields.{allowed, elements, features, field, Fields, fields, names, needed, no_fields, nothing, Parts, versions}
+use Rattle.nextest_config_elements.specs.Fields.{allowed, elements, elements_or_fields, features, field, Fields, fields, names, needed, no_fields, nothing, Parts, versions}
 use Rattle.nextest_config_elements.specs.Junit.{junit_fields}
 use Rattle.nextest_config_elements.specs.LeakTimeout.{leak_timeout_fields}
 use Rattle.nextest_config_elements.specs.MaxFail.{fail_fast_fields}
 use Rattle.nextest_config_elements.specs.RetryPolicy.{retries_parts}
 use Rattle.nextest_config_elements.specs.SlowTimeout.{slow_timeout_fields}
 use Rattle.nextest_config_elements.specs.declared.field.FaultSeverity.TheVariants.{Error, ErrorUnlessConverted, Warning}
-use Rattle.nextest_config_elements.specs.declared.field.Shape.TheVariants.{Any, Array, Boolean, Duration, Experimental, FailFast, FinalStatusLevel, FlakyFailStatus, FlakyResult, LeakTimeout, NextestVersion, Output, Platform, Priority, Retries, SlowTimeout, StatusLevel, Table, Text, Texts, Threads, ThreadsRequired, VersionText}
+use Rattle.nextest_config_elements.specs.declared.field.Shape.TheVariants.{Any, Array, Boolean, Command, CommandLine, Depth, Duration, Experimental, FailFast, FlakyFailStatus, FlakyResult, LeakTimeout, NextestVersion, Platform, Priority, RelativePath, Retries, Scalar, SlowTimeout, Table, Text, TextOrTexts, Texts, Threads, ThreadsRequired, VersionText, Word}
+use Rattle.nextest_config_elements.specs.declared.word_list.WordList.TheVariants.{ArchiveOnMissing, ArchiveRelativeTo, FinalStatusLevel, StatusLevel, TargetRunner, TestOutputDisplay}
 
 -- keys that are known, and of whose values nothing is said
 abbrev pub unread : List (List ℕ) → Fields
@@ -34,7 +35,7 @@ override_junit_fields =
     (field (allowed (codes "flaky-fail-status") FlakyFailStatus Error) nothing
     (unread (codes "path" ∷ codes "report-name" ∷ codes "report-skipped" ∷ []))))
 
--- the fields of the table `platform` of an override
+-- the fields of the table `platform` of an override, or of a rule for scripts
 abbrev pub platform_fields : Fields
 platform_fields =
     field (allowed (codes "host") Text Warning) nothing
@@ -55,9 +56,32 @@ override_fields =
     (field (allowed (codes "default-filter") Text Warning) nothing
     (field (allowed (codes "test-group") Text Warning) nothing
     (field (allowed (codes "run-extra-args") Texts Warning) each_text
-    (field (allowed (codes "success-output") Output Warning) nothing
-    (field (allowed (codes "failure-output") Output Warning) nothing
+    (field (allowed (codes "success-output") (Word TestOutputDisplay) Warning) nothing
+    (field (allowed (codes "failure-output") (Word TestOutputDisplay) Warning) nothing
     (unread (codes "bench" ∷ [])))))))))))))))
+
+-- the fields of a rule that says for which tests scripts run
+abbrev pub script_rule_fields : Fields
+script_rule_fields =
+    field (allowed (codes "filter") Text Warning) nothing
+    (field (allowed (codes "platform") Platform Warning) (fields platform_fields)
+    (field (allowed (codes "setup") TextOrTexts Warning) each_text
+    (field (allowed (codes "list-wrapper") Text Warning) nothing
+    (field (allowed (codes "run-wrapper") Text Warning) nothing no_fields))))
+
+-- the fields of what names files that an archive has, too
+abbrev pub archive_include_fields : Fields
+archive_include_fields =
+    field (needed (codes "path") RelativePath Warning) nothing
+    (field (needed (codes "relative-to") (Word ArchiveRelativeTo) Warning) nothing
+    (field (allowed (codes "depth") Depth Warning) nothing
+    (field (allowed (codes "on-missing") (Word ArchiveOnMissing) Warning) nothing no_fields)))
+
+-- the fields of the table `archive` of a profile
+abbrev pub archive_fields : Fields
+archive_fields =
+    field (allowed (codes "include") Array Warning) (elements Table (fields archive_include_fields))
+    no_fields
 
 -- the fields of a profile
 abbrev pub profile_fields : Fields
@@ -76,11 +100,13 @@ profile_fields =
     (field (allowed (codes "default-filter") Text Warning) nothing
     (field (allowed (codes "test-threads") Threads Warning) nothing
     (field (allowed (codes "run-extra-args") Texts Warning) each_text
-    (field (allowed (codes "status-level") StatusLevel Warning) nothing
-    (field (allowed (codes "final-status-level") FinalStatusLevel Warning) nothing
-    (field (allowed (codes "success-output") Output Warning) nothing
-    (field (allowed (codes "failure-output") Output Warning) nothing
-    (unread (codes "archive" ∷ codes "scripts" ∷ [])))))))))))))))))))
+    (field (allowed (codes "status-level") (Word StatusLevel) Warning) nothing
+    (field (allowed (codes "final-status-level") (Word FinalStatusLevel) Warning) nothing
+    (field (allowed (codes "success-output") (Word TestOutputDisplay) Warning) nothing
+    (field (allowed (codes "failure-output") (Word TestOutputDisplay) Warning) nothing
+    (field (allowed (codes "scripts") Array Warning) (elements Table (fields script_rule_fields))
+    (field (allowed (codes "archive") Table Warning) (fields archive_fields)
+    no_fields)))))))))))))))))))
 
 -- the fields of the table `store`
 abbrev pub store_fields : Fields
@@ -105,6 +131,46 @@ feature_fields =
     (field (allowed (codes "wrapper-scripts") Boolean Error) nothing
     (field (allowed (codes "benchmarks") Boolean Error) nothing no_fields))
 
+-- the fields of the command of a script, as a table
+abbrev pub command_fields : Fields
+command_fields =
+    field (needed (codes "command-line") CommandLine Warning) (elements Scalar nothing)
+    (field (allowed (codes "env") Table Warning) (names Scalar nothing)
+    (field (allowed (codes "relative-to") Text Warning) nothing no_fields))
+
+-- what stands in the command of a script
+abbrev pub command_parts : Parts
+command_parts = elements_or_fields Scalar command_fields
+
+-- the fields of the table `junit` of a script
+abbrev pub script_junit_fields : Fields
+script_junit_fields =
+    field (allowed (codes "store-success-output") Boolean Warning) nothing
+    (field (allowed (codes "store-failure-output") Boolean Warning) nothing no_fields)
+
+-- the fields of a script that sets up tests
+abbrev pub setup_script_fields : Fields
+setup_script_fields =
+    field (needed (codes "command") Command Warning) command_parts
+    (field (allowed (codes "slow-timeout") SlowTimeout Error) (fields slow_timeout_fields)
+    (field (allowed (codes "leak-timeout") LeakTimeout Error) (fields leak_timeout_fields)
+    (field (allowed (codes "capture-stdout") Boolean Warning) nothing
+    (field (allowed (codes "capture-stderr") Boolean Warning) nothing
+    (field (allowed (codes "junit") Table Warning) (fields script_junit_fields) no_fields)))))
+
+-- the fields of a script that wraps tests
+abbrev pub wrapper_script_fields : Fields
+wrapper_script_fields =
+    field (needed (codes "command") Command Warning) command_parts
+    (field (allowed (codes "target-runner") (Word TargetRunner) Warning) nothing no_fields)
+
+-- the fields of the table `scripts`
+abbrev pub scripts_fields : Fields
+scripts_fields =
+    field (allowed (codes "setup") Table Warning) (names Table (fields setup_script_fields))
+    (field (allowed (codes "wrapper") Table Warning) (names Table (fields wrapper_script_fields))
+    no_fields)
+
 -- the fields of a file
 abbrev pub file_fields : Fields
 file_fields =
@@ -113,7 +179,9 @@ file_fields =
     (field (allowed (codes "profile") Table Error) (names Table (fields profile_fields))
     (field (allowed (codes "store") Table Warning) (fields store_fields)
     (field (allowed (codes "test-groups") Table Warning) (names Table (fields group_fields))
-    (unread (codes "scripts" ∷ codes "script" ∷ []))))))
+    (field (allowed (codes "scripts") Table Warning) (fields scripts_fields)
+    (field (allowed (codes "script") Table Warning) (names Table (fields setup_script_fields))
+    no_fields))))))
 
 -- what stands in a file
 abbrev pub file_table : Parts

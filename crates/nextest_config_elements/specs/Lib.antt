@@ -16,3 +16,4 @@ pub mod SlowTimeout
 pub mod ThreadsRequired
 pub mod UnknownKeys
 pub mod UnknownKeysLaws
+pub mod WordList

@@ -1,5 +1,10 @@
 //! What a key is: what its value has to be, and what stands in it.
 
+ghost use Rattle.std.specs.Prelude.{◌≡◌};
+ghost use Rattle.nextest_config_elements.specs.Fields.{within};
+
+use crate::word_list::WordList;
+
 /// A key that is known in a table.
 #[cycle(fields)]
 #[derive(Clone, Copy)]
@@ -15,6 +20,24 @@ pub struct Field {
     pub required: bool,
 }
 
+impl Field {
+    /// A key whose value a reader of nextest's takes, so that a fault of it is an error. What a row
+    /// doesn't say, it has from here.
+    pub const READ: Field = Field {
+        key: "",
+        shape: Shape::Any,
+        parts: Parts::Nothing,
+        severity: FaultSeverity::Error,
+        required: false,
+    };
+
+    /// A key that is known from nextest's documentation alone.
+    pub const DOCUMENTED: Field = Field {
+        severity: FaultSeverity::Warning,
+        ..Field::READ
+    };
+}
+
 /// How grave a fault is.
 #[derive(Clone, Copy, Debug, PartialEq, Eq)]
 pub enum FaultSeverity {
@@ -27,7 +50,7 @@ pub enum FaultSeverity {
 }
 
 /// What a value has to be, but for what stands in it.
-#[derive(Clone, Copy, Debug, PartialEq, Eq)]
+#[derive(Clone, Copy)]
 pub enum Shape {
     /// Anything.
     Any,
@@ -89,12 +112,20 @@ pub enum Shape {
     Threads,
     /// A platform: a text, or a table of two.
     Platform,
-    /// From which status on tests are printed while they run, by its word.
-    StatusLevel,
-    /// From which status on tests are printed at the end, by its word.
-    FinalStatusLevel,
-    /// When the output of a test is printed, by its word.
-    Output,
+    /// One of these words.
+    Word(WordList),
+    /// A text, boolean, integer or float, of which a text is made.
+    Scalar,
+    /// A text, or an array of texts.
+    TextOrTexts,
+    /// A command: a command line, or a table that has one.
+    Command,
+    /// A command line: a text, or an array.
+    CommandLine,
+    /// A relative path.
+    RelativePath,
+    /// How deep a folder is gone into: an integer, or a word.
+    Depth,
 }
 
 /// What stands in a value, where it is judged by itself.
@@ -123,4 +154,19 @@ pub enum Parts {
     Names(Shape, &'static Parts),
     /// Each element of an array: what it has to be, and what stands in it.
     Elements(Shape, &'static Parts),
+    /// What each element of an array has to be, or the fields of a table.
+    ElementsOrFields(Shape, &'static [Field]),
+}
+
+impl FaultSeverity {
+    /// How grave a fault is in a value whose own faults are as grave as the outer one: in what
+    /// nextest's documentation alone tells of, nothing is graver than that.
+    pub fn within(self, outer: FaultSeverity) -> FaultSeverity
+        ensures { result ≡ within outer self }
+    {
+        match outer {
+            FaultSeverity::Warning => FaultSeverity::Warning,
+            FaultSeverity::Error | FaultSeverity::ErrorUnlessConverted => self,
+        }
+    }
 }

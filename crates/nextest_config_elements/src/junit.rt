@@ -5,8 +5,8 @@ ghost use Rattle.toml.specs.View.{table_view, view};
 ghost use Rattle.nextest_config_values.specs.Read.{RefusesBy};
 ghost use Rattle.nextest_config_elements.specs.Junit.{default_of, empty_table, flaky_fail_reads_back, flaky_fail_statuses, flaky_fail_word, HasText, IsFirstMissing, junit_of, junit_reading, junit_table, JunitTable, report_in, report_of, SaysAll, settings_of};
 
-use crate::field::FaultSeverity::{Error, ErrorUnlessConverted};
-use crate::field::{Field, Parts, Shape};
+use crate::field::FaultSeverity::ErrorUnlessConverted;
+use crate::field::{Field, Shape};
 use crate::report_skip_policy::ReportSkipPolicy;
 use nextest_config_values::helpers::join_path;
 use nextest_config_values::read::{FromToml, ValueFault, Word, optional};
@@ -268,44 +268,36 @@ impl JunitImpl {
         Field {
             key: PATH_KEY,
             shape: Shape::Text,
-            parts: Parts::Nothing,
             severity: ErrorUnlessConverted,
-            required: false,
+            ..Field::READ
         },
         Field {
             key: REPORT_NAME_KEY,
             shape: Shape::Text,
-            parts: Parts::Nothing,
             severity: ErrorUnlessConverted,
-            required: false,
+            ..Field::READ
         },
         Field {
             key: STORE_SUCCESS_OUTPUT_KEY,
             shape: Shape::Boolean,
-            parts: Parts::Nothing,
             severity: ErrorUnlessConverted,
-            required: false,
+            ..Field::READ
         },
         Field {
             key: STORE_FAILURE_OUTPUT_KEY,
             shape: Shape::Boolean,
-            parts: Parts::Nothing,
             severity: ErrorUnlessConverted,
-            required: false,
+            ..Field::READ
         },
         Field {
             key: REPORT_SKIPPED_KEY,
             shape: Shape::ReportSkipPolicy,
-            parts: Parts::Nothing,
-            severity: Error,
-            required: false,
+            ..Field::READ
         },
         Field {
             key: FLAKY_FAIL_STATUS_KEY,
             shape: Shape::FlakyFailStatus,
-            parts: Parts::Nothing,
-            severity: Error,
-            required: false,
+            ..Field::READ
         },
     ];
 

@@ -5,13 +5,14 @@ ghost use Rattle.std.specs.Prelude.{◌≡◌};
 ghost use Rattle.nextest_config_elements.specs.Fields.{fields_view};
 ghost use Rattle.nextest_config_elements.specs.Keys.{file_fields, override_fields, override_junit_fields, profile_fields};
 
-use crate::field::FaultSeverity::{Error, ErrorUnlessConverted, Warning};
+use crate::field::FaultSeverity::ErrorUnlessConverted;
 use crate::field::{Field, Parts, Shape};
 use crate::junit::JunitImpl;
 use crate::leak_timeout::LeakTimeout;
 use crate::max_fail::MaxFail;
 use crate::retry_policy::RetryPolicy;
 use crate::slow_timeout::SlowTimeout;
+use crate::word_list::WordList;
 
 // A file.
 const FILE: &[Field] = &[
@@ -19,50 +20,43 @@ const FILE: &[Field] = &[
         key: "nextest-version",
         shape: Shape::NextestVersion,
         parts: Parts::Versions(VERSIONS),
-        severity: Error,
-        required: false,
+        ..Field::READ
     },
     Field {
         key: "experimental",
         shape: Shape::Experimental,
         parts: Parts::Features(FEATURES),
-        severity: Error,
-        required: false,
+        ..Field::READ
     },
     Field {
         key: "profile",
         shape: Shape::Table,
         parts: Parts::Names(Shape::Table, &Parts::Fields(PROFILE)),
-        severity: Error,
-        required: false,
+        ..Field::READ
     },
     Field {
         key: "store",
         shape: Shape::Table,
         parts: Parts::Fields(STORE),
-        severity: Warning,
-        required: false,
+        ..Field::DOCUMENTED
     },
     Field {
         key: "test-groups",
         shape: Shape::Table,
         parts: Parts::Names(Shape::Table, &Parts::Fields(GROUP)),
-        severity: Warning,
-        required: false,
+        ..Field::DOCUMENTED
     },
     Field {
         key: "scripts",
-        shape: Shape::Any,
-        parts: Parts::Nothing,
-        severity: Warning,
-        required: false,
+        shape: Shape::Table,
+        parts: Parts::Fields(SCRIPTS),
+        ..Field::DOCUMENTED
     },
     Field {
         key: "script",
-        shape: Shape::Any,
-        parts: Parts::Nothing,
-        severity: Warning,
-        required: false,
+        shape: Shape::Table,
+        parts: Parts::Names(Shape::Table, &Parts::Fields(SETUP_SCRIPT)),
+        ..Field::DOCUMENTED
     },
 ];
 
@@ -71,16 +65,12 @@ const VERSIONS: &[Field] = &[
     Field {
         key: "required",
         shape: Shape::VersionText,
-        parts: Parts::Nothing,
-        severity: Error,
-        required: false,
+        ..Field::READ
     },
     Field {
         key: "recommended",
         shape: Shape::VersionText,
-        parts: Parts::Nothing,
-        severity: Error,
-        required: false,
+        ..Field::READ
     },
 ];
 
@@ -89,23 +79,17 @@ const FEATURES: &[Field] = &[
     Field {
         key: "setup-scripts",
         shape: Shape::Boolean,
-        parts: Parts::Nothing,
-        severity: Error,
-        required: false,
+        ..Field::READ
     },
     Field {
         key: "wrapper-scripts",
         shape: Shape::Boolean,
-        parts: Parts::Nothing,
-        severity: Error,
-        required: false,
+        ..Field::READ
     },
     Field {
         key: "benchmarks",
         shape: Shape::Boolean,
-        parts: Parts::Nothing,
-        severity: Error,
-        required: false,
+        ..Field::READ
     },
 ];
 
@@ -113,18 +97,15 @@ const FEATURES: &[Field] = &[
 const STORE: &[Field] = &[Field {
     key: "dir",
     shape: Shape::Text,
-    parts: Parts::Nothing,
-    severity: Warning,
-    required: false,
+    ..Field::DOCUMENTED
 }];
 
 // A test group.
 const GROUP: &[Field] = &[Field {
     key: "max-threads",
     shape: Shape::Threads,
-    parts: Parts::Nothing,
-    severity: Warning,
     required: true,
+    ..Field::DOCUMENTED
 }];
 
 // What the table of a profile and that of an override know alike.
@@ -137,80 +118,64 @@ const RETRIES: Field = Field {
         exponential: RetryPolicy::EXPONENTIAL_FIELDS,
         open: RetryPolicy::OPEN_FIELDS,
     },
-    severity: Error,
-    required: false,
+    ..Field::READ
 };
 
 const FLAKY_RESULT: Field = Field {
     key: "flaky-result",
     shape: Shape::FlakyResult,
-    parts: Parts::Nothing,
-    severity: Error,
-    required: false,
+    ..Field::READ
 };
 
 const THREADS_REQUIRED: Field = Field {
     key: "threads-required",
     shape: Shape::ThreadsRequired,
-    parts: Parts::Nothing,
-    severity: Error,
-    required: false,
+    ..Field::READ
 };
 
 const SLOW_TIMEOUT: Field = Field {
     key: "slow-timeout",
     shape: Shape::SlowTimeout,
     parts: Parts::Fields(SlowTimeout::FIELDS),
-    severity: Error,
-    required: false,
+    ..Field::READ
 };
 
 const LEAK_TIMEOUT: Field = Field {
     key: "leak-timeout",
     shape: Shape::LeakTimeout,
     parts: Parts::Fields(LeakTimeout::FIELDS),
-    severity: Error,
-    required: false,
+    ..Field::READ
 };
 
 const GLOBAL_TIMEOUT: Field = Field {
     key: "global-timeout",
     shape: Shape::Duration,
-    parts: Parts::Nothing,
-    severity: Error,
-    required: false,
+    ..Field::READ
 };
 
 const DEFAULT_FILTER: Field = Field {
     key: "default-filter",
     shape: Shape::Text,
-    parts: Parts::Nothing,
-    severity: Warning,
-    required: false,
+    ..Field::DOCUMENTED
 };
 
 const RUN_EXTRA_ARGS: Field = Field {
     key: "run-extra-args",
     shape: Shape::Texts,
     parts: Parts::Elements(Shape::Text, &Parts::Nothing),
-    severity: Warning,
-    required: false,
+    ..Field::DOCUMENTED
 };
 
 const SUCCESS_OUTPUT: Field = Field {
     key: "success-output",
-    shape: Shape::Output,
-    parts: Parts::Nothing,
-    severity: Warning,
-    required: false,
+    shape: Shape::Word(WordList::TestOutputDisplay),
+    ..Field::DOCUMENTED
 };
 
 const FAILURE_OUTPUT: Field = Field {
     key: "failure-output",
-    shape: Shape::Output,
-    parts: Parts::Nothing,
-    severity: Warning,
-    required: false,
+    shape: Shape::Word(WordList::TestOutputDisplay),
+    ..Field::DOCUMENTED
 };
 
 // A profile.
@@ -222,8 +187,7 @@ const PROFILE: &[Field] = &[
         key: "fail-fast",
         shape: Shape::FailFast,
         parts: Parts::Fields(MaxFail::FIELDS),
-        severity: Error,
-        required: false,
+        ..Field::READ
     },
     SLOW_TIMEOUT,
     LEAK_TIMEOUT,
@@ -232,82 +196,83 @@ const PROFILE: &[Field] = &[
         key: "junit",
         shape: Shape::Table,
         parts: Parts::Fields(JunitImpl::FIELDS),
-        severity: Error,
-        required: false,
+        ..Field::READ
     },
     Field {
         key: "bench",
         shape: Shape::Table,
         parts: Parts::Fields(BENCH),
-        severity: Error,
-        required: false,
+        ..Field::READ
     },
     Field {
         key: "overrides",
         shape: Shape::Array,
         parts: Parts::Elements(Shape::Table, &Parts::Fields(OVERRIDE)),
-        severity: Error,
-        required: false,
+        ..Field::READ
     },
     Field {
         key: "inherits",
         shape: Shape::Text,
-        parts: Parts::Nothing,
-        severity: Warning,
-        required: false,
+        ..Field::DOCUMENTED
     },
     DEFAULT_FILTER,
     Field {
         key: "test-threads",
         shape: Shape::Threads,
-        parts: Parts::Nothing,
-        severity: Warning,
-        required: false,
+        ..Field::DOCUMENTED
     },
     RUN_EXTRA_ARGS,
     Field {
         key: "status-level",
-        shape: Shape::StatusLevel,
-        parts: Parts::Nothing,
-        severity: Warning,
-        required: false,
+        shape: Shape::Word(WordList::StatusLevel),
+        ..Field::DOCUMENTED
     },
     Field {
         key: "final-status-level",
-        shape: Shape::FinalStatusLevel,
-        parts: Parts::Nothing,
-        severity: Warning,
-        required: false,
+        shape: Shape::Word(WordList::FinalStatusLevel),
+        ..Field::DOCUMENTED
     },
     SUCCESS_OUTPUT,
     FAILURE_OUTPUT,
     Field {
-        key: "archive",
-        shape: Shape::Any,
-        parts: Parts::Nothing,
-        severity: Warning,
-        required: false,
+        key: "scripts",
+        shape: Shape::Array,
+        parts: Parts::Elements(Shape::Table, &Parts::Fields(SCRIPT_RULE)),
+        ..Field::DOCUMENTED
     },
     Field {
-        key: "scripts",
-        shape: Shape::Any,
-        parts: Parts::Nothing,
-        severity: Warning,
-        required: false,
+        key: "archive",
+        shape: Shape::Table,
+        parts: Parts::Fields(ARCHIVE),
+        ..Field::DOCUMENTED
     },
 ];
 
 // The table `bench` of a profile.
 const BENCH: &[Field] = &[SLOW_TIMEOUT, GLOBAL_TIMEOUT];
 
+// What an override and a rule for scripts know alike.
+
+const FILTER: Field = Field {
+    key: "filter",
+    shape: Shape::Text,
+    ..Field::DOCUMENTED
+};
+
+const PLATFORM: Field = Field {
+    key: "platform",
+    shape: Shape::Platform,
+    parts: Parts::Fields(PLATFORM_FIELDS),
+    ..Field::DOCUMENTED
+};
+
 // An override.
 const OVERRIDE: &[Field] = &[
     Field {
         key: "priority",
         shape: Shape::Priority,
-        parts: Parts::Nothing,
         severity: ErrorUnlessConverted,
-        required: false,
+        ..Field::READ
     },
     THREADS_REQUIRED,
     RETRIES,
@@ -318,30 +283,15 @@ const OVERRIDE: &[Field] = &[
         key: "junit",
         shape: Shape::Table,
         parts: Parts::Fields(OVERRIDE_JUNIT),
-        severity: Error,
-        required: false,
+        ..Field::READ
     },
-    Field {
-        key: "filter",
-        shape: Shape::Text,
-        parts: Parts::Nothing,
-        severity: Warning,
-        required: false,
-    },
-    Field {
-        key: "platform",
-        shape: Shape::Platform,
-        parts: Parts::Fields(PLATFORM),
-        severity: Warning,
-        required: false,
-    },
+    FILTER,
+    PLATFORM,
     DEFAULT_FILTER,
     Field {
         key: "test-group",
         shape: Shape::Text,
-        parts: Parts::Nothing,
-        severity: Warning,
-        required: false,
+        ..Field::DOCUMENTED
     },
     RUN_EXTRA_ARGS,
     SUCCESS_OUTPUT,
@@ -349,9 +299,7 @@ const OVERRIDE: &[Field] = &[
     Field {
         key: "bench",
         shape: Shape::Any,
-        parts: Parts::Nothing,
-        severity: Warning,
-        required: false,
+        ..Field::DOCUMENTED
     },
 ];
 
@@ -360,62 +308,197 @@ const OVERRIDE_JUNIT: &[Field] = &[
     Field {
         key: "store-success-output",
         shape: Shape::Boolean,
-        parts: Parts::Nothing,
         severity: ErrorUnlessConverted,
-        required: false,
+        ..Field::READ
     },
     Field {
         key: "store-failure-output",
         shape: Shape::Boolean,
-        parts: Parts::Nothing,
         severity: ErrorUnlessConverted,
-        required: false,
+        ..Field::READ
     },
     Field {
         key: "flaky-fail-status",
         shape: Shape::FlakyFailStatus,
-        parts: Parts::Nothing,
-        severity: Error,
-        required: false,
+        ..Field::READ
     },
     Field {
         key: "path",
         shape: Shape::Any,
-        parts: Parts::Nothing,
-        severity: Warning,
-        required: false,
+        ..Field::DOCUMENTED
     },
     Field {
         key: "report-name",
         shape: Shape::Any,
-        parts: Parts::Nothing,
-        severity: Warning,
-        required: false,
+        ..Field::DOCUMENTED
     },
     Field {
         key: "report-skipped",
         shape: Shape::Any,
-        parts: Parts::Nothing,
-        severity: Warning,
-        required: false,
+        ..Field::DOCUMENTED
     },
 ];
 
-// The table `platform` of an override.
-const PLATFORM: &[Field] = &[
+// The table `platform` of an override, or of a rule for scripts.
+const PLATFORM_FIELDS: &[Field] = &[
     Field {
         key: "host",
         shape: Shape::Text,
-        parts: Parts::Nothing,
-        severity: Warning,
-        required: false,
+        ..Field::DOCUMENTED
     },
     Field {
         key: "target",
         shape: Shape::Text,
-        parts: Parts::Nothing,
-        severity: Warning,
-        required: false,
+        ..Field::DOCUMENTED
+    },
+];
+
+// The table `scripts`.
+const SCRIPTS: &[Field] = &[
+    Field {
+        key: "setup",
+        shape: Shape::Table,
+        parts: Parts::Names(Shape::Table, &Parts::Fields(SETUP_SCRIPT)),
+        ..Field::DOCUMENTED
+    },
+    Field {
+        key: "wrapper",
+        shape: Shape::Table,
+        parts: Parts::Names(Shape::Table, &Parts::Fields(WRAPPER_SCRIPT)),
+        ..Field::DOCUMENTED
+    },
+];
+
+const COMMAND: Field = Field {
+    key: "command",
+    shape: Shape::Command,
+    parts: Parts::ElementsOrFields(Shape::Scalar, COMMAND_FIELDS),
+    required: true,
+    ..Field::DOCUMENTED
+};
+
+// A script that sets up tests.
+const SETUP_SCRIPT: &[Field] = &[
+    COMMAND,
+    SLOW_TIMEOUT,
+    LEAK_TIMEOUT,
+    Field {
+        key: "capture-stdout",
+        shape: Shape::Boolean,
+        ..Field::DOCUMENTED
+    },
+    Field {
+        key: "capture-stderr",
+        shape: Shape::Boolean,
+        ..Field::DOCUMENTED
+    },
+    Field {
+        key: "junit",
+        shape: Shape::Table,
+        parts: Parts::Fields(SCRIPT_JUNIT),
+        ..Field::DOCUMENTED
+    },
+];
+
+// The table `junit` of a script.
+const SCRIPT_JUNIT: &[Field] = &[
+    Field {
+        key: "store-success-output",
+        shape: Shape::Boolean,
+        ..Field::DOCUMENTED
+    },
+    Field {
+        key: "store-failure-output",
+        shape: Shape::Boolean,
+        ..Field::DOCUMENTED
+    },
+];
+
+// A script that wraps tests.
+const WRAPPER_SCRIPT: &[Field] = &[
+    COMMAND,
+    Field {
+        key: "target-runner",
+        shape: Shape::Word(WordList::TargetRunner),
+        ..Field::DOCUMENTED
+    },
+];
+
+// The command of a script, as a table.
+const COMMAND_FIELDS: &[Field] = &[
+    Field {
+        key: "command-line",
+        shape: Shape::CommandLine,
+        parts: Parts::Elements(Shape::Scalar, &Parts::Nothing),
+        required: true,
+        ..Field::DOCUMENTED
+    },
+    Field {
+        key: "env",
+        shape: Shape::Table,
+        parts: Parts::Names(Shape::Scalar, &Parts::Nothing),
+        ..Field::DOCUMENTED
+    },
+    Field {
+        key: "relative-to",
+        shape: Shape::Text,
+        ..Field::DOCUMENTED
+    },
+];
+
+// A rule that says for which tests scripts run.
+const SCRIPT_RULE: &[Field] = &[
+    FILTER,
+    PLATFORM,
+    Field {
+        key: "setup",
+        shape: Shape::TextOrTexts,
+        parts: Parts::Elements(Shape::Text, &Parts::Nothing),
+        ..Field::DOCUMENTED
+    },
+    Field {
+        key: "list-wrapper",
+        shape: Shape::Text,
+        ..Field::DOCUMENTED
+    },
+    Field {
+        key: "run-wrapper",
+        shape: Shape::Text,
+        ..Field::DOCUMENTED
+    },
+];
+
+// The table `archive` of a profile.
+const ARCHIVE: &[Field] = &[Field {
+    key: "include",
+    shape: Shape::Array,
+    parts: Parts::Elements(Shape::Table, &Parts::Fields(ARCHIVE_INCLUDE)),
+    ..Field::DOCUMENTED
+}];
+
+// Files that an archive has, too.
+const ARCHIVE_INCLUDE: &[Field] = &[
+    Field {
+        key: "path",
+        shape: Shape::RelativePath,
+        required: true,
+        ..Field::DOCUMENTED
+    },
+    Field {
+        key: "relative-to",
+        shape: Shape::Word(WordList::ArchiveRelativeTo),
+        required: true,
+        ..Field::DOCUMENTED
+    },
+    Field {
+        key: "depth",
+        shape: Shape::Depth,
+        ..Field::DOCUMENTED
+    },
+    Field {
+        key: "on-missing",
+        shape: Shape::Word(WordList::ArchiveOnMissing),
+        ..Field::DOCUMENTED
     },
 ];
 

@@ -29,6 +29,7 @@ use crate::report_skip_policy::{MismatchReason, ReportSkipPolicy};
 use crate::retry_policy::{Backoff, FlakyResult, RetryPolicy};
 use crate::slow_timeout::{SlowTimeout, SlowTimeoutResult};
 use crate::threads_required::ThreadsRequired;
+use crate::word_list::WordList;
 
 /// A text has one fail limit and no fault as one, or it has no limit and one fault.
 #[tactic(auto, using(crate::proofs::Limits::one_limit_or_fault))]
@@ -85,7 +86,6 @@ pub fn law_report_memory()
 /// Values are equal exactly where they are the same; refusals of a fail limit where they tell the
 /// same.
 pub fn law_equality()
-    ensures shape { IsEquality ⟦<Shape as PartialEq>⟧.eq }
     ensures fault_severity { IsEquality ⟦<FaultSeverity as PartialEq>⟧.eq }
     ensures retry_policy { IsEquality ⟦<RetryPolicy as PartialEq>⟧.eq }
     ensures backoff { IsEquality ⟦<Backoff as PartialEq>⟧.eq }
@@ -112,6 +112,7 @@ pub fn law_copies()
     ensures field { IsCopy ⟦<Field as Clone>⟧.is_clone }
     ensures parts { IsCopy ⟦<Parts as Clone>⟧.is_clone }
     ensures shape { IsCopy ⟦<Shape as Clone>⟧.is_clone }
+    ensures word_list { IsCopy ⟦<WordList as Clone>⟧.is_clone }
     ensures fault_severity { IsCopy ⟦<FaultSeverity as Clone>⟧.is_clone }
     ensures retry_policy { IsCopy ⟦<RetryPolicy as Clone>⟧.is_clone }
     ensures backoff { IsCopy ⟦<Backoff as Clone>⟧.is_clone }

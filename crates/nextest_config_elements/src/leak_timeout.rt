@@ -5,8 +5,7 @@ ghost use Rattle.toml.specs.View.{view};
 ghost use Rattle.nextest_config_values.specs.Read.{RefusesAt, RefusesBy};
 ghost use Rattle.nextest_config_elements.specs.LeakTimeout.{default_leak_timeout, leak_timeout_of, leak_timeout_reading, leak_timeout_reads_back, leak_timeout_results, leak_timeout_table, leak_timeout_word, LeakTimeoutRecord};
 
-use crate::field::FaultSeverity::Error;
-use crate::field::{Field, Parts, Shape};
+use crate::field::{Field, Shape};
 use crate::from_table::{FromTable, read_set};
 use nextest_config_values::read::{FromToml, ReadFault, ValueFault, Word, or_default, required};
 use std::alloc::Global;
@@ -35,16 +34,13 @@ impl LeakTimeout {
         Field {
             key: PERIOD_KEY,
             shape: Shape::ShortDuration,
-            parts: Parts::Nothing,
-            severity: Error,
             required: true,
+            ..Field::READ
         },
         Field {
             key: RESULT_KEY,
             shape: Shape::LeakTimeoutResult,
-            parts: Parts::Nothing,
-            severity: Error,
-            required: false,
+            ..Field::READ
         },
     ];
 }

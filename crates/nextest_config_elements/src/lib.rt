@@ -15,3 +15,4 @@ pub mod report_skip_policy;
 pub mod retry_policy;
 pub mod slow_timeout;
 pub mod threads_required;
+pub mod word_list;

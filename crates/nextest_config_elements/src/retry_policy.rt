@@ -10,8 +10,7 @@ ghost use Rattle.nextest_config_elements.specs.UnknownKeys.{IsOneOf};
 
 mod rules;
 
-use crate::field::FaultSeverity::Error;
-use crate::field::{Field, Parts, Shape};
+use crate::field::{Field, Shape};
 use crate::from_table::{FromTable, read_set};
 use nextest_config_values::read::{
     FaultKind, ReadFault, Rule, ValueFault, Word, optional, or_default, required, value_at,
@@ -40,41 +39,33 @@ const EXPONENTIAL_WORD: &str = "exponential";
 const BACKOFF_FIELD: Field = Field {
     key: BACKOFF_KEY,
     shape: Shape::Backoff,
-    parts: Parts::Nothing,
-    severity: Error,
     required: true,
+    ..Field::READ
 };
 
 const COUNT_FIELD: Field = Field {
     key: COUNT_KEY,
     shape: Shape::U32,
-    parts: Parts::Nothing,
-    severity: Error,
     required: true,
+    ..Field::READ
 };
 
 const DELAY_FIELD: Field = Field {
     key: DELAY_KEY,
     shape: Shape::Duration,
-    parts: Parts::Nothing,
-    severity: Error,
-    required: false,
+    ..Field::READ
 };
 
 const JITTER_FIELD: Field = Field {
     key: JITTER_KEY,
     shape: Shape::Boolean,
-    parts: Parts::Nothing,
-    severity: Error,
-    required: false,
+    ..Field::READ
 };
 
 const MAX_DELAY_FIELD: Field = Field {
     key: MAX_DELAY_KEY,
     shape: Shape::Duration,
-    parts: Parts::Nothing,
-    severity: Error,
-    required: false,
+    ..Field::READ
 };
 
 /// The maximum number of retries of a failed test, and the time between tries.

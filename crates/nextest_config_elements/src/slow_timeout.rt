@@ -7,8 +7,8 @@ ghost use Rattle.nextest_config_values.specs.Read.{RefusesAt, RefusesBy};
 ghost use Rattle.nextest_config_elements.specs.Durations.{seconds};
 ghost use Rattle.nextest_config_elements.specs.SlowTimeout.{default_grace_period, slow_timeout_of, slow_timeout_reading, slow_timeout_reads_back, slow_timeout_results, slow_timeout_table, slow_timeout_word, SlowTimeoutRecord, with_period};
 
-use crate::field::FaultSeverity::{Error, ErrorUnlessConverted};
-use crate::field::{Field, Parts, Shape};
+use crate::field::FaultSeverity::ErrorUnlessConverted;
+use crate::field::{Field, Shape};
 use crate::from_table::{FromTable, read_set};
 use nextest_config_values::read::{
     FromToml, NonZeroCount, ReadFault, ValueFault, Word, optional, or_default, required,
@@ -46,30 +46,24 @@ impl SlowTimeout {
         Field {
             key: PERIOD_KEY,
             shape: Shape::Duration,
-            parts: Parts::Nothing,
-            severity: Error,
             required: true,
+            ..Field::READ
         },
         Field {
             key: TERMINATE_AFTER_KEY,
             shape: Shape::Count,
-            parts: Parts::Nothing,
             severity: ErrorUnlessConverted,
-            required: false,
+            ..Field::READ
         },
         Field {
             key: GRACE_PERIOD_KEY,
             shape: Shape::Duration,
-            parts: Parts::Nothing,
-            severity: Error,
-            required: false,
+            ..Field::READ
         },
         Field {
             key: ON_TIMEOUT_KEY,
             shape: Shape::SlowTimeoutResult,
-            parts: Parts::Nothing,
-            severity: Error,
-            required: false,
+            ..Field::READ
         },
     ];
 

@@ -22,10 +22,11 @@ use Rattle.nextest_config_values.specs.Identifier.{after_mark, AreComponents, Id
 use Rattle.nextest_config_values.specs.Read.{FaultOrMemory}
 use Rattle.std.specs.Prelude.{chars}
 use Rattle.nextest_config_values.specs.Identifier.Laws.{one_identifier_or_fault}
-use Rattle.nextest_config_lint.specs.Defined.{AddsNames, AreDocuments, AreNamesOf, DefinesGroup, file_of, HasTool, keys_of, ListFile, SomeOf}
-use Rattle.nextest_config_lint.specs.References.{IsUndefinedGroup}
+use Rattle.nextest_config_lint.specs.Defined.{AddsNames, AreDocuments, AreNamesOf, DefinesNamed, file_of, HasTool, keys_of, ListFile, SomeOf}
+use Rattle.nextest_config_lint.specs.References.{IsUndefined}
 use Rattle.nextest_config_lint.specs.Settings.{names_of}
 use Rattle.nextest_config_lint.specs.declared.defined.ListedFile.{ListedFile}
+use Rattle.nextest_config_lint.specs.declared.named.NamedKind.{NamedKind}
 
 pub some_left : {A : Type 0} (P : A → Type 0) (xs ys : List A) → SomeOf P xs → SomeOf P (xs ++ ys)
 some_left P [] ys none = absurd none
@@ -156,10 +157,10 @@ one_tool name tool rest other last h k =
     (same_cut (tool ++ (58 ∷ rest)) tool rest other last (record { cut = refl; first = h.tool_uncut })
     (record { cut = after_mark (tool ++ (58 ∷ rest)) (other ++ (58 ∷ last)) name h.whole k.whole; first = k.tool_uncut })).0
 
--- a group of a tool that isn't defined, as far as the list has a file of the tool
-pub undefined_of_tool : (files : List ListFile) (name tool rest : List ℕ) (answer : Bool) → AreComponents name tool rest → IsTrue answer ↔ HasTool files tool → AreDocuments files × (DefinesGroup files name → ⊥)
-    → IsTrue answer ↔ IsUndefinedGroup files name
-undefined_of_tool files name tool rest true parts has (all_read, undefined) = (
+-- a name of a tool that isn't defined, as far as the list has a file of the tool
+pub undefined_of_tool : (kind : NamedKind) (files : List ListFile) (name tool rest : List ℕ) (answer : Bool) → AreComponents name tool rest → IsTrue answer ↔ HasTool files tool → AreDocuments files × (DefinesNamed kind files name → ⊥)
+    → IsTrue answer ↔ IsUndefined kind files name
+undefined_of_tool kind files name tool rest true parts has (all_read, undefined) = (
   λ yes. record {
     all_read = all_read;
     undefined = undefined;
@@ -167,12 +168,12 @@ undefined_of_tool files name tool rest true parts has (all_read, undefined) = (
   },
   λ _. refl,
 )
-undefined_of_tool files name tool rest false parts has (all_read, undefined) =
+undefined_of_tool kind files name tool rest false parts has (all_read, undefined) =
     (λ yes. absurd (true≢false (sym yes)), λ is. absurd (is.of_list (tool, rest, parts, λ there. true≢false (sym (has.1 there)))))
 
--- a group of no tool that isn't defined
-pub undefined_of_none : (files : List ListFile) (name : List ℕ) → IsPlainIdentifier (chars name) → AreDocuments files × (DefinesGroup files name → ⊥) → IsTrue true ↔ IsUndefinedGroup files name
-undefined_of_none files name plain (all_read, undefined) = (
+-- a name of no tool that isn't defined
+pub undefined_of_none : (kind : NamedKind) (files : List ListFile) (name : List ℕ) → IsPlainIdentifier (chars name) → AreDocuments files × (DefinesNamed kind files name → ⊥) → IsTrue true ↔ IsUndefined kind files name
+undefined_of_none kind files name plain (all_read, undefined) = (
   λ yes. record { all_read = all_read; undefined = undefined; of_list = λ (other, last, also, absent). plain_unmarked name plain (other, last, also) },
   λ _. refl,
 )

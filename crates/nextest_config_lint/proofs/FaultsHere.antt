@@ -1,7 +1,7 @@
 -- What is wrong with a value by its shape stands at the value itself.
 use Rattle.std.specs.Prelude.{◌≡◌, ℕ, ℤ, pos, negsuc, true, false, List, [], ◌∷◌, codes, IsSome, None, Option, Some}
 use Rattle.std.proofs.Common.{inl, inr, refl, subst, sym}
-use Rattle.toml.specs.Data.{array, as_bool, as_integer, as_str, boolean, Data, get_member, integer, Members, string, table}
+use Rattle.toml.specs.Data.{array, as_bool, as_integer, as_str, as_table, boolean, Data, float, get_member, integer, Members, string, table}
 use Rattle.toml_spans.specs.Line.{step_from}
 use Rattle.toml_spans.specs.Step.{key}
 use Rattle.nextest_config_values.specs.Duration.{duration_reading}
@@ -25,12 +25,12 @@ use Rattle.nextest_config_elements.specs.declared.field.Shape.{Shape}
 use Rattle.nextest_config_elements.specs.declared.field.Shape.TheVariants as shapes
 use Rattle.nextest_config_lint.proofs.FaultsOf.{AllFaults, by_kind, no_fault}
 use Rattle.nextest_config_lint.specs.File.{reason_key, rule_key}
-use Rattle.nextest_config_lint.specs.Forms.{platform_form, threads_form}
+use Rattle.nextest_config_lint.specs.Forms.{depth_form, line_form, line_or_table_expected, platform_form, scalar_form, texts_expected, texts_form, threads_form}
+use Rattle.nextest_config_values.specs.Helpers.PathsLaws.{relative_path_reading}
 use Rattle.nextest_config_lint.specs.Rules.{rules_check}
 use Rattle.nextest_config_lint.specs.declared.settings.Rules.{Rules}
 use Rattle.nextest_config_lint.specs.declared.settings.Rules.TheVariants as rules_of
 use Rattle.nextest_config_lint.specs.Shapes.{feature_name_check, features_check, or_table, shape_check}
-use Rattle.nextest_config_lint.specs.Words.{displays, display_reads_back, display_word, final_levels, final_reading, final_reads_back, final_word, other_level, status_levels, status_reads_back, status_word}
 
 -- the fault is of the value itself, and of no key of it
 abbrev pub IsHere : Fault → Type 0
@@ -62,8 +62,30 @@ number IsIn decided expected value = by_kind IsHere _ _ (as_integer value) (λ h
 duration : (value : Data) → AllFaults IsHere (duration_reading.faults value)
 duration value = by_kind IsHere _ _ (as_str value) (λ held is. here_if _ _ (refl, λ path. refl)) (here _ (refl, λ path. refl))
 
-final_level : (value : Data) → AllFaults IsHere (final_reading.faults value)
-final_level value = by_kind IsHere _ _ (other_level value) (λ held is. no_fault IsHere) (word final_levels final_word final_reads_back value)
+scalar : (value : Data) → AllFaults IsHere (scalar_form.faults value)
+scalar (string held) = no_fault IsHere
+scalar (boolean held) = no_fault IsHere
+scalar (integer held) = no_fault IsHere
+scalar (float held) = no_fault IsHere
+scalar value = here _ (refl, λ path. refl)
+
+texts : (value : Data) → AllFaults IsHere (texts_form.faults value)
+texts (string held) = no_fault IsHere
+texts (array held) = no_fault IsHere
+texts value = here _ (refl, λ path. refl)
+
+line : (expected : List ℕ) (value : Data) → AllFaults IsHere ((line_form expected).faults value)
+line expected (string held) = here_if _ _ (refl, λ path. refl)
+line expected (array held) = here_if _ _ (refl, λ path. refl)
+line expected value = here _ (refl, λ path. refl)
+
+relative_path : (value : Data) → AllFaults IsHere (relative_path_reading.faults value)
+relative_path value = by_kind IsHere _ _ (as_str value) (λ held is. here_if _ _ (refl, λ path. refl)) (here _ (refl, λ path. refl))
+
+depth : (value : Data) → AllFaults IsHere (depth_form.faults value)
+depth value =
+    by_kind IsHere _ _ (as_integer value) (λ held is. here_if _ _ (refl, λ path. refl))
+    (by_kind IsHere _ _ (as_str value) (λ held is. here_if _ _ (refl, λ path. refl)) (here _ (refl, λ path. refl)))
 
 threads : (value : Data) → AllFaults IsHere (threads_form.faults value)
 threads value =
@@ -180,9 +202,13 @@ shape_here edition shapes.Text value = text value
 shape_here edition shapes.Texts value = here_if _ _ (refl, λ path. refl)
 shape_here edition shapes.Threads value = threads value
 shape_here edition shapes.Platform value = platform value
-shape_here edition shapes.StatusLevel value = word status_levels status_word status_reads_back value
-shape_here edition shapes.FinalStatusLevel value = final_level value
-shape_here edition shapes.Output value = word displays display_word display_reads_back value
+shape_here edition (shapes.Word list) value = by_kind IsHere _ _ (as_str value) (λ held is. here_if _ _ (refl, λ path. refl)) (here _ (refl, λ path. refl))
+shape_here edition shapes.Scalar value = scalar value
+shape_here edition shapes.TextOrTexts value = texts value
+shape_here edition shapes.Command value = by_kind IsHere _ _ (as_table value) (λ held is. no_fault IsHere) (line line_or_table_expected value)
+shape_here edition shapes.CommandLine value = line texts_expected value
+shape_here edition shapes.RelativePath value = relative_path value
+shape_here edition shapes.Depth value = depth value
 
 -- ---- of rules
 

@@ -15,13 +15,13 @@ use Rattle.nextest_config.specs.declared.nextest_version.source.ConfigSourceKind
 use Rattle.nextest_config_values.specs.NearestWord.{nearest_once}
 use Rattle.toml_spans.specs.Step.{index, key, PathStep}
 use Rattle.nextest_config_lint.proofs.ReferencesFound.{IsAtPath, meant_once, reference_at, reference_once}
-use Rattle.nextest_config_lint.specs.Defined.{ListFile}
+use Rattle.nextest_config_lint.specs.Defined.{file_with, ListFile}
 use Rattle.nextest_config_lint.specs.Document.{AreFindings, keys_of_document}
 use Rattle.nextest_config_lint.specs.Faults.{IsFoundKind, IsFoundOf}
 use Rattle.nextest_config_lint.specs.Features.{AreNamedFound, AreToolsFound, IsNameFound, IsStepTo}
 use Rattle.nextest_config_lint.specs.FindingsLaws.{own_findings}
 use Rattle.nextest_config_lint.specs.Found.{AreFoundIn, AreFoundOf, Found, found_at, FoundKind, Meant, refused, the_toml, tool_names, unknown_key, unknown_name}
-use Rattle.nextest_config_lint.specs.References.{IsReferenceFound}
+use Rattle.nextest_config_lint.specs.References.{FileInList, in_list, IsReferenceFound}
 use Rattle.nextest_config_lint.specs.Settings.{a_value, absent_key, between, features_at, is_known, refused_key, settings_of, SettingView, Subject}
 use Rattle.nextest_config_lint.specs.Subjects.{IsLeftOpen, NamesFeatures}
 use Rattle.nextest_config_lint.proofs.Subjects.{named_not_right, named_not_wrong, never_wrong, one_wrong}
@@ -162,14 +162,14 @@ faults_once setting (left_open fault) a b h k = h ∙ sym k
 
 -- ---- of a key
 
-hint_once : (known : List (List ℕ)) (name : List ℕ) (a b : Option Meant) → IsHintFor known name a → IsHintFor known name b → a ≡ b
-hint_once known name a b (near, nearest, is) (other, also, is_too) = is ∙ ap (meant_beside known name) (nearest_once known name near other nearest also) ∙ sym is_too
+hint_once : (known : List (List ℕ)) (path : List PathStep) (name : List ℕ) (a b : Option Meant) → IsHintFor known path name a → IsHintFor known path name b → a ≡ b
+hint_once known path name a b (near, nearest, is) (other, also, is_too) = is ∙ ap (meant_beside known path name) (nearest_once known name near other nearest also) ∙ sym is_too
 
 key_once : (is : Bool) (setting : TableKey) (a b : Option Found) → IsKeyFoundFor is setting a → IsKeyFoundFor is setting b → a ≡ b
 key_once true setting a b h k = h ∙ sym k
 key_once false setting a b (hint, meant, is) (other, also, is_too) =
     is ∙ ap (λ (h : Option Meant). Some (found_at setting.path (unknown_key setting.name h)))
-    (hint_once setting.known setting.name hint other meant also) ∙ sym is_too
+    (hint_once setting.known setting.path setting.name hint other meant also) ∙ sym is_too
 
 -- ---- of features
 
@@ -235,7 +235,7 @@ pub findings_once : (edition : Edition) (kind : ConfigSourceKind) (files : List 
     → AreFindings edition kind files position members a → AreFindings edition kind files position members b → a ≡ b
 findings_once edition kind files position members a b h k =
     let own = own_once edition kind files files position position members a b h k in
-    let of_references : h.references ≡ k.references = found_once (IsReferenceFound files kind position) (reference_once files kind position)
+    let of_references : h.references ≡ k.references = found_once (IsReferenceFound (in_list edition files (file_with kind (Some members)) position)) (reference_once (in_list edition files (file_with kind (Some members)) position))
     (settings_of members) h.references k.references h.of_references k.of_references in
     let in_row : List Found → List Found → List Found = λ first later. first ++ later in
     h.whole ∙ ap₂ in_row own.of_faults (ap₂ in_row own.of_features (ap₂ in_row own.of_unknown (ap₂ in_row of_references own.of_notes))) ∙ sym k.whole
@@ -247,12 +247,12 @@ none_of_one : (path : List PathStep) (here : Option Found) → IsAtPath path her
 none_of_one path None is = refl
 none_of_one path (Some found) is = rw is.3 refl
 
-none_own : (files : List ListFile) (kind : ConfigSourceKind) (position : ℕ) (settings : List SettingView) (all_found : List Found)
-    → AreFoundIn (IsReferenceFound files kind position) settings all_found → own_findings all_found ≡ []
-none_own files kind position [] all_found are = rw are refl
-none_own files kind position (setting ∷ settings) all_found (here, rest, is, are, whole) =
+none_own : (at : FileInList) (settings : List SettingView) (all_found : List Found)
+    → AreFoundIn (IsReferenceFound at) settings all_found → own_findings all_found ≡ []
+none_own at [] all_found are = rw are refl
+none_own at (setting ∷ settings) all_found (here, rest, is, are, whole) =
     ap own_findings whole ∙ filter-append _ (option_to_list here) rest
-    ∙ ap₂ (λ (first later : List Found). first ++ later) (none_of_one setting.path here (reference_at files kind position setting here is)) (none_own files kind position settings rest are)
+    ∙ ap₂ (λ (first later : List Found). first ++ later) (none_of_one setting.path here (reference_at at setting here is)) (none_own at settings rest are)
 
 -- what is left of findings with references among them
 own_of : (faults features unknown references notes : List Found) → own_findings references ≡ []
@@ -264,7 +264,7 @@ pub own_findings_once : (edition : Edition) (kind : ConfigSourceKind) (files oth
 own_findings_once edition kind files others position place members a b h k =
     let own = own_once edition kind files others position place members a b h k in
     let in_row : List Found → List Found → List Found = λ first later. first ++ later in
-    ap own_findings h.whole ∙ own_of h.faults h.features h.unknown h.references h.notes (none_own files kind position (settings_of members) h.references h.of_references)
+    ap own_findings h.whole ∙ own_of h.faults h.features h.unknown h.references h.notes (none_own (in_list edition files (file_with kind (Some members)) position) (settings_of members) h.references h.of_references)
     ∙ ap own_findings (ap₂ in_row own.of_faults (ap₂ in_row own.of_features (ap₂ in_row own.of_unknown own.of_notes)))
-    ∙ sym (own_of k.faults k.features k.unknown k.references k.notes (none_own others kind place (settings_of members) k.references k.of_references))
+    ∙ sym (own_of k.faults k.features k.unknown k.references k.notes (none_own (in_list edition others (file_with kind (Some members)) place) (settings_of members) k.references k.of_references))
     ∙ sym (ap own_findings k.whole)

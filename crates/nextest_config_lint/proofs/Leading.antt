@@ -17,22 +17,23 @@ use Rattle.nextest_config.specs.declared.nextest_version.source.ConfigSourceKind
 use Rattle.nextest_config.specs.declared.nextest_version.source.ConfigSourceKind.TheVariants.{Tool}
 use Rattle.toml_spans.proofs.Elements.{all_joined}
 use Rattle.nextest_config_lint.proofs.FaultsHere.{IsAtKey, IsHere, rules_at_key, shape_here}
-use Rattle.nextest_config_lint.proofs.ReferencesFound.{reference_at}
+use Rattle.nextest_config_lint.proofs.ReferencesFound.{reference_at, told_leads}
 use Rattle.nextest_config_lint.proofs.Keys.{names_have}
-use Rattle.nextest_config_lint.specs.Defined.{ListFile}
+use Rattle.nextest_config_lint.specs.Defined.{file_with, ListFile}
 use Rattle.nextest_config_lint.specs.Document.{AreFindings, keys_of_document}
 use Rattle.nextest_config_lint.specs.Features.{AreToolsFound, features_text, IsNameAt, IsNameFound, IsStepTo}
 use Rattle.nextest_config_lint.specs.File.{key_in, reason_key}
 use Rattle.nextest_config_lint.specs.FindingsLaws.{LeadsToValue}
 use Rattle.nextest_config_lint.specs.Found.{AreFoundIn, AreFoundOf, deprecated_array, Found, found_at, FoundKind}
-use Rattle.nextest_config_lint.specs.References.{IsReferenceFound, IsSubjectTold}
+use Rattle.nextest_config_lint.specs.References.{FileInList, in_list, IsReferenceFound, IsSubjectTold, steps_to, told_below}
 use Rattle.nextest_config_lint.specs.Settings.{a_value, absent_key, and_rules, at_items, at_key, at_names, between, by_kind, Collecting, expected_by, features_at, has_default_period, if_there, in_array, in_table, is_known, names_of, of_name, of_retries, setting_at, settings_below, settings_in, settings_of, settings_of_fields, SettingView, Subject, refused_key, with_parts}
 use Rattle.nextest_config_lint.specs.Subjects.{IsLeftOpen, IsWrong, NamesFeatures}
-use Rattle.nextest_config_elements.specs.Fields.{field, field_words, Fields, KeyRule, no_fields, nothing, Parts}
+use Rattle.nextest_config_elements.specs.Fields.{field, field_words, Fields, KeyRule, no_fields, nothing, Parts, within}
 use Rattle.nextest_config_elements.specs.Fields as inside
 use Rattle.nextest_config_elements.specs.Keys.{file_fields, file_table}
 use Rattle.nextest_config_elements.specs.RetryRules.{backoff_in}
 use Rattle.nextest_config_elements.specs.declared.field.FaultSeverity.{FaultSeverity}
+use Rattle.nextest_config_elements.specs.declared.field.FaultSeverity.TheVariants.{Error}
 use Rattle.nextest_config_elements.specs.declared.field.Shape.{Shape}
 use Rattle.nextest_config_elements.specs.declared.field.Shape.TheVariants.{FeatureName}
 use Rattle.nextest_config_elements.specs.declared.retry_policy.Backoff.{Backoff}
@@ -183,12 +184,12 @@ wanted_there top path severity name true true there = (there refl, tt)
 wanted_there top path severity name true false there = tt
 wanted_there top path severity name false other there = tt
 
-at_key_placed : (top : Members) (rule : KeyRule) (collecting : Collecting) → PlacesAll top collecting → (path : List PathStep) (found : Option Data)
+at_key_placed : (top : Members) (severity : FaultSeverity) (rule : KeyRule) (collecting : FaultSeverity → Collecting) → PlacesAll top (collecting severity) → (path : List PathStep) (found : Option Data)
     → ((value : Data) → found ≡ Some value → found_in top (path ++ (key rule.key ∷ [])) ≡ Some value) → (rule.required ≡ true → IsSome (found_in top path))
-    → AllByRecursion (IsPlaced top) (at_key rule collecting path found)
-at_key_placed top rule collecting places path None leads there =
-    wanted_there top path rule.severity rule.key rule.required (not (pointwise nat_eq rule.key (codes "period") && has_default_period path)) there
-at_key_placed top rule collecting places path (Some value) leads there = places (path ++ (key rule.key ∷ [])) value (leads value refl)
+    → AllByRecursion (IsPlaced top) (at_key severity rule collecting path found)
+at_key_placed top severity rule collecting places path None leads there =
+    wanted_there top path severity rule.key rule.required (not (pointwise nat_eq rule.key (codes "period") && has_default_period path)) there
+at_key_placed top severity rule collecting places path (Some value) leads there = places (path ++ (key rule.key ∷ [])) value (leads value refl)
 
 name_placed : (top : Members) (severity : FaultSeverity) (expected known : List (List ℕ)) (path : List PathStep) (name : List ℕ) (is_one : Bool) → IsSome (found_in top (path ++ (key name ∷ [])))
     → AllByRecursion (IsPlaced top) (if is_one then [] else setting_at severity path (refused_key name expected known) ∷ [])
@@ -224,46 +225,52 @@ by_kind_placed top fixed exponential without None h k l = l
 mutual
   parts_placed : (parts : Parts) (top : Members) (severity : FaultSeverity) → PlacesAll top (settings_below parts severity)
   parts_placed nothing top severity = λ path value is. tt
-  parts_placed (inside.fields known) top severity = in_table_placed top (settings_of_fields known) (λ path held is. fields_placed known top path held (leads_on top path held is) (may_lack known top path (some_is _ (table held) is)))
+  parts_placed (inside.fields known) top severity = in_table_placed top (settings_of_fields known severity) (λ path held is. fields_placed known top severity path held (leads_on top path held is) (may_lack known top path (some_is _ (table held) is)))
   parts_placed (inside.versions known) top severity =
-      in_table_placed top (λ path held. and_rules severity rules_of.Versions path held (settings_of_fields known path held))
-      (λ path held is. rules_placed top severity rules_of.Versions path held (settings_of_fields known path held) is
-      (fields_placed known top path held (leads_on top path held is) (may_lack known top path (some_is _ (table held) is))))
+      in_table_placed top (λ path held. and_rules severity rules_of.Versions path held (settings_of_fields known severity path held))
+      (λ path held is. rules_placed top severity rules_of.Versions path held (settings_of_fields known severity path held) is
+      (fields_placed known top severity path held (leads_on top path held is) (may_lack known top path (some_is _ (table held) is))))
   parts_placed (inside.features known) top severity = λ path value is.
-      all_joined (IsPlaced top) (in_table (settings_of_fields known) path value) _
-      (in_table_placed top (settings_of_fields known) (λ path held is. fields_placed known top path held (leads_on top path held is) (may_lack known top path (some_is _ (table held) is))) path value is)
+      all_joined (IsPlaced top) (in_table (settings_of_fields known severity) path value) _
+      (in_table_placed top (settings_of_fields known severity) (λ path held is. fields_placed known top severity path held (leads_on top path held is) (may_lack known top path (some_is _ (table held) is))) path value is)
       (all_joined (IsPlaced top) (in_array (λ path. at_items (with_parts FeatureName severity nothing (λ path value. [])) path 0) path value) (setting_at severity path (features_at value) ∷ [])
       (in_array_placed top (with_parts FeatureName severity nothing (λ path value. [])) (with_parts_placed top FeatureName severity nothing (λ path value. []) (λ path value is. tt)) path value is)
       (is, tt))
   parts_placed (inside.by_backoff fixed exponential without) top severity =
-      in_table_placed top (λ path held. by_kind (of_retries severity (field_words fixed) path held (settings_of_fields fixed path held))
-      (of_retries severity (field_words exponential) path held (settings_of_fields exponential path held))
-      (of_retries severity (field_words without) path held (settings_of_fields without path held)) (backoff_in held))
+      in_table_placed top (λ path held. by_kind (of_retries severity (field_words fixed) path held (settings_of_fields fixed severity path held))
+      (of_retries severity (field_words exponential) path held (settings_of_fields exponential severity path held))
+      (of_retries severity (field_words without) path held (settings_of_fields without severity path held)) (backoff_in held))
       (λ path held is. by_kind_placed top _ _ _ (backoff_in held)
-      (retries_placed top severity (field_words fixed) path held (settings_of_fields fixed path held) is (fields_placed fixed top path held (leads_on top path held is) (may_lack fixed top path (some_is _ (table held) is))))
-      (retries_placed top severity (field_words exponential) path held (settings_of_fields exponential path held) is (fields_placed exponential top path held (leads_on top path held is) (may_lack exponential top path (some_is _ (table held) is))))
-      (retries_placed top severity (field_words without) path held (settings_of_fields without path held) is (fields_placed without top path held (leads_on top path held is) (may_lack without top path (some_is _ (table held) is)))))
+      (retries_placed top severity (field_words fixed) path held (settings_of_fields fixed severity path held) is (fields_placed fixed top severity path held (leads_on top path held is) (may_lack fixed top path (some_is _ (table held) is))))
+      (retries_placed top severity (field_words exponential) path held (settings_of_fields exponential severity path held) is (fields_placed exponential top severity path held (leads_on top path held is) (may_lack exponential top path (some_is _ (table held) is))))
+      (retries_placed top severity (field_words without) path held (settings_of_fields without severity path held) is (fields_placed without top severity path held (leads_on top path held is) (may_lack without top path (some_is _ (table held) is)))))
   parts_placed (inside.names shape parts) top severity =
       in_table_placed top (at_names (settings_in shape severity parts))
       (λ path held is. names_placed top (settings_in shape severity parts)
       (with_parts_placed top shape severity parts (settings_below parts severity) (parts_placed parts top severity)) path held (leads_on top path held is))
+  parts_placed (inside.elements_or_fields shape known) top severity = λ path value is.
+      all_joined (IsPlaced top) (in_table (settings_of_fields known severity) path value) _
+      (in_table_placed top (settings_of_fields known severity) (λ path held is. fields_placed known top severity path held (leads_on top path held is) (may_lack known top path (some_is _ (table held) is))) path value is)
+      (in_array_placed top (with_parts shape severity nothing (λ path value. [])) (with_parts_placed top shape severity nothing (λ path value. []) (λ path value is. tt)) path value is)
   parts_placed (inside.elements shape parts) top severity =
       in_array_placed top (settings_in shape severity parts) (with_parts_placed top shape severity parts (settings_below parts severity) (parts_placed parts top severity))
 
-  fields_placed : (known : Fields) (top : Members) (path : List PathStep) (held : Members) → LeadOn top path held → MayLack top path known → AllByRecursion (IsPlaced top) (settings_of_fields known path held)
-  fields_placed no_fields top = λ path held leads lacks. tt
-  fields_placed (field rule parts rest) top = λ path held leads lacks.
-      all_joined (IsPlaced top) (at_key rule (settings_in rule.shape rule.severity parts) path (get_member rule.key held)) (settings_of_fields rest path held)
-      (at_key_placed top rule (settings_in rule.shape rule.severity parts)
-      (with_parts_placed top rule.shape rule.severity parts (settings_below parts rule.severity) (parts_placed parts top rule.severity)) path (get_member rule.key held) (leads rule.key) lacks.0)
-      (fields_placed rest top path held leads lacks.1)
+  fields_placed : (known : Fields) (top : Members) (severity : FaultSeverity) (path : List PathStep) (held : Members) → LeadOn top path held → MayLack top path known
+      → AllByRecursion (IsPlaced top) (settings_of_fields known severity path held)
+  fields_placed no_fields top severity = λ path held leads lacks. tt
+  fields_placed (field rule parts rest) top severity = λ path held leads lacks.
+      let grave = within severity rule.severity in
+      all_joined (IsPlaced top) (at_key grave rule (λ s. settings_in rule.shape s parts) path (get_member rule.key held)) (settings_of_fields rest severity path held)
+      (at_key_placed top grave rule (λ s. settings_in rule.shape s parts)
+      (with_parts_placed top rule.shape grave parts (settings_below parts grave) (parts_placed parts top grave)) path (get_member rule.key held) (leads rule.key) lacks.0)
+      (fields_placed rest top severity path held leads lacks.1)
 
 -- no key is required at the top of a file
 none_required : (top : Members) → MayLack top [] file_fields
 none_required top = (λ e. cc e, (λ e. cc e, (λ e. cc e, (λ e. cc e, (λ e. cc e, (λ e. cc e, (λ e. cc e, tt)))))))
 
 all_placed : (top : Members) → AllByRecursion (IsPlaced top) (settings_of top)
-all_placed top = fields_placed file_fields top [] top (first_step top) (none_required top)
+all_placed top = fields_placed file_fields top Error [] top (first_step top) (none_required top)
 
 -- ---- of faults
 
@@ -435,19 +442,36 @@ key_leads top false setting here placed (hint, meant, is) = rw is (placed, tt)
 
 -- ---- of references
 
--- what is told of stands at its path
-told_there : (files : List ListFile) (kind : ConfigSourceKind) (position : ℕ) (top : Members) (path : List PathStep) (subject : Subject) (told : FoundKind)
-    → IsSubjectTold files kind position path subject (Some told) → IsPlacedAt top path subject → IsSome (found_in top path)
-told_there files kind position top path (a_value shape parts value) told is placed = some_is _ value placed
-told_there files kind position top path subject told is placed = absurd (cc is)
+-- steps behind a path lead on from the value that this leads to
+on_from : (rest steps : List PathStep) (value : Data) (found : Option Data)
+    → ((from : Data) → found_below rest from ≡ Some value → found_below (rest ++ steps) from ≡ found_below steps value)
+    → option_and_then (found_below rest) found ≡ Some value → option_and_then (found_below (rest ++ steps)) found ≡ found_below steps value
+on_from rest steps value None on is = absurd (none-some value is)
+on_from rest steps value (Some from) on is = on from is
 
-references_lead : (files : List ListFile) (kind : ConfigSourceKind) (position : ℕ) (top : Members) (setting : SettingView) (here : Option Found) → IsPlaced top setting
-    → IsReferenceFound files kind position setting here → AllByRecursion (LeadsToValue top) (option_to_list here)
-references_lead files kind position top setting None placed is = tt
-references_lead files kind position top setting (Some found) placed (None, told, is) = absurd (cc is)
-references_lead files kind position top setting (Some found) placed (Some said, told, is) =
-    let at = reference_at files kind position setting (Some found) (Some said, told, is) in
-    (rw at.2 (told_there files kind position top setting.path setting.subject said told placed), tt)
+steps_below : (path steps : List PathStep) (value from : Data) → found_below path from ≡ Some value → found_below (path ++ steps) from ≡ found_below steps value
+steps_below [] steps value from is = ap (found_below steps) (same_Some from value is)
+steps_below (first ∷ rest) steps value from is = on_from rest steps value (step_from from first) (steps_below rest steps value) is
+
+steps_lead : (top : Members) (path steps : List PathStep) (value : Data) → found_in top path ≡ Some value → found_in top (path ++ steps) ≡ found_below steps value
+steps_lead top [] steps value is = absurd (none-some value is)
+steps_lead top (key text ∷ rest) steps value is = on_from rest steps value (get_member text top) (steps_below rest steps value) is
+steps_lead top (index place ∷ rest) steps value is = absurd (none-some value is)
+
+-- what is told of a value stands at something in it
+told_there : (at : FileInList) (top : Members) (path : List PathStep) (subject : Subject) (told : FoundKind) → IsSubjectTold at path subject (Some told) → IsPlacedAt top path subject
+    → IsSome (found_in top (path ++ steps_to told))
+told_there at top path (a_value shape parts value) told is placed = rw (steps_lead top path (steps_to told) value placed) (told_leads at path value told is)
+told_there at top path subject told is placed = absurd (cc is)
+
+references_lead : (at : FileInList) (top : Members) (setting : SettingView) (here : Option Found) → IsPlaced top setting → IsReferenceFound at setting here
+    → AllByRecursion (LeadsToValue top) (option_to_list here)
+references_lead at top setting None placed is = tt
+references_lead at top setting (Some found) placed (None, told, is) = absurd (cc is)
+references_lead at top setting (Some found) placed (Some said, told, is) =
+    let there = reference_at at setting (Some found) (Some said, told, is) in
+    let same : found ≡ told_below setting.path said = same_Some found (told_below setting.path said) is in
+    (rw (there.2, same) (told_there at top setting.path setting.subject said told placed), tt)
 
 -- ---- of all
 
@@ -458,7 +482,7 @@ findings_lead edition kind files position top all_found are =
     let of_features = all_of_lists (LeadsToValue top) (IsPlaced top) (AreFeaturesFound edition kind) (features_lead edition kind top) (settings_of top) are.features (all_placed top) are.of_features in
     let of_unknown = each_found (LeadsToValue top) (IsKeyPlaced top) IsKeyFound (λ setting. key_leads top (is_known setting.known setting.name) setting)
     (keys_of_document top) are.unknown (all_keys_placed top) are.of_unknown in
-    let of_references = each_found (LeadsToValue top) (IsPlaced top) (IsReferenceFound files kind position) (references_lead files kind position top)
+    let of_references = each_found (LeadsToValue top) (IsPlaced top) (IsReferenceFound (in_list edition files (file_with kind (Some top)) position)) (references_lead (in_list edition files (file_with kind (Some top)) position) top)
     (settings_of top) are.references (all_placed top) are.of_references in
     let of_notes = all_of_lists (LeadsToValue top) (IsPlaced top) (AreNotesFound edition kind) (notes_lead edition kind top) (settings_of top) are.notes (all_placed top) are.of_notes in
     rw are.whole (all_joined (LeadsToValue top) are.faults (are.features ++ (are.unknown ++ (are.references ++ are.notes))) of_faults

@@ -28,4 +28,5 @@ pub mod NoErrorFiles
 pub mod NoErrorReads
 pub mod NoErrors
 pub mod Listed
+pub mod ListFeatures
 pub mod Sentences

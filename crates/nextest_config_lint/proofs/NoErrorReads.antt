@@ -101,13 +101,13 @@ module _ (edition : Edition) where
   value_sure path shape parts value other = (refl, λ fault wrong open_form. other fault wrong open_form.0)
 
   key_sure : (name : List ℕ) (shape : Shape) (path : List PathStep) → ((value : Data) → AllFaults IsOther ((shape_check edition shape).faults value)) → (found : Option Data)
-      → AllByRecursion (IsSure edition) (at_key (allowed name shape of_field.Error) (settings_in shape of_field.Error nothing) path found)
+      → AllByRecursion (IsSure edition) (at_key of_field.Error (allowed name shape of_field.Error) (λ grave. settings_in shape grave nothing) path found)
   key_sure name shape path other None = tt
   key_sure name shape path other (Some value) = (value_sure (path ++ (key name ∷ [])) shape nothing value (other value), tt)
 
   -- ---- `nextest-version`
 
-  version_fields_sure : (path : List PathStep) (held : Members) → AllByRecursion (IsSure edition) (settings_of_fields version_fields path held)
+  version_fields_sure : (path : List PathStep) (held : Members) → AllByRecursion (IsSure edition) (settings_of_fields version_fields of_field.Error path held)
   version_fields_sure path held =
       all_joined (IsSure edition) _ _ (key_sure (codes "required") VersionText path version (get_member (codes "required") held))
       (all_joined (IsSure edition) _ _ (key_sure (codes "recommended") VersionText path version (get_member (codes "recommended") held)) tt)
@@ -115,12 +115,12 @@ module _ (edition : Edition) where
   versions_sure : (path : List PathStep) (value : Data) → AllByRecursion (IsSure edition) (settings_in NextestVersion of_field.Error (versions version_fields) path value)
   versions_sure path (table held) = (
     value_sure path NextestVersion (versions version_fields) (table held) (versions_value (table held)),
-    all_joined (IsSure edition) (settings_of_fields version_fields path held) _ (version_fields_sure path held) ((refl, λ fault wrong left. left), tt),
+    all_joined (IsSure edition) (settings_of_fields version_fields of_field.Error path held) _ (version_fields_sure path held) ((refl, λ fault wrong left. left), tt),
   )
   versions_sure path value = (value_sure path NextestVersion (versions version_fields) value (versions_value value), tt)
 
   versions_asked : (kind : ConfigSourceKind) (found : Option Data)
-      → AllByRecursion (HasNoErrorAt edition kind) (at_key (allowed version_key NextestVersion of_field.Error) (settings_in NextestVersion of_field.Error (versions version_fields)) [] found)
+      → AllByRecursion (HasNoErrorAt edition kind) (at_key of_field.Error (allowed version_key NextestVersion of_field.Error) (λ grave. settings_in NextestVersion grave (versions version_fields)) [] found)
       → (asked : Versions) × MeansOr versions_reading no_versions found asked
   versions_asked kind None well = (no_versions, refl)
   versions_asked kind (Some value) well =
@@ -129,7 +129,7 @@ module _ (edition : Edition) where
 
   -- ---- `experimental`
 
-  feature_fields_sure : (path : List PathStep) (held : Members) → AllByRecursion (IsSure edition) (settings_of_fields feature_fields path held)
+  feature_fields_sure : (path : List PathStep) (held : Members) → AllByRecursion (IsSure edition) (settings_of_fields feature_fields of_field.Error path held)
   feature_fields_sure path held =
       all_joined (IsSure edition) _ _ (key_sure (codes "setup-scripts") Boolean path truth (get_member (codes "setup-scripts") held))
       (all_joined (IsSure edition) _ _ (key_sure (codes "wrapper-scripts") Boolean path truth (get_member (codes "wrapper-scripts") held))
@@ -142,7 +142,7 @@ module _ (edition : Edition) where
   features_sure : (path : List PathStep) (value : Data) → AllByRecursion (IsSure edition) (settings_in Experimental of_field.Error (features feature_fields) path value)
   features_sure path (table held) = (
     value_sure path Experimental (features feature_fields) (table held) (features_value edition (table held)),
-    all_joined (IsSure edition) (settings_of_fields feature_fields path held) _ (feature_fields_sure path held) ((refl, λ fault wrong left. left), tt),
+    all_joined (IsSure edition) (settings_of_fields feature_fields of_field.Error path held) _ (feature_fields_sure path held) ((refl, λ fault wrong left. left), tt),
   )
   features_sure path (array items) = (
     value_sure path Experimental (features feature_fields) (array items) (features_value edition (array items)),
@@ -166,14 +166,14 @@ module _ (edition : Edition) where
   names_well kind path value taken (left_open fault, is, none) = absurd is.0
 
   features_asked : (kind : ConfigSourceKind) (found : Option Data)
-      → AllByRecursion (HasNoErrorAt edition kind) (at_key (allowed experimental_key Experimental of_field.Error) (settings_in Experimental of_field.Error (features feature_fields)) [] found)
+      → AllByRecursion (HasNoErrorAt edition kind) (at_key of_field.Error (allowed experimental_key Experimental of_field.Error) (λ grave. settings_in Experimental grave (features feature_fields)) [] found)
       → AskedFeatures kind found
   features_asked kind None well = record { named = no_feature_setting; of_features = refl; of_tool = search rules }
   features_asked kind (Some value) well =
       let path = key experimental_key ∷ [] in
       let right = all_right_where edition kind (settings_in Experimental of_field.Error (features feature_fields) path value) (features_sure path value) well in
       let last = all_right (HasNoErrorAt edition kind) (in_array (λ path. at_items (with_parts FeatureName of_field.Error nothing (λ path value. [])) path 0) path value) _
-      (all_right (HasNoErrorAt edition kind) (in_table (settings_of_fields feature_fields) path value) _ well.1) in
+      (all_right (HasNoErrorAt edition kind) (in_table (settings_of_fields feature_fields of_field.Error) path value) _ well.1) in
       names_well kind path value ((features_taken edition path value).0 right) last.0
 
 -- ---- the document
@@ -185,7 +185,7 @@ no_error_reads edition kind files position text members all_found is are warned 
     let well = (no_error_in edition kind files position members all_found are).0 warned in
     let of_versions = versions_asked edition kind (get_member version_key members) (all_left (HasNoErrorAt edition kind) _ _ well) in
     let rest = all_right (HasNoErrorAt edition kind)
-    (at_key (allowed version_key NextestVersion of_field.Error) (settings_in NextestVersion of_field.Error (versions version_fields)) [] (get_member version_key members)) _ well in
+    (at_key of_field.Error (allowed version_key NextestVersion of_field.Error) (λ grave. settings_in NextestVersion grave (versions version_fields)) [] (get_member version_key members)) _ well in
     let asked = features_asked edition kind (get_member experimental_key members) (all_left (HasNoErrorAt edition kind) _ _ rest) in (
       record { versions = of_versions.0; features = asked.named.features; array = asked.named.array },
       (members, is, record { of_versions = of_versions.1; of_features = asked.of_features; of_tool = asked.of_tool }),

@@ -13,13 +13,13 @@ use Rattle.nextest_config.specs.declared.nextest_version.source.ConfigSourceKind
 use Rattle.toml_spans.specs.Step.{PathStep}
 use Rattle.nextest_config_lint.proofs.FindingsOnce.{one_outcome}
 use Rattle.nextest_config_lint.proofs.ReferencesFound.{reference_at}
-use Rattle.nextest_config_lint.specs.Defined.{ListFile}
+use Rattle.nextest_config_lint.specs.Defined.{file_with, ListFile}
 use Rattle.nextest_config_lint.specs.Document.{AreFindings, keys_of_document}
 use Rattle.nextest_config_lint.specs.Faults.{IsFoundOf}
 use Rattle.nextest_config_lint.specs.Features.{AreNamedFound, features_text, IsNameFound}
 use Rattle.nextest_config_lint.specs.FindingsLaws.{HasNoErrorAt, IsNoError, IsNoErrorBy, IsNoErrorOf, IsWithoutError}
 use Rattle.nextest_config_lint.specs.Found.{AreFoundIn, AreFoundOf, deprecated_array, Found, found_at}
-use Rattle.nextest_config_lint.specs.References.{IsReferenceFound}
+use Rattle.nextest_config_lint.specs.References.{FileInList, in_list, IsReferenceFound}
 use Rattle.nextest_config_lint.specs.Settings.{is_known, settings_of, SettingView}
 use Rattle.nextest_config_lint.specs.Unknown.{IsKeyFound, IsKeyFoundFor, TableKey}
 use Rattle.nextest_config_lint.specs.Severity.{IsSeverity}
@@ -148,12 +148,12 @@ all_notes_warned edition kind (setting ∷ settings) all_found (here, rest, (out
 -- ---- of all
 
 -- what is found of references is a warning
-references_warned : (files : List ListFile) (kind : ConfigSourceKind) (position : ℕ) (setting : SettingView) (here : Option Found)
-    → IsReferenceFound files kind position setting here → AreNoErrors (option_to_list here)
-references_warned files kind position setting None is = tt
-references_warned files kind position setting (Some found) is =
-    let at = reference_at files kind position setting (Some found) is in
-    let warning = at.1 in
+references_warned : (at : FileInList) (setting : SettingView) (here : Option Found)
+    → IsReferenceFound at setting here → AreNoErrors (option_to_list here)
+references_warned at setting None is = tt
+references_warned at setting (Some found) is =
+    let there = reference_at at setting (Some found) is in
+    let warning = there.1 in
     ((λ same. cc (sym warning ∙ same)), tt)
 
 pub no_error_in : (edition : Edition) (kind : ConfigSourceKind) (files : List ListFile) (position : ℕ) (members : Members) (all_found : List Found) → AreFindings edition kind files position members all_found
@@ -163,7 +163,7 @@ no_error_in edition kind files position members all_found are =
     let of_unknown = always_warned IsKeyFound (λ setting. key_warned (is_known setting.known setting.name) setting)
     (keys_of_document members) are.unknown are.of_unknown in
     let of_notes = all_notes_warned edition kind (settings_of members) are.notes are.of_notes in
-    let of_references = always_warned (IsReferenceFound files kind position) (references_warned files kind position) (settings_of members) are.references are.of_references in
+    let of_references = always_warned (IsReferenceFound (in_list edition files (file_with kind (Some members)) position)) (references_warned (in_list edition files (file_with kind (Some members)) position)) (settings_of members) are.references are.of_references in
     let first = in_both are.faults (are.features ++ (are.unknown ++ (are.references ++ are.notes))) in
     let second = in_both are.features (are.unknown ++ (are.references ++ are.notes)) in
     let third = in_both are.unknown (are.references ++ are.notes) in

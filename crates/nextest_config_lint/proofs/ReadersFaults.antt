@@ -96,12 +96,12 @@ module _ (edition : Edition) (path : List PathStep) where
     })
 
     allowed_found : (found : Option Data) (fault : Fault) → either found IsBelow (λ it. ⊥) fault
-        → HasFaultAmong edition path fault (at_key (allowed name shape severity) (settings_in shape severity nothing) path found)
+        → HasFaultAmong edition path fault (at_key severity (allowed name shape severity) (λ grave. settings_in shape grave nothing) path found)
     allowed_found None fault wrong = absurd wrong
     allowed_found (Some value) fault wrong = value_found value fault wrong
 
     needed_found : is_wanted (needed name shape severity) path ≡ true → (found : Option Data) (fault : Fault) → either found IsBelow (λ it. it ≡ missing name) fault
-        → HasFaultAmong edition path fault (at_key (needed name shape severity) (settings_in shape severity nothing) path found)
+        → HasFaultAmong edition path fault (at_key severity (needed name shape severity) (λ grave. settings_in shape grave nothing) path found)
     needed_found wanted None fault is =
         subst (λ (b : Bool). HasFaultAmong edition path fault (if b then setting_at severity path (absent_key name) ∷ [] else [])) (sym wanted)
         (inl (record {
@@ -130,7 +130,7 @@ module _ (edition : Edition) (path : List PathStep) where
 
   -- ---- timeouts
 
-  slow_found : (held : Members) → is_wanted (needed slow.period_key shapes.Duration Error) path ≡ true → AreFound (settings_of_fields slow_timeout_fields path held) slow_timeout_table held
+  slow_found : (held : Members) → is_wanted (needed slow.period_key shapes.Duration Error) path ≡ true → AreFound (settings_of_fields slow_timeout_fields Error path held) slow_timeout_table held
   slow_found held wanted =
       found_then (required_at slow.period_key shapes.Duration Error duration_reading (λ v f w. w) wanted held) (λ period.
       found_then (optional_at slow.terminate_after_key shapes.Count ErrorUnlessConverted count_reading (λ v f w. w) held) (λ terminate_after.
@@ -142,7 +142,7 @@ module _ (edition : Edition) (path : List PathStep) where
   slow_timeout_found (table held) wanted = λ fault wrong. inr ((slow_found held wanted).finds fault wrong)
   slow_timeout_found value wanted = beside_found Error shapes.SlowTimeout (fields slow_timeout_fields) slow_timeout_reading value (λ f w. w)
 
-  leak_found : (held : Members) → is_wanted (needed leak.period_key shapes.ShortDuration Error) path ≡ true → AreFound (settings_of_fields leak_timeout_fields path held) leak_timeout_table held
+  leak_found : (held : Members) → is_wanted (needed leak.period_key shapes.ShortDuration Error) path ≡ true → AreFound (settings_of_fields leak_timeout_fields Error path held) leak_timeout_table held
   leak_found held wanted =
       found_then (required_at leak.period_key shapes.ShortDuration Error duration_reading (λ v f w. w) wanted held) (λ period.
       last_found (default_at leak.result_key shapes.LeakTimeoutResult Error (word_reading leak.leak_timeout_results leak.leak_timeout_word leak.leak_timeout_reads_back) (λ v f w. w) held leaky.Pass))
@@ -154,7 +154,7 @@ module _ (edition : Edition) (path : List PathStep) where
 
   -- ---- the fail limit
 
-  limit_found : (held : Members) → AreFound (settings_of_fields fail_fast_fields path held) fail_fast_table held
+  limit_found : (held : Members) → AreFound (settings_of_fields fail_fast_fields Error path held) fail_fast_table held
   limit_found held =
       found_then (required_at max_fail_key shapes.MaxFail Error max_fail_reading (λ v f w. w) refl held) (λ count.
       last_found (default_at terminate_key shapes.TerminateMode Error terminate_reading (λ v f w. w) held Wait))
@@ -165,7 +165,7 @@ module _ (edition : Edition) (path : List PathStep) where
 
   -- ---- the report
 
-  report_found : (held : Members) → AreFound (settings_of_fields junit_fields path held) junit_table held
+  report_found : (held : Members) → AreFound (settings_of_fields junit_fields Error path held) junit_table held
   report_found held =
       found_then (optional_at junit.path_key shapes.Text ErrorUnlessConverted text_reading (λ v f w. w) held) (λ a.
       found_then (optional_at junit.report_name_key shapes.Text ErrorUnlessConverted text_reading (λ v f w. w) held) (λ b.
@@ -195,7 +195,7 @@ module _ (edition : Edition) (path : List PathStep) where
   out_of_order held None b fault there there_too none = absurd none
 
   versions_table_found : (held : Members) (fault : Fault) → version_table.faults held fault
-      → HasFaultAmong edition path fault (settings_of_fields version_fields path held ++ (setting_at Error path (between rules_of.Versions (table held)) ∷ []))
+      → HasFaultAmong edition path fault (settings_of_fields version_fields Error path held ++ (setting_at Error path (between rules_of.Versions (table held)) ∷ []))
   versions_table_found held fault wrong =
       let first = of_plain (allowed required_key shapes.VersionText Error) path held in
       let second = of_plain (allowed recommended_key shapes.VersionText Error) path held in
@@ -262,19 +262,19 @@ module _ (edition : Edition) (path : List PathStep) where
       abbrev others : List SettingView
       others = refused_in Error path (expected_by (backoff_in held)) (field_words known) (names_of held)
 
-      of_fields : HasFaultAmong edition path fault (settings_of_fields known path held) → HasFaultAmong edition path fault (in_retries Error known path held)
-      of_fields found = in_left fault (settings_of_fields known path held ++ others) rules (in_left fault (settings_of_fields known path held) others found)
+      of_fields : HasFaultAmong edition path fault (settings_of_fields known Error path held) → HasFaultAmong edition path fault (in_retries Error known path held)
+      of_fields found = in_left fault (settings_of_fields known Error path held ++ others) rules (in_left fault (settings_of_fields known Error path held) others found)
 
       of_others : (kind : Backoff) → backoff_in held ≡ Some kind → (name : List ℕ) → IsUnknownKey (field_words known) held name → fault ≡ unknown_key name (keys_beside kind)
           → HasFaultAmong edition path fault (in_retries Error known path held)
       of_others kind named name unknown is =
-          in_left fault (settings_of_fields known path held ++ others) rules
-          (in_right fault (settings_of_fields known path held) others
+          in_left fault (settings_of_fields known Error path held ++ others) rules
+          (in_right fault (settings_of_fields known Error path held) others
           (refused_among (expected_by (backoff_in held)) (field_words known) name unknown fault (is ∙ ap (λ (k : Option Backoff). unknown_key name (expected_by k)) (sym named)) held unknown.0))
 
       of_rules : (kind : Backoff) → backoff_in held ≡ Some kind → (rules_by (Some kind)).faults held fault → HasFaultAmong edition path fault (in_retries Error known path held)
       of_rules kind named wrong =
-          in_right fault (settings_of_fields known path held ++ others) rules
+          in_right fault (settings_of_fields known Error path held ++ others) rules
           (inl (record { told = fault; is_wrong = subst (λ (k : Option Backoff). (rules_by k).faults held fault) (sym named) wrong; same_place = refl; same_cause = refl }))
 
     fixed_found : backoff_in held ≡ Some Fixed → (fault : Fault) → fixed_table.faults held fault → HasFaultAmong edition path fault (in_retries Error fixed_fields path held)
@@ -341,7 +341,7 @@ module _ (edition : Edition) (path : List PathStep) where
 
   -- ---- `experimental`
 
-  switches_found : (held : Members) → AreFound (settings_of_fields feature_fields path held) (switches all_features) held
+  switches_found : (held : Members) → AreFound (settings_of_fields feature_fields Error path held) (switches all_features) held
   switches_found held =
       found_then (default_at (codes "setup-scripts") shapes.Boolean Error bool_reading (λ v f w. w) held false) (λ on.
       found_then (default_at (codes "wrapper-scripts") shapes.Boolean Error bool_reading (λ v f w. w) held false) (λ on.
@@ -377,9 +377,9 @@ element_found path first number (item other rest) (suc place) value fault here n
 
 pub features_found : (edition : Edition) (path : List PathStep) (value : Data) → FindsItsFault (features_under edition) edition shapes.Experimental (known.features feature_fields) path value
 features_found ArrayAllowed path (table held) = λ fault wrong.
-    inr (in_left ArrayAllowed path fault (settings_of_fields feature_fields path held) (named_in ArrayAllowed path (table held)) ((switches_found ArrayAllowed path held).finds fault wrong))
+    inr (in_left ArrayAllowed path fault (settings_of_fields feature_fields Error path held) (named_in ArrayAllowed path (table held)) ((switches_found ArrayAllowed path held).finds fault wrong))
 features_found TableOnly path (table held) = λ fault wrong.
-    inr (in_left TableOnly path fault (settings_of_fields feature_fields path held) (named_in TableOnly path (table held)) ((switches_found TableOnly path held).finds fault wrong))
+    inr (in_left TableOnly path fault (settings_of_fields feature_fields Error path held) (named_in TableOnly path (table held)) ((switches_found TableOnly path held).finds fault wrong))
 features_found ArrayAllowed path (array items) = λ fault (place, value, here, earlier, (none, is)).
     inr (in_left ArrayAllowed path fault (names_at path 0 items) (named_in ArrayAllowed path (array items)) (element_found path 0 place items place value fault here none (omega arith) is))
 features_found TableOnly path (array items) = beside_found TableOnly path Error shapes.Experimental (known.features feature_fields) (features_under TableOnly) (array items) (λ f w. w)

@@ -13,6 +13,7 @@ use Rattle.nextest_config_values.specs.Read.{bool_reading, Check, either, made_o
 use Rattle.toml_spans.specs.Step.{PathStep}
 use Rattle.nextest_config_elements.specs.Fields.{KeyRule, nothing}
 use Rattle.nextest_config_elements.specs.declared.field.FaultSeverity.{FaultSeverity}
+use Rattle.nextest_config_elements.specs.declared.field.FaultSeverity.TheVariants.{Error}
 use Rattle.nextest_config_elements.specs.RetryPolicy.{backoff_key, backoff_reads_back, backoff_word, backoffs_in_order, count_key, delay_key, exponential_rules, IsJitterAlone, jitter_key, max_delay_key}
 use Rattle.nextest_config_elements.specs.RetryRules.{backoff_in, LacksDelay, rules_by}
 use Rattle.nextest_config_elements.specs.UnknownKeys.{IsOneOf}
@@ -23,7 +24,7 @@ use Rattle.nextest_config_lint.specs.Settings.{is_known, names_of, of_field, of_
 
 -- what is judged of a key, whose value has nothing in it
 abbrev pub of_plain : KeyRule → List PathStep → Members → List SettingView
-of_plain rule = of_field (rule, nothing)
+of_plain rule = of_field Error (rule, nothing)
 
 -- the keys of a table that are refused
 abbrev pub refused_in : FaultSeverity → List PathStep → List (List ℕ) → List (List ℕ) → List (List ℕ) → List SettingView

@@ -113,7 +113,7 @@ module _ (edition : Edition) where
 
   module _ {X : Type 0} (name : List ℕ) (shape : Shape) (severity : FaultSeverity) (path : List PathStep) (reading : Reading Data X) (same : IsShapeOf shape reading) where
     optional_taken : (held : Members) (found : Option Data)
-        → HaveNoFault edition (at_key (allowed name shape severity) (settings_in shape severity nothing) path found)
+        → HaveNoFault edition (at_key severity (allowed name shape severity) (λ grave. settings_in shape grave nothing) path found)
         ↔ ((x : Option X) × either found (λ value. (made_of Some reading).means value) (λ x. x ≡ None) x)
     optional_taken held None = (λ h. (None, refl), λ m. tt)
     optional_taken held (Some value) = (
@@ -122,13 +122,13 @@ module _ (edition : Edition) where
     )
 
     default_taken : (default : X) (found : Option Data)
-        → HaveNoFault edition (at_key (allowed name shape severity) (settings_in shape severity nothing) path found)
+        → HaveNoFault edition (at_key severity (allowed name shape severity) (λ grave. settings_in shape grave nothing) path found)
         ↔ ((x : X) × either found (λ value. reading.means value) (λ x. x ≡ default) x)
     default_taken default None = (λ h. (default, refl), λ m. tt)
     default_taken default (Some value) = one_alone (same value)
 
     required_taken : is_wanted (needed name shape severity) path ≡ true → (found : Option Data)
-        → HaveNoFault edition (at_key (needed name shape severity) (settings_in shape severity nothing) path found)
+        → HaveNoFault edition (at_key severity (needed name shape severity) (λ grave. settings_in shape grave nothing) path found)
         ↔ ((x : X) × either found (λ value. reading.means value) (λ x. ⊥) x)
     required_taken wanted None = (
       λ h. let none = subst (λ (b : Bool). HaveNoFault edition (if b then setting_at severity path (absent_key name) ∷ [] else [])) wanted h in
@@ -197,16 +197,16 @@ module _ (edition : Edition) where
 
   -- what is judged of a version at a key
   abbrev version_at : List ℕ → List PathStep → Members → List SettingView
-  version_at name path held = at_key (allowed name shapes.VersionText Error) (settings_in shapes.VersionText Error nothing) path (get_member name held)
+  version_at name path held = at_key Error (allowed name shapes.VersionText Error) (λ grave. settings_in shapes.VersionText grave nothing) path (get_member name held)
 
   version_at_taken : (name : List ℕ) (path : List PathStep) (held : Members) → HaveNoFault edition (version_at name path held) ↔ Takes (optional name version_reading) held
   version_at_taken name path held = optional_taken name shapes.VersionText Error path version_reading version_shape held (get_member name held)
 
   version_table_taken : (severity : FaultSeverity) (path : List PathStep) (held : Members)
-      → HaveNoFault edition (and_rules severity rules_of.Versions path held (settings_of_fields version_fields path held)) ↔ Takes version_table held
+      → HaveNoFault edition (and_rules severity rules_of.Versions path held (settings_of_fields version_fields Error path held)) ↔ Takes version_table held
   version_table_taken severity path held = (
     λ h.
-        let of_all = (in_both (settings_of_fields version_fields path held) (setting_at severity path (between rules_of.Versions (table held)) ∷ [])).0 h in
+        let of_all = (in_both (settings_of_fields version_fields Error path held) (setting_at severity path (between rules_of.Versions (table held)) ∷ [])).0 h in
         let of_fields = (in_both (version_at required_key path held) (version_at recommended_key path held ++ [])).0 of_all.0 in
         let rest = (in_both (version_at recommended_key path held) []).0 of_fields.1 in
         let (a, there) = (version_at_taken required_key path held).0 of_fields.0 in
@@ -214,7 +214,7 @@ module _ (edition : Edition) where
         let (asked, ordered) = (version_rules_taken severity path held a b there there_too).0 of_all.1 in
         (asked, (a, there, (b, there_too, ordered))),
     λ (asked, (a, there, (b, there_too, ordered))).
-        all_joined (HasNoFault edition) (settings_of_fields version_fields path held) (setting_at severity path (between rules_of.Versions (table held)) ∷ [])
+        all_joined (HasNoFault edition) (settings_of_fields version_fields Error path held) (setting_at severity path (between rules_of.Versions (table held)) ∷ [])
         (all_joined (HasNoFault edition) (version_at required_key path held) (version_at recommended_key path held ++ []) ((version_at_taken required_key path held).1 (a, there))
         (all_joined (HasNoFault edition) (version_at recommended_key path held) [] ((version_at_taken recommended_key path held).1 (b, there_too)) tt))
         ((version_rules_taken severity path held a b there there_too).1 (asked, ordered)),
@@ -238,7 +238,7 @@ module _ (edition : Edition) where
   switch_at : (name : List ℕ) (path : List PathStep) (held : Members) → AreTakenBy (of_plain (allowed name shapes.Boolean Error) path held) (or_default name false bool_reading) held
   switch_at name path held = default_key name shapes.Boolean Error path held false bool_reading truth_shape
 
-  feature_table_taken : (path : List PathStep) (held : Members) → AreTakenBy (settings_of_fields feature_fields path held) (switches all_features) held
+  feature_table_taken : (path : List PathStep) (held : Members) → AreTakenBy (settings_of_fields feature_fields Error path held) (switches all_features) held
   feature_table_taken path held =
       field_then (switch_at (codes "setup-scripts") path held) (λ on.
       field_then (switch_at (codes "wrapper-scripts") path held) (λ on.
@@ -296,10 +296,10 @@ and_features edition path value settings same =
 pub features_taken : (edition : Edition) (path : List PathStep) (value : Data) → IsTakenWhole (features_under edition) edition shapes.Experimental (known.features feature_fields) path value
 features_taken ArrayAllowed path (table held) =
     always_first (λ fault wrong. wrong)
-    (and_features ArrayAllowed path (table held) (settings_of_fields feature_fields path held) (made_taken _ feature_table held (feature_table_taken ArrayAllowed path held).both))
+    (and_features ArrayAllowed path (table held) (settings_of_fields feature_fields Error path held) (made_taken _ feature_table held (feature_table_taken ArrayAllowed path held).both))
 features_taken TableOnly path (table held) =
     always_first (λ fault wrong. wrong)
-    (and_features TableOnly path (table held) (settings_of_fields feature_fields path held) (made_taken _ feature_table held (feature_table_taken TableOnly path held).both))
+    (and_features TableOnly path (table held) (settings_of_fields feature_fields Error path held) (made_taken _ feature_table held (feature_table_taken TableOnly path held).both))
 features_taken ArrayAllowed path (array items) =
     always_first (λ fault wrong. wrong)
     (and_features ArrayAllowed path (array items) (element_settings ArrayAllowed path 0 items) (made_taken _ feature_array items (array_taken path items)))
@@ -320,7 +320,7 @@ module _ (edition : Edition) where
   shape_of reading value = taken reading value
 
   slow_table_taken : (path : List PathStep) (held : Members) → is_wanted (needed slow.period_key shapes.Duration Error) path ≡ true
-      → AreTakenBy edition (settings_of_fields slow_timeout_fields path held) slow_timeout_table held
+      → AreTakenBy edition (settings_of_fields slow_timeout_fields Error path held) slow_timeout_table held
   slow_table_taken path held wanted =
       field_then edition (required_key_taken edition slow.period_key shapes.Duration Error path held duration_reading (shape_of duration_reading) wanted) (λ period.
       field_then edition (optional_key edition slow.terminate_after_key shapes.Count ErrorUnlessConverted path held count_reading (shape_of count_reading)) (λ terminate_after.
@@ -334,7 +334,7 @@ module _ (edition : Edition) where
   slow_timeout_taken path value wanted = beside edition slow_timeout_reading value iff.rfl
 
   leak_table_taken : (path : List PathStep) (held : Members) → is_wanted (needed leak.period_key shapes.ShortDuration Error) path ≡ true
-      → AreTakenBy edition (settings_of_fields leak_timeout_fields path held) leak_timeout_table held
+      → AreTakenBy edition (settings_of_fields leak_timeout_fields Error path held) leak_timeout_table held
   leak_table_taken path held wanted =
       field_then edition (required_key_taken edition leak.period_key shapes.ShortDuration Error path held duration_reading (shape_of duration_reading) wanted) (λ period.
       last_made edition (default_key edition leak.result_key shapes.LeakTimeoutResult Error path held leaky.Pass (word_reading leak.leak_timeout_results leak.leak_timeout_word leak.leak_timeout_reads_back)
@@ -347,7 +347,7 @@ module _ (edition : Edition) where
 
   -- ---- the fail limit
 
-  fail_fast_table_taken : (path : List PathStep) (held : Members) → AreTakenBy edition (settings_of_fields fail_fast_fields path held) fail_fast_table held
+  fail_fast_table_taken : (path : List PathStep) (held : Members) → AreTakenBy edition (settings_of_fields fail_fast_fields Error path held) fail_fast_table held
   fail_fast_table_taken path held =
       field_then edition (required_key_taken edition max_fail_key shapes.MaxFail Error path held max_fail_reading (shape_of max_fail_reading) refl) (λ count.
       last_made edition (default_key edition terminate_key shapes.TerminateMode Error path held Wait terminate_reading (shape_of terminate_reading)))
@@ -364,7 +364,7 @@ module _ (edition : Edition) where
   truth_at : (name : List ℕ) (path : List PathStep) (held : Members) → AreTakenBy edition (of_plain (allowed name shapes.Boolean ErrorUnlessConverted) path held) (optional name bool_reading) held
   truth_at name path held = optional_key edition name shapes.Boolean ErrorUnlessConverted path held bool_reading (shape_of bool_reading)
 
-  junit_table_taken : (path : List PathStep) (held : Members) → AreTakenBy edition (settings_of_fields junit_fields path held) junit_table held
+  junit_table_taken : (path : List PathStep) (held : Members) → AreTakenBy edition (settings_of_fields junit_fields Error path held) junit_table held
   junit_table_taken path held =
       field_then edition (text_at junit.path_key path held) (λ a.
       field_then edition (text_at junit.report_name_key path held) (λ b.
@@ -408,20 +408,20 @@ module _ (edition : Edition) where
         λ alone. none_refused alone (names_of held) (names_have held),
       )
 
-  module _ (severity : FaultSeverity) (path : List PathStep) (held : Members) where
+  module _ (path : List PathStep) (held : Members) where
     -- of the rules of a table with this backoff
-    rules_taken : (kind : Option Backoff) → backoff_in held ≡ kind → HaveNoFault edition (setting_at severity path (between rules_of.Retries (table held)) ∷ []) ↔ (rules_by kind).passes held
-    rules_taken kind same = subst (λ (k : Option Backoff). HaveNoFault edition (setting_at severity path (between rules_of.Retries (table held)) ∷ []) ↔ (rules_by k).passes held) same
+    rules_taken : (kind : Option Backoff) → backoff_in held ≡ kind → HaveNoFault edition (setting_at Error path (between rules_of.Retries (table held)) ∷ []) ↔ (rules_by kind).passes held
+    rules_taken kind same = subst (λ (k : Option Backoff). HaveNoFault edition (setting_at Error path (between rules_of.Retries (table held)) ∷ []) ↔ (rules_by k).passes held) same
         (one_alone (checked_none (rules_by (backoff_in held)) held))
 
     -- what is judged of a table of retries with these fields: the fields, its other keys, and its rules
-    all_of_retries : (known : Fields) → HaveNoFault edition (in_retries severity known path held)
-        ↔ ((HaveNoFault edition (settings_of_fields known path held) × HaveNoFault edition (refused_in severity path (expected_by (backoff_in held)) (field_words known) (names_of held)))
-        × HaveNoFault edition (setting_at severity path (between rules_of.Retries (table held)) ∷ []))
+    all_of_retries : (known : Fields) → HaveNoFault edition (in_retries Error known path held)
+        ↔ ((HaveNoFault edition (settings_of_fields known Error path held) × HaveNoFault edition (refused_in Error path (expected_by (backoff_in held)) (field_words known) (names_of held)))
+        × HaveNoFault edition (setting_at Error path (between rules_of.Retries (table held)) ∷ []))
     all_of_retries known =
-        let first = settings_of_fields known path held in
-        let other = refused_in severity path (expected_by (backoff_in held)) (field_words known) (names_of held) in
-        let rules = setting_at severity path (between rules_of.Retries (table held)) ∷ [] in (
+        let first = settings_of_fields known Error path held in
+        let other = refused_in Error path (expected_by (backoff_in held)) (field_words known) (names_of held) in
+        let rules = setting_at Error path (between rules_of.Retries (table held)) ∷ [] in (
           λ none. let outer = (in_both edition (first ++ other) rules).0 none in ((in_both edition first other).0 outer.0, outer.1),
           λ parts. (in_both edition (first ++ other) rules).1 ((in_both edition first other).1 parts.0, parts.1),
         )
@@ -441,19 +441,19 @@ module _ (edition : Edition) where
         (then) (required backoff_key backoff_reading) (λ backoff. (then) (required count_key u32_reading) (λ count. (then) (or_default delay_key 0 duration_reading) (λ delay.
         made_of (λ jitter. (backoff, (count, (delay, jitter)))) (or_default jitter_key false bool_reading))))
 
-    fixed_fields_taken : AreTakenBy edition (settings_of_fields fixed_fields path held) fixed_keys held
+    fixed_fields_taken : AreTakenBy edition (settings_of_fields fixed_fields Error path held) fixed_keys held
     fixed_fields_taken =
         field_then edition backoff_at (λ backoff.
         field_then edition (required_key_taken edition count_key shapes.U32 Error path held u32_reading (shape_of u32_reading) refl) (λ count.
         field_then edition (default_key edition delay_key shapes.Duration Error path held 0 duration_reading (shape_of duration_reading)) (λ delay.
         last_made edition (default_key edition jitter_key shapes.Boolean Error path held false bool_reading (shape_of bool_reading)))))
 
-    fixed_taken : backoff_in held ≡ Some Fixed → HaveNoFault edition (in_retries severity fixed_fields path held) ↔ Takes retry_table held
+    fixed_taken : backoff_in held ≡ Some Fixed → HaveNoFault edition (in_retries Error fixed_fields path held) ↔ Takes retry_table held
     fixed_taken named = (
       λ none.
           let parts = (all_of_retries fixed_fields).0 none in
           let (all, (backoff, there, (count, count_there, (delay, delay_there, (jitter, jitter_there, made))))) = fixed_fields_taken.both.0 parts.0.0 in
-          let alone = (keys_taken severity path (expected_by (backoff_in held)) (field_words fixed_fields) held).0 parts.0.1 in
+          let alone = (keys_taken Error path (expected_by (backoff_in held)) (field_words fixed_fields) held).0 parts.0.1 in
           let kept = (fixed_rules held delay jitter delay_there jitter_there).0 ((rules_taken (Some Fixed) named).0 parts.1) in
           let same = is_named Fixed named backoff there in (
             _,
@@ -465,7 +465,7 @@ module _ (edition : Edition) where
           (all_of_retries fixed_fields).1 (
             (
               fixed_fields_taken.both.1 (_, (backoff, there, (count, count_there, (delay, delay_there, (jitter, jitter_there, refl))))),
-              (keys_taken severity path (expected_by (backoff_in held)) (field_words fixed_fields) held).1 alone,
+              (keys_taken Error path (expected_by (backoff_in held)) (field_words fixed_fields) held).1 alone,
             ),
             (rules_taken (Some Fixed) named).1 ((fixed_rules held delay jitter delay_there jitter_there).1 kept),
           ),
@@ -479,7 +479,7 @@ module _ (edition : Edition) where
         (then) (required backoff_key backoff_reading) (λ backoff. (then) (required count_key u32_reading) (λ count. (then) (required delay_key duration_reading) (λ delay.
         (then) (or_default jitter_key false bool_reading) (λ jitter. made_of (λ max_delay. (backoff, (count, (delay, (jitter, max_delay))))) (optional max_delay_key duration_reading)))))
 
-    exponential_fields_taken : AreTakenBy edition (settings_of_fields exponential_fields path held) exponential_keys held
+    exponential_fields_taken : AreTakenBy edition (settings_of_fields exponential_fields Error path held) exponential_keys held
     exponential_fields_taken =
         field_then edition backoff_at (λ backoff.
         field_then edition (required_key_taken edition count_key shapes.U32 Error path held u32_reading (shape_of u32_reading) refl) (λ count.
@@ -487,12 +487,12 @@ module _ (edition : Edition) where
         field_then edition (default_key edition jitter_key shapes.Boolean Error path held false bool_reading (shape_of bool_reading)) (λ jitter.
         last_made edition (optional_key edition max_delay_key shapes.Duration Error path held duration_reading (shape_of duration_reading))))))
 
-    exponential_taken : backoff_in held ≡ Some Exponential → HaveNoFault edition (in_retries severity exponential_fields path held) ↔ Takes retry_table held
+    exponential_taken : backoff_in held ≡ Some Exponential → HaveNoFault edition (in_retries Error exponential_fields path held) ↔ Takes retry_table held
     exponential_taken named = (
       λ none.
           let parts = (all_of_retries exponential_fields).0 none in
           let (all, (backoff, there, (count, count_there, (delay, delay_there, (jitter, jitter_there, (max, max_there, made)))))) = exponential_fields_taken.both.0 parts.0.0 in
-          let alone = (keys_taken severity path (expected_by (backoff_in held)) (field_words exponential_fields) held).0 parts.0.1 in
+          let alone = (keys_taken Error path (expected_by (backoff_in held)) (field_words exponential_fields) held).0 parts.0.1 in
           let kept = (exponential_kept held count delay max count_there delay_there max_there).0 ((rules_taken (Some Exponential) named).0 parts.1) in
           let same = is_named Exponential named backoff there in (
             _,
@@ -508,7 +508,7 @@ module _ (edition : Edition) where
           (all_of_retries exponential_fields).1 (
             (
               exponential_fields_taken.both.1 (_, (backoff, there, (count, count_there, (delay, delay_there, (jitter, jitter_there, (max, max_there, refl)))))),
-              (keys_taken severity path (expected_by (backoff_in held)) (field_words exponential_fields) held).1 alone,
+              (keys_taken Error path (expected_by (backoff_in held)) (field_words exponential_fields) held).1 alone,
             ),
             (rules_taken (Some Exponential) named).1 ((exponential_kept held count delay max count_there delay_there max_there).1 kept),
           ),
@@ -516,7 +516,7 @@ module _ (edition : Edition) where
 
     -- ---- no backoff
 
-    open_taken : backoff_in held ≡ None → HaveNoFault edition (in_retries severity open_fields path held) ↔ Takes retry_table held
+    open_taken : backoff_in held ≡ None → HaveNoFault edition (in_retries Error open_fields path held) ↔ Takes retry_table held
     open_taken named = (
       λ none.
           let parts = (all_of_retries open_fields).0 none in
@@ -527,11 +527,11 @@ module _ (edition : Edition) where
     )
 
     retries_by : (kind : Option Backoff) → backoff_in held ≡ kind
-        → HaveNoFault edition (by_kind (in_retries severity fixed_fields path held) (in_retries severity exponential_fields path held) (in_retries severity open_fields path held) kind) ↔ Takes retry_table held
+        → HaveNoFault edition (by_kind (in_retries Error fixed_fields path held) (in_retries Error exponential_fields path held) (in_retries Error open_fields path held) kind) ↔ Takes retry_table held
     retries_by (Some Fixed) named = fixed_taken named
     retries_by (Some Exponential) named = exponential_taken named
     retries_by None named = open_taken named
 
   pub retries_taken : (path : List PathStep) (value : Data) → IsTakenWhole retry_policy_reading edition shapes.Retries retries_parts path value
-  retries_taken path (table held) = always_first (λ fault wrong. wrong) (made_taken Some retry_table held (retries_by Error path held (backoff_in held) refl))
+  retries_taken path (table held) = always_first (λ fault wrong. wrong) (made_taken Some retry_table held (retries_by path held (backoff_in held) refl))
   retries_taken path value = beside edition retry_policy_reading value iff.rfl

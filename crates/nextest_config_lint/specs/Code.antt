@@ -7,6 +7,8 @@ use Rattle.nextest_config_lint.specs.Found.{FoundKind}
 use Rattle.nextest_config_lint.specs.Found as found
 use Rattle.nextest_config_lint.specs.declared.code.FindingCode.{FindingCode}
 use Rattle.nextest_config_lint.specs.declared.code.FindingCode.TheVariants as code
+use Rattle.nextest_config_lint.specs.declared.named.NamedKind.{NamedKind}
+use Rattle.nextest_config_lint.specs.declared.named.NamedKind.TheVariants as kinds
 
 -- ---- their words
 
@@ -41,6 +43,10 @@ codes_in_order =
     ∷ code.OverrideOfAll
     ∷ code.ReservedProfile
     ∷ code.GroupName
+    ∷ code.UndefinedScript
+    ∷ code.ScriptName
+    ∷ code.FeatureNotEnabled
+    ∷ code.OverrideDefaultFilter
     ∷ code.UnjudgedDuration
     ∷ code.DeprecatedArray
     ∷ []
@@ -75,6 +81,10 @@ code_word code.InheritsItself = codes "inherits-itself"
 code_word code.OverrideOfAll = codes "override-of-all"
 code_word code.ReservedProfile = codes "reserved-profile"
 code_word code.GroupName = codes "group-name"
+code_word code.UndefinedScript = codes "undefined-script"
+code_word code.ScriptName = codes "script-name"
+code_word code.FeatureNotEnabled = codes "feature-not-enabled"
+code_word code.OverrideDefaultFilter = codes "override-default-filter"
 code_word code.UnjudgedDuration = codes "unjudged-duration"
 code_word code.DeprecatedArray = codes "deprecated-array"
 
@@ -109,21 +119,37 @@ reason_code (faults.custom rule) = rule_code rule
 reason_code (faults.identifier fault) = code.InvalidValue
 reason_code (faults.tool_name fault) = code.InvalidValue
 
+-- the code for an undefined name of a kind
+abbrev pub undefined_code : NamedKind → FindingCode
+undefined_code kinds.Group = code.UndefinedGroup
+undefined_code (kinds.Script script) = code.UndefinedScript
+
+-- the code for a text that is no name of a kind here
+abbrev pub name_code : NamedKind → FindingCode
+name_code kinds.Group = code.GroupName
+name_code (kinds.Script script) = code.ScriptName
+
 -- the code of what is found, which for a refused value is that of the refusal
 abbrev pub found_code : FoundKind → FindingCode
 found_code (found.refused reason severity hint) = reason_code reason
 found_code (found.tool_names names) = code.ToolFeatures
 found_code (found.unknown_name name hint) = code.UnknownFeature
 found_code (found.unknown_key name hint) = code.UnknownKey
-found_code (found.undefined_group name hint) = code.UndefinedGroup
+found_code (found.undefined_name kind name hint) = undefined_code kind
+found_code (found.other_script script name) = code.UndefinedScript
 found_code (found.undefined_profile name hint) = code.UndefinedProfile
 found_code found.default_inherits = code.DefaultInherits
 found_code (found.inherits_itself name) = code.InheritsItself
 found_code found.override_of_all = code.OverrideOfAll
+found_code found.script_of_all = code.OverrideOfAll
+found_code found.default_filter_beside = code.OverrideDefaultFilter
+found_code found.default_filter_alone = code.OverrideDefaultFilter
 found_code found.reserved_profile = code.ReservedProfile
-found_code (found.no_group_name reason) = code.GroupName
-found_code (found.group_outside_tool mark) = code.GroupName
-found_code found.group_of_tool = code.GroupName
+found_code (found.no_name kind reason) = name_code kind
+found_code (found.outside_tool kind mark) = name_code kind
+found_code (found.name_of_tool kind) = name_code kind
+found_code (found.setup_script_too name) = code.ScriptName
+found_code (found.feature_not_enabled script) = code.FeatureNotEnabled
 found_code found.unjudged = code.UnjudgedDuration
 found_code (found.deprecated_array table) = code.DeprecatedArray
 found_code found.not_utf8 = code.NotUtf8

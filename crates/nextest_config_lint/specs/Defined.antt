@@ -1,18 +1,27 @@
 -- What a list of files defines, and which of its profiles come back to themselves.
-use Rattle.std.specs.Prelude.{◌≡◌, ◌≢◌, ◌⊎◌, ◌↔◌, ℕ, zero, suc, List, [], ◌∷◌, ◌++◌, codes, Contains, IsSome, IsTrue, length, map, Option, Some, None, option_and_then, option_map, string_bytes}
+use Rattle.std.specs.Prelude.{◌≡◌, ◌≢◌, ◌⊎◌, ◌↔◌, ℕ, false, true, zero, suc, List, [], ◌∷◌, ◌++◌, codes, Contains, IsSome, IsTrue, length, map, Option, Some, None, option_and_then, option_map, string_bytes}
 use Rattle.std.specs.BTreeMap.{get_by_text}
 use Rattle.std.specs.List.{AllByRecursion}
 use Rattle.toml.specs.Data.{as_str, as_table, Data, get_member, Members}
 use Rattle.toml.specs.View.{table_view}
 use Rattle.nextest_config_values.specs.Identifier.{IsIdentifier}
-use Rattle.nextest_config.specs.NextestVersion.{TextsInOrder}
+use Rattle.nextest_config_values.specs.Read.Fault.{Fault}
+use Rattle.nextest_config.specs.NextestVersion.{experimental_key, FeatureSetting, features_under, TextsInOrder}
+use Rattle.nextest_config.specs.declared.nextest_version.edition.Edition.{Edition}
+use Rattle.nextest_config.specs.declared.nextest_version.edition.Edition.TheVariants.{ArrayAllowed, TableOnly}
+use Rattle.nextest_config.specs.declared.nextest_version.experimental.ConfigExperimental.{ConfigExperimental}
+use Rattle.nextest_config.specs.declared.nextest_version.experimental.ConfigExperimental.TheVariants.{SetupScripts, WrapperScripts}
 use Rattle.nextest_config.specs.declared.nextest_version.source.ConfigSourceKind.{ConfigSourceKind}
-use Rattle.nextest_config.specs.declared.nextest_version.source.ConfigSourceKind.TheVariants.{Tool}
+use Rattle.nextest_config.specs.declared.nextest_version.source.ConfigSourceKind.TheVariants.{DiscoveredRepository, ExplicitRepository, Tool}
 use Rattle.nextest_config_lint.specs.Settings.{names_of}
 use Rattle.nextest_config_lint.specs.declared.defined.Defined.{Defined}
 use Rattle.nextest_config_lint.specs.declared.defined.ListedFile.{ListedFile}
 use Rattle.nextest_config_lint.specs.declared.defined.NameKind.{NameKind}
 use Rattle.nextest_config_lint.specs.declared.defined.NameKind.TheVariants as kinds
+use Rattle.nextest_config_lint.specs.declared.list_features.ListFeatures.{ListFeatures}
+use Rattle.nextest_config_lint.specs.declared.named.NamedKind.{NamedKind}
+use Rattle.nextest_config_lint.specs.declared.named.NamedKind.TheVariants.{Group, Script}
+use Rattle.nextest_config_lint.specs.declared.named.ScriptKind.TheVariants.{Setup, Wrapper}
 
 -- ---- the files of a list
 
@@ -43,6 +52,10 @@ table_in key members = option_and_then as_table (get_member key members)
 abbrev pub table_of : List ℕ → ListFile → Option Members
 table_of key file = option_and_then (table_in key) file.document
 
+-- the table at a key of a table of the top of a file
+abbrev pub table_below : List ℕ → List ℕ → ListFile → Option Members
+table_below top key file = option_and_then (table_in key) (table_of top file)
+
 -- the keys of a table, if there is one
 abbrev pub keys_of : Option Members → List (List ℕ)
 keys_of None = []
@@ -51,6 +64,22 @@ keys_of (Some members) = names_of members
 -- the key of a file at which its test groups stand
 abbrev pub groups_key : List ℕ
 groups_key = codes "test-groups"
+
+-- the key of a file at which tables of its scripts stand
+abbrev pub scripts_key : List ℕ
+scripts_key = codes "scripts"
+
+-- the key of `scripts` at which setup scripts stand
+abbrev pub setup_key : List ℕ
+setup_key = codes "setup"
+
+-- the key of `scripts` at which wrapper scripts stand
+abbrev pub wrapper_key : List ℕ
+wrapper_key = codes "wrapper"
+
+-- an older key of a file at which its setup scripts stand
+abbrev pub script_key : List ℕ
+script_key = codes "script"
 
 -- the key of a file at which its profiles stand
 abbrev pub profiles_key : List ℕ
@@ -70,9 +99,18 @@ default_miri = codes "default-miri"
 
 -- ---- what they define
 
--- a key of the file's test groups is kept as this name
-abbrev pub HasGroup : ListFile → List ℕ → Type 0
-HasGroup file name = SomeOf (λ key. IsIdentifier key name) (keys_of (table_of groups_key file))
+-- a key of the table, if there is one, is kept as this name
+abbrev pub KeepsName : Option Members → List ℕ → Type 0
+KeepsName found name = SomeOf (λ key. IsIdentifier key name) (keys_of found)
+
+-- the file defines this name of a kind
+abbrev pub HasNamed : NamedKind → ListFile → List ℕ → Type 0
+HasNamed Group file name = KeepsName (table_of groups_key file) name
+HasNamed (Script Setup) file name =
+    KeepsName (table_below scripts_key setup_key file) name
+    ⊎ KeepsName (table_of script_key file) name
+HasNamed (Script Wrapper) file name =
+    KeepsName (table_below scripts_key wrapper_key file) name
 
 -- the file has a profile of this name
 abbrev pub HasProfile : ListFile → List ℕ → Type 0
@@ -84,7 +122,7 @@ IsOfTool file tool = file.kind ≡ Tool tool
 
 -- the file has this name of a kind
 abbrev pub HasName : NameKind → ListFile → List ℕ → Type 0
-HasName kinds.Group = HasGroup
+HasName (kinds.Named kind) = HasNamed kind
 HasName kinds.Profile = HasProfile
 HasName kinds.Tool = IsOfTool
 
@@ -92,9 +130,9 @@ HasName kinds.Tool = IsOfTool
 abbrev pub IsNameIn : NameKind → List ListFile → List ℕ → Type 0
 IsNameIn kind files name = SomeOf (λ file. HasName kind file name) files
 
--- some file defines the test group
-abbrev pub DefinesGroup : List ListFile → List ℕ → Type 0
-DefinesGroup files name = SomeOf (λ file. HasGroup file name) files
+-- some file defines this name of a kind
+abbrev pub DefinesNamed : NamedKind → List ListFile → List ℕ → Type 0
+DefinesNamed kind files name = SomeOf (λ file. HasNamed kind file name) files
 
 -- nextest has the profile itself, or some file defines it
 abbrev pub DefinesProfile : List ListFile → List ℕ → Type 0
@@ -108,6 +146,50 @@ HasTool files tool = SomeOf (λ file. IsOfTool file tool) files
 -- each file is a document
 abbrev pub AreDocuments : List ListFile → Type 0
 AreDocuments files = AllByRecursion (λ file. IsSome file.document) files
+
+-- ---- the features that they enable
+
+-- the file is no tool's
+abbrev pub IsNoTools : ConfigSourceKind → Type 0
+IsNoTools (Tool tool) = ⊥
+IsNoTools ExplicitRepository = Unit {0}
+IsNoTools DiscoveredRepository = Unit {0}
+
+-- the file is no tool's, and its value of `experimental` is this
+abbrev pub HasExperimental : ListFile → Data → Type 0
+HasExperimental file value = IsNoTools file.kind
+    × (option_and_then (get_member experimental_key) file.document ≡ Some value)
+
+-- the file, which is no tool's, enables the feature, in a table or in an array
+abbrev pub EnablesFeature : ConfigExperimental → ListFile → Type 0
+EnablesFeature feature file = (value : Data) × (named : FeatureSetting)
+    × HasExperimental file value × (features_under ArrayAllowed).means value named
+    × Contains named.features.known feature
+
+-- the file is no tool's, and its value of `experimental` is refused under the edition
+abbrev pub HasRefusedFeatures : Edition → ListFile → Type 0
+HasRefusedFeatures edition file = (value : Data) × (fault : Fault)
+    × HasExperimental file value × (features_under edition).faults value fault
+
+-- no file of the list enables the feature, and none that isn't read, or of which that setting is
+-- refused, may enable it
+pub record IsFeatureMissing (edition : Edition) (files : List ListFile)
+    (feature : ConfigExperimental) : Type 0 where
+  pub all_read : AreDocuments files
+  pub none_refused : SomeOf (HasRefusedFeatures edition) files → ⊥
+  pub not_enabled : SomeOf (EnablesFeature feature) files → ⊥
+
+-- what is kept of the features of a list is what its files say
+pub record AreFeaturesOf (files : List ListFile) (features : ListFeatures) : Type 0 where
+  pub setup : IsTrue features.setup_scripts ↔ SomeOf (EnablesFeature SetupScripts) files
+  pub wrapper : IsTrue features.wrapper_scripts ↔ SomeOf (EnablesFeature WrapperScripts) files
+  pub refused : IsTrue features.refused ↔ SomeOf (HasRefusedFeatures ArrayAllowed) files
+  pub no_table : IsTrue features.no_table ↔ SomeOf (HasRefusedFeatures TableOnly) files
+
+-- what is kept of a file whose value of `experimental` is refused under each edition
+abbrev pub features_refused : ListFeatures
+features_refused =
+    record { setup_scripts = false; wrapper_scripts = false; refused = true; no_table = true }
 
 -- ---- what profiles inherit from
 
@@ -155,10 +237,15 @@ pub record AreNamesOf (Holds : List ℕ → Type 0) (names : List (List ℕ)) : 
 -- what is kept of a list is what its files define, and which of its profiles come back to
 -- themselves
 pub record IsDefinedBy (files : List ListFile) (defined : Defined) : Type 0 where
-  pub groups : AreNamesOf (DefinesGroup files) (map string_bytes defined.groups.keys)
+  pub groups : AreNamesOf (DefinesNamed Group files) (map string_bytes defined.groups.keys)
+  pub setup_scripts : AreNamesOf (DefinesNamed (Script Setup) files)
+      (map string_bytes defined.setup_scripts.keys)
+  pub wrapper_scripts : AreNamesOf (DefinesNamed (Script Wrapper) files)
+      (map string_bytes defined.wrapper_scripts.keys)
   pub profiles : AreNamesOf (DefinesProfile files) (map string_bytes defined.profiles.keys)
   pub tools : AreNamesOf (HasTool files) (map string_bytes defined.tools.keys)
   pub documents : IsTrue defined.all_read ↔ AreDocuments files
+  pub features : AreFeaturesOf files defined.features
   pub rings : (profile : List ℕ) (position : ℕ)
       → (get_by_text defined.rings profile ≡ Some position) ↔ ComesBackAt files profile position
 

@@ -1,11 +1,11 @@
 -- All that is found in a document.
-use Rattle.std.specs.Prelude.{◌≡◌, ℕ, List, [], ◌++◌, flat_map}
+use Rattle.std.specs.Prelude.{◌≡◌, ℕ, List, [], ◌++◌, flat_map, Some}
 use Rattle.toml.specs.Data.{Members, table}
 use Rattle.nextest_config.specs.declared.nextest_version.edition.Edition.{Edition}
 use Rattle.nextest_config.specs.declared.nextest_version.source.ConfigSourceKind.{ConfigSourceKind}
-use Rattle.nextest_config_lint.specs.Defined.{ListFile}
+use Rattle.nextest_config_lint.specs.Defined.{file_with, ListFile}
 use Rattle.nextest_config_lint.specs.Found.{AreFoundIn, AreFoundOf, Found}
-use Rattle.nextest_config_lint.specs.References.{IsReferenceFound}
+use Rattle.nextest_config_lint.specs.References.{in_list, IsReferenceFound}
 use Rattle.nextest_config_lint.specs.Settings.{settings_of}
 use Rattle.nextest_config_elements.specs.Keys.{file_table}
 use Rattle.nextest_config_lint.specs.Unknown.{IsKeyFound, TableKey, keys_below, keys_in}
@@ -29,7 +29,8 @@ pub record AreFindings (edition : Edition) (kind : ConfigSourceKind) (files : Li
   pub of_faults : AreFoundOf (AreFaultsFound edition) (settings_of members) faults
   pub of_features : AreFoundOf (AreFeaturesFound edition kind) (settings_of members) features
   pub of_unknown : AreFoundIn IsKeyFound (keys_of_document members) unknown
-  pub of_references : AreFoundIn (IsReferenceFound files kind position) (settings_of members)
-      references
+  pub of_references : AreFoundIn
+      (IsReferenceFound (in_list edition files (file_with kind (Some members)) position))
+      (settings_of members) references
   pub of_notes : AreFoundOf (AreNotesFound edition kind) (settings_of members) notes
   pub whole : all_found ≡ faults ++ (features ++ (unknown ++ (references ++ notes)))

@@ -1,5 +1,5 @@
 -- All that is found in a file, and where each finding stands.
-use Rattle.std.specs.Prelude.{◌≡◌, ◌⊎◌, ℕ, Bool, true, false, List, [], ◌∷◌, ◌++◌, codes, drop, IsSome, IsUtf8, map, nat_eq, Option, Some, None, take}
+use Rattle.std.specs.Prelude.{◌≡◌, ◌⊎◌, ◌||◌, ℕ, Bool, true, false, List, [], ◌∷◌, ◌++◌, drop, IsSome, IsUtf8, map, nat_eq, Option, Some, None, take}
 use Rattle.std.specs.Cmp.Lexicographic.{pointwise}
 use Rattle.std.specs.List.{AllByRecursion, AllZip}
 use Rattle.std.specs.List.Sorted.{IsPermutation, IsSortedByKey, IsStableByKey}
@@ -23,9 +23,9 @@ use Rattle.toml_spans.specs.Line.{found_in}
 use Rattle.toml_spans.specs.Place.{IsPlace}
 use Rattle.toml_spans.specs.Ranges.{Range, Ranges}
 use Rattle.toml_spans.specs.Step.{key, PathStep}
-use Rattle.nextest_config_lint.specs.Defined.{ListFile}
+use Rattle.nextest_config_lint.specs.Defined.{groups_key, ListFile, script_key, scripts_key}
 use Rattle.nextest_config_lint.specs.Document.{AreFindings}
-use Rattle.nextest_config_lint.specs.Found.{Found, found_at, FoundKind, found_of, group_of_tool, group_outside_tool, Mistaken, no_group_name, not_toml, not_utf8, refused, reserved_profile, unknown_key, unknown_name}
+use Rattle.nextest_config_lint.specs.Found.{feature_not_enabled, Found, found_at, FoundKind, found_of, Mistaken, name_of_tool, no_name, not_toml, not_utf8, outside_tool, refused, reserved_profile, setup_script_too, unknown_key, unknown_name}
 use Rattle.nextest_config_lint.specs.Mistake.{IsMistake}
 use Rattle.toml_spans.specs.declared.index.Index.{Index}
 use Rattle.toml_spans.specs.declared.place.Place.{Place}
@@ -126,10 +126,12 @@ path_after path None = path
 abbrev pub whole_path : Found → List PathStep
 whole_path found = path_after found.path (key_in found.kind)
 
--- the path is that of a test group
-abbrev pub is_group : List PathStep → Bool
-is_group (key table ∷ key group ∷ []) = pointwise nat_eq table (codes "test-groups")
-is_group path = false
+-- the path is that of a name that the file defines: of a test group or a script
+abbrev pub is_definition : List PathStep → Bool
+is_definition (key table ∷ key name ∷ []) =
+    pointwise nat_eq table groups_key || pointwise nat_eq table script_key
+is_definition (key table ∷ key kind ∷ key name ∷ []) = pointwise nat_eq table scripts_key
+is_definition path = false
 
 -- a key is wrong, and not its value
 abbrev pub is_key_refused : Reason → Bool
@@ -142,9 +144,11 @@ is_key_wrong path (refused reason severity hint) = is_key_refused reason
 is_key_wrong path (unknown_name name hint) = true
 is_key_wrong path (unknown_key name hint) = true
 is_key_wrong path reserved_profile = true
-is_key_wrong path (group_outside_tool mark) = true
-is_key_wrong path group_of_tool = true
-is_key_wrong path (no_group_name fault) = is_group path
+is_key_wrong path (outside_tool kind mark) = true
+is_key_wrong path (name_of_tool kind) = true
+is_key_wrong path (setup_script_too name) = true
+is_key_wrong path (feature_not_enabled script) = true
+is_key_wrong path (no_name kind fault) = is_definition path
 is_key_wrong path kind = false
 
 -- the finding tells that a key is wrong, and not its value

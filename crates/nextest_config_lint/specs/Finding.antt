@@ -6,7 +6,9 @@ use Rattle.nextest_config_values.specs.Read.{kind_text, quoted_texts, Reason, re
 use Rattle.toml_spans.specs.Step.{PathStep, printed_path, step_of}
 use Rattle.nextest_config_values.specs.declared.read.fault.FaultKind.{FaultKind}
 use Rattle.nextest_config_lint.specs.Code.{reason_code}
+use Rattle.nextest_config.specs.NextestVersion.{word_of}
 use Rattle.nextest_config_lint.specs.Found.{FoundKind, found_severity, kind_view}
+use Rattle.nextest_config_lint.specs.Named.{feature_of, named_text, plural_text, script_text}
 use Rattle.nextest_config_lint.specs.declared.code.FindingCode.{FindingCode}
 use Rattle.nextest_config_lint.specs.declared.code.FindingCode.TheVariants as code
 use Rattle.nextest_config_lint.specs.declared.finding.Finding.{Finding}
@@ -83,13 +85,24 @@ plain_text (kinds.InheritsItself profile) =
     codes "the profile " ++ (quoted_text (string_bytes profile) ++ codes " inherits from itself")
 plain_text kinds.OverrideOfAll =
     codes "an override needs a \"filter\" or a \"platform\""
+plain_text kinds.ScriptOfAll = codes "a script needs a \"filter\" or a \"platform\""
+plain_text kinds.DefaultFilterBeside =
+    codes "an override has a \"filter\" or a \"default-filter\", and not both"
+plain_text kinds.DefaultFilterAlone = codes "a \"default-filter\" needs a \"platform\""
 plain_text kinds.ReservedProfile =
     codes "profile names that begin with \"default-\" are reserved"
-plain_text (kinds.NoGroupName error) =
+plain_text (kinds.NoName kind error) =
     text_or_memory identifier_fault_text (identifier_fault error)
-plain_text (kinds.GroupOutsideTool mark) =
-    codes "a tool's test groups begin with " ++ quoted_text (string_bytes mark)
-plain_text kinds.GroupOfTool = codes "only a tool's test groups begin with \"@\""
+plain_text (kinds.OutsideTool kind mark) =
+    codes "a tool's " ++ (plural_text kind ++ (codes " begin with " ++ quoted_text (string_bytes mark)))
+plain_text (kinds.NameOfTool kind) =
+    codes "only a tool's " ++ (plural_text kind ++ codes " begin with \"@\"")
+plain_text (kinds.OtherScript script name) =
+    quoted_text (string_bytes name) ++ (codes " is a " ++ script_text script)
+plain_text (kinds.SetupScriptToo name) =
+    quoted_text (string_bytes name) ++ codes " is a setup script, too"
+plain_text (kinds.FeatureNotEnabled script) = script_text script
+    ++ (codes "s need the experimental feature " ++ quoted_text (word_of (feature_of script)))
 plain_text kinds.UnjudgedDuration =
     codes "not judged here: a duration other than whole numbers, each with a unit"
 plain_text (kinds.DeprecatedArray table) =
@@ -104,8 +117,8 @@ finding_kind_text (kinds.UnknownFeature name hint) =
     name_text (codes "unknown feature ") (string_bytes name) hint
 finding_kind_text (kinds.UnknownKey key hint) =
     name_text (codes "unknown key ") (string_bytes key) hint
-finding_kind_text (kinds.UndefinedGroup name hint) =
-    name_text (codes "no file defines the test group ") (string_bytes name) hint
+finding_kind_text (kinds.UndefinedName kind name hint) =
+    codes "no file defines the " ++ (named_text kind ++ name_text (codes " ") (string_bytes name) hint)
 finding_kind_text (kinds.UndefinedProfile name hint) =
     name_text (codes "no file defines the profile ") (string_bytes name) hint
 finding_kind_text (kinds.NotToml message mistake) = string_bytes message ++ mistake_text mistake

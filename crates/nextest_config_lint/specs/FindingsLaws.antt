@@ -15,7 +15,7 @@ use Rattle.nextest_config.specs.declared.nextest_version.source.ConfigSourceKind
 use Rattle.toml_spans.specs.Line.{found_in}
 use Rattle.nextest_config_lint.specs.File.{whole_path}
 use Rattle.nextest_config_lint.specs.Finding.{finding_severity}
-use Rattle.nextest_config_lint.specs.Found.{default_inherits, Found, found_severity, FoundKind, group_of_tool, group_outside_tool, inherits_itself, no_group_name, override_of_all, reserved_profile, undefined_group, undefined_profile}
+use Rattle.nextest_config_lint.specs.Found.{default_filter_alone, default_filter_beside, default_inherits, feature_not_enabled, Found, found_severity, FoundKind, inherits_itself, name_of_tool, no_name, other_script, outside_tool, override_of_all, reserved_profile, script_of_all, setup_script_too, undefined_name, undefined_profile}
 use Rattle.nextest_config_lint.specs.Settings.{settings_in, settings_of, SettingView}
 use Rattle.nextest_config_lint.specs.Subjects.{IsWrong}
 use Rattle.nextest_config_lint.specs.Severity.{IsConverted, plain_severity}
@@ -25,15 +25,21 @@ use Rattle.nextest_config_lint.specs.declared.finding.FindingSeverity.TheVariant
 
 -- what is found is of a name that refers to another, or of a rule between keys
 abbrev pub is_reference : FoundKind → Bool
-is_reference (undefined_group name hint) = true
+is_reference (undefined_name kind name hint) = true
+is_reference (other_script script name) = true
 is_reference (undefined_profile name hint) = true
 is_reference default_inherits = true
 is_reference (inherits_itself profile) = true
 is_reference override_of_all = true
+is_reference script_of_all = true
+is_reference default_filter_beside = true
+is_reference default_filter_alone = true
 is_reference reserved_profile = true
-is_reference (no_group_name reason) = true
-is_reference (group_outside_tool mark) = true
-is_reference group_of_tool = true
+is_reference (no_name kind reason) = true
+is_reference (outside_tool kind mark) = true
+is_reference (name_of_tool kind) = true
+is_reference (setup_script_too name) = true
+is_reference (feature_not_enabled script) = true
 is_reference kind = false
 
 -- the findings but for those of references and of rules between keys

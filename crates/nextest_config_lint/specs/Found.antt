@@ -15,6 +15,8 @@ use Rattle.nextest_config_lint.specs.declared.finding.Mistake.{Mistake}
 use Rattle.nextest_config_lint.specs.declared.finding.Mistake.TheVariants as mistakes
 use Rattle.nextest_config_lint.specs.declared.finding.FindingSeverity.{FindingSeverity}
 use Rattle.nextest_config_lint.specs.declared.finding.FindingSeverity.TheVariants.{Error, Note, Warning}
+use Rattle.nextest_config_lint.specs.declared.named.NamedKind.{NamedKind}
+use Rattle.nextest_config_lint.specs.declared.named.ScriptKind.{ScriptKind}
 
 -- what may be meant: a word, something as TOML writes it, or the key of the same name elsewhere
 pub data Meant : Type 0 where
@@ -46,21 +48,28 @@ mistaken_of (mistakes.Repeated key line) = repeated (string_bytes key) line
 mistaken_of (mistakes.Misspelt word) = misspelt (string_bytes word)
 mistaken_of mistakes.Unquoted = unquoted
 
--- what is found, with what is told of it: a name, a text, how grave it is, or what may be meant
+-- what is found, with what is told of it: a name, of which kind it is, a text, how grave it is, or
+-- what may be meant
 pub data FoundKind : Type 0 where
   refused : Reason → FindingSeverity → Option Meant → FoundKind
   tool_names : List (List ℕ) → FoundKind
   unknown_name : List ℕ → Option Meant → FoundKind
   unknown_key : List ℕ → Option Meant → FoundKind
-  undefined_group : List ℕ → Option Meant → FoundKind
+  undefined_name : NamedKind → List ℕ → Option Meant → FoundKind
+  other_script : ScriptKind → List ℕ → FoundKind
   undefined_profile : List ℕ → Option Meant → FoundKind
   default_inherits : FoundKind
   inherits_itself : List ℕ → FoundKind
   override_of_all : FoundKind
+  script_of_all : FoundKind
+  default_filter_beside : FoundKind
+  default_filter_alone : FoundKind
   reserved_profile : FoundKind
-  no_group_name : Reason → FoundKind
-  group_outside_tool : List ℕ → FoundKind
-  group_of_tool : FoundKind
+  no_name : NamedKind → Reason → FoundKind
+  outside_tool : NamedKind → List ℕ → FoundKind
+  name_of_tool : NamedKind → FoundKind
+  setup_script_too : List ℕ → FoundKind
+  feature_not_enabled : ScriptKind → FoundKind
   unjudged : FoundKind
   deprecated_array : List ℕ → FoundKind
   not_utf8 : FoundKind
@@ -84,18 +93,24 @@ kind_view (kinds.UnknownFeature name hint) =
     Some (unknown_name (string_bytes name) (option_map meant_of hint))
 kind_view (kinds.UnknownKey key hint) =
     Some (unknown_key (string_bytes key) (option_map meant_of hint))
-kind_view (kinds.UndefinedGroup name hint) =
-    Some (undefined_group (string_bytes name) (option_map meant_of hint))
+kind_view (kinds.UndefinedName kind name hint) =
+    Some (undefined_name kind (string_bytes name) (option_map meant_of hint))
+kind_view (kinds.OtherScript script name) = Some (other_script script (string_bytes name))
 kind_view (kinds.UndefinedProfile name hint) =
     Some (undefined_profile (string_bytes name) (option_map meant_of hint))
 kind_view kinds.DefaultInherits = Some default_inherits
 kind_view (kinds.InheritsItself profile) = Some (inherits_itself (string_bytes profile))
 kind_view kinds.OverrideOfAll = Some override_of_all
+kind_view kinds.ScriptOfAll = Some script_of_all
+kind_view kinds.DefaultFilterBeside = Some default_filter_beside
+kind_view kinds.DefaultFilterAlone = Some default_filter_alone
 kind_view kinds.ReservedProfile = Some reserved_profile
-kind_view (kinds.NoGroupName error) =
-    option_map (λ fault. no_group_name (identifier fault)) (identifier_fault error)
-kind_view (kinds.GroupOutsideTool mark) = Some (group_outside_tool (string_bytes mark))
-kind_view kinds.GroupOfTool = Some group_of_tool
+kind_view (kinds.NoName kind error) =
+    option_map (λ fault. no_name kind (identifier fault)) (identifier_fault error)
+kind_view (kinds.OutsideTool kind mark) = Some (outside_tool kind (string_bytes mark))
+kind_view (kinds.NameOfTool kind) = Some (name_of_tool kind)
+kind_view (kinds.SetupScriptToo name) = Some (setup_script_too (string_bytes name))
+kind_view (kinds.FeatureNotEnabled script) = Some (feature_not_enabled script)
 kind_view kinds.UnjudgedDuration = Some unjudged
 kind_view (kinds.DeprecatedArray table) = Some (deprecated_array (string_bytes table))
 kind_view kinds.NotUtf8 = Some not_utf8
@@ -120,15 +135,21 @@ found_severity unjudged = Note
 found_severity (deprecated_array table) = Note
 found_severity (unknown_name name hint) = Warning
 found_severity (unknown_key name hint) = Warning
-found_severity (undefined_group name hint) = Warning
+found_severity (undefined_name kind name hint) = Warning
+found_severity (other_script script name) = Warning
 found_severity (undefined_profile name hint) = Warning
 found_severity default_inherits = Warning
 found_severity (inherits_itself name) = Warning
 found_severity override_of_all = Warning
+found_severity script_of_all = Warning
+found_severity default_filter_beside = Warning
+found_severity default_filter_alone = Warning
 found_severity reserved_profile = Warning
-found_severity (no_group_name reason) = Warning
-found_severity (group_outside_tool mark) = Warning
-found_severity group_of_tool = Warning
+found_severity (no_name kind reason) = Warning
+found_severity (outside_tool kind mark) = Warning
+found_severity (name_of_tool kind) = Warning
+found_severity (setup_script_too name) = Warning
+found_severity (feature_not_enabled script) = Warning
 
 -- the findings tell these, in this order
 abbrev pub Tells : List Finding → List Found → Type 0

@@ -4,13 +4,15 @@ use Rattle.std.specs.Fmt.{signed_decimal}
 use Rattle.nextest_config_values.specs.Read.{IsCount, IsU32, MeansNumber}
 use Rattle.nextest_config_elements.specs.MaxFail.{HasInteger}
 use Rattle.nextest_config_elements.specs.Priority.{IsPriority}
+use Rattle.nextest_config_lint.specs.Forms.{IsNatural}
 use Rattle.nextest_config_lint.specs.Found.{Meant, the_toml}
 use Rattle.nextest_config_lint.specs.declared.integers.IntegerRange.{IntegerRange}
-use Rattle.nextest_config_lint.specs.declared.integers.IntegerRange.TheVariants.{Count, Priority, Threads, U32}
+use Rattle.nextest_config_lint.specs.declared.integers.IntegerRange.TheVariants.{Count, Natural, Priority, Threads, U32}
 
 -- the setting takes this integer
 abbrev pub Takes : IntegerRange → ℤ → Type 0
 Takes U32 number = (value : ℕ) × MeansNumber IsU32 number value
+Takes Natural number = IsNatural number
 Takes Count number = (value : ℕ) × MeansNumber IsCount number value
 Takes Threads number = number ≢ pos 0
 Takes Priority number = IsPriority number

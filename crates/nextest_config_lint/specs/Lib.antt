@@ -14,7 +14,9 @@ pub mod Inheritance
 pub mod Integers
 pub mod Meant
 pub mod Mistake
+pub mod Named
 pub mod References
+pub mod RulePlaces
 pub mod Rules
 pub mod Settings
 pub mod Severity
@@ -22,5 +24,4 @@ pub mod Shapes
 pub mod Subjects
 pub mod Unknown
 pub mod Values
-pub mod Words
 pub mod Explain

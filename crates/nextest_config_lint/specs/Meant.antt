@@ -28,6 +28,7 @@ taken_of shapes.U32 = Some (Integer ranges.U32)
 taken_of shapes.ThreadsRequired = Some (Integer ranges.Count)
 taken_of shapes.MaxFail = Some (Integer ranges.Count)
 taken_of shapes.Count = Some (Integer ranges.Count)
+taken_of shapes.Depth = Some (Integer ranges.Natural)
 taken_of shapes.Threads = Some (Integer ranges.Threads)
 taken_of shapes.Priority = Some (Integer ranges.Priority)
 taken_of shapes.Boolean = Some Boolean

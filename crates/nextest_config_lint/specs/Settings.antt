@@ -5,7 +5,7 @@ use Rattle.toml.specs.Data.{array, Data, get_member, item, Items, member, Member
 use Rattle.toml.specs.View.{view}
 use Rattle.nextest_config_values.specs.Read.{value_of, words_of}
 use Rattle.toml_spans.specs.Step.{index, key, PathStep}
-use Rattle.nextest_config_elements.specs.Fields.{by_backoff, elements, features, field, field_words, Fields, fields, fields_view, KeyRule, names, no_fields, nothing, Parts, parts_of, rule_of, versions}
+use Rattle.nextest_config_elements.specs.Fields.{by_backoff, elements, elements_or_fields, features, field, field_words, Fields, fields, fields_view, KeyRule, names, no_fields, nothing, Parts, parts_of, rule_of, versions, within}
 use Rattle.nextest_config_elements.specs.Keys.{file_table}
 use Rattle.nextest_config_elements.specs.RetryPolicy.{keys_beside}
 use Rattle.nextest_config_elements.specs.RetryRules.{backoff_in}
@@ -135,14 +135,16 @@ is_wanted rule path = rule.required
     && not (pointwise nat_eq rule.key (codes "period") && has_default_period path)
 
 -- what comes of a key that a table lacks
-abbrev pub of_absent : KeyRule → List PathStep → List SettingView
-of_absent rule path =
-    if is_wanted rule path then setting_at rule.severity path (absent_key rule.key) ∷ [] else []
+abbrev pub of_absent : FaultSeverity → KeyRule → List PathStep → List SettingView
+of_absent severity rule path =
+    if is_wanted rule path then setting_at severity path (absent_key rule.key) ∷ [] else []
 
 -- what comes of a key of a table: of the value there, or that there is none
-abbrev pub at_key : KeyRule → Collecting → List PathStep → Option Data → List SettingView
-at_key rule collecting path (Some value) = collecting (path ++ (key rule.key ∷ [])) value
-at_key rule collecting path None = of_absent rule path
+abbrev pub at_key : FaultSeverity → KeyRule → (FaultSeverity → Collecting) → List PathStep
+    → Option Data → List SettingView
+at_key severity rule collecting path (Some value) =
+    collecting severity (path ++ (key rule.key ∷ [])) value
+at_key severity rule collecting path None = of_absent severity rule path
 
 -- the name is one of these words
 abbrev pub is_known : List (List ℕ) → List ℕ → Bool
@@ -180,10 +182,10 @@ of_retries severity known path members of_fields =
     ++ flat_map (of_name severity (expected_by (backoff_in members)) known path)
     (names_of members))
 
--- what comes of an array of names of features
-abbrev pub feature_names : FaultSeverity → List PathStep → Items → List SettingView
-feature_names severity path =
-    at_items (with_parts FeatureName severity nothing (λ path value. [])) path 0
+-- what comes of an array of which each element has this shape, and nothing stands in it
+abbrev pub plain_elements : Shape → FaultSeverity → List PathStep → Items → List SettingView
+plain_elements shape severity path =
+    at_items (with_parts shape severity nothing (λ path value. [])) path 0
 
 -- ---- the table of keys
 
@@ -191,33 +193,41 @@ abbrev mutual
   -- what is judged in a value whose faults are as grave as this
   pub settings_below : Parts → FaultSeverity → Collecting
   settings_below nothing = λ severity path value. []
-  settings_below (fields known) = λ severity. in_table (settings_of_fields known)
+  settings_below (fields known) = λ severity. in_table (settings_of_fields known severity)
   settings_below (versions known) = λ severity. in_table (λ path members.
-      and_rules severity rules_of.Versions path members (settings_of_fields known path members))
+      and_rules severity rules_of.Versions path members
+      (settings_of_fields known severity path members))
   settings_below (features known) = λ severity path value.
-      in_table (settings_of_fields known) path value
-      ++ (in_array (feature_names severity) path value
+      in_table (settings_of_fields known severity) path value
+      ++ (in_array (plain_elements FeatureName severity) path value
       ++ (setting_at severity path (features_at value) ∷ []))
   settings_below (by_backoff fixed exponential without) = λ severity. in_table (λ path members.
       by_kind
-      (of_retries severity (field_words fixed) path members (settings_of_fields fixed path members))
+      (of_retries severity (field_words fixed) path members
+      (settings_of_fields fixed severity path members))
       (of_retries severity (field_words exponential) path members
-      (settings_of_fields exponential path members))
-      (of_retries severity (field_words without) path members (settings_of_fields without path members))
+      (settings_of_fields exponential severity path members))
+      (of_retries severity (field_words without) path members
+      (settings_of_fields without severity path members))
       (backoff_in members))
   settings_below (names shape parts) = λ severity.
       in_table (at_names (with_parts shape severity parts (settings_below parts severity)))
   settings_below (elements shape parts) = λ severity.
       in_array (λ path. at_items (with_parts shape severity parts (settings_below parts severity))
       path 0)
+  settings_below (elements_or_fields shape known) = λ severity path value.
+      in_table (settings_of_fields known severity) path value
+      ++ in_array (plain_elements shape severity) path value
 
-  -- what is judged in a table by its fields, in their order
-  pub settings_of_fields : Fields → List PathStep → Members → List SettingView
-  settings_of_fields no_fields = λ path members. []
-  settings_of_fields (field rule parts rest) = λ path members.
-      at_key rule (with_parts rule.shape rule.severity parts (settings_below parts rule.severity))
+  -- what is judged in a table by its fields, in their order, where its own faults are as grave as
+  -- this
+  pub settings_of_fields : Fields → FaultSeverity → List PathStep → Members → List SettingView
+  settings_of_fields no_fields = λ severity path members. []
+  settings_of_fields (field rule parts rest) = λ severity path members.
+      at_key (within severity rule.severity) rule
+      (λ grave. with_parts rule.shape grave parts (settings_below parts grave))
       path (get_member rule.key members)
-      ++ settings_of_fields rest path members
+      ++ settings_of_fields rest severity path members
 
 -- a value, and what is judged in it
 abbrev pub settings_in : Shape → FaultSeverity → Parts → Collecting
@@ -228,15 +238,17 @@ settings_in shape severity parts =
 abbrev pub seen_field : declared_field.Field → KeyRule × Parts
 seen_field known = (rule_of (out-Field known), parts_of (out-Field known).parts)
 
--- what is judged in a table by one of its fields
-abbrev pub of_field : KeyRule × Parts → List PathStep → Members → List SettingView
-of_field (rule, parts) path members =
-    at_key rule (settings_in rule.shape rule.severity parts) path (get_member rule.key members)
+-- what is judged in a table by one of its fields, where its own faults are as grave as this
+abbrev pub of_field : FaultSeverity → KeyRule × Parts → List PathStep → Members → List SettingView
+of_field severity (rule, parts) path members =
+    at_key (within severity rule.severity) rule (λ grave. settings_in rule.shape grave parts) path
+    (get_member rule.key members)
 
 -- what is judged in a table of retries with these fields
 abbrev pub in_retries : FaultSeverity → Fields → List PathStep → Members → List SettingView
 in_retries severity known path members =
-    of_retries severity (field_words known) path members (settings_of_fields known path members)
+    of_retries severity (field_words known) path members
+    (settings_of_fields known severity path members)
 
 -- all that is judged in a document
 abbrev pub settings_of : Members → List SettingView

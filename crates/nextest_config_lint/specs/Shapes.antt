@@ -4,6 +4,7 @@ use Rattle.std.specs.Prelude.{◌≡◌, ◌⊎◌, ℕ, List, codes, Option, So
 use Rattle.std.proofs.Common.{inl, inr, refl, sym, ◌∙◌, subst}
 use Rattle.toml.specs.Data.{Data, as_array, as_table}
 use Rattle.nextest_config_values.specs.Duration.{duration_reading}
+use Rattle.nextest_config_values.specs.Helpers.PathsLaws.{relative_path_reading}
 use Rattle.nextest_config_values.specs.Read.Fault.{Fault}
 use Rattle.nextest_config_values.specs.Read.{bool_reading, Check, count_reading, either, meaning, text_reading, u32_reading, word_reading, wrong_type}
 use Rattle.nextest_config.specs.NextestVersion.{features_under, version_reading, versions_reading}
@@ -19,8 +20,7 @@ use Rattle.nextest_config_elements.specs.SlowTimeout.{slow_timeout_reading, slow
 use Rattle.nextest_config_elements.specs.ThreadsRequired.{threads_reading}
 use Rattle.nextest_config_elements.specs.declared.field.Shape.{Shape}
 use Rattle.nextest_config_elements.specs.declared.field.Shape.TheVariants as shapes
-use Rattle.nextest_config_lint.specs.Forms.{platform_form, threads_form}
-use Rattle.nextest_config_lint.specs.Words.{display_reading, final_reading, status_reading}
+use Rattle.nextest_config_lint.specs.Forms.{command_form, command_line_form, depth_form, platform_form, scalar_form, texts_form, threads_form, word_form}
 
 -- any value is all right
 abbrev pub any_check : Check Data
@@ -137,6 +137,10 @@ shape_check edition shapes.Text = meaning text_reading
 shape_check edition shapes.Texts = kind_check as_array (codes "an array of strings")
 shape_check edition shapes.Threads = meaning threads_form
 shape_check edition shapes.Platform = meaning platform_form
-shape_check edition shapes.StatusLevel = meaning status_reading
-shape_check edition shapes.FinalStatusLevel = meaning final_reading
-shape_check edition shapes.Output = meaning display_reading
+shape_check edition (shapes.Word list) = meaning (word_form list)
+shape_check edition shapes.Scalar = meaning scalar_form
+shape_check edition shapes.TextOrTexts = meaning texts_form
+shape_check edition shapes.Command = meaning command_form
+shape_check edition shapes.CommandLine = meaning command_line_form
+shape_check edition shapes.RelativePath = meaning relative_path_reading
+shape_check edition shapes.Depth = meaning depth_form

@@ -1,15 +1,15 @@
 -- The keys of a document that aren't known where they stand, and what they may be meant for.
-use Rattle.std.specs.Prelude.{◌≡◌, ℕ, ◌==◌, ◌||◌, Bool, true, false, if◌then◌else◌, List, [], ◌∷◌, find, map, Option, Some, None, option_map}
+use Rattle.std.specs.Prelude.{◌≡◌, ℕ, ◌==◌, ◌&&◌, ◌||◌, Bool, true, false, if◌then◌else◌, List, [], ◌∷◌, codes, find, map, Option, Some, None, option_map}
 use Rattle.std.specs.List.{slice_split}
 use Rattle.std.specs.Option.{option_or}
 use Rattle.toml.specs.Data.{Data, Members, table}
 use Rattle.toml_spans.specs.Step.{PathStep}
 use Rattle.nextest_config_lint.specs.Found.{Found, found_at, Meant, the_key, the_word, unknown_key}
 use Rattle.nextest_config_values.specs.NearestWord.{dash, distance, IsNearest, is_same}
-use Rattle.nextest_config_lint.specs.Settings.{a_value, is_known, names_of, SettingView, Subject}
+use Rattle.nextest_config_lint.specs.Settings.{a_value, is_key, is_known, names_of, SettingView, Subject}
 use Rattle.nextest_config_lint.specs.declared.finding.Scope.{Scope}
 use Rattle.nextest_config_lint.specs.declared.finding.Scope.TheVariants.{Junit, Override, Profile, Top}
-use Rattle.nextest_config_elements.specs.Fields.{field_words, fields, Parts, versions}
+use Rattle.nextest_config_elements.specs.Fields.{elements_or_fields, field_words, fields, Parts, versions}
 use Rattle.nextest_config_elements.specs.Keys.{file_fields, override_fields, override_junit_fields, profile_fields}
 
 -- a key of a table: the keys that are known there, and the path to the table
@@ -34,6 +34,7 @@ keys_among (Some known) path held = map (key_at known path) (names_of held)
 abbrev pub known_words : Parts → Option (List (List ℕ))
 known_words (fields known) = Some (field_words known)
 known_words (versions known) = Some (field_words known)
+known_words (elements_or_fields shape known) = Some (field_words known)
 known_words parts = None
 
 -- the keys of a value, if it is a table
@@ -52,9 +53,19 @@ keys_in setting = keys_of_subject setting.subject setting.path
 
 -- ---- what is found
 
--- the tables that know keys, in the order in which a key is looked for
-abbrev pub scopes : List Scope
-scopes = Top ∷ Profile ∷ Override ∷ Junit ∷ []
+-- the path is that of the `junit` of a script
+abbrev pub is_junit_of_script : List PathStep → Bool
+is_junit_of_script (top ∷ name ∷ last ∷ []) =
+    is_key (codes "script") top && is_key (codes "junit") last
+is_junit_of_script (top ∷ kind ∷ name ∷ last ∷ []) =
+    is_key (codes "scripts") top && is_key (codes "junit") last
+is_junit_of_script path = false
+
+-- the tables in which a key of the table at a path may belong, in the order in which it is looked
+-- for: a key that the `junit` of a script lacks isn't told of another one
+abbrev pub scopes_at : List PathStep → List Scope
+scopes_at path = if is_junit_of_script path then Top ∷ Profile ∷ Override ∷ []
+    else Top ∷ Profile ∷ Override ∷ Junit ∷ []
 
 -- the keys that a table of this kind knows
 abbrev pub scope_words : Scope → List (List ℕ)
@@ -63,9 +74,9 @@ scope_words Profile = field_words profile_fields
 scope_words Override = field_words override_fields
 scope_words Junit = field_words override_junit_fields
 
--- the first table that knows a key of this name
-abbrev pub scope_of : List ℕ → Option Scope
-scope_of name = find (λ scope. is_known (scope_words scope) name) scopes
+-- the first of these tables that knows a key of this name
+abbrev pub scope_of : List Scope → List ℕ → Option Scope
+scope_of scopes name = find (λ scope. is_known (scope_words scope) name) scopes
 
 -- what stands between the dashes of a word
 abbrev pub pieces_of : List ℕ → List (List ℕ)
@@ -89,24 +100,24 @@ first_some (first ∷ rest) = option_or first (first_some rest)
 -- what an unknown key may be meant for, beside its nearest word: that word where the name is the
 -- same or one edit away, the key of the same name elsewhere, the nearest word farther off, or a
 -- word that the name is a part of
-abbrev pub meant_beside : List (List ℕ) → List ℕ → Option (List ℕ) → Option Meant
-meant_beside known name near = first_some
+abbrev pub meant_beside : List (List ℕ) → List PathStep → List ℕ → Option (List ℕ) → Option Meant
+meant_beside known path name near = first_some
     (option_map the_word (slip_of name near)
-    ∷ option_map the_key (scope_of name)
+    ∷ option_map the_key (scope_of (scopes_at path) name)
     ∷ option_map the_word near
     ∷ option_map the_word (word_with_part known name) ∷ [])
 
--- what an unknown key may be meant for, with its nearest word
-abbrev pub IsHintFor : List (List ℕ) → List ℕ → Option Meant → Type 0
-IsHintFor known name hint = (near : Option (List ℕ)) × IsNearest known name near
-    × (hint ≡ meant_beside known name near)
+-- what an unknown key of the table at a path may be meant for, with its nearest word
+abbrev pub IsHintFor : List (List ℕ) → List PathStep → List ℕ → Option Meant → Type 0
+IsHintFor known path name hint = (near : Option (List ℕ)) × IsNearest known name near
+    × (hint ≡ meant_beside known path name near)
 
 -- what is found of a key, by whether it is known: of a known one nothing
 abbrev pub IsKeyFoundFor : Bool → TableKey → Option Found → Type 0
 IsKeyFoundFor true key found = found ≡ None
 IsKeyFoundFor false key found =
     (hint : Option Meant)
-    × IsHintFor key.known key.name hint
+    × IsHintFor key.known key.path key.name hint
     × (found ≡ Some (found_at key.path (unknown_key key.name hint)))
 
 -- what is found of a key: that it isn't known where it stands, or nothing

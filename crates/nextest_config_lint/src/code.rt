@@ -63,6 +63,14 @@ pub enum FindingCode {
     ReservedProfile,
     /// A text is no name of a test group here.
     GroupName,
+    /// No file defines a script.
+    UndefinedScript,
+    /// A text is no name of a script here.
+    ScriptName,
+    /// Scripts need an experimental feature that no file enables.
+    FeatureNotEnabled,
+    /// What an override says beside its default filter is too much or too little.
+    OverrideDefaultFilter,
     /// A text is no duration here, and may be one for nextest.
     UnjudgedDuration,
     /// Features stand in an array, which is deprecated.
@@ -106,6 +114,10 @@ impl Word for FindingCode {
             FindingCode::OverrideOfAll,
             FindingCode::ReservedProfile,
             FindingCode::GroupName,
+            FindingCode::UndefinedScript,
+            FindingCode::ScriptName,
+            FindingCode::FeatureNotEnabled,
+            FindingCode::OverrideDefaultFilter,
             FindingCode::UnjudgedDuration,
             FindingCode::DeprecatedArray,
         ]
@@ -141,6 +153,10 @@ impl Word for FindingCode {
             "override-of-all",
             "reserved-profile",
             "group-name",
+            "undefined-script",
+            "script-name",
+            "feature-not-enabled",
+            "override-default-filter",
             "unjudged-duration",
             "deprecated-array",
         ]

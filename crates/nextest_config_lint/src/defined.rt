@@ -1,14 +1,18 @@
-//! What a list of files defines: test groups, profiles, and what these inherit from.
+//! What a list of files defines: test groups, scripts, profiles, what these inherit from, and which
+//! features are enabled.
 
 ghost use Rattle.std.specs.Prelude.{◌≡◌, ◌↔◌, ◌∷◌, [], ℕ, Contains, IfOk, IsSome, IsTrue, List, MatchOption, None, OnOk, map, option_map, string_bytes};
 ghost use Rattle.toml.specs.View.{table_view};
 ghost use Rattle.nextest_config_values.specs.Identifier.{IsIdentifier, identifier_fault};
-ghost use Rattle.nextest_config_lint.specs.Defined.{AddsNames, AreDocuments, AreNamesOf, DefinesProfile, HasGroup, HasName, HasProfile, ComesBackAt, IsDefinedBy, IsNameIn, IsOfTool, ListFile, SomeOf, file_of, file_with, table_of};
+ghost use Rattle.nextest_config_lint.specs.Defined.{AddsNames, AreDocuments, AreNamesOf, ComesBackAt, DefinesNamed, DefinesProfile, HasName, HasNamed, HasProfile, IsDefinedBy, IsFeatureMissing, IsNameIn, IsOfTool, KeepsName, ListFile, SomeOf, file_of, file_with, table_below, table_of};
+ghost use Rattle.nextest_config_lint.specs.Named.{feature_of};
 ghost use Rattle.nextest_config_lint.specs.Settings.{names_of};
-ghost use Rattle.nextest_config_lint.specs.References.{IsUndefinedGroup, IsUndefinedProfile};
+ghost use Rattle.nextest_config_lint.specs.References.{IsUndefined, IsUndefinedProfile};
 
+use crate::list_features::ListFeatures;
+use crate::named::{NamedKind, ScriptKind};
 use crate::ring_profiles::find_ring_profiles;
-use nextest_config::nextest_version::ConfigSourceKind;
+use nextest_config::nextest_version::{ConfigSourceKind, Edition};
 use nextest_config_values::identifier::{ConfigIdentifier, InvalidIdentifier};
 use nextest_config_values::read::value_at;
 use std::alloc::{AllocError, Global};
@@ -17,6 +21,14 @@ use toml::Table;
 
 pub(crate) const GROUPS_KEY: &str = "test-groups";
 
+pub(crate) const SCRIPTS_KEY: &str = "scripts";
+
+pub(crate) const SETUP_KEY: &str = "setup";
+
+pub(crate) const WRAPPER_KEY: &str = "wrapper";
+
+pub(crate) const SCRIPT_KEY: &str = "script";
+
 pub(crate) const PROFILES_KEY: &str = "profile";
 
 pub(crate) const INHERITS_KEY: &str = "inherits";
@@ -24,6 +36,10 @@ pub(crate) const INHERITS_KEY: &str = "inherits";
 pub(crate) const DEFAULT_PROFILE: &str = "default";
 
 pub(crate) const DEFAULT_MIRI: &str = "default-miri";
+
+pub(crate) const SETUP_SCRIPT: NamedKind = NamedKind::Script(ScriptKind::Setup);
+
+pub(crate) const WRAPPER_SCRIPT: NamedKind = NamedKind::Script(ScriptKind::Wrapper);
 
 /// A file of a list, with its document, if it is one.
 #[derive(Clone, Copy)]
@@ -37,12 +53,18 @@ pub struct ListedFile<'a> {
 pub struct Defined {
     /// The test groups, as their names are kept.
     pub(crate) groups: BTreeSet<String>,
+    /// The setup scripts, as their names are kept.
+    pub(crate) setup_scripts: BTreeSet<String>,
+    /// The wrapper scripts, as their names are kept.
+    pub(crate) wrapper_scripts: BTreeSet<String>,
     /// The profiles, with those that nextest has itself.
     pub(crate) profiles: BTreeSet<String>,
     /// The tools whose files stand in the list.
     pub(crate) tools: BTreeSet<String>,
     /// Whether each file is a document; another may define what isn't found.
     pub(crate) all_read: bool,
+    /// What the files say of the experimental features of scripts.
+    pub(crate) features: ListFeatures,
     /// The profiles that come back to themselves by what they inherit from, each with the position
     /// of the file whose value counts.
     pub(crate) rings: BTreeMap<String, usize>,
@@ -51,8 +73,8 @@ pub struct Defined {
 // A kind of names that a file has.
 #[derive(Clone, Copy)]
 enum NameKind {
-    /// Those that its test groups are kept as.
-    Group,
+    /// Those that its test groups or scripts are kept as.
+    Named(NamedKind),
     /// Those of its profiles.
     Profile,
     /// That of the tool whose file it is.
@@ -65,10 +87,13 @@ impl Defined {
         ensures { IfOk result (IsDefinedBy (map file_of files.now)) }
     {
         Ok(Defined {
-            groups: names_in(alloc, NameKind::Group, files)?,
+            groups: names_in(alloc, NameKind::Named(NamedKind::Group), files)?,
+            setup_scripts: names_in(alloc, NameKind::Named(SETUP_SCRIPT), files)?,
+            wrapper_scripts: names_in(alloc, NameKind::Named(WRAPPER_SCRIPT), files)?,
             profiles: profile_names(alloc, files)?,
             tools: names_in(alloc, NameKind::Tool, files)?,
             all_read: are_documents(files),
+            features: ListFeatures::of(alloc, files)?,
             rings: find_ring_profiles(alloc, files)?,
         })
     }
@@ -100,6 +125,34 @@ impl<'a> ListedFile<'a> {
             None => None,
         }
     }
+
+    // The table at a key of a table of the top of the file.
+    fn table_below(&self, top: &str, key: &str) -> Option<&'a Table>
+        ensures { option_map (λ table. table_view table.now) result
+            ≡ table_below top.now key.now (file_of self.now) }
+    {
+        match self.table(top) {
+            Some(table) => match value_at(table, key) {
+                Some(value) => value.as_table(),
+                None => None,
+            },
+            None => None,
+        }
+    }
+}
+
+/// The names of a kind that a file defines, as they are kept.
+pub(crate) fn names_of_file(
+    alloc: Global,
+    kind: NamedKind,
+    file: &ListedFile,
+) -> Result<BTreeSet<String>, AllocError>
+    ensures { IfOk result (λ names.
+        AreNamesOf (HasNamed kind (file_of file.now)) (map string_bytes names.keys)) }
+{
+    let mut names = BTreeSet::new(alloc);
+    add_named(alloc, kind, file, &mut names)?;
+    Ok(names)
 }
 
 // The names of a kind that the files have.
@@ -152,42 +205,58 @@ fn add_names(
         (map string_bytes names.old.keys) (map string_bytes names.new.keys)) }
 {
     match kind {
-        NameKind::Group => add_groups(alloc, file, names),
+        NameKind::Named(kind) => add_named(alloc, kind, file, names),
         NameKind::Profile => add_profiles(alloc, file, names),
         NameKind::Tool => add_tool(alloc, file, names),
     }
 }
 
-// Adds the test groups of a file, as their names are kept.
-fn add_groups(
+// Adds the names of a kind that a file defines, as they are kept.
+fn add_named(
     alloc: Global,
+    kind: NamedKind,
     file: &ListedFile,
     names: &mut BTreeSet<String>,
 ) -> Result<(), AllocError>
-    ensures { OnOk result (AddsNames (HasGroup (file_of file.now))
+    ensures { OnOk result (AddsNames (HasNamed kind (file_of file.now))
         (map string_bytes names.old.keys) (map string_bytes names.new.keys)) }
 {
-    match file.table(GROUPS_KEY) {
-        Some(groups) => {
-            add_groups_of(alloc, groups, names)?;
-            Ok(())
+    match kind {
+        NamedKind::Group => add_kept(alloc, file.table(GROUPS_KEY), names),
+        NamedKind::Script(ScriptKind::Setup) => {
+            add_kept(alloc, file.table_below(SCRIPTS_KEY, SETUP_KEY), names)?;
+            add_kept(alloc, file.table(SCRIPT_KEY), names)
         }
+        NamedKind::Script(ScriptKind::Wrapper) => {
+            add_kept(alloc, file.table_below(SCRIPTS_KEY, WRAPPER_KEY), names)
+        }
+    }
+}
+
+// Adds what the keys of a table are kept as, if there is one.
+fn add_kept(
+    alloc: Global,
+    found: Option<&Table>,
+    names: &mut BTreeSet<String>,
+) -> Result<(), AllocError>
+    ensures { OnOk result (AddsNames
+        (KeepsName (option_map (λ table. table_view table.now) found.entry))
+        (map string_bytes names.old.keys) (map string_bytes names.new.keys)) }
+{
+    match found {
+        Some(table) => add_kept_of(alloc, table, names),
         None => Ok(()),
     }
 }
 
 // Adds what the keys of a table are kept as.
-fn add_groups_of(
-    alloc: Global,
-    groups: &Table,
-    names: &mut BTreeSet<String>,
-) -> Result<(), AllocError>
+fn add_kept_of(alloc: Global, table: &Table, names: &mut BTreeSet<String>) -> Result<(), AllocError>
     ensures { OnOk result (AddsNames
-        (λ name. SomeOf (λ key. IsIdentifier key name) (names_of (table_view groups.now)))
+        (λ name. SomeOf (λ key. IsIdentifier key name) (names_of (table_view table.now)))
         (map string_bytes names.old.keys) (map string_bytes names.new.keys)) }
 {
-    for key in groups.keys() {
-        add_group(alloc, key.as_str(), names)?;
+    for key in table.keys() {
+        add_kept_key(alloc, key.as_str(), names)?;
     }
     Ok(())
 }
@@ -261,7 +330,7 @@ fn add_tool(
 }
 
 // Adds what the key is kept as, if it is an identifier.
-fn add_group(alloc: Global, key: &str, names: &mut BTreeSet<String>) -> Result<(), AllocError>
+fn add_kept_key(alloc: Global, key: &str, names: &mut BTreeSet<String>) -> Result<(), AllocError>
     ensures { OnOk result (AddsNames (IsIdentifier key.now)
         (map string_bytes names.old.keys) (map string_bytes names.new.keys)) }
 {
@@ -330,12 +399,41 @@ impl Defined {
         self.all_read & !has_name(&self.profiles, name)
     }
 
-    /// Whether no file defines the group, and none that isn't read or there may define it.
-    pub(crate) fn is_undefined_group(&self, name: &ConfigIdentifier) -> bool
+    /// The names of a kind, as they are kept.
+    pub(crate) fn names(&self, kind: NamedKind) -> &BTreeSet<String>
         ensures { (files : List ListFile) → IsDefinedBy files self.now
-            → IsTrue result ↔ IsUndefinedGroup files name.now }
+            → AreNamesOf (DefinesNamed kind files) (map string_bytes result.now.keys) }
     {
-        if !self.all_read | has_name(&self.groups, name.as_str()) {
+        match kind {
+            NamedKind::Group => &self.groups,
+            NamedKind::Script(ScriptKind::Setup) => &self.setup_scripts,
+            NamedKind::Script(ScriptKind::Wrapper) => &self.wrapper_scripts,
+        }
+    }
+
+    /// Whether some file defines this name of a kind.
+    pub(crate) fn defines(&self, kind: NamedKind, name: &str) -> bool
+        ensures { (files : List ListFile) → IsDefinedBy files self.now
+            → IsTrue result ↔ DefinesNamed kind files name.now }
+    {
+        has_name(self.names(kind), name)
+    }
+
+    /// Whether no file enables the feature of scripts of a kind, and none may that isn't read, or
+    /// of which `experimental` is refused under the edition.
+    pub(crate) fn lacks_feature(&self, edition: Edition, script: ScriptKind) -> bool
+        ensures { (files : List ListFile) → IsDefinedBy files self.now
+            → IsTrue result ↔ IsFeatureMissing edition files (feature_of script) }
+    {
+        self.all_read & !(self.features.are_refused(edition) | self.features.enable(script))
+    }
+
+    /// Whether no file defines the name of a kind, and none that isn't read or there may define it.
+    pub(crate) fn is_undefined(&self, kind: NamedKind, name: &ConfigIdentifier) -> bool
+        ensures { (files : List ListFile) → IsDefinedBy files self.now
+            → IsTrue result ↔ IsUndefined kind files name.now }
+    {
+        if !self.all_read | self.defines(kind, name.as_str()) {
             return false;
         }
         match name.tool_components() {
@@ -345,8 +443,8 @@ impl Defined {
     }
 }
 
-// Whether a set has this name.
-fn has_name(names: &BTreeSet<String>, name: &str) -> bool
+/// Whether a set has this name.
+pub(crate) fn has_name(names: &BTreeSet<String>, name: &str) -> bool
     ensures { IsTrue result ↔ Contains (map string_bytes names.now.keys) name.now }
 {
     names.contains(name)

@@ -41,7 +41,15 @@ pub fn findings(
         mut notes,
     } = find_in_values(alloc, source, edition, settings.as_slice())?;
     let mut unknown = find_unknown(alloc, document, settings.as_slice())?;
-    let mut references = find_references(alloc, source, settings.as_slice(), defined, position)?;
+    let mut references = find_references(
+        alloc,
+        source,
+        edition,
+        document,
+        settings.as_slice(),
+        defined,
+        position,
+    )?;
     references.append(&mut notes)?;
     unknown.append(&mut references)?;
     features.append(&mut unknown)?;

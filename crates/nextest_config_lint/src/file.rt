@@ -9,10 +9,10 @@ ghost use Rattle.toml_spans.specs.Index.{IsIndexOf, IsSpanOf, ranges_in};
 ghost use Rattle.toml_spans.specs.Step.{key, step_of};
 ghost use Rattle.nextest_config_values.specs.Read.{broken_rule, Reason, reason_of};
 ghost use Rattle.nextest_config_lint.specs.Defined.{IsDefinedBy, ListFile};
-ghost use Rattle.nextest_config_lint.specs.File.{AreIn, AreLocated, AreLocatedIn, AreSorted, HasRange, IsAlone, IsDocument, IsLocated, IsLocatedBy, IsReadOf, IsToldBy, is_group, is_key_refused, is_of_key, key_in, located_view, range_at, range_of, reason_key, rule_key};
+ghost use Rattle.nextest_config_lint.specs.File.{AreIn, AreLocated, AreLocatedIn, AreSorted, HasRange, IsAlone, IsDocument, IsLocated, IsLocatedBy, IsReadOf, IsToldBy, is_definition, is_key_refused, is_of_key, key_in, located_view, range_at, range_of, reason_key, rule_key};
 ghost use Rattle.nextest_config_lint.specs.Found.{Found, found_at, FoundKind, found_of, kind_view, not_utf8};
 
-use crate::defined::Defined;
+use crate::defined::{Defined, GROUPS_KEY, SCRIPT_KEY, SCRIPTS_KEY};
 use crate::document::findings;
 use crate::finding::{Finding, FindingKind};
 use crate::mistake::mistake;
@@ -308,9 +308,11 @@ fn is_of_key(finding: &Finding) -> bool
         FindingKind::UnknownFeature { .. }
         | FindingKind::UnknownKey { .. }
         | FindingKind::ReservedProfile
-        | FindingKind::GroupOutsideTool { .. }
-        | FindingKind::GroupOfTool => true,
-        FindingKind::NoGroupName(_) => is_group(finding.path.as_slice()),
+        | FindingKind::OutsideTool { .. }
+        | FindingKind::NameOfTool(_)
+        | FindingKind::SetupScriptToo { .. }
+        | FindingKind::FeatureNotEnabled(_) => true,
+        FindingKind::NoName { .. } => is_definition(finding.path.as_slice()),
         _ => false,
     }
 }
@@ -323,12 +325,15 @@ fn is_unknown_field(fault: &FaultKind) -> bool
     matches!(fault, FaultKind::UnknownField { .. })
 }
 
-// Whether the path is that of a test group.
-fn is_group(path: &[Step]) -> bool
-    ensures { result ≡ is_group (map step_of path.now) }
+// Whether the path is that of a name that the file defines: of a test group or a script.
+fn is_definition(path: &[Step]) -> bool
+    ensures { result ≡ is_definition (map step_of path.now) }
 {
     match path {
-        [Step::Key(table), Step::Key(_)] => table.as_str() == "test-groups",
+        [Step::Key(table), Step::Key(_)] => {
+            (table.as_str() == GROUPS_KEY) | (table.as_str() == SCRIPT_KEY)
+        }
+        [Step::Key(table), Step::Key(_), Step::Key(_)] => table.as_str() == SCRIPTS_KEY,
         _ => false,
     }
 }

@@ -2,12 +2,13 @@
 
 ghost use Rattle.std.specs.Prelude.{◌≡◌, Some};
 ghost use Rattle.std.specs.Fmt.{WritesOnOk};
-ghost use Rattle.nextest_config_lint.specs.Code.{rule_code, told_code};
+ghost use Rattle.nextest_config_lint.specs.Code.{name_code, rule_code, told_code, undefined_code};
 ghost use Rattle.nextest_config_lint.specs.Found.{kind_view};
 ghost use Rattle.nextest_config_lint.specs.Finding.{fault_code, finding_kind_text, finding_severity, finding_text, hint_text, scope_text, mistake_text, name_text, plain_text};
 ghost use Rattle.nextest_config_values.specs.Read.{broken_rule};
 
 use crate::code::FindingCode;
+use crate::named::{NamedKind, ScriptKind};
 use nextest_config_values::identifier::InvalidIdentifier;
 use nextest_config_values::read::{FaultKind, QuotedText, QuotedTexts, Rule};
 use std::collections::BTreeSet;
@@ -44,10 +45,16 @@ pub enum FindingKind {
         key: String,
         hint: Option<Hint>,
     },
-    /// No file of the list defines this test group.
-    UndefinedGroup {
+    /// No file of the list defines this test group or script.
+    UndefinedName {
+        kind: NamedKind,
         name: String,
         hint: Option<Hint>,
+    },
+    /// This is the name of a script of this kind, where one of the other kind is named.
+    OtherScript {
+        script: ScriptKind,
+        name: String,
     },
     /// No file of the list defines this profile.
     UndefinedProfile {
@@ -62,16 +69,32 @@ pub enum FindingKind {
     },
     /// An override doesn't say which tests it is for.
     OverrideOfAll,
+    /// What a profile says of scripts doesn't say which tests it is for.
+    ScriptOfAll,
+    /// An override has a default filter beside a filter.
+    DefaultFilterBeside,
+    /// An override has a default filter and no platform.
+    DefaultFilterAlone,
     /// The name of a profile is kept for nextest's own.
     ReservedProfile,
-    /// The name of a test group is no identifier.
-    NoGroupName(InvalidIdentifier),
-    /// The name of a test group in a tool's file lacks this mark of the tool.
-    GroupOutsideTool {
+    /// The name of a test group or script is no identifier.
+    NoName {
+        kind: NamedKind,
+        error: InvalidIdentifier,
+    },
+    /// The name of a test group or script in a tool's file lacks this mark of the tool.
+    OutsideTool {
+        kind: NamedKind,
         mark: String,
     },
-    /// The name of a test group is marked as a tool's, in a file that isn't one's.
-    GroupOfTool,
+    /// The name of a test group or script is marked as a tool's, in a file that isn't one's.
+    NameOfTool(NamedKind),
+    /// The file has a setup script of the same name as a wrapper script.
+    SetupScriptToo {
+        name: String,
+    },
+    /// No file enables the experimental feature that scripts of this kind need.
+    FeatureNotEnabled(ScriptKind),
     /// A text is no duration here, and may be one for nextest.
     UnjudgedDuration,
     /// Features stand in an array; the table that enables those of them that are known.
@@ -143,7 +166,10 @@ impl Finding {
                 ..
             } if !fault.is_memory() => *severity,
             FindingKind::Fault { .. }
-            | FindingKind::NoGroupName(InvalidIdentifier::Memory)
+            | FindingKind::NoName {
+                error: InvalidIdentifier::Memory,
+                ..
+            }
             | FindingKind::ToolFeatures { .. }
             | FindingKind::NotUtf8
             | FindingKind::NotToml { .. } => FindingSeverity::Error,
@@ -152,15 +178,21 @@ impl Finding {
             }
             FindingKind::UnknownFeature { .. }
             | FindingKind::UnknownKey { .. }
-            | FindingKind::UndefinedGroup { .. }
+            | FindingKind::UndefinedName { .. }
+            | FindingKind::OtherScript { .. }
             | FindingKind::UndefinedProfile { .. }
             | FindingKind::DefaultInherits
             | FindingKind::InheritsItself { .. }
             | FindingKind::OverrideOfAll
+            | FindingKind::ScriptOfAll
+            | FindingKind::DefaultFilterBeside
+            | FindingKind::DefaultFilterAlone
             | FindingKind::ReservedProfile
-            | FindingKind::NoGroupName(_)
-            | FindingKind::GroupOutsideTool { .. }
-            | FindingKind::GroupOfTool => FindingSeverity::Warning,
+            | FindingKind::NoName { .. }
+            | FindingKind::OutsideTool { .. }
+            | FindingKind::NameOfTool(_)
+            | FindingKind::SetupScriptToo { .. }
+            | FindingKind::FeatureNotEnabled(_) => FindingSeverity::Warning,
         }
     }
 
@@ -173,21 +205,50 @@ impl Finding {
             FindingKind::ToolFeatures { .. } => FindingCode::ToolFeatures,
             FindingKind::UnknownFeature { .. } => FindingCode::UnknownFeature,
             FindingKind::UnknownKey { .. } => FindingCode::UnknownKey,
-            FindingKind::UndefinedGroup { .. } => FindingCode::UndefinedGroup,
+            FindingKind::UndefinedName { kind, .. } => code_of_undefined(*kind),
+            FindingKind::OtherScript { .. } => FindingCode::UndefinedScript,
             FindingKind::UndefinedProfile { .. } => FindingCode::UndefinedProfile,
             FindingKind::DefaultInherits => FindingCode::DefaultInherits,
             FindingKind::InheritsItself { .. } => FindingCode::InheritsItself,
-            FindingKind::OverrideOfAll => FindingCode::OverrideOfAll,
+            FindingKind::OverrideOfAll | FindingKind::ScriptOfAll => FindingCode::OverrideOfAll,
+            FindingKind::DefaultFilterBeside | FindingKind::DefaultFilterAlone => {
+                FindingCode::OverrideDefaultFilter
+            }
             FindingKind::ReservedProfile => FindingCode::ReservedProfile,
-            FindingKind::NoGroupName(InvalidIdentifier::Memory) => FindingCode::InvalidValue,
-            FindingKind::NoGroupName(_)
-            | FindingKind::GroupOutsideTool { .. }
-            | FindingKind::GroupOfTool => FindingCode::GroupName,
+            FindingKind::NoName {
+                error: InvalidIdentifier::Memory,
+                ..
+            } => FindingCode::InvalidValue,
+            FindingKind::NoName { kind, .. }
+            | FindingKind::OutsideTool { kind, .. }
+            | FindingKind::NameOfTool(kind) => code_of_name(*kind),
+            FindingKind::SetupScriptToo { .. } => FindingCode::ScriptName,
+            FindingKind::FeatureNotEnabled(_) => FindingCode::FeatureNotEnabled,
             FindingKind::UnjudgedDuration => FindingCode::UnjudgedDuration,
             FindingKind::DeprecatedArray { .. } => FindingCode::DeprecatedArray,
             FindingKind::NotUtf8 => FindingCode::NotUtf8,
             FindingKind::NotToml { .. } => FindingCode::NotToml,
         }
+    }
+}
+
+// The code of an undefined name of a kind.
+fn code_of_undefined(kind: NamedKind) -> FindingCode
+    ensures { result ≡ undefined_code kind }
+{
+    match kind {
+        NamedKind::Group => FindingCode::UndefinedGroup,
+        NamedKind::Script(_) => FindingCode::UndefinedScript,
+    }
+}
+
+// The code of a text that is no name of a kind here.
+fn code_of_name(kind: NamedKind) -> FindingCode
+    ensures { result ≡ name_code kind }
+{
+    match kind {
+        NamedKind::Group => FindingCode::GroupName,
+        NamedKind::Script(_) => FindingCode::ScriptName,
     }
 }
 
@@ -253,8 +314,9 @@ impl fmt::Display for FindingKind {
             FindingKind::UnknownKey { key, hint } => {
                 write_name(f, "unknown key ", key.as_str(), hint)
             }
-            FindingKind::UndefinedGroup { name, hint } => {
-                write_name(f, "no file defines the test group ", name.as_str(), hint)
+            FindingKind::UndefinedName { kind, name, hint } => {
+                write!(f, "no file defines the {}", kind.as_words())?;
+                write_name(f, " ", name.as_str(), hint)
             }
             FindingKind::UndefinedProfile { name, hint } => {
                 write_name(f, "no file defines the profile ", name.as_str(), hint)
@@ -267,10 +329,16 @@ impl fmt::Display for FindingKind {
             | FindingKind::DefaultInherits
             | FindingKind::InheritsItself { .. }
             | FindingKind::OverrideOfAll
+            | FindingKind::ScriptOfAll
+            | FindingKind::DefaultFilterBeside
+            | FindingKind::DefaultFilterAlone
             | FindingKind::ReservedProfile
-            | FindingKind::NoGroupName(_)
-            | FindingKind::GroupOutsideTool { .. }
-            | FindingKind::GroupOfTool
+            | FindingKind::OtherScript { .. }
+            | FindingKind::NoName { .. }
+            | FindingKind::OutsideTool { .. }
+            | FindingKind::NameOfTool(_)
+            | FindingKind::SetupScriptToo { .. }
+            | FindingKind::FeatureNotEnabled(_)
             | FindingKind::UnjudgedDuration
             | FindingKind::DeprecatedArray { .. }
             | FindingKind::NotUtf8 => self.write_plain(f),
@@ -298,18 +366,45 @@ impl FindingKind {
             FindingKind::OverrideOfAll => {
                 f.write_str("an override needs a \"filter\" or a \"platform\"")
             }
+            FindingKind::ScriptOfAll => {
+                f.write_str("a script needs a \"filter\" or a \"platform\"")
+            }
+            FindingKind::DefaultFilterBeside => f.write_str(
+                "an override has a \"filter\" or a \"default-filter\", and not both",
+            ),
+            FindingKind::DefaultFilterAlone => {
+                f.write_str("a \"default-filter\" needs a \"platform\"")
+            }
             FindingKind::ReservedProfile => {
                 f.write_str("profile names that begin with \"default-\" are reserved")
             }
-            FindingKind::NoGroupName(error) => error.fmt(f),
-            FindingKind::GroupOutsideTool { mark } => write!(
+            FindingKind::NoName { error, .. } => error.fmt(f),
+            FindingKind::OutsideTool { kind, mark } => write!(
                 f,
-                "a tool's test groups begin with {}",
+                "a tool's {} begin with {}",
+                kind.as_plural(),
                 QuotedText(mark.as_str())
             ),
-            FindingKind::GroupOfTool => {
-                f.write_str("only a tool's test groups begin with \"@\"")
+            FindingKind::NameOfTool(kind) => {
+                write!(f, "only a tool's {} begin with \"@\"", kind.as_plural())
             }
+            FindingKind::OtherScript { script, name } => {
+                write!(
+                    f,
+                    "{} is a {}",
+                    QuotedText(name.as_str()),
+                    script.as_words()
+                )
+            }
+            FindingKind::SetupScriptToo { name } => {
+                write!(f, "{} is a setup script, too", QuotedText(name.as_str()))
+            }
+            FindingKind::FeatureNotEnabled(script) => write!(
+                f,
+                "{}s need the experimental feature {}",
+                script.as_words(),
+                QuotedText(script.feature().as_word())
+            ),
             FindingKind::UnjudgedDuration => f.write_str(
                 "not judged here: a duration other than whole numbers, each with a unit",
             ),

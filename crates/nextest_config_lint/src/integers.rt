@@ -15,6 +15,8 @@ use toml::Value;
 pub(crate) enum IntegerRange {
     /// The integers of 32 bits without a sign.
     U32,
+    /// From 0 on.
+    Natural,
     /// From 1 on.
     Count,
     /// All but 0.
@@ -30,6 +32,7 @@ impl IntegerRange {
     {
         match self {
             IntegerRange::U32 => (0 <= number) & (number <= 4294967295),
+            IntegerRange::Natural => 0 <= number,
             IntegerRange::Count => 0 < number,
             IntegerRange::Threads => number != 0,
             IntegerRange::Priority => (-100 <= number) & (number <= 100),

@@ -130,6 +130,7 @@ fn taken_of(shape: Shape) -> Option<Taken>
         Shape::ThreadsRequired | Shape::MaxFail | Shape::Count => {
             Some(Taken::Integer(IntegerRange::Count))
         }
+        Shape::Depth => Some(Taken::Integer(IntegerRange::Natural)),
         Shape::Threads => Some(Taken::Integer(IntegerRange::Threads)),
         Shape::Priority => Some(Taken::Integer(IntegerRange::Priority)),
         Shape::Boolean => Some(Taken::Boolean),

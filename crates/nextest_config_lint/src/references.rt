@@ -1,65 +1,99 @@
 //! What is found of names that refer to others, and of rules between keys.
 
-ghost use Rattle.std.specs.Prelude.{◌≡◌, IfOk, List, OnOk, Some, codes, map, option_and_then, option_map, string_bytes};
+ghost use Rattle.std.specs.Prelude.{◌≡◌, ◌≢◌, ◌↔◌, ◌++◌, ◌∷◌, [], IfOk, IsTrue, List, OnOk, Some, codes, cond, map, not, option_and_then, option_map, string_bytes};
 ghost use Rattle.std.specs.List.{filter};
-ghost use Rattle.toml.specs.View.{view};
+ghost use Rattle.toml.specs.Data.{as_table, Members, no_members};
+ghost use Rattle.toml.specs.View.{table_view, view};
+ghost use Rattle.toml_spans.specs.Step.{key, step_of};
 ghost use Rattle.nextest_config_values.specs.Identifier.{IdentifierFlaw, NameFault, identifier_fault};
 ghost use Rattle.nextest_config_values.specs.Read.Fault.{identifier};
-ghost use Rattle.nextest_config_lint.specs.Defined.{IsDefinedBy, ListFile};
-ghost use Rattle.nextest_config_lint.specs.Found.{AddsOne, AreFoundIn, TellsSome, group_of_tool, group_outside_tool, kind_view, meant_of, no_group_name, override_of_all, reserved_profile};
+ghost use Rattle.nextest_config_lint.specs.Defined.{AreNamesOf, HasNamed, IsDefinedBy, IsNoTools, ListFile, file_with};
+ghost use Rattle.nextest_config_lint.specs.Found.{AddsOne, AreFoundIn, FoundKind, TellsSome, default_filter_alone, default_filter_beside, feature_not_enabled, kind_view, meant_of, name_of_tool, no_name, outside_tool, override_of_all, reserved_profile, script_of_all, setup_script_too};
 ghost use Rattle.nextest_config_values.specs.Read.{words_of};
-ghost use Rattle.nextest_config_lint.specs.References.{BeginsWith, IsGroupTextTold, IsGroupTold, IsKeptTold, IsNameTold, IsOverrideOfAll, IsParentNameTold, IsParentTold, IsPlaceTold, IsReferenceFound, IsReserved, IsSought, IsSubjectTold, IsToldIf, a_group, a_parent, a_profile, is_other, named, place_below, place_in_override, place_of, place_view, TellsIfAny, tool_mark_of};
+ghost use Rattle.nextest_config_lint.specs.References.{AreFew, BeginsWith, HasKey, IsDefaultFilterTold, IsDefinitionTold, IsGroupTextTold, IsJudgedIn, IsKeptTold, IsMarkTold, IsMissingTold, IsNameTold, IsNearestTold, IsOfAll, IsOverrideTold, IsParentNameTold, IsParentTold, IsPlaceTold, IsReferenceFound, IsReserved, IsScriptTextTold, IsSetupToo, IsSought, IsSubjectTold, IsToldIf, LacksFeature, default_filter_key, file_judged, in_list, is_other, judged_in, steps_to, TellsIfAny, tool_mark_of};
+ghost use Rattle.nextest_config_lint.specs.RulePlaces.{place_of, place_view};
 ghost use Rattle.nextest_config_lint.specs.Settings.{mark_step, setting_view};
+ghost use Rattle.nextest_config_lint.specs.declared.named.NamedKind.TheVariants.{Script};
+ghost use Rattle.nextest_config_lint.specs.declared.named.ScriptKind.TheVariants.{Setup};
 
 use crate::defined::{
-    DEFAULT_MIRI, DEFAULT_PROFILE, Defined, GROUPS_KEY, INHERITS_KEY, PROFILES_KEY,
+    DEFAULT_MIRI, DEFAULT_PROFILE, Defined, ListedFile, SETUP_SCRIPT, has_name, names_of_file,
 };
 use crate::finding::{Finding, FindingKind, Hint};
 use crate::hints::nearest_hint;
-use crate::settings::{Mark, Setting, Subject, is_key, steps_of};
-use nextest_config::nextest_version::ConfigSourceKind;
+use crate::named::{NamedKind, ScriptKind};
+use crate::rule_places::{RulePlace, place_of};
+use crate::settings::{Setting, Subject, steps_of};
+use nextest_config::nextest_version::{ConfigSourceKind, Edition};
 use nextest_config_values::identifier::{ConfigIdentifier, InvalidIdentifier, ToolName};
 use nextest_config_values::read::value_at;
 use std::alloc::{AllocError, Global};
 use std::collections::BTreeSet;
-use toml::Value;
+use toml::{Table, Value};
+use toml_spans::Step;
 
-const OVERRIDES_KEY: &str = "overrides";
+const DEFAULT_FILTER_KEY: &str = "default-filter";
 
-const GROUP_OF_KEY: &str = "test-group";
-
-// The most names of a list among which the nearest is sought, since each may be far from it.
+// The most names among which the nearest is sought, since each may be far from it.
 const MOST_NAMES: usize = 100;
 
-// A place for which there is a rule.
+// A file at a position of a list, judged under an edition.
 #[derive(Clone, Copy)]
-enum Place<'a> {
-    Profile(&'a str),
-    // What the profile inherits from.
-    Parent(&'a str),
-    Override,
-    // The test group of an override.
-    GroupOf,
-    Group(&'a str),
-    Another,
+struct JudgedFile<'a> {
+    source: &'a ConfigSourceKind,
+    edition: Edition,
+    position: usize,
+    // What the list defines.
+    defined: &'a Defined,
+    // The setup scripts that the file defines itself, as their names are kept.
+    setup_scripts: &'a BTreeSet<String>,
 }
 
-/// What is found of each of the values, in their order, in the file at this position of a list that
-/// defines this.
+/// What is found of each of the values of a document, in their order, in the file at this position
+/// of a list that defines this.
 pub(crate) fn find_references(
     alloc: Global,
     source: &ConfigSourceKind,
+    edition: Edition,
+    document: &Table,
     settings: &[Setting],
     defined: &Defined,
     position: usize,
 ) -> Result<Vec<Finding>, AllocError>
     ensures { IfOk result (λ findings. (files : List ListFile) → IsDefinedBy files defined.now
-        → TellsSome (AreFoundIn (IsReferenceFound files source.now position)
+        → TellsSome (AreFoundIn (IsReferenceFound (in_list edition files
+        (file_with source.now (Some (table_view document.now))) position))
+        (map setting_view settings.now)) findings) }
+{
+    let listed = ListedFile {
+        source,
+        document: Some(document),
+    };
+    let setup_scripts = names_of_file(alloc, SETUP_SCRIPT, &listed)?;
+    let file = JudgedFile {
+        source,
+        edition,
+        position,
+        defined,
+        setup_scripts: &setup_scripts,
+    };
+    find_all(alloc, &file, settings)
+}
+
+// What is found of each of the values, in their order.
+fn find_all(
+    alloc: Global,
+    file: &JudgedFile,
+    settings: &[Setting],
+) -> Result<Vec<Finding>, AllocError>
+    ensures { IfOk result (λ findings. (files : List ListFile) (members : Members)
+        → IsJudgedIn files members file.now
+        → TellsSome (AreFoundIn (IsReferenceFound (judged_in files members file.now))
         (map setting_view settings.now)) findings) }
 {
     let mut findings = Vec::new(alloc);
     for setting in settings {
-        add_reference(alloc, source, setting, defined, position, &mut findings)?;
+        add_reference(alloc, file, setting, &mut findings)?;
     }
     Ok(findings)
 }
@@ -67,19 +101,18 @@ pub(crate) fn find_references(
 // Adds what is found of the value, if anything is.
 fn add_reference(
     alloc: Global,
-    source: &ConfigSourceKind,
+    file: &JudgedFile,
     setting: &Setting,
-    defined: &Defined,
-    position: usize,
     findings: &mut Vec<Finding>,
 ) -> Result<(), AllocError>
-    ensures { OnOk result ((files : List ListFile) → IsDefinedBy files defined.now
-        → AddsOne (IsReferenceFound files source.now position) (setting_view setting.now)
+    ensures { OnOk result ((files : List ListFile) (members : Members)
+        → IsJudgedIn files members file.now
+        → AddsOne (IsReferenceFound (judged_in files members file.now)) (setting_view setting.now)
         findings.old.items findings.new.items) }
 {
-    match find_of(alloc, source, setting, defined, position)? {
+    match find_of(alloc, file, setting)? {
         Some(kind) => {
-            let path = steps_of(alloc, setting.path.as_slice())?;
+            let path = path_to(alloc, setting, &kind)?;
             findings.push(Finding { path, kind })?;
             Ok(())
         }
@@ -87,23 +120,45 @@ fn add_reference(
     }
 }
 
+// The path to where this is told of what is judged.
+fn path_to(alloc: Global, setting: &Setting, kind: &FindingKind) -> Result<Vec<Step>, AllocError>
+    ensures { IfOk result (λ path. (told : FoundKind) → kind_view kind.now ≡ Some told
+        → map step_of path.items ≡ (setting_view setting.now).path ++ steps_to told) }
+{
+    let mut path = steps_of(alloc, setting.path.as_slice())?;
+    if is_of_default_filter(kind) {
+        path.push(Step::Key(String::from_str(alloc, DEFAULT_FILTER_KEY)?))?;
+    }
+    Ok(path)
+}
+
+// Whether this is told of the default filter of an override.
+fn is_of_default_filter(kind: &FindingKind) -> bool
+    ensures { (told : FoundKind) → kind_view kind.now ≡ Some told
+        → steps_to told ≡ cond result (key default_filter_key ∷ []) [] }
+{
+    match kind {
+        FindingKind::DefaultFilterBeside | FindingKind::DefaultFilterAlone => true,
+        _ => false,
+    }
+}
+
 // What is found of what is judged, if it is a value.
 fn find_of(
     alloc: Global,
-    source: &ConfigSourceKind,
+    file: &JudgedFile,
     setting: &Setting,
-    defined: &Defined,
-    position: usize,
 ) -> Result<Option<FindingKind>, AllocError>
-    ensures told { IfOk result (λ told. (files : List ListFile) → IsDefinedBy files defined.now
-        → IsSubjectTold files source.now position (setting_view setting.now).path
-        (setting_view setting.now).subject (option_and_then kind_view told)) }
+    ensures told { IfOk result (λ told. (files : List ListFile) (members : Members)
+        → IsJudgedIn files members file.now → IsSubjectTold (judged_in files members file.now)
+        (setting_view setting.now).path (setting_view setting.now).subject
+        (option_and_then kind_view told)) }
     ensures tells { IfOk result TellsIfAny }
 {
     match setting.subject {
         Subject::Value { value, .. } => {
             let place = place_of(setting.path.as_slice());
-            find_at(alloc, source, place, value, defined, position)
+            find_at(alloc, file, place, value)
         }
         _ => Ok(None),
     }
@@ -112,110 +167,35 @@ fn find_of(
 // What is found of the value at a place.
 fn find_at(
     alloc: Global,
-    source: &ConfigSourceKind,
-    place: Place,
+    file: &JudgedFile,
+    place: RulePlace,
     value: &Value,
-    defined: &Defined,
-    position: usize,
 ) -> Result<Option<FindingKind>, AllocError>
-    ensures told { IfOk result (λ told. (files : List ListFile) → IsDefinedBy files defined.now
-        → IsPlaceTold files source.now position (place_view place.entry) (view value.now)
+    ensures told { IfOk result (λ told. (files : List ListFile) (members : Members)
+        → IsJudgedIn files members file.now
+        → IsPlaceTold (judged_in files members file.now) (place_view place.entry) (view value.now)
         (option_and_then kind_view told)) }
     ensures tells { IfOk result TellsIfAny }
 {
     match place {
-        Place::Profile(name) => Ok(of_profile(name)),
-        Place::Parent(name) => match value.as_str() {
-            Some(parent) => of_parent(alloc, defined, position, name, parent),
+        RulePlace::Profile(name) => Ok(of_profile(name)),
+        RulePlace::Parent(name) => match value.as_str() {
+            Some(parent) => of_parent(alloc, file.defined, file.position, name, parent),
             None => Ok(None),
         },
-        Place::Override => Ok(of_override(value)),
-        Place::GroupOf => match value.as_str() {
-            Some(text) => of_group_text(alloc, defined, text),
+        RulePlace::Override => Ok(of_override(value)),
+        RulePlace::GroupOf => match value.as_str() {
+            Some(text) => of_group_text(alloc, file.defined, text),
             None => Ok(None),
         },
-        Place::Group(name) => of_group(alloc, source, name),
-        Place::Another => Ok(None),
-    }
-}
-
-// The place that a path leads to.
-fn place_of<'a>(path: &[Mark<'a>]) -> Place<'a>
-    ensures { place_view result ≡ place_of (map mark_step path.now) }
-{
-    match path {
-        [top, name] => place_below(top, name),
-        [top, name, last] => {
-            if is_key(top, PROFILES_KEY) & is_key(last, INHERITS_KEY) {
-                parent_place(name)
-            } else {
-                Place::Another
-            }
-        }
-        [top, _, third, _] => {
-            if is_key(top, PROFILES_KEY) & is_key(third, OVERRIDES_KEY) {
-                Place::Override
-            } else {
-                Place::Another
-            }
-        }
-        [top, _, third, _, last] => place_in_override(top, third, last),
-        _ => Place::Another,
-    }
-}
-
-// The place of a key in an element of a key of a profile.
-fn place_in_override<'a>(top: &Mark<'a>, third: &Mark<'a>, last: &Mark<'a>) -> Place<'a>
-    ensures { place_view result
-        ≡ place_in_override (mark_step top.now) (mark_step third.now) (mark_step last.now) }
-{
-    if is_key(top, PROFILES_KEY) & (is_key(third, OVERRIDES_KEY) & is_key(last, GROUP_OF_KEY)) {
-        Place::GroupOf
-    } else {
-        Place::Another
-    }
-}
-
-// The place of a name below a key of the top.
-fn place_below<'a>(top: &Mark<'a>, name: &Mark<'a>) -> Place<'a>
-    ensures { place_view result ≡ place_below (mark_step top.now) (mark_step name.now) }
-{
-    if is_key(top, PROFILES_KEY) {
-        profile_place(name)
-    } else if is_key(top, GROUPS_KEY) {
-        group_place(name)
-    } else {
-        Place::Another
-    }
-}
-
-// The place of a profile of this name.
-fn profile_place<'a>(name: &Mark<'a>) -> Place<'a>
-    ensures { place_view result ≡ named a_profile (mark_step name.now) }
-{
-    match name {
-        Mark::Key(name) => Place::Profile(name),
-        Mark::Index(_) => Place::Another,
-    }
-}
-
-// The place of what the profile of this name inherits from.
-fn parent_place<'a>(name: &Mark<'a>) -> Place<'a>
-    ensures { place_view result ≡ named a_parent (mark_step name.now) }
-{
-    match name {
-        Mark::Key(name) => Place::Parent(name),
-        Mark::Index(_) => Place::Another,
-    }
-}
-
-// The place of a test group of this name.
-fn group_place<'a>(name: &Mark<'a>) -> Place<'a>
-    ensures { place_view result ≡ named a_group (mark_step name.now) }
-{
-    match name {
-        Mark::Key(name) => Place::Group(name),
-        Mark::Index(_) => Place::Another,
+        RulePlace::ScriptRule => Ok(of_script_rule(value)),
+        RulePlace::ScriptOf(script) => match value.as_str() {
+            Some(text) => of_text(alloc, file.defined, NamedKind::Script(script), text),
+            None => Ok(None),
+        },
+        RulePlace::Name(kind, name) => of_definition(alloc, file, kind, name),
+        RulePlace::Scripts(script) => Ok(of_scripts(file, script, value)),
+        RulePlace::Another => Ok(None),
     }
 }
 
@@ -234,19 +214,77 @@ fn of_profile(name: &str) -> Option<FindingKind>
 
 // What is found of an override.
 fn of_override(value: &Value) -> Option<FindingKind>
-    ensures told { IsToldIf (IsOverrideOfAll (view value.now)) override_of_all
+    ensures told { IsOverrideTold (view value.now) (option_and_then kind_view result) }
+    ensures tells { TellsIfAny result }
+{
+    match of_default_filter(value) {
+        Some(told) => Some(told),
+        None => of_no_default_filter(value),
+    }
+}
+
+// What is found of the default filter of an override.
+fn of_default_filter(value: &Value) -> Option<FindingKind>
+    ensures told { IsDefaultFilterTold (view value.now) (option_and_then kind_view result) }
+    ensures tells { TellsIfAny result }
+{
+    if !has_key(value, DEFAULT_FILTER_KEY) {
+        return None;
+    }
+    if has_key(value, "filter") {
+        return Some(FindingKind::DefaultFilterBeside);
+    }
+    if has_key(value, "platform") {
+        return None;
+    }
+    Some(FindingKind::DefaultFilterAlone)
+}
+
+// What is found of an override, but for its default filter.
+fn of_no_default_filter(value: &Value) -> Option<FindingKind>
+    ensures told { IsToldIf (IsOfAll (view value.now)) override_of_all
         (option_and_then kind_view result) }
     ensures tells { TellsIfAny result }
 {
+    if is_of_all(value) {
+        Some(FindingKind::OverrideOfAll)
+    } else {
+        None
+    }
+}
+
+// What is found of what a profile says of scripts.
+fn of_script_rule(value: &Value) -> Option<FindingKind>
+    ensures told { IsToldIf (IsOfAll (view value.now)) script_of_all
+        (option_and_then kind_view result) }
+    ensures tells { TellsIfAny result }
+{
+    if is_of_all(value) {
+        Some(FindingKind::ScriptOfAll)
+    } else {
+        None
+    }
+}
+
+// Whether a table doesn't say which tests it is for.
+fn is_of_all(value: &Value) -> bool
+    ensures { IsTrue result ↔ IsOfAll (view value.now) }
+{
     match value.as_table() {
         Some(table) => {
-            if value_at(table, "filter").is_none() & value_at(table, "platform").is_none() {
-                Some(FindingKind::OverrideOfAll)
-            } else {
-                None
-            }
+            value_at(table, "filter").is_none() & value_at(table, "platform").is_none()
         }
-        None => None,
+        None => false,
+    }
+}
+
+// Whether a value is a table that has this key.
+fn has_key(value: &Value, key: &str) -> bool
+    ensures { IsTrue result ↔ HasKey (view value.now) key.now }
+{
+    match value.as_table() {
+        Some(table) => value_at(table, key).is_some(),
+        None => false,
     }
 }
 
@@ -304,146 +342,289 @@ fn of_group_text(
     if text == "@global" {
         return Ok(None);
     }
+    of_text(alloc, defined, NamedKind::Group, text)
+}
+
+// What is found of a text that names what is defined by a name of a kind.
+fn of_text(
+    alloc: Global,
+    defined: &Defined,
+    kind: NamedKind,
+    text: &str,
+) -> Result<Option<FindingKind>, AllocError>
+    ensures told { IfOk result (λ told. (files : List ListFile) → IsDefinedBy files defined.now
+        → IsNameTold kind (IsKeptTold kind files) text.now (option_and_then kind_view told)) }
+    ensures tells { IfOk result TellsIfAny }
+{
     match ConfigIdentifier::new(alloc, text) {
-        Ok(name) => of_group_name(alloc, defined, &name),
-        Err(error) => no_group(error),
+        Ok(name) => of_name(alloc, defined, kind, &name),
+        Err(error) => no_name(kind, error),
     }
 }
 
-// What is found of the name of a group that an override names.
-fn of_group_name(
+// What is found of a name that is to be one of a kind.
+fn of_name(
     alloc: Global,
     defined: &Defined,
+    kind: NamedKind,
     name: &ConfigIdentifier,
 ) -> Result<Option<FindingKind>, AllocError>
     ensures told { IfOk result (λ told. (files : List ListFile) → IsDefinedBy files defined.now
-        → IsKeptTold files name.now (option_and_then kind_view told)) }
+        → IsKeptTold kind files name.now (option_and_then kind_view told)) }
     ensures tells { IfOk result TellsIfAny }
 {
-    if !defined.is_undefined_group(name) {
-        return Ok(None);
-    }
-    let hint = nearest_group(alloc, &defined.groups, name.as_str())?;
-    let name = String::from_str(alloc, name.as_str())?;
-    Ok(Some(FindingKind::UndefinedGroup { name, hint }))
-}
-
-// What is found of a text that is no identifier.
-fn no_group(error: InvalidIdentifier) -> Result<Option<FindingKind>, AllocError>
-    ensures told { IfOk result (λ told. (fault : NameFault IdentifierFlaw)
-        × (identifier_fault error ≡ Some fault)
-        × (option_and_then kind_view told ≡ Some (no_group_name (identifier fault)))) }
-    ensures tells { IfOk result TellsIfAny }
-{
-    match error {
-        InvalidIdentifier::Memory => Err(AllocError),
-        error => Ok(Some(FindingKind::NoGroupName(error))),
+    if defined.is_undefined(kind, name) {
+        of_missing(alloc, defined, kind, name.as_str())
+    } else {
+        Ok(None)
     }
 }
 
-// What is found of the name of a group that a file of this kind defines.
-fn of_group(
+// What is found of a name of a kind that no file defines.
+fn of_missing(
     alloc: Global,
-    source: &ConfigSourceKind,
+    defined: &Defined,
+    kind: NamedKind,
     name: &str,
 ) -> Result<Option<FindingKind>, AllocError>
-    ensures told { IfOk result (λ told. IsNameTold (IsGroupTold source.now) name.now
-        (option_and_then kind_view told)) }
+    ensures told { IfOk result (λ told. (files : List ListFile) → IsDefinedBy files defined.now
+        → IsMissingTold kind files name.now (option_and_then kind_view told)) }
     ensures tells { IfOk result TellsIfAny }
 {
-    match ConfigIdentifier::new(alloc, name) {
-        Ok(name) => of_kept_group(alloc, source, name.as_str()),
-        Err(error) => no_group(error),
-    }
-}
-
-// What is found of the name of a group that a file of this kind defines, as it is kept.
-fn of_kept_group(
-    alloc: Global,
-    source: &ConfigSourceKind,
-    name: &str,
-) -> Result<Option<FindingKind>, AllocError>
-    ensures told { IfOk result (λ told. IsGroupTold source.now name.now
-        (option_and_then kind_view told)) }
-    ensures tells { IfOk result TellsIfAny }
-{
-    match source {
-        ConfigSourceKind::Tool(tool) => of_tools_group(alloc, tool, name),
-        ConfigSourceKind::ExplicitRepository | ConfigSourceKind::DiscoveredRepository => {
-            Ok(of_own_group(name))
+    match kind {
+        NamedKind::Group => of_undefined(alloc, defined, kind, name),
+        NamedKind::Script(script) => {
+            let other = script.other();
+            if defined.defines(NamedKind::Script(other), name) {
+                let name = String::from_str(alloc, name)?;
+                return Ok(Some(FindingKind::OtherScript {
+                    script: other,
+                    name,
+                }));
+            }
+            of_undefined(alloc, defined, NamedKind::Script(script), name)
         }
     }
 }
 
-// What is found of the name of a group that this tool's file defines.
-fn of_tools_group(
+// What is found of a name of a kind that no file defines for any.
+fn of_undefined(
+    alloc: Global,
+    defined: &Defined,
+    kind: NamedKind,
+    name: &str,
+) -> Result<Option<FindingKind>, AllocError>
+    ensures told { IfOk result (λ told. (files : List ListFile) → IsDefinedBy files defined.now
+        → IsNearestTold kind files name.now (option_and_then kind_view told)) }
+    ensures tells { IfOk result TellsIfAny }
+{
+    let hint = nearest_name(alloc, defined.names(kind), name)?;
+    let name = String::from_str(alloc, name)?;
+    Ok(Some(FindingKind::UndefinedName { kind, name, hint }))
+}
+
+// What is found of a text that is no identifier, where a name of a kind is to stand.
+fn no_name(kind: NamedKind, error: InvalidIdentifier) -> Result<Option<FindingKind>, AllocError>
+    ensures told { IfOk result (λ told. (fault : NameFault IdentifierFlaw)
+        × (identifier_fault error ≡ Some fault)
+        × (option_and_then kind_view told ≡ Some (no_name kind (identifier fault)))) }
+    ensures tells { IfOk result TellsIfAny }
+{
+    match error {
+        InvalidIdentifier::Memory => Err(AllocError),
+        error => Ok(Some(FindingKind::NoName { kind, error })),
+    }
+}
+
+// What is found of a name of a kind that a file defines.
+fn of_definition(
+    alloc: Global,
+    file: &JudgedFile,
+    kind: NamedKind,
+    name: &str,
+) -> Result<Option<FindingKind>, AllocError>
+    ensures told { IfOk result (λ told. (files : List ListFile) (members : Members)
+        → IsJudgedIn files members file.now
+        → IsNameTold kind (IsDefinitionTold (file_judged file.now members) kind) name.now
+        (option_and_then kind_view told)) }
+    ensures tells { IfOk result TellsIfAny }
+{
+    match ConfigIdentifier::new(alloc, name) {
+        Ok(name) => of_kept(alloc, file, kind, name.as_str()),
+        Err(error) => no_name(kind, error),
+    }
+}
+
+// What is found of a name of a kind that a file defines, as it is kept.
+fn of_kept(
+    alloc: Global,
+    file: &JudgedFile,
+    kind: NamedKind,
+    name: &str,
+) -> Result<Option<FindingKind>, AllocError>
+    ensures told { IfOk result (λ told. (files : List ListFile) (members : Members)
+        → IsJudgedIn files members file.now
+        → IsDefinitionTold (file_judged file.now members) kind name.now
+        (option_and_then kind_view told)) }
+    ensures tells { IfOk result TellsIfAny }
+{
+    match of_mark(alloc, file.source, kind, name)? {
+        Some(told) => Ok(Some(told)),
+        None => of_two_kinds(alloc, file.setup_scripts, kind, name),
+    }
+}
+
+// What is found of how a name of a kind begins that a file of this source defines.
+fn of_mark(
+    alloc: Global,
+    source: &ConfigSourceKind,
+    kind: NamedKind,
+    name: &str,
+) -> Result<Option<FindingKind>, AllocError>
+    ensures told { IfOk result (λ told. IsMarkTold source.now kind name.now
+        (option_and_then kind_view told)) }
+    ensures tells { IfOk result TellsIfAny }
+{
+    match source {
+        ConfigSourceKind::Tool(tool) => of_tools_name(alloc, tool, kind, name),
+        ConfigSourceKind::ExplicitRepository | ConfigSourceKind::DiscoveredRepository => {
+            Ok(of_own_name(kind, name))
+        }
+    }
+}
+
+// What is found of how a name of a kind begins that this tool's file defines.
+fn of_tools_name(
     alloc: Global,
     tool: &ToolName,
+    kind: NamedKind,
     name: &str,
 ) -> Result<Option<FindingKind>, AllocError>
     ensures told { IfOk result (λ told. IsToldIf (BeginsWith (tool_mark_of tool.now) name.now → ⊥)
-        (group_outside_tool (tool_mark_of tool.now)) (option_and_then kind_view told)) }
+        (outside_tool kind (tool_mark_of tool.now)) (option_and_then kind_view told)) }
     ensures tells { IfOk result TellsIfAny }
 {
     let mark = tool_mark(alloc, tool)?;
     if name.starts_with(mark.as_str()) {
         return Ok(None);
     }
-    Ok(Some(FindingKind::GroupOutsideTool { mark }))
+    Ok(Some(FindingKind::OutsideTool { kind, mark }))
 }
 
-// What the names of a tool's test groups begin with.
+// What the names begin with that a tool's file defines.
 fn tool_mark(alloc: Global, tool: &ToolName) -> Result<String, AllocError>
     ensures { IfOk result (λ mark. string_bytes mark ≡ tool_mark_of tool.now) }
 {
     format!(in alloc; "@tool:{}:", tool.as_str())
 }
 
-// What is found of the name of a group that a file which is no tool's defines.
-fn of_own_group(name: &str) -> Option<FindingKind>
-    ensures told { IsToldIf (BeginsWith (codes "@") name.now) group_of_tool
+// What is found of how a name of a kind begins that a file defines which is no tool's.
+fn of_own_name(kind: NamedKind, name: &str) -> Option<FindingKind>
+    ensures told { IsToldIf (BeginsWith (codes "@") name.now) (name_of_tool kind)
         (option_and_then kind_view result) }
     ensures tells { TellsIfAny result }
 {
     if name.starts_with("@") {
-        Some(FindingKind::GroupOfTool)
+        Some(FindingKind::NameOfTool(kind))
     } else {
         None
     }
 }
 
-// The test group that a name may be meant for, where there are few of them.
-fn nearest_group(
+// What is found of a name of a kind in a file that defines these setup scripts.
+fn of_two_kinds(
     alloc: Global,
-    groups: &BTreeSet<String>,
+    setup_scripts: &BTreeSet<String>,
+    kind: NamedKind,
+    name: &str,
+) -> Result<Option<FindingKind>, AllocError>
+    ensures told { IfOk result (λ told. (file : ListFile)
+        → AreNamesOf (HasNamed (Script Setup) file) (map string_bytes setup_scripts.now.keys)
+        → IsToldIf (IsSetupToo file kind name.now) (setup_script_too name.now)
+        (option_and_then kind_view told)) }
+    ensures tells { IfOk result TellsIfAny }
+{
+    match kind {
+        NamedKind::Script(ScriptKind::Wrapper) => {
+            if !has_name(setup_scripts, name) {
+                return Ok(None);
+            }
+            let name = String::from_str(alloc, name)?;
+            Ok(Some(FindingKind::SetupScriptToo { name }))
+        }
+        NamedKind::Group | NamedKind::Script(ScriptKind::Setup) => Ok(None),
+    }
+}
+
+// What is found of the scripts of a kind that a file defines.
+fn of_scripts(file: &JudgedFile, script: ScriptKind, value: &Value) -> Option<FindingKind>
+    ensures told { (files : List ListFile) (members : Members) → IsJudgedIn files members file.now
+        → IsToldIf (LacksFeature (judged_in files members file.now) script (view value.now))
+        (feature_not_enabled script) (option_and_then kind_view result) }
+    ensures tells { TellsIfAny result }
+{
+    if !is_tools(file.source)
+        & has_members(value)
+        & file.defined.lacks_feature(file.edition, script)
+    {
+        Some(FindingKind::FeatureNotEnabled(script))
+    } else {
+        None
+    }
+}
+
+// Whether a file of this source is a tool's.
+fn is_tools(source: &ConfigSourceKind) -> bool
+    ensures { IsTrue (not result) ↔ IsNoTools source.now }
+{
+    match source {
+        ConfigSourceKind::Tool(_) => true,
+        ConfigSourceKind::ExplicitRepository | ConfigSourceKind::DiscoveredRepository => false,
+    }
+}
+
+// Whether a value is a table with a key.
+fn has_members(value: &Value) -> bool
+    ensures { IsTrue result ↔ ((members : Members) × (as_table (view value.now) ≡ Some members)
+        × (members ≢ no_members)) }
+{
+    match value.as_table() {
+        Some(table) => !table.is_empty(),
+        None => false,
+    }
+}
+
+// What a name may be meant for, where there are few that are defined.
+fn nearest_name(
+    alloc: Global,
+    names: &BTreeSet<String>,
     name: &str,
 ) -> Result<Option<Hint>, AllocError>
-    ensures { let names = map string_bytes groups.now.keys in
-        IfOk result (λ hint. IsSought names names name.now (option_map meant_of hint)) }
+    ensures { let names = map string_bytes names.now.keys in
+        IfOk result (λ hint. IsSought names name.now (option_map meant_of hint)) }
 {
-    if groups.len() > MOST_NAMES {
+    if names.len() > MOST_NAMES {
         return Ok(None);
     }
-    let words = words(alloc, groups)?;
+    let words = words(alloc, names)?;
     nearest_hint(alloc, name, words.as_slice())
 }
 
-// The profile that a name may be meant for which another one has, where there are few profiles.
+// The profile that a name may be meant for which another one has, where there are few others.
 fn nearest_profile(
     alloc: Global,
     profiles: &BTreeSet<String>,
     child: &str,
     name: &str,
 ) -> Result<Option<Hint>, AllocError>
-    ensures { let names = map string_bytes profiles.now.keys in
-        IfOk result (λ hint. IsSought names (filter (is_other child.now) names) name.now
+    ensures { IfOk result (λ hint. IsSought
+        (filter (is_other child.now) (map string_bytes profiles.now.keys)) name.now
         (option_map meant_of hint)) }
 {
-    if profiles.len() > MOST_NAMES {
-        return Ok(None);
+    match words_but(alloc, profiles, child)? {
+        Some(words) => nearest_hint(alloc, name, words.as_slice()),
+        None => Ok(None),
     }
-    let words = words_but(alloc, profiles, child)?;
-    nearest_hint(alloc, name, words.as_slice())
 }
 
 // The names of a set.
@@ -457,20 +638,24 @@ fn words<'a>(alloc: Global, names: &'a BTreeSet<String>) -> Result<Vec<&'a str>,
     Ok(words)
 }
 
-// The names of a set but for this one.
+// The names of a set but for this one, if they are few.
 fn words_but<'a>(
     alloc: Global,
     names: &'a BTreeSet<String>,
     left_out: &str,
-) -> Result<Vec<&'a str>, AllocError>
-    ensures { IfOk result (λ words. words_of words.items
-        ≡ filter (is_other left_out.now) (map string_bytes names.now.keys)) }
+) -> Result<Option<Vec<&'a str>>, AllocError>
+    ensures { IfOk result (λ few. AreFew
+        (filter (is_other left_out.now) (map string_bytes names.now.keys))
+        (option_map (λ words. words_of words.items) few)) }
 {
     let mut words = Vec::new(alloc);
     for name in names {
         if name.as_str() != left_out {
+            if words.len() >= MOST_NAMES {
+                return Ok(None);
+            }
             words.push(name.as_str())?;
         }
     }
-    Ok(words)
+    Ok(Some(words))
 }

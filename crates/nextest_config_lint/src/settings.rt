@@ -5,9 +5,10 @@ ghost use Rattle.toml.specs.Data.{as_table};
 ghost use Rattle.toml.specs.View.{array_view, table_view, view};
 ghost use Rattle.nextest_config_values.specs.Read.{words_of};
 ghost use Rattle.toml_spans.specs.Step.{key, step_of};
-ghost use Rattle.nextest_config_elements.specs.Fields.{features, field_words, fields_view, parts_of, versions};
+ghost use Rattle.nextest_config_elements.specs.Fields.{elements_or_fields, features, field_words, fields_view, parts_of, versions};
 ghost use Rattle.nextest_config_elements.specs.RetryRules.{backoff_in};
-ghost use Rattle.nextest_config_lint.specs.Settings.{at_items, at_names, expected_by, feature_names, has_default_period, in_array, in_retries, in_table, is_key, is_known, is_wanted, mark_step, names_of, of_absent, of_field, of_name, seen_field, setting_at, setting_view, settings_below, settings_in, settings_of, settings_of_fields, subject_view};
+ghost use Rattle.nextest_config_elements.specs.declared.field.Shape.TheVariants.{FeatureName};
+ghost use Rattle.nextest_config_lint.specs.Settings.{at_items, at_names, expected_by, has_default_period, in_array, in_retries, in_table, is_key, is_known, is_wanted, mark_step, names_of, of_absent, of_field, of_name, plain_elements, seen_field, setting_at, setting_view, settings_below, settings_in, settings_of, settings_of_fields, subject_view};
 
 use nextest_config_elements::field::{FaultSeverity, Field, Parts, Shape};
 use nextest_config_elements::keys::file_fields;
@@ -72,25 +73,27 @@ impl<'a> Setting<'a> {
             ≡ settings_of (table_view document.now)) }
     {
         let mut all = Vec::new(alloc);
-        Setting::collect_fields(alloc, file_fields(), &[], document, &mut all)?;
+        let severity = FaultSeverity::Error;
+        Setting::collect_fields(alloc, file_fields(), severity, &[], document, &mut all)?;
         Ok(all)
     }
 
-    // Adds what is judged in a table by its fields.
+    // Adds what is judged in a table by its fields, where its own faults are as grave as this.
     #[cycle(collect)]
     fn collect_fields(
         alloc: Global,
         fields: &[Field],
+        severity: FaultSeverity,
         path: &[Mark<'a>],
         table: &'a Table,
         all: &mut Vec<Setting<'a>>,
     ) -> Result<(), AllocError>
         ensures { OnOk result (map setting_view all.new.items ≡ map setting_view all.old.items
-            ++ settings_of_fields (fields_view fields.now) (map mark_step path.now)
+            ++ settings_of_fields (fields_view fields.now) severity (map mark_step path.now)
             (table_view table.now)) }
     {
         for field in fields {
-            Setting::collect_field(alloc, field, path, table, all)?;
+            Setting::collect_field(alloc, field, severity, path, table, all)?;
         }
         Ok(())
     }
@@ -100,29 +103,23 @@ impl<'a> Setting<'a> {
     fn collect_field(
         alloc: Global,
         field: &Field,
+        severity: FaultSeverity,
         path: &[Mark<'a>],
         table: &'a Table,
         all: &mut Vec<Setting<'a>>,
     ) -> Result<(), AllocError>
         ensures { OnOk result (map setting_view all.new.items ≡ map setting_view all.old.items
-            ++ of_field (seen_field field.now) (map mark_step path.now)
+            ++ of_field severity (seen_field field.now) (map mark_step path.now)
             (table_view table.now)) }
     {
+        let severity = field.severity.within(severity);
         match value_at(table, field.key) {
             Some(value) => {
                 let path = path_to(alloc, path, Mark::Key(field.key))?;
                 let path = path.as_slice();
-                Setting::collect(
-                    alloc,
-                    field.shape,
-                    field.severity,
-                    &field.parts,
-                    path,
-                    value,
-                    all,
-                )
+                Setting::collect(alloc, field.shape, severity, &field.parts, path, value, all)
             }
-            None => collect_absent(alloc, field, path, all),
+            None => collect_absent(alloc, field, severity, path, all),
         }
     }
 
@@ -167,7 +164,7 @@ impl<'a> Setting<'a> {
         match parts {
             Parts::Nothing => Ok(()),
             Parts::Fields(fields) => match value.as_table() {
-                Some(table) => Setting::collect_fields(alloc, fields, path, table, all),
+                Some(table) => Setting::collect_fields(alloc, fields, severity, path, table, all),
                 None => Ok(()),
             },
             Parts::Versions(fields) => {
@@ -201,6 +198,9 @@ impl<'a> Setting<'a> {
                 }
                 None => Ok(()),
             },
+            Parts::ElementsOrFields(shape, fields) => {
+                Setting::collect_either(alloc, *shape, severity, fields, path, value, all)
+            }
         }
     }
 
@@ -221,7 +221,7 @@ impl<'a> Setting<'a> {
         let Some(table) = value.as_table() else {
             return Ok(());
         };
-        Setting::collect_fields(alloc, fields, path, table, all)?;
+        Setting::collect_fields(alloc, fields, severity, path, table, all)?;
         let rules = Subject::Between(Rules::Versions, value);
         all.push(setting_at(alloc, severity, path, rules)?)?;
         Ok(())
@@ -241,15 +241,17 @@ impl<'a> Setting<'a> {
             ++ settings_below (features (fields_view fields.now)) severity (map mark_step path.now)
             (view value.now)) }
     {
-        Setting::collect_switches(alloc, severity, fields, path, value, all)?;
+        let name = Shape::FeatureName;
+        Setting::collect_either(alloc, name, severity, fields, path, value, all)?;
         all.push(setting_at(alloc, severity, path, Subject::Features(value))?)?;
         Ok(())
     }
 
-    // Adds the switches of features, if the value is a table, or their names, if it is an array.
+    // Adds the fields of a value that is a table, or the elements of an array.
     #[cycle(collect)]
-    fn collect_switches(
+    fn collect_either(
         alloc: Global,
+        shape: Shape,
         severity: FaultSeverity,
         fields: &[Field],
         path: &[Mark<'a>],
@@ -257,14 +259,13 @@ impl<'a> Setting<'a> {
         all: &mut Vec<Setting<'a>>,
     ) -> Result<(), AllocError>
         ensures { OnOk result (map setting_view all.new.items ≡ map setting_view all.old.items
-            ++ (in_table (settings_of_fields (fields_view fields.now)) (map mark_step path.now)
-            (view value.now)
-            ++ in_array (feature_names severity) (map mark_step path.now) (view value.now))) }
+            ++ settings_below (elements_or_fields shape (fields_view fields.now)) severity
+            (map mark_step path.now) (view value.now)) }
     {
         match value.as_table() {
-            Some(table) => Setting::collect_fields(alloc, fields, path, table, all),
+            Some(table) => Setting::collect_fields(alloc, fields, severity, path, table, all),
             None => match value.as_array() {
-                Some(array) => collect_feature_names(alloc, severity, path, array, all),
+                Some(array) => collect_plain_elements(alloc, shape, severity, path, array, all),
                 None => Ok(()),
             },
         }
@@ -287,7 +288,7 @@ impl<'a> Setting<'a> {
         let Some(table) = value.as_table() else {
             return Ok(());
         };
-        Setting::collect_fields(alloc, known, path, table, all)?;
+        Setting::collect_fields(alloc, known, severity, path, table, all)?;
         let expected = expected_by(Backoff::of_table(table));
         collect_unknown(alloc, severity, known, expected, path, table, all)?;
         let rules = Subject::Between(Rules::Retries, value);
@@ -361,21 +362,22 @@ fn expected_by(backoff: Option<Backoff>) -> &'static [&'static str]
     backoff.unwrap_or(Backoff::Exponential).keys()
 }
 
-// Adds the elements of an array of names of features.
-fn collect_feature_names<'a>(
+// Adds the elements of an array, in which nothing is judged by itself.
+fn collect_plain_elements<'a>(
     alloc: Global,
+    shape: Shape,
     severity: FaultSeverity,
     path: &[Mark<'a>],
     array: &'a Array,
     all: &mut Vec<Setting<'a>>,
 ) -> Result<(), AllocError>
     ensures { OnOk result (map setting_view all.new.items ≡ map setting_view all.old.items
-        ++ feature_names severity (map mark_step path.now) (array_view array.now)) }
+        ++ plain_elements shape severity (map mark_step path.now) (array_view array.now)) }
 {
     for (index, value) in array.iter().enumerate() {
         let path = path_to(alloc, path, Mark::Index(index))?;
         let subject = Subject::Value {
-            shape: Shape::FeatureName,
+            shape,
             parts: Parts::Nothing,
             value,
         };
@@ -388,14 +390,15 @@ fn collect_feature_names<'a>(
 fn collect_absent<'a>(
     alloc: Global,
     field: &Field,
+    severity: FaultSeverity,
     path: &[Mark<'a>],
     all: &mut Vec<Setting<'a>>,
 ) -> Result<(), AllocError>
     ensures { OnOk result (map setting_view all.new.items ≡ map setting_view all.old.items
-        ++ of_absent (seen_field field.now).0 (map mark_step path.now)) }
+        ++ of_absent severity (seen_field field.now).0 (map mark_step path.now)) }
 {
     if is_wanted(field, path) {
-        all.push(setting_at(alloc, field.severity, path, Subject::AbsentKey(field.key))?)?;
+        all.push(setting_at(alloc, severity, path, Subject::AbsentKey(field.key))?)?;
     }
     Ok(())
 }

@@ -7,8 +7,10 @@ ghost use Rattle.nextest_config_values.specs.Read.{Always, meaning, Refuses};
 ghost use Rattle.nextest_config.specs.NextestVersion.{version_reading, versions_reading};
 ghost use Rattle.nextest_config_lint.specs.Shapes.{feature_name_check, features_check, kind_check, or_table, shape_check};
 
-use crate::forms::{check_platform, check_text, check_threads};
-use crate::words::{FinalStatusLevel, StatusLevel, TestOutputDisplay};
+use crate::forms::{
+    check_command, check_command_line, check_depth, check_platform, check_relative_path,
+    check_scalar, check_text, check_text_or_texts, check_threads, check_word,
+};
 use nextest_config::nextest_version::{
     Edition, ExperimentalDeserialize, NextestVersionDeserialize,
 };
@@ -68,9 +70,13 @@ pub(crate) fn check_shape(
         Shape::Texts => check_array(alloc, value, "an array of strings"),
         Shape::Threads => check_threads(alloc, value),
         Shape::Platform => check_platform(alloc, value),
-        Shape::StatusLevel => accepted(StatusLevel::read_value(alloc, value)),
-        Shape::FinalStatusLevel => accepted(FinalStatusLevel::read_any(alloc, value)),
-        Shape::Output => accepted(TestOutputDisplay::read_value(alloc, value)),
+        Shape::Word(list) => check_word(alloc, list, value),
+        Shape::Scalar => check_scalar(alloc, value),
+        Shape::TextOrTexts => check_text_or_texts(alloc, value),
+        Shape::Command => check_command(alloc, value),
+        Shape::CommandLine => check_command_line(alloc, value),
+        Shape::RelativePath => check_relative_path(alloc, value),
+        Shape::Depth => check_depth(alloc, value),
     }
 }
 

@@ -8,11 +8,11 @@ ghost use Rattle.nextest_config_elements.specs.Keys.{file_table};
 ghost use Rattle.nextest_config_lint.specs.Found.{AddsFound, AddsOne, AreFoundIn, meant_of, TellsSome};
 ghost use Rattle.nextest_config_lint.specs.Settings.{is_known, setting_view, mark_step, names_of};
 ghost use Rattle.nextest_config_values.specs.Read.{words_of};
-ghost use Rattle.nextest_config_lint.specs.Unknown.{scope_of, scope_words, IsHintFor, IsKeyFound, key_at, keys_among, keys_below, keys_in, pieces_of, slip_of, word_with_part};
+ghost use Rattle.nextest_config_lint.specs.Unknown.{is_junit_of_script, scope_of, scope_words, scopes_at, IsHintFor, IsKeyFound, key_at, keys_among, keys_below, keys_in, pieces_of, slip_of, word_with_part};
 
 use crate::finding::{Finding, FindingKind, Hint, Scope};
 use crate::hints::word_hint;
-use crate::settings::{Mark, Setting, Subject, is_among, keys_of, steps_of};
+use crate::settings::{Mark, Setting, Subject, is_among, is_key, keys_of, steps_of};
 use nextest_config_elements::field::{Field, Parts};
 use nextest_config_elements::keys::{
     file_fields, override_fields, override_junit_fields, profile_fields,
@@ -24,6 +24,9 @@ use toml::{Table, Value};
 
 // The tables that know keys, in the order in which a key is looked for.
 const SCOPES: &[Scope] = &[Scope::Top, Scope::Profile, Scope::Override, Scope::Junit];
+
+// The `junit` of a script lacks keys of another one, which don't belong in that.
+const BESIDE_JUNIT: &[Scope] = &[Scope::Top, Scope::Profile, Scope::Override];
 
 /// The unknown keys of a document, those of the top first and then those of the values in it.
 pub(crate) fn find_unknown(
@@ -76,7 +79,7 @@ fn add_keys_below(
         return Ok(());
     };
     match parts {
-        Parts::Fields(fields) | Parts::Versions(fields) => {
+        Parts::Fields(fields) | Parts::Versions(fields) | Parts::ElementsOrFields(_, fields) => {
             add_beside(alloc, fields, path, table, findings)
         }
         Parts::Nothing
@@ -138,7 +141,7 @@ fn add_key(
     if is_known(known, name) {
         return Ok(());
     }
-    let hint = hint_for(alloc, known, name)?;
+    let hint = hint_for(alloc, known, path, name)?;
     let path = steps_of(alloc, path)?;
     let key = String::from_str(alloc, name)?;
     let kind = FindingKind::UnknownKey { key, hint };
@@ -146,17 +149,22 @@ fn add_key(
     Ok(())
 }
 
-// What an unknown key may be meant for.
-fn hint_for(alloc: Global, known: &[&'static str], name: &str) -> Result<Option<Hint>, AllocError>
-    ensures { IfOk result
-        (λ hint. IsHintFor (words_of known.now) name.now (option_map meant_of hint)) }
+// What an unknown key of the table at a path may be meant for.
+fn hint_for(
+    alloc: Global,
+    known: &[&'static str],
+    path: &[Mark],
+    name: &str,
+) -> Result<Option<Hint>, AllocError>
+    ensures { IfOk result (λ hint. IsHintFor (words_of known.now) (map mark_step path.now) name.now
+        (option_map meant_of hint)) }
 {
     let near = nearest(alloc, name, known)?;
     let slip = slip_of(alloc, name, near)?;
     if slip.is_some() {
         return word_hint(alloc, slip);
     }
-    if let Some(scope) = scope_of(name) {
+    if let Some(scope) = scope_of(scopes_at(path), name) {
         return Ok(Some(Hint::Belongs(scope)));
     }
     word_hint(alloc, near.or(word_with_part(known, name)))
@@ -181,11 +189,33 @@ fn slip_of<'w>(
     }
 }
 
-// The first table that knows the key.
-fn scope_of(name: &str) -> Option<Scope>
-    ensures { result ≡ scope_of name.now }
+// The tables in which a key of the table at a path may belong.
+fn scopes_at(path: &[Mark]) -> &'static [Scope]
+    ensures { result.now ≡ scopes_at (map mark_step path.now) }
 {
-    SCOPES
+    if is_junit_of_script(path) {
+        BESIDE_JUNIT
+    } else {
+        SCOPES
+    }
+}
+
+// Whether the path is that of the `junit` of a script.
+fn is_junit_of_script(path: &[Mark]) -> bool
+    ensures { result ≡ is_junit_of_script (map mark_step path.now) }
+{
+    match path {
+        [top, _, last] => is_key(top, "script") & is_key(last, "junit"),
+        [top, _, _, last] => is_key(top, "scripts") & is_key(last, "junit"),
+        _ => false,
+    }
+}
+
+// The first of these tables that knows the key.
+fn scope_of(scopes: &[Scope], name: &str) -> Option<Scope>
+    ensures { result ≡ scope_of scopes.now name.now }
+{
+    scopes
         .iter()
         .copied()
         .find(|scope| is_among(fields_of(*scope), name))
@@ -217,8 +247,8 @@ fn has_part(word: &str, name: &str) -> bool
     word.split('-').any(|part| part == name)
 }
 
-// Whether the key is one of these.
-fn is_known(known: &[&'static str], name: &str) -> bool
+/// Whether the name is one of these.
+pub(crate) fn is_known(known: &[&'static str], name: &str) -> bool
     ensures { result ≡ is_known (words_of known.now) name.now }
 {
     for key in known {

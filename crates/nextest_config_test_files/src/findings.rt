@@ -2,7 +2,9 @@
 
 use crate::ThisCrate;
 use crate::lines::steps;
-use nextest_config_lint::{Finding, FindingKind, FindingSeverity, Hint, Mistake, Scope};
+use nextest_config_lint::{
+    Finding, FindingKind, FindingSeverity, Hint, Mistake, NamedKind, Scope, ScriptKind,
+};
 use nextest_config_test_rows::compared::ordered;
 use nextest_config_test_rows::rows::{Subject, copied, done, shown, unknown};
 use nextest_config_test_rows::runner::Runner;
@@ -50,6 +52,19 @@ whole | reserved | Warning: profile names that begin with "default-" are reserve
 whole | group-name | Warning: identifier is empty [group-name]
 whole | group-outside @tool:t: | Warning: a tool's test groups begin with "@tool:t:" [group-name]
 whole | group-of-tool | Warning: only a tool's test groups begin with "@" [group-name]
+whole | setup dbb ~ db | Warning: no file defines the setup script "dbb", did you mean "db" [undefined-script]
+whole | wrapper wra | Warning: no file defines the wrapper script "wra" [undefined-script]
+whole | is-setup db | Warning: "db" is a setup script [undefined-script]
+whole | is-wrapper wrap | Warning: "wrap" is a wrapper script [undefined-script]
+whole | script-name | Warning: identifier is empty [script-name]
+whole | script-outside @tool:t: | Warning: a tool's scripts begin with "@tool:t:" [script-name]
+whole | script-of-tool | Warning: only a tool's scripts begin with "@" [script-name]
+whole | setup-too a | Warning: "a" is a setup script, too [script-name]
+whole | needs-setup | Warning: setup scripts need the experimental feature "setup-scripts" [feature-not-enabled]
+whole | needs-wrapper | Warning: wrapper scripts need the experimental feature "wrapper-scripts" [feature-not-enabled]
+whole | script-all | Warning: a script needs a "filter" or a "platform" [override-of-all]
+whole | filter-beside | Warning: an override has a "filter" or a "default-filter", and not both [override-default-filter]
+whole | filter-alone | Warning: a "default-filter" needs a "platform" [override-default-filter]
 whole | array { } | Note: the array form is deprecated, use a table: { } [deprecated-array]
 whole | array { benchmarks = true } | Note: the array form is deprecated, use a table: { benchmarks = true } [deprecated-array]
 whole | array { setup-scripts = true, benchmarks = true } | Note: the array form is deprecated, use a table: { setup-scripts = true, benchmarks = true } [deprecated-array]
@@ -130,7 +145,7 @@ fn kind(rt: &impl Runner, input: &str) -> FindingKind {
         "array" => FindingKind::DeprecatedArray {
             table: copied(rt, rest),
         },
-        "feature" | "key" | "group" | "profile" => named(rt, name, rest),
+        "feature" | "key" | "group" | "setup" | "wrapper" | "profile" => named(rt, name, rest),
         _ => reference(rt, name, rest),
     }
 }
@@ -172,10 +187,16 @@ fn named(rt: &impl Runner, kind: &str, rest: &str) -> FindingKind {
     match kind {
         "feature" => FindingKind::UnknownFeature { name, hint },
         "key" => FindingKind::UnknownKey { key: name, hint },
-        "group" => FindingKind::UndefinedGroup { name, hint },
+        "group" => undefined(NamedKind::Group, name, hint),
+        "setup" => undefined(NamedKind::Script(ScriptKind::Setup), name, hint),
+        "wrapper" => undefined(NamedKind::Script(ScriptKind::Wrapper), name, hint),
         "profile" => FindingKind::UndefinedProfile { name, hint },
         _ => unknown(rt, kind),
     }
+}
+
+fn undefined(kind: NamedKind, name: String, hint: Option<Hint>) -> FindingKind {
+    FindingKind::UndefinedName { kind, name, hint }
 }
 
 fn reference(rt: &impl Runner, kind: &str, rest: &str) -> FindingKind {
@@ -186,12 +207,50 @@ fn reference(rt: &impl Runner, kind: &str, rest: &str) -> FindingKind {
         },
         "all" => FindingKind::OverrideOfAll,
         "reserved" => FindingKind::ReservedProfile,
-        "group-name" => FindingKind::NoGroupName(InvalidIdentifier::Empty),
-        "group-outside" => FindingKind::GroupOutsideTool {
-            mark: copied(rt, rest),
+        "group-name" => no_name(NamedKind::Group),
+        "group-outside" => outside_tool(rt, NamedKind::Group, rest),
+        "group-of-tool" => FindingKind::NameOfTool(NamedKind::Group),
+        _ => script(rt, kind, rest),
+    }
+}
+
+// A finding of scripts, or of an override's default filter.
+fn script(rt: &impl Runner, kind: &str, rest: &str) -> FindingKind {
+    match kind {
+        "script-all" => FindingKind::ScriptOfAll,
+        "filter-beside" => FindingKind::DefaultFilterBeside,
+        "filter-alone" => FindingKind::DefaultFilterAlone,
+        "script-name" => no_name(NamedKind::Script(ScriptKind::Setup)),
+        "script-outside" => outside_tool(rt, NamedKind::Script(ScriptKind::Wrapper), rest),
+        "script-of-tool" => FindingKind::NameOfTool(NamedKind::Script(ScriptKind::Setup)),
+        "is-setup" => FindingKind::OtherScript {
+            script: ScriptKind::Setup,
+            name: copied(rt, rest),
         },
-        "group-of-tool" => FindingKind::GroupOfTool,
+        "is-wrapper" => FindingKind::OtherScript {
+            script: ScriptKind::Wrapper,
+            name: copied(rt, rest),
+        },
+        "setup-too" => FindingKind::SetupScriptToo {
+            name: copied(rt, rest),
+        },
+        "needs-setup" => FindingKind::FeatureNotEnabled(ScriptKind::Setup),
+        "needs-wrapper" => FindingKind::FeatureNotEnabled(ScriptKind::Wrapper),
         _ => unknown(rt, kind),
+    }
+}
+
+fn no_name(kind: NamedKind) -> FindingKind {
+    FindingKind::NoName {
+        kind,
+        error: InvalidIdentifier::Empty,
+    }
+}
+
+fn outside_tool(rt: &impl Runner, kind: NamedKind, mark: &str) -> FindingKind {
+    FindingKind::OutsideTool {
+        kind,
+        mark: copied(rt, mark),
     }
 }
 

@@ -21,7 +21,7 @@ pub const ROWS: &str = r#"
 [profile.ci] | inherits = 1 | 2:12: warning: profile.ci.inherits: invalid type: integer `1`, expected a string [invalid-type]
 [profile.ci] | default-filter = true | 2:18: warning: profile.ci.default-filter: invalid type: boolean `true`, expected a string [invalid-type]
 [[profile.ci.overrides]] | filter = 1.5 | 2:10: warning: profile.ci.overrides[0].filter: invalid type: floating point, expected a string [invalid-type]
-[[profile.ci.overrides]] | filter = "all()"\ndefault-filter = 1979-05-27 | 3:18: warning: profile.ci.overrides[0].default-filter: invalid type: datetime, expected a string [invalid-type]
+[[profile.ci.overrides]] | platform = "cfg(unix)"\ndefault-filter = 1979-05-27 | 3:18: warning: profile.ci.overrides[0].default-filter: invalid type: datetime, expected a string [invalid-type]
 [[profile.ci.overrides]] | filter = "all()"\ntest-group = [] | 3:14: warning: profile.ci.overrides[0].test-group: invalid type: sequence, expected a string [invalid-type]
 [[profile.ci.overrides]] | filter = "all()"\nplatform.host = {} | 3:17: warning: profile.ci.overrides[0].platform.host: invalid type: map, expected a string [invalid-type]
 [[profile.ci.overrides]] | filter = "all()"\nplatform.target = 1 | 3:19: warning: profile.ci.overrides[0].platform.target: invalid type: integer `1`, expected a string [invalid-type]

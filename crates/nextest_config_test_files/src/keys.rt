@@ -213,7 +213,7 @@ junit = { script = 1 }
 
 === a key that is known where it stands is not one of the top | repository
 [profile.ci]
-scripts = 1
+scripts = []
 
 === what is near a key of the top alone | repository
 [profile.ci]

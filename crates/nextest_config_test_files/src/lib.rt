@@ -2,6 +2,7 @@
 //! lists of them, with what profiles get of these.
 #![tactic(auto)]
 
+pub mod archives;
 pub mod blocks;
 pub mod carried;
 pub mod durations;
@@ -18,6 +19,9 @@ pub mod places;
 pub mod positions;
 pub mod profiles;
 pub mod real;
+pub mod references;
+pub mod right;
+pub mod scripts;
 pub mod severities;
 
 use nextest_config_test_rows::tables::Tables;
@@ -27,6 +31,7 @@ struct ThisCrate;
 
 /// Names all tables.
 pub fn tables(tables: &mut impl Tables) {
+    archives::tables(tables);
     carried::tables(tables);
     durations::tables(tables);
     features::tables(tables);
@@ -42,5 +47,8 @@ pub fn tables(tables: &mut impl Tables) {
     positions::tables(tables);
     profiles::tables(tables);
     real::tables(tables);
+    references::tables(tables);
+    right::tables(tables);
+    scripts::tables(tables);
     severities::tables(tables);
 }

@@ -344,7 +344,7 @@ filter = "x"
 test-group = "seriall"
 > 31:14: warning: profile.default.overrides[0].test-group: no file defines the test group "seriall" [undefined-group]
 
-=== a name near one of a hundred profiles, with nextest's own two | repository
+=== a name near one of a hundred other profiles, with nextest's own two | repository
 profile = {
   a = { inherits = "cii" }, ci = {},
   p00 = {}, p01 = {}, p02 = {}, p03 = {}, p04 = {}, p05 = {}, p06 = {}, p07 = {}, p08 = {},
@@ -357,7 +357,7 @@ profile = {
   p63 = {}, p64 = {}, p65 = {}, p66 = {}, p67 = {}, p68 = {}, p69 = {}, p70 = {}, p71 = {},
   p72 = {}, p73 = {}, p74 = {}, p75 = {}, p76 = {}, p77 = {}, p78 = {}, p79 = {}, p80 = {},
   p81 = {}, p82 = {}, p83 = {}, p84 = {}, p85 = {}, p86 = {}, p87 = {}, p88 = {}, p89 = {},
-  p90 = {}, p91 = {}, p92 = {}, p93 = {}, p94 = {}, p95 = {}
+  p90 = {}, p91 = {}, p92 = {}, p93 = {}, p94 = {}, p95 = {}, p96 = {}
 }
 > 2:20: warning: profile.a.inherits: no file defines the profile "cii", did you mean "ci" [undefined-profile]
 
@@ -374,7 +374,7 @@ profile = {
   p63 = {}, p64 = {}, p65 = {}, p66 = {}, p67 = {}, p68 = {}, p69 = {}, p70 = {}, p71 = {},
   p72 = {}, p73 = {}, p74 = {}, p75 = {}, p76 = {}, p77 = {}, p78 = {}, p79 = {}, p80 = {},
   p81 = {}, p82 = {}, p83 = {}, p84 = {}, p85 = {}, p86 = {}, p87 = {}, p88 = {}, p89 = {},
-  p90 = {}, p91 = {}, p92 = {}, p93 = {}, p94 = {}, p95 = {}, p96 = {}
+  p90 = {}, p91 = {}, p92 = {}, p93 = {}, p94 = {}, p95 = {}, p96 = {}, p97 = {}
 }
 > 2:20: warning: profile.a.inherits: no file defines the profile "cii" [undefined-profile]
 "#;

@@ -327,6 +327,63 @@ profile.b = []
 > warning: profile.a.overrides[1]: unknown key "b"
 > warning: profile.a.overrides[1]: an override needs a "filter" or a "platform"
 
+=== scripts and archives, key by key | repository
+[script.b]
+[script.'1']
+command = 1
+[scripts]
+zone = 1
+wrapper.x = { zone = 1, target-runner = 1, command = [] }
+setup.'b c' = { junit = 1, capture-stderr = 1, capture-stdout = 1, leak-timeout = 1, slow-timeout = 1, command = {} }
+setup.a.command = { relative-to = 1, env = { b = [], a = [] }, command-line = [[], {}] }
+[[profile.ci.archive.include]]
+on-missing = 1
+depth = -1
+zone = 1
+path = 1
+[[profile.ci.scripts]]
+run-wrapper = "w"
+list-wrapper = 1
+setup = ["a", "s", []]
+platform = { target = 1, host = 1 }
+zone = 1
+[[profile.ci.scripts]]
+> warning: profile.ci.scripts[0].platform.host: invalid type: integer `1`, expected a string
+> warning: profile.ci.scripts[0].platform.target: invalid type: integer `1`, expected a string
+> warning: profile.ci.scripts[0].setup[2]: invalid type: sequence, expected a string
+> warning: profile.ci.scripts[0].list-wrapper: invalid type: integer `1`, expected a string
+> warning: profile.ci.archive.include[0].path: invalid type: integer `1`, expected a string
+> warning: profile.ci.archive.include[0]: missing configuration field "profile.ci.archive.include[0].relative-to"
+> warning: profile.ci.archive.include[0].depth: invalid value: integer `-1`, expected a non-negative integer or the string "infinite"
+> warning: profile.ci.archive.include[0].on-missing: invalid type: integer `1`, expected a string
+> warning: scripts.setup.a.command.command-line[0]: invalid type: sequence, expected a string
+> warning: scripts.setup.a.command.command-line[1]: invalid type: map, expected a string
+> warning: scripts.setup.a.command.env.a: invalid type: sequence, expected a string
+> warning: scripts.setup.a.command.env.b: invalid type: sequence, expected a string
+> warning: scripts.setup.a.command.relative-to: invalid type: integer `1`, expected a string
+> warning: scripts.setup."b c".command: missing configuration field "scripts.setup."b c".command.command-line"
+> warning: scripts.setup."b c".slow-timeout: invalid type: integer `1`, expected a table ({ period = "60s", terminate-after = 2 }) or a string ("60s"), did you mean "1s"
+> warning: scripts.setup."b c".leak-timeout: invalid type: integer `1`, expected a table ({ period = "500ms", result = "fail" }) or a string ("100ms"), did you mean "1s"
+> warning: scripts.setup."b c".capture-stdout: invalid type: integer `1`, expected a boolean
+> warning: scripts.setup."b c".capture-stderr: invalid type: integer `1`, expected a boolean
+> warning: scripts.setup."b c".junit: invalid type: integer `1`, expected a table
+> warning: scripts.wrapper.x.command: invalid value: sequence, expected a command
+> warning: scripts.wrapper.x.target-runner: invalid type: integer `1`, expected a string
+> warning: script.1.command: invalid type: integer `1`, expected a string, an array of strings or a table ({ command-line = ".." })
+> warning: script.b: missing configuration field "script.b.command"
+> warning: profile.ci.scripts[0]: unknown key "zone"
+> warning: profile.ci.archive.include[0]: unknown key "zone"
+> warning: scripts: unknown key "zone"
+> warning: scripts.wrapper.x: unknown key "zone"
+> warning: profile.ci.scripts[0].setup[1]: no file defines the setup script "s"
+> warning: profile.ci.scripts[0].run-wrapper: no file defines the wrapper script "w"
+> warning: profile.ci.scripts[1]: a script needs a "filter" or a "platform"
+> warning: scripts.setup: setup scripts need the experimental feature "setup-scripts"
+> warning: scripts.setup."b c": invalid identifier "b c"
+> warning: scripts.wrapper: wrapper scripts need the experimental feature "wrapper-scripts"
+> warning: script: setup scripts need the experimental feature "setup-scripts"
+> warning: script.1: invalid identifier "1"
+
 === a tool's file where features stand in a table alone | tool tables
 zone = 1
 experimental = { b = true, a = false, benchmarks = true }
@@ -357,6 +414,16 @@ repository | profile.ci.retries = { backoff = "fixed", count = 1, dela = 1 }\n |
 repository | [profile.a]\ninherits = "b"\n[profile.b]\ninherits = "a"\n | warning: profile.a.inherits: the profile "a" inherits from itself && warning: profile.b.inherits: the profile "b" inherits from itself
 repository | [test-groups.serial]\nmax-threads = 1\n[[profile.a.overrides]]\nfilter = "x"\ntest-group = "serail"\n | warning: profile.a.overrides[0].test-group: no file defines the test group "serail", did you mean "serial"
 repository | experimental = ["benchmarks", 1]\n | error: experimental[1]: invalid type: integer `1`, expected a string
+repository | experimental.setup-scripts = true\nscripts.setup.db.command = "x"\n[[profile.a.scripts]]\nfilter = "all()"\nsetup = "dbb"\nrun-wrapper = "db"\n | warning: profile.a.scripts[0].setup: no file defines the setup script "dbb", did you mean "db" && warning: profile.a.scripts[0].run-wrapper: "db" is a setup script
+repository | scripts.wrapper."a b".command = ["x", []]\n | warning: scripts.wrapper."a b".command[1]: invalid type: sequence, expected a string && warning: scripts.wrapper: wrapper scripts need the experimental feature "wrapper-scripts" && warning: scripts.wrapper."a b": invalid identifier "a b"
+repository | experimental = ["setup-scripts", "wrapper-scripts"]\nscripts.wrapper.a.command = "x"\nscript.a.command = { env.A = [], command-line = "" }\n | warning: script.a.command.command-line: invalid value: string "", expected a command && warning: script.a.command.env.A: invalid type: sequence, expected a string && warning: scripts.wrapper.a: "a" is a setup script, too && note: experimental: the array form is deprecated, use a table: { setup-scripts = true, wrapper-scripts = true }
+tool | scripts.setup.a.command = "x"\nscripts.setup."@tool:my-tool:b".comand = "x"\n | warning: scripts.setup."@tool:my-tool:b": missing configuration field "scripts.setup."@tool:my-tool:b".command" && warning: scripts.setup."@tool:my-tool:b": unknown key "comand", did you mean "command" && warning: scripts.setup.a: a tool's scripts begin with "@tool:my-tool:"
+repository | scripts.wrapper = {}\nscript."@tool:x:a".command = "x"\nexperimental.setup-scripts = true\n | warning: script."@tool:x:a": only a tool's scripts begin with "@"
+repository | [[profile.a.scripts]]\nlist-wrapper = "a b"\n | warning: profile.a.scripts[0]: a script needs a "filter" or a "platform" && warning: profile.a.scripts[0].list-wrapper: invalid identifier "a b"
+repository | profile.a.archive.include = [{ path = "/", relative-to = "targt", depth = "1" }]\n | warning: profile.a.archive.include[0].path: invalid value: string "/", expected a relative path with no parent components && warning: profile.a.archive.include[0].relative-to: unknown variant `targt`, expected `target`, did you mean "target" && warning: profile.a.archive.include[0].depth: invalid value: string "1", expected a non-negative integer or the string "infinite", did you mean 1
+repository | profile.a.archive.include = {}\n | warning: profile.a.archive.include: invalid type: map, expected an array, did you mean [[profile.a.archive.include]]
+repository | [[profile.a.overrides]]\ndefault-filter = "all()"\n | warning: profile.a.overrides[0].default-filter: a "default-filter" needs a "platform"
+repository | [[profile.a.overrides]]\ndefault-filter = "all()"\nfilter = "all()"\n | warning: profile.a.overrides[0].default-filter: an override has a "filter" or a "default-filter", and not both
 
 # a fault below the path of its value
 repository | [[profile."x y".overrides]]\nslow-timeout = { period = "5" }\n | error: profile."x y".overrides[0].slow-timeout.period: invalid value: string "5", expected a duration, did you mean "5s" && warning: profile."x y".overrides[0]: an override needs a "filter" or a "platform"

@@ -1,4 +1,4 @@
-//! A value of a wrong kind at each place that is read, and values at places that aren't.
+//! A value of a wrong kind at each place that is read, and values at places that take any.
 
 use crate::blocks::{Blocks, File, InTable, Listed};
 use nextest_config_test_rows::rows::Escaped;
@@ -8,7 +8,7 @@ use nextest_config_test_rows::tables::{Rows, Tables};
 pub fn tables(tables: &mut impl Tables) {
     tables.held::<Blocks<File<Listed>>>(PLACES);
     tables.held::<Blocks<File<Listed>>>(DOCUMENTED);
-    tables.held::<Blocks<File<Listed>>>(UNREAD);
+    tables.held::<Blocks<File<Listed>>>(OTHERS);
     tables.held::<Rows<Escaped<InTable>>>(KNOWN);
 }
 
@@ -433,6 +433,7 @@ failure-output = 1979-05-27
 > 2:10: warning: profile.ci.overrides[0].filter: invalid type: sequence, expected a string [invalid-type]
 > 3:12: warning: profile.ci.overrides[0].platform: invalid type: sequence, expected a string or a table ({ host = "..", target = ".." }) [invalid-type]
 > 4:18: warning: profile.ci.overrides[0].default-filter: invalid type: map, expected a string [invalid-type]
+> 4:18: warning: profile.ci.overrides[0].default-filter: an override has a "filter" or a "default-filter", and not both [override-default-filter]
 > 5:14: warning: profile.ci.overrides[0].test-group: invalid type: integer `1`, expected a string [invalid-type]
 > 6:29: warning: profile.ci.overrides[0].run-extra-args[2]: invalid type: integer `1`, expected a string [invalid-type]
 > 7:18: warning: profile.ci.overrides[0].success-output: unknown variant `finally`, expected one of `immediate`, `immediate-final`, `final`, `never`, did you mean "final" [unknown-variant]
@@ -463,36 +464,13 @@ retries = "two"
 > 6:11: error: profile.ci.overrides[0].retries: invalid type: string "two", expected a table ({ backoff = "fixed", count = 5 }) or a number (5) [invalid-type]
 "#;
 
-pub const UNREAD: &str = r#"
-=== known keys of a file that aren't read | repository
-scripts = "x"
-script = []
-
-=== what stands below known keys that aren't read | repository
-[scripts.setup.db]
-comand = "x"
-experimental = 1
-[scripts.wrapper.x]
-commnad = 1
-[script.db]
-comand = "x"
-[profile.ci.archive]
-inculde = [{ path = 1, on-mising = "x" }]
-[[profile.ci.scripts]]
-filer = 1
-setup = 1
-
-=== known keys of a profile that aren't read | repository
-[profile.ci]
-archive = 1
-scripts = 1
-
-=== a known key of an override that isn't read | repository
+pub const OTHERS: &str = r#"
+=== a key of an override that takes any value | repository
 [[profile.ci.overrides]]
 filter = "all()"
 bench = { slow-timeout = 1, slow-timeouts = 1 }
 
-=== known keys of the report of an override that aren't read | repository
+=== keys of the report of an override that take any value | repository
 [profile.ci]
 overrides = [{ filter = "all()", junit = { path = 1, report-name = 2, report-skipped = 3 } }]
 
@@ -521,8 +499,9 @@ pub const KNOWN: &str = r#"
 [experimental] | wrapper-scripts = false |  |
 [experimental] | benchmarks = true |  |
 [store] | dir = "target/nextest" |  |
-[scripts.setup.db] | command = "db" |  |
-[script.old] | command = "old" |  |
+ | experimental.setup-scripts = true\n[scripts.setup.db]\ncommand = "db" |  |
+ | experimental.wrapper-scripts = true\n[scripts.wrapper.wrap]\ncommand = "wrap" |  |
+ | experimental.setup-scripts = true\n[script.old]\ncommand = "old" |  |
 [test-groups.serial] | max-threads = 1 |  |
 [profile.ci] | retries = { backoff = "exponential", count = 3, delay = "1s", jitter = true, max-delay = "10s" } |  |
 [profile.ci] | flaky-result = "fail" |  |
@@ -549,7 +528,6 @@ pub const KNOWN: &str = r#"
 [profile.ci.bench] | global-timeout = "1d" |  |
 [profile.ci.archive] | include = [] |  |
 [[profile.ci.scripts]] | filter = "all()" |  |
-[[profile.ci.scripts]] | setup = "db" |  |
 [[profile.ci.overrides]] | filter = "all()"\npriority = 100 |  |
 [[profile.ci.overrides]] | filter = "all()"\nthreads-required = "num-test-threads" |  |
 [[profile.ci.overrides]] | filter = "all()"\nretries = { backoff = "fixed", count = 2, delay = "1s", jitter = true } |  |
@@ -560,7 +538,7 @@ pub const KNOWN: &str = r#"
 [[profile.ci.overrides]] | platform = "cfg(unix)" |  |
 [[profile.ci.overrides]] | platform = { host = "cfg(unix)" } |  |
 [[profile.ci.overrides]] | platform = { target = "cfg(unix)" } |  |
-[[profile.ci.overrides]] | filter = "all()"\ndefault-filter = "all()" |  |
+[[profile.ci.overrides]] | platform = "cfg(unix)"\ndefault-filter = "all()" |  |
 [[profile.ci.overrides]] | filter = "all()"\ntest-group = "@global" |  |
 [[profile.ci.overrides]] | filter = "all()"\nrun-extra-args = [] |  |
 [[profile.ci.overrides]] | filter = "all()"\nsuccess-output = "final" |  |

@@ -419,7 +419,16 @@ script.old = { command = "old" }
 dir = "target/nextest"
 
 [scripts.setup.new]
-command = "new"
+command = { command-line = ["new", 1], env = { A = "x", B = 1 }, relative-to = "target" }
+slow-timeout = { period = "60s", terminate-after = 2, grace-period = "5s", on-timeout = "pass" }
+leak-timeout = { period = "500ms", result = "fail" }
+capture-stdout = true
+capture-stderr = false
+junit = { store-success-output = true, store-failure-output = false }
+
+[scripts.wrapper.wrap]
+command = "wrap"
+target-runner = "ignore"
 
 [test-groups.serial]
 max-threads = 1
@@ -440,8 +449,19 @@ status-level = "all"
 final-status-level = "slow"
 success-output = "never"
 failure-output = "immediate-final"
-archive = { include = [] }
-scripts = [{ filter = "all()", setup = "new" }]
+
+[[profile.ci.scripts]]
+filter = "all()"
+platform = { host = "cfg(unix)", target = "cfg(unix)" }
+setup = ["new", "old"]
+list-wrapper = "wrap"
+run-wrapper = "wrap"
+
+[[profile.ci.archive.include]]
+path = "fixtures"
+relative-to = "target"
+depth = 1
+on-missing = "warn"
 
 [profile.ci.junit]
 path = "junit.xml"
@@ -464,7 +484,6 @@ slow-timeout = "1m"
 leak-timeout = { period = "1s", result = "pass" }
 filter = "all()"
 platform = { host = "cfg(unix)", target = "cfg(unix)" }
-default-filter = "all()"
 test-group = "serial"
 run-extra-args = []
 success-output = "final"
@@ -478,4 +497,8 @@ flaky-fail-status = "failure"
 path = "other.xml"
 report-name = "other"
 report-skipped = "none"
+
+[[profile.ci.overrides]]
+platform = "cfg(unix)"
+default-filter = "all()"
 "#;

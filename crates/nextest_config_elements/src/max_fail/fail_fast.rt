@@ -6,8 +6,7 @@ ghost use Rattle.nextest_config_values.specs.Read.{RefusesAt, RefusesBy};
 ghost use Rattle.nextest_config_elements.specs.MaxFail.{fail_fast_reading, fail_fast_table, IsExpected, limit_of, max_fail_reading};
 
 use super::{MaxFail, TerminateMode};
-use crate::field::FaultSeverity::Error;
-use crate::field::{Field, Parts, Shape};
+use crate::field::{Field, Shape};
 use crate::from_table::{FromTable, read_set};
 use nextest_config_values::read::{FromToml, ReadFault, ValueFault, or_default, required};
 use std::alloc::Global;
@@ -54,16 +53,13 @@ impl MaxFail {
         Field {
             key: MAX_FAIL_KEY,
             shape: Shape::MaxFail,
-            parts: Parts::Nothing,
-            severity: Error,
             required: true,
+            ..Field::READ
         },
         Field {
             key: TERMINATE_KEY,
             shape: Shape::TerminateMode,
-            parts: Parts::Nothing,
-            severity: Error,
-            required: false,
+            ..Field::READ
         },
     ];
 }

@@ -84,6 +84,10 @@ fn of_code(code: FindingCode) -> &'static Explanation
         FindingCode::OverrideOfAll => &references::OVERRIDE_OF_ALL,
         FindingCode::ReservedProfile => &references::RESERVED_PROFILE,
         FindingCode::GroupName => &references::GROUP_NAME,
+        FindingCode::UndefinedScript => &references::UNDEFINED_SCRIPT,
+        FindingCode::ScriptName => &references::SCRIPT_NAME,
+        FindingCode::FeatureNotEnabled => &references::FEATURE_NOT_ENABLED,
+        FindingCode::OverrideDefaultFilter => &references::OVERRIDE_DEFAULT_FILTER,
         FindingCode::UnjudgedDuration => &settings::UNJUDGED_DURATION,
         FindingCode::DeprecatedArray => &features::DEPRECATED_ARRAY,
     }

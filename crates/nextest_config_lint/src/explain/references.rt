@@ -1,4 +1,4 @@
-//! Explanations of codes about names, profiles and overrides.
+//! Explanations of codes about names, profiles, overrides and scripts.
 
 use crate::FindingCode;
 use crate::explain::explanation::{ExampleFile, Explanation};
@@ -82,9 +82,10 @@ inherits = "ci"
 pub(crate) static OVERRIDE_OF_ALL: Explanation = Explanation {
     topic: Topic::Finding(FindingCode::OverrideOfAll),
     meaning: "\
-An override has neither a `filter` nor a `platform`, so it isn't said which
-tests it is for. nextest may refuse the file. What is for all tests belongs in
-the profile itself.",
+An override, or what a profile says of scripts, has neither a `filter` nor a
+`platform`, so it isn't said which tests it is for. nextest may refuse the file.
+What overrides all tests belongs in the profile itself; scripts for all of them
+have the filter `all()`.",
     file: ExampleFile::Repository,
     example: "[[profile.ci.overrides]]
 retries = 3
@@ -123,4 +124,78 @@ max-threads = 1
     mended: r#"[test-groups."@tool:my-tool:database"]
 max-threads = 1
 "#,
+};
+
+pub(crate) static UNDEFINED_SCRIPT: Explanation = Explanation {
+    topic: Topic::Finding(FindingCode::UndefinedScript),
+    meaning: "\
+A profile names a setup script or a wrapper script that no file defines, mostly
+by a slip, or a script of the other kind. Then nextest may refuse the file.",
+    file: ExampleFile::Repository,
+    example: r#"[experimental]
+setup-scripts = true
+[[profile.default.scripts]]
+filter = 'test(database)'
+setup = "databse"
+[scripts.setup.database]
+command = "start-database"
+"#,
+    mended: r#"[experimental]
+setup-scripts = true
+[[profile.default.scripts]]
+filter = 'test(database)'
+setup = "database"
+[scripts.setup.database]
+command = "start-database"
+"#,
+};
+
+pub(crate) static SCRIPT_NAME: Explanation = Explanation {
+    topic: Topic::Finding(FindingCode::ScriptName),
+    meaning: "\
+A script has a name that it can't have here. A name is a letter, and then
+letters, digits, `-` and `_`. In the file of a tool it stands behind a mark with
+the tool's name, and elsewhere behind none, so that the scripts of tools and of
+the repository stay apart. No setup script and wrapper script have one name.
+nextest may refuse the file.",
+    file: ExampleFile::Tool,
+    example: r#"[scripts.setup.database]
+command = "start-database"
+"#,
+    mended: r#"[scripts.setup."@tool:my-tool:database"]
+command = "start-database"
+"#,
+};
+
+pub(crate) static FEATURE_NOT_ENABLED: Explanation = Explanation {
+    topic: Topic::Finding(FindingCode::FeatureNotEnabled),
+    meaning: "\
+A file defines scripts, and none of the repository's files enables the
+experimental feature that they need. nextest may refuse the file. Setup scripts
+need `setup-scripts`, and wrapper scripts `wrapper-scripts`.",
+    file: ExampleFile::Repository,
+    example: r#"[scripts.setup.database]
+command = "start-database"
+"#,
+    mended: r#"[experimental]
+setup-scripts = true
+[scripts.setup.database]
+command = "start-database"
+"#,
+};
+
+pub(crate) static OVERRIDE_DEFAULT_FILTER: Explanation = Explanation {
+    topic: Topic::Finding(FindingCode::OverrideDefaultFilter),
+    meaning: "\
+An override has a `default-filter` beside a `filter`, or without a `platform`.
+It says which tests run by default on a platform, so it needs that, and can't be
+for some tests alone. nextest may refuse the file.",
+    file: ExampleFile::Repository,
+    example: "[[profile.default.overrides]]
+default-filter = 'not test(unix_only)'
+",
+    mended: "[[profile.default.overrides]]
+platform = 'cfg(windows)'
+default-filter = 'not test(unix_only)'
+",
 };

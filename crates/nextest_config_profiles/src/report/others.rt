@@ -22,8 +22,8 @@ const OTHER_KEYS: &[&str] = &[
     "final-status-level",
     "success-output",
     "failure-output",
-    "archive",
     "scripts",
+    "archive",
 ];
 
 fn other_keys() -> &'static [&'static str]

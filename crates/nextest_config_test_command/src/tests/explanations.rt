@@ -187,7 +187,7 @@ fn topics_have_explanations_of_their_own(rt: HostRuntime) {
         check_lines(&test, meaning);
         done(&test, meanings.push(meaning));
     }
-    assert_eq!(rt; meanings.len(), 31);
+    assert_eq!(rt; meanings.len(), 35);
     tell_apart(&test, meanings.as_slice(), meanings.as_slice());
 }
 

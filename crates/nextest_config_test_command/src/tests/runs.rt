@@ -302,6 +302,139 @@ $ lint --tool-config-file=t:/t.toml --config-file=ci.toml = 0
 > /t.toml:4:14: warning: profile.base.overrides[0].test-group: no file defines the test group "slow" [undefined-group]
 > /t.toml:5:10: warning: profile.default-x: profile names that begin with "default-" are reserved [reserved-profile]
 
+=== scripts that other files define
+@ /t.toml
+[scripts.setup]
+"@tool:t:one" = { command = "x" }
+[[profile.default.scripts]]
+filter = "all()"
+setup = ["db", "@tool:t:on"]
+@ /u.toml
+[scripts.wrapper]
+"@tool:u:two" = { command = "x" }
+[[profile.default.scripts]]
+filter = "all()"
+setup = "@tool:u:two"
+run-wrapper = "@tool:t:one"
+@ .config/nextest.toml
+experimental = { setup-scripts = true }
+[scripts.setup.db]
+command = "x"
+[[profile.default.scripts]]
+filter = "all()"
+setup = ["dbb", "@tool:t:one"]
+run-wrapper = "@tool:u:tow"
+$ lint --tool-config-file=t:/t.toml --tool-config-file=u:/u.toml = 0
+> /u.toml:5:9: warning: profile.default.scripts[0].setup: "@tool:u:two" is a wrapper script [undefined-script]
+> /u.toml:6:15: warning: profile.default.scripts[0].run-wrapper: "@tool:t:one" is a setup script [undefined-script]
+> /t.toml:5:16: warning: profile.default.scripts[0].setup[1]: no file defines the setup script "@tool:t:on", did you mean "@tool:t:one" [undefined-script]
+> .config/nextest.toml:6:10: warning: profile.default.scripts[0].setup[0]: no file defines the setup script "dbb", did you mean "db" [undefined-script]
+> .config/nextest.toml:7:15: warning: profile.default.scripts[0].run-wrapper: no file defines the wrapper script "@tool:u:tow", did you mean "@tool:u:two" [undefined-script]
+$ lint --tool-config-file=t:/t.toml = 0
+> /t.toml:5:16: warning: profile.default.scripts[0].setup[1]: no file defines the setup script "@tool:t:on", did you mean "@tool:t:one" [undefined-script]
+> .config/nextest.toml:6:10: warning: profile.default.scripts[0].setup[0]: no file defines the setup script "dbb", did you mean "db" [undefined-script]
+$ lint --tool-config-file=u:/u.toml = 0
+> /u.toml:5:9: warning: profile.default.scripts[0].setup: "@tool:u:two" is a wrapper script [undefined-script]
+> .config/nextest.toml:6:10: warning: profile.default.scripts[0].setup[0]: no file defines the setup script "dbb", did you mean "db" [undefined-script]
+> .config/nextest.toml:7:15: warning: profile.default.scripts[0].run-wrapper: no file defines the wrapper script "@tool:u:tow", did you mean "@tool:u:two" [undefined-script]
+$ lint --strict = 1
+> .config/nextest.toml:6:10: warning: profile.default.scripts[0].setup[0]: no file defines the setup script "dbb", did you mean "db" [undefined-script]
+
+=== scripts of files that aren't all read
+@ /t.toml
+[scripts.setup]
+one = { command = "x" }
+[[profile.default.scripts]]
+setup = ["two", "a b"]
+@ /u.toml
+a = flase
+@ .config/nextest.toml
+[scripts.wrapper]
+one = { command = "x" }
+"@tool:t:one" = {}
+[[profile.default.scripts]]
+filter = "all()"
+setup = ["one", "two"]
+$ lint --tool-config-file=u:/u.toml = 1
+> /u.toml:1:5: error: *, did you mean false [not-toml]
+> .config/nextest.toml:3:1: warning: scripts.wrapper."@tool:t:one": only a tool's scripts begin with "@" [script-name]
+> .config/nextest.toml:3:17: warning: scripts.wrapper."@tool:t:one": missing configuration field "scripts.wrapper."@tool:t:one".command" [missing-field]
+$ lint --tool-config-file=t:/t.toml --tool-config-file=u:/u.toml = 1
+> /u.toml:1:5: error: *, did you mean false [not-toml]
+> /t.toml:2:1: warning: scripts.setup.one: a tool's scripts begin with "@tool:t:" [script-name]
+> /t.toml:3:19: warning: profile.default.scripts[0]: a script needs a "filter" or a "platform" [override-of-all]
+> /t.toml:4:17: warning: profile.default.scripts[0].setup[1]: invalid identifier "a b" [script-name]
+> .config/nextest.toml:3:1: warning: scripts.wrapper."@tool:t:one": only a tool's scripts begin with "@" [script-name]
+> .config/nextest.toml:3:17: warning: scripts.wrapper."@tool:t:one": missing configuration field "scripts.wrapper."@tool:t:one".command" [missing-field]
+$ lint --tool-config-file=t:/t.toml = 0
+> /t.toml:2:1: warning: scripts.setup.one: a tool's scripts begin with "@tool:t:" [script-name]
+> /t.toml:3:19: warning: profile.default.scripts[0]: a script needs a "filter" or a "platform" [override-of-all]
+> /t.toml:4:10: warning: profile.default.scripts[0].setup[0]: no file defines the setup script "two" [undefined-script]
+> /t.toml:4:17: warning: profile.default.scripts[0].setup[1]: invalid identifier "a b" [script-name]
+> .config/nextest.toml:1:10: warning: scripts.wrapper: wrapper scripts need the experimental feature "wrapper-scripts" [feature-not-enabled]
+> .config/nextest.toml:3:1: warning: scripts.wrapper."@tool:t:one": only a tool's scripts begin with "@" [script-name]
+> .config/nextest.toml:3:17: warning: scripts.wrapper."@tool:t:one": missing configuration field "scripts.wrapper."@tool:t:one".command" [missing-field]
+> .config/nextest.toml:6:17: warning: profile.default.scripts[0].setup[1]: no file defines the setup script "two" [undefined-script]
+
+=== a tool's file, whose scripts need what the repository's has
+@ /t.toml
+[scripts.setup]
+"@tool:t:one" = { command = "x" }
+[scripts.wrapper]
+"@tool:t:two" = { command = "x" }
+@ .config/nextest.toml
+experimental = { setup-scripts = true, wrapper-scripts = true }
+[[profile.ci.scripts]]
+filter = "all()"
+setup = "@tool:t:one"
+run-wrapper = "@tool:t:two"
+@ ci.toml
+experimental = ["wrapper-scripts"]
+[scripts.setup.one]
+command = "x"
+[scripts.wrapper.two]
+command = "x"
+$ lint --tool-config-file=t:/t.toml --strict = 0
+$ lint --tool-config-file=t:/t.toml --config-file=ci.toml = 0
+> ci.toml:1:16: note: experimental: the array form is deprecated, use a table: { wrapper-scripts = true } [deprecated-array]
+> ci.toml:2:10: warning: scripts.setup: setup scripts need the experimental feature "setup-scripts" [feature-not-enabled]
+$ lint --tool-config-file=t:/t.toml --config-file=ci.toml --table-only = 1
+> ci.toml:1:16: error: experimental: the array form of `experimental` isn't supported, use a table [array-form]
+
+=== features of a tool's file, which are no other's
+@ /t.toml
+experimental = { setup-scripts = true }
+@ /u.toml
+experimental = 1
+@ .config/nextest.toml
+[scripts.setup.db]
+command = "x"
+$ lint --tool-config-file=t:/t.toml = 1
+> /t.toml:1:16: error: experimental: experimental features in a tool configuration: "setup-scripts" [tool-features]
+> .config/nextest.toml:1:10: warning: scripts.setup: setup scripts need the experimental feature "setup-scripts" [feature-not-enabled]
+$ lint --tool-config-file=u:/u.toml = 1
+> /u.toml:1:16: error: experimental: invalid type: integer `1`, expected a table ({ setup-scripts = true, benchmarks = true }) or an array (["setup-scripts", "benchmarks"]) [invalid-type]
+> .config/nextest.toml:1:10: warning: scripts.setup: setup scripts need the experimental feature "setup-scripts" [feature-not-enabled]
+$ lint --strict = 1
+> .config/nextest.toml:1:10: warning: scripts.setup: setup scripts need the experimental feature "setup-scripts" [feature-not-enabled]
+
+=== a name of two kinds in two files
+@ /t.toml
+[scripts.wrapper]
+"@tool:t:one" = { command = "x" }
+@ .config/nextest.toml
+experimental = { setup-scripts = true }
+[script]
+"@tool:t:one" = { command = "x" }
+[[profile.ci.scripts]]
+filter = "all()"
+setup = "@tool:t:one"
+run-wrapper = "@tool:t:one"
+$ lint --tool-config-file=t:/t.toml = 0
+> .config/nextest.toml:3:1: warning: script."@tool:t:one": only a tool's scripts begin with "@" [script-name]
+$ lint = 0
+> .config/nextest.toml:3:1: warning: script."@tool:t:one": only a tool's scripts begin with "@" [script-name]
+
 === a ring over three files
 @ /a.toml
 [profile.x]

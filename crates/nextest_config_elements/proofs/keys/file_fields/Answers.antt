@@ -1,4 +1,5 @@
-use Rattle.nextest_config_elements.proofs.Levels.{each_element, each_name, features_table, parts_nothing, row, table, table_by_backoff, versions_table}
+use Rattle.nextest_config_elements.proofs.Levels.{each_element, each_name, elements_or_table, features_table, parts_nothing, row, table, table_by_backoff, versions_table}
+use Rattle.std.proofs.Common.{refl}
 use Rattle.nextest_config_elements.proofs.keys.file_fields.Goals as goal
 
 pub returns : goal.returns
@@ -16,5 +17,42 @@ returns c =
     (row _ _ _ _ (search (row, table, parts_nothing) depth 20 fits 900)
     (row _ _ _ _ (search (row, table, parts_nothing) depth 20 fits 900)
     (row _ _ _ _ (each_element _ _ _ (table _ _ (search (row, table, table_by_backoff, each_element, parts_nothing) depth 60 fits 3000)))
-    (search (row, each_element, parts_nothing) depth 20 fits 900)))))))))))))
-    (search (row, table, each_name, parts_nothing) depth 20 fits 900)))
+    (row _ _ _ _ parts_nothing
+    (row _ _ _ _ parts_nothing
+    (row _ _ _ _ parts_nothing
+    (row _ _ _ _ (search (row, each_element, parts_nothing) depth 20 fits 900)
+    (row _ _ _ _ parts_nothing
+    (row _ _ _ _ parts_nothing
+    (row _ _ _ _ parts_nothing
+    (row _ _ _ _ parts_nothing
+    (row _ _ _ _ (each_element _ _ _ (table _ _ (search (row, table, each_element, parts_nothing) depth 20 fits 900)))
+    (row _ _ _ _ (table _ _ (row _ _ _ _ (each_element _ _ _ (table _ _ (search (row, parts_nothing) depth 20 fits 900))) refl)) refl))))))))))))))))))))))
+    (row _ _ _ _ (table _ _ (row _ _ _ _ parts_nothing refl))
+    (row _ _ _ _ (each_name _ _ _ (table _ _ (row _ _ _ _ parts_nothing refl)))
+    (row _ _ _ _ (table _ _
+    (row _ _ _ _ (each_name _ _ _ (table _ _
+    (row _ _ _ _ (elements_or_table _ _ _
+    (row _ _ _ _ (each_element _ _ _ parts_nothing)
+    (row _ _ _ _ (each_name _ _ _ parts_nothing)
+    (row _ _ _ _ parts_nothing refl))))
+    (row _ _ _ _ (table _ _ (search (row, parts_nothing) depth 20 fits 900))
+    (row _ _ _ _ (table _ _ (search (row, parts_nothing) depth 20 fits 900))
+    (row _ _ _ _ parts_nothing
+    (row _ _ _ _ parts_nothing
+    (row _ _ _ _ (table _ _ (row _ _ _ _ parts_nothing (row _ _ _ _ parts_nothing refl))) refl))))))))
+    (row _ _ _ _ (each_name _ _ _ (table _ _
+    (row _ _ _ _ (elements_or_table _ _ _
+    (row _ _ _ _ (each_element _ _ _ parts_nothing)
+    (row _ _ _ _ (each_name _ _ _ parts_nothing)
+    (row _ _ _ _ parts_nothing refl))))
+    (row _ _ _ _ parts_nothing refl)))) refl)))
+    (row _ _ _ _ (each_name _ _ _ (table _ _
+    (row _ _ _ _ (elements_or_table _ _ _
+    (row _ _ _ _ (each_element _ _ _ parts_nothing)
+    (row _ _ _ _ (each_name _ _ _ parts_nothing)
+    (row _ _ _ _ parts_nothing refl))))
+    (row _ _ _ _ (table _ _ (search (row, parts_nothing) depth 20 fits 900))
+    (row _ _ _ _ (table _ _ (search (row, parts_nothing) depth 20 fits 900))
+    (row _ _ _ _ parts_nothing
+    (row _ _ _ _ parts_nothing
+    (row _ _ _ _ (table _ _ (row _ _ _ _ parts_nothing (row _ _ _ _ parts_nothing refl))) refl)))))))) refl))))))

@@ -11,4 +11,4 @@ returns-clause-told c files by =
     let names = map string_bytes c.args.defined.now.profiles.keys in
     let words = filter (is_other c.args.profile.now) names in
     let are = others_are files c.args.profile.now names by.profiles in
-    inl ((c.is_undefined_profile.ensures files by).0 undefined, (names, words, option_map meant_of c.in_ok-hint.hint, by.profiles, are, c.in_ok-hint.ensures, search rules))
+    inl ((c.is_undefined_profile.ensures files by).0 undefined, (words, option_map meant_of c.in_ok-hint.hint, are, c.in_ok-hint.ensures, search rules))

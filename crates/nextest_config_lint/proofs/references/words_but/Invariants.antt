@@ -1,9 +1,11 @@
-use Rattle.std.proofs.Common.{◌≡◌, map, string_bytes}
+use Rattle.std.proofs.Common.{◌≡◌, ◌≤◌, length, map, string_bytes}
 use Rattle.std.specs.List.{filter}
 use Rattle.nextest_config_values.specs.Read.{words_of}
-use Rattle.nextest_config_lint.specs.References.{is_other}
+use Rattle.nextest_config_lint.specs.References.{is_other, most_names}
 use Rattle.nextest_config_lint.proofs.references.words_but.Given as goal
 
--- those so far but for one
+-- those so far but for one are few
 abbrev pub invariant-loop-name : goal.invariant-loop-name
-invariant-loop-name l = words_of l.words.items ≡ filter (is_other l.left_out) (map (λ name. string_bytes name.now) l.yielded)
+invariant-loop-name l =
+    (words_of l.words.items ≡ filter (is_other l.left_out) (map (λ name. string_bytes name.now) l.yielded))
+    × (length (words_of l.words.items) ≤ most_names)

@@ -18,5 +18,5 @@ invariant-collect_names-loop-name l =
 
 abbrev pub invariant-collect_fields-loop-field : goal.invariant-collect_fields-loop-field
 invariant-collect_fields-loop-field l =
-    map setting_view l.all.items ++ settings_of_fields (fields_view (drop l.field-index l.fields)) (map mark_step l.path) (table_view l.table)
-    ≡ map setting_view l.fn.all.items ++ settings_of_fields (fields_view l.fields) (map mark_step l.path) (table_view l.table)
+    map setting_view l.all.items ++ settings_of_fields (fields_view (drop l.field-index l.fields)) l.severity (map mark_step l.path) (table_view l.table)
+    ≡ map setting_view l.fn.all.items ++ settings_of_fields (fields_view l.fields) l.severity (map mark_step l.path) (table_view l.table)
