@@ -158,10 +158,11 @@ class Crate:
             raise Failed(f"{folder}: {strays[0]} is no edit")
         return [Edit(path, self.name) for path in sorted(folder.glob("*.edit")) if not words or any(word in path.stem for word in words)]
 
-    def statements(self):
-        """A checksum of what the crate says: its definitions, and its sources without the bodies of functions."""
-        sources = {file: without_bodies(text) for file, text in self.texts.items()}
-        return checksum(self.specs, sources)
+    def holders(self, told):
+        """The sources that may hold a function of which an edit tells the path: that of its module, or without a path all."""
+        names = told.split("::")[:-1] if told else ()
+        files = [f"src/{'/'.join(names[:length])}.rt" for length in range(len(names), 0, -1)]
+        return dict.fromkeys(next(([file] for file in files if file in self.texts), self.texts if told else ()))
 
     def whole(self):
         """A checksum of all that a check of the crate reads of it."""

@@ -7,7 +7,8 @@ import subprocess
 import sys
 import threading
 
-from wrong_edits import checksum, toolchain
+from wrong_edits import checksum
+from wrong_imports import Imports
 
 TESTS = pathlib.Path(__file__).parent
 PATH = pathlib.Path("tests", "wrong.kept")
@@ -18,9 +19,9 @@ LINE = re.compile(r"(\S+/\S+) ([0-9a-f]{32}) (\S.*)")
 class KeptFile:
     """The edits of which the repository keeps that a goal refused them, each with a checksum of what that rests on.
 
-    The checksum is of the edit, of the files that it changes, of the crate's definitions and of its sources without
-    the bodies of functions, of the same two of the crates below, of the crate's line of crates.txt, of the toolchain's
-    version and of what tries edits. Proofs and other bodies are left out: they change what is proved, and not whether
+    The checksum is of the edit, of the files that it changes, of the definitions and of the sources without the bodies
+    of functions that these rest on (wrong_imports.py), of those that hold the function that is to be refused, and of
+    what tries edits. Proofs, other bodies and the toolchain are left out: they change what is proved, and not whether
     the edited body is wrong.
     """
 
@@ -42,15 +43,14 @@ class KeptFile:
                 last, self.lines[name] = name, read.groups()[1:]
                 continue
             sys.exit(f"{PATH}:{number}: {why}")
-        judges = [path.read_text() for path in (TESTS / "wrong", *sorted(TESTS.glob("wrong_*.py")))]
-        self.common = checksum(toolchain(), judges)
-        self.statements = {name: crate.statements() for name, crate in crates.items()}
+        judges = [path.read_text() for path in (TESTS / "wrong_edits.py", TESTS / "wrong_rounds.py")]
+        self.common, self.imports = checksum(judges), Imports(crates)
 
     def checksum(self, edit):
         crate = self.crates[edit.crate]
-        files = [crate.texts.get(file) for file in dict.fromkeys(file for file, *_ in edit.pairs)]
-        below = [(name, self.statements[name]) for name in crate.below]
-        return checksum(self.common, edit.text, files, self.statements[crate.name], below, crate.line)
+        files = {file: crate.texts.get(file) for file, *_ in edit.pairs}
+        held = [(edit.crate, file) for file in {**files, **crate.holders(edit.told)} if file in crate.texts]
+        return checksum(self.common, edit.text, files, self.imports.rest(held))
 
     def has(self, edit):
         """Whether it is kept that this edit was refused, as all stands."""
