@@ -27,6 +27,7 @@ help:
 test: toolchain
 	! command -v shellcheck > /dev/null || shellcheck $(SCRIPT)
 	tests/formatted
+	scripts/keys | cmp - docs/KEYS.md
 	tests/wrong-itself
 	rt ci | tests/wrong --behind --unkept
 	tests/run $(PROGRAM) $(COMMAND)/out/nextest_config_cli

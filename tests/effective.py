@@ -23,6 +23,9 @@ Laid = collections.namedtuple("Laid", "layer node below")
 Line = collections.namedtuple("Line", "object first source")
 TAKEN_AWAY = "no value: the empty text takes the default away"
 VERY_LONG = 946080000 * 10**9
+LONGEST = ((1 << 64) - 1) * 10**9 + 999999999
+UNITS = [("w", 604800 * 10**9), ("d", 86400 * 10**9), ("h", 3600 * 10**9), ("m", 60 * 10**9)]
+UNITS += [("s", 10**9), ("ms", 10**6), ("us", 1000), ("ns", 1)]
 
 
 # What layers come to.
@@ -74,6 +77,15 @@ def keys_text(names, between=", "):
 def name_text(name):
     """The name of a profile, as findings print it."""
     return rules.path_text((name,))
+
+
+def time_text(length):
+    """A time in the units that go in, from the greatest on."""
+    parts = []
+    for unit, of in UNITS:
+        number, length = divmod(length, of)
+        parts += [f"{number}{unit}"] if number else []
+    return " ".join(parts) or "0s"
 
 
 def literal(value):
@@ -215,15 +227,29 @@ class Profile:
         is_time = reader in TIMES and member in (None, "period") and isinstance(value, str)
         mark = " (no limit)" if is_time and (rules.nanoseconds(value) or 0) >= VERY_LONG else ""
         state, message = ("value", None) if spot else ("default", "nextest's default")
+        time = self.ending(profile, keys, value) if reader is SLOW_TIMEOUT and member == "terminate-after" else None
+        if time is not None:
+            mark = f" (terminated after {time})"
         if not is_judged or is_made(field_of(reader, member), value):
-            state, message, mark = "not-judged", None, " (not judged)"
-        yield self.line(keys, value, spot, state, message, source=self.source(spot) + mark)
+            state, message, mark, time = "not-judged", None, " (not judged)", None
+        line = self.line(keys, value, spot, state, message, source=self.source(spot) + mark)
+        line.object.update({} if time is None else {"terminated_after": time})
+        yield line
         yield from self.hidden(profile, keys, laid.layer)
+
+    def ending(self, profile, keys, number):
+        """After how long a slow test is terminated, as a text, by its period and their number."""
+        period = self.at(profile, *keys[:-1], "period")
+        length = rules.nanoseconds(period.node.value) if period and isinstance(period.node.value, str) else None
+        if length is None or length >= VERY_LONG or type(number) is not int or length * number > LONGEST:
+            return None
+        return time_text(length * number)
 
     def absent(self, keys, value, front=""):
         """A key that no layer has."""
         if value in (UNSET, REQUIRED):
-            return self.line(keys, None, None, "unset", first=f"# {keys_text(keys, '.')} isn't set")
+            mark = " (a slow test goes on)" if keys[-1] == "terminate-after" else ""
+            return self.line(keys, None, None, "unset", first=f"# {keys_text(keys, '.')} isn't set{mark}")
         first = f"{front}{keys_text(keys, '.')} = {literal(value)}"
         return self.line(keys, value, None, "default", "default of the table", first, "default of the table")
 
@@ -286,7 +312,7 @@ class Profile:
         fault = self.fault_of(reader, laid)
         if fault and not fault.is_unjudged:
             yield self.fault_line(keys, members, profile, message_of(fault))
-        elif laid.below is None:
+        elif laid.below is None or not members:
             yield from self.given(reader, profile, keys, laid, None, not fault)
             stands_for_table = type(laid.node.value) in (str, int)
             for key, value in members.items() if stands_for_table else []:

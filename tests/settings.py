@@ -392,6 +392,22 @@ HOMES = {
 # What a profile takes.
 
 REQUIRED, UNSET = object(), object()
+# Those that are known from nextest's documentation alone: a value with a fault isn't judged.
+DOCUMENTED = [
+    *["default-filter", "test-threads", "run-extra-args", "status-level", "final-status-level"],
+    *OUTPUTS,
+]
+
+
+def unjudged(reader):
+    def faults(value):
+        for fault in reader.faults(value):
+            fault.is_unjudged = True
+            yield fault
+
+    return reader._replace(faults=faults)
+
+
 SLOW_ABSENT = {"period": REQUIRED, "terminate-after": UNSET, "grace-period": "10s", "on-timeout": "fail"}
 # Those that a profile gets: what reads them, and what that takes where a key of their table is absent.
 SETTINGS = {
@@ -405,6 +421,7 @@ SETTINGS = {
     ("slow-timeout",): (SLOW_TIMEOUT, SLOW_ABSENT),
     ("leak-timeout",): (LEAK_TIMEOUT, {"period": REQUIRED, "result": "pass"}),
     ("global-timeout",): (DURATION, {}),
+    **{(key,): (unjudged(PROFILE[key].reader), {}) for key in DOCUMENTED},
     **{("junit", key): (reader, {}) for key, reader in REPORT.items()},
     ("bench", "slow-timeout"): (SLOW_TIMEOUT, SLOW_ABSENT),
     ("bench", "global-timeout"): (DURATION, {}),

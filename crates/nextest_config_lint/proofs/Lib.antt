@@ -21,6 +21,7 @@ pub mod ReferencesFound
 pub mod Severities
 pub mod ReadersFaults
 pub mod RetriesRead
+pub mod RightValues
 pub mod SettingsRead
 pub mod Subjects
 pub mod ToldReferences

@@ -16,6 +16,7 @@ pub mod Meant
 pub mod Mistake
 pub mod Named
 pub mod References
+pub mod Right
 pub mod RulePlaces
 pub mod Rules
 pub mod Settings

@@ -61,8 +61,8 @@ fn wanted_by(field: &Field) -> Option<Wanted>
     }
 }
 
-// The field with this key.
-fn field_named(name: &str, fields: &'static [Field]) -> Option<&'static Field>
+/// The field with this key.
+pub(crate) fn field_named(name: &str, fields: &'static [Field]) -> Option<&'static Field>
     ensures { option_map (λ field. seen_field field.now) result
         ≡ field_named name.now (fields_view fields.now) }
 {

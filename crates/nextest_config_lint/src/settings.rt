@@ -78,6 +78,26 @@ impl<'a> Setting<'a> {
         Ok(all)
     }
 
+    /// A value of a field, and what is judged in it. Paths begin at the value.
+    pub(crate) fn of_value(
+        alloc: Global,
+        field: &Field,
+        value: &'a Value,
+    ) -> Result<Vec<Setting<'a>>, AllocError>
+        ensures { let (rule, parts) = seen_field field.now in
+            IfOk result (λ all. map setting_view all.items
+            ≡ settings_in rule.shape rule.severity parts [] (view value.now)) }
+    {
+        let mut all = Vec::new(alloc);
+        let Field {
+            shape,
+            severity,
+            ..
+        } = *field;
+        Setting::collect(alloc, shape, severity, &field.parts, &[], value, &mut all)?;
+        Ok(all)
+    }
+
     // Adds what is judged in a table by its fields, where its own faults are as grave as this.
     #[cycle(collect)]
     fn collect_fields(

@@ -3,6 +3,7 @@ pub mod Chain
 pub mod Columns
 pub mod Human
 pub mod Keys
+pub mod Time
 pub mod Line
 pub mod Lines
 pub mod Object

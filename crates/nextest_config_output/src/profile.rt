@@ -14,6 +14,7 @@ mod object;
 mod other_profiles;
 mod overrides;
 mod source;
+mod time;
 
 pub use format::profile_text;
 pub use other_profiles::other_profiles_text;

@@ -1,7 +1,7 @@
 -- What nextest sets itself, below all files (nextest's configuration reference). Keys stand in the
 -- order of their bytes.
 use Rattle.std.specs.Prelude.{codes, false, pos, true}
-use Rattle.toml.specs.Data.{boolean, integer, member, Members, no_members, string, table}
+use Rattle.toml.specs.Data.{array, boolean, integer, member, Members, no_items, no_members, string, table}
 
 -- the table at `slow-timeout` of the profile `default`
 abbrev pub slow_timeout : Members
@@ -36,14 +36,21 @@ bench =
 abbrev pub default_settings : Members
 default_settings =
     member (codes "bench") (table bench)
+    (member (codes "default-filter") (string (codes "all()"))
     (member (codes "fail-fast") (boolean true)
+    (member (codes "failure-output") (string (codes "immediate"))
+    (member (codes "final-status-level") (string (codes "flaky"))
     (member (codes "flaky-result") (string (codes "pass"))
     (member (codes "global-timeout") (string (codes "30y"))
     (member (codes "junit") (table junit)
     (member (codes "leak-timeout") (table leak_timeout)
     (member (codes "retries") (integer (pos 0))
+    (member (codes "run-extra-args") (array no_items)
     (member (codes "slow-timeout") (table slow_timeout)
-    (member (codes "threads-required") (integer (pos 1)) no_members))))))))
+    (member (codes "status-level") (string (codes "pass"))
+    (member (codes "success-output") (string (codes "never"))
+    (member (codes "test-threads") (string (codes "num-cpus"))
+    (member (codes "threads-required") (integer (pos 1)) no_members)))))))))))))))
 
 -- what nextest sets itself, as a document
 abbrev pub default_values : Members

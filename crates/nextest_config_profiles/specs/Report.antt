@@ -7,6 +7,9 @@ pub mod NoLimit
 pub mod Somes
 pub mod Standing
 pub mod Hidden
+pub mod Written
+pub mod At
+pub mod Remark
 pub mod Rows
 pub mod Chain
 pub mod Others

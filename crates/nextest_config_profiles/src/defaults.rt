@@ -16,6 +16,13 @@ fail-fast = true
 slow-timeout = { period = "60s", on-timeout = "fail" }
 leak-timeout = { period = "200ms", result = "pass" }
 global-timeout = "30y"
+default-filter = "all()"
+test-threads = "num-cpus"
+run-extra-args = []
+status-level = "pass"
+final-status-level = "flaky"
+success-output = "never"
+failure-output = "immediate"
 
 [profile.default.junit]
 report-name = "nextest-run"

@@ -16,13 +16,15 @@ mod others;
 mod overrides;
 mod parts;
 mod profile_report;
+mod remark;
 mod rows;
 mod setting;
 mod source;
 mod standing;
+mod written;
 
 pub use parts::{
     ChainProfile, FaultSource, FilePlace, Hidden, KeyState, Literal, OtherKey, OtherProfileFault,
-    Override, OverrideSetting, Row, Source,
+    Override, OverrideSetting, Remark, Row, Source,
 };
 pub use profile_report::ProfileReport;

@@ -1,15 +1,21 @@
 -- Lines of settings: a first column, and where it comes from.
-use Rattle.std.specs.Prelude.{ℕ, Bool, List, [], ◌++◌, codes, Option, Some, None, option_map, string_bytes, if◌then◌else◌}
+use Rattle.std.specs.Prelude.{ℕ, List, [], ◌∷◌, ◌++◌, codes, nat_eq, Option, Some, None, option_map, string_bytes, if◌then◌else◌}
+use Rattle.std.specs.Cmp.Lexicographic.{pointwise}
+use Rattle.std.specs.Duration.{as_nanos}
 use Rattle.nextest_config_output.specs.Findings.Escapes.{escaped_text}
 use Rattle.nextest_config_output.specs.declared.findings.escapes.Escapes.TheVariants.{InLine}
 use Rattle.nextest_config_values.specs.Literal.Key.{key_text}
 use Rattle.nextest_config_profiles.specs.declared.report.parts.Hidden.{Hidden}
 use Rattle.nextest_config_profiles.specs.declared.report.parts.OtherKey.{OtherKey}
+use Rattle.nextest_config_profiles.specs.Reach.{words_of}
+use Rattle.nextest_config_profiles.specs.declared.report.parts.Remark.{Remark}
+use Rattle.nextest_config_profiles.specs.declared.report.parts.Remark.TheVariants as remarks
 use Rattle.nextest_config_profiles.specs.declared.report.parts.Row.{Row}
 use Rattle.nextest_config_profiles.specs.declared.report.parts.KeyState.{KeyState}
 use Rattle.nextest_config_profiles.specs.declared.report.parts.KeyState.TheVariants as states
 use Rattle.nextest_config_output.specs.Profile.Keys.{key_path}
 use Rattle.nextest_config_output.specs.Profile.Source.{source_text, sources_text}
+use Rattle.nextest_config_output.specs.Profile.Time.{time_text}
 use Rattle.nextest_config_output.specs.declared.profile.line.SourcedLine.{SourcedLine}
 
 -- a line: its first column, and where it comes from
@@ -36,7 +42,7 @@ fault_column key message = codes "# " ++ setting_text key (escaped_text InLine m
 
 -- what is told of a key: KEY = VALUE, or a comment where a file couldn't have that in its place
 abbrev pub first_column : List ℕ → KeyState → List ℕ
-first_column key (states.Value literal source no_limit) = setting_text key (string_bytes literal.text)
+first_column key (states.Value literal source remark) = setting_text key (string_bytes literal.text)
 first_column key (states.NotJudged literal source) = setting_text key (string_bytes literal.text)
 first_column key (states.Default literal) = setting_text key (string_bytes literal.text)
 first_column key (states.Implied literal) =
@@ -46,16 +52,36 @@ first_column key (states.NoValue source) =
     codes "# " ++ setting_text key (codes "no value: the empty text takes the default away")
 first_column key (states.Fault message sources) = fault_column key (string_bytes message)
 
+-- what stands behind a key that nothing gives
+abbrev pub mark_of_key : List ℕ → List ℕ
+mark_of_key key =
+    if pointwise nat_eq key (codes "terminate-after") then codes " (a slow test goes on)" else []
+
+-- what stands behind these keys, one below the other, where nothing gives them
+abbrev pub mark_of_unset : List (List ℕ) → List ℕ
+mark_of_unset [] = []
+mark_of_unset (key ∷ []) = mark_of_key key
+mark_of_unset (key ∷ next ∷ rest) = mark_of_unset (next ∷ rest)
+
+-- what stands behind these keys, by what is told of them
+abbrev pub unset_mark : List (List ℕ) → KeyState → List ℕ
+unset_mark keys states.Unset = mark_of_unset keys
+unset_mark keys so = []
+
 -- ---- where they come from, for the profile of this name
 
--- the mark behind the source of a time that is as long as none at all
-abbrev pub limit_mark : Bool → List ℕ
-limit_mark no_limit = if no_limit then codes " (no limit)" else []
+-- what stands behind the source of a value: that it is a time as long as none at all, or after how
+-- long a slow test is terminated
+abbrev pub remark_text : Remark → List ℕ
+remark_text remarks.Nothing = []
+remark_text remarks.NoLimit = codes " (no limit)"
+remark_text (remarks.TerminatedAfter time) =
+    codes " (terminated after " ++ (time_text (as_nanos time) ++ codes ")")
 
 -- where it comes from what is told of a key; nothing of a key that nothing gives
 abbrev pub state_source : List ℕ → KeyState → Option (List ℕ)
-state_source name (states.Value literal source no_limit) =
-    Some (source_text name source ++ limit_mark no_limit)
+state_source name (states.Value literal source remark) =
+    Some (source_text name source ++ remark_text remark)
 state_source name (states.NotJudged literal source) =
     Some (source_text name source ++ codes " (not judged)")
 state_source name (states.Default literal) = Some (codes "default of the table")
@@ -69,7 +95,8 @@ state_source name (states.Fault message sources) = Some (sources_text name sourc
 -- the line of a key of a setting
 abbrev pub row_line : List ℕ → Row → Line
 row_line name row = record {
-  first = first_column (key_path row.keys.items) row.state;
+  first = first_column (key_path row.keys.items) row.state
+      ++ unset_mark (words_of row.keys.items) row.state;
   source = state_source name row.state;
 }
 

@@ -1,5 +1,6 @@
 -- Objects of JSON (RFC 8259) of what is told of keys.
 use Rattle.std.specs.Prelude.{ℕ, List, [], ◌∷◌, codes, Option, Some, None, string_bytes}
+use Rattle.std.specs.Duration.{as_nanos}
 use Rattle.serde_json.specs.Data.{Data, member, no_members, null, object, string}
 use Rattle.toml.specs.View.{view}
 use Rattle.nextest_config_values.specs.Literal.Json.{json_data}
@@ -10,11 +11,13 @@ use Rattle.nextest_config_profiles.specs.declared.report.parts.FilePlace.{FilePl
 use Rattle.nextest_config_profiles.specs.declared.report.parts.Hidden.{Hidden}
 use Rattle.nextest_config_profiles.specs.declared.report.parts.Literal.{Literal}
 use Rattle.nextest_config_profiles.specs.declared.report.parts.OtherKey.{OtherKey}
+use Rattle.nextest_config_profiles.specs.declared.report.parts.Remark.TheVariants as remarks
 use Rattle.nextest_config_profiles.specs.declared.report.parts.Row.{Row}
 use Rattle.nextest_config_profiles.specs.declared.report.parts.Source.{Source}
 use Rattle.nextest_config_profiles.specs.declared.report.parts.KeyState.{KeyState}
 use Rattle.nextest_config_profiles.specs.declared.report.parts.KeyState.TheVariants as states
 use Rattle.nextest_config_output.specs.Profile.Keys.{key_path}
+use Rattle.nextest_config_output.specs.Profile.Time.{time_text}
 use Rattle.nextest_config_output.specs.Profile.Location.{column_data, line_data, path_data, profile_data, SeenLocation, location_of}
 
 -- a value, as JSON has it
@@ -32,6 +35,20 @@ setting_data key value location state message = object
     (member (codes "profile") (profile_data location)
     (member (codes "state") (string state)
     (member (codes "value") value no_members))))))))
+
+-- the object of a key with a number of periods, after which a slow test is terminated: with that
+-- time at `terminated_after`
+abbrev pub terminating_data : List ℕ → Data → Option SeenLocation → List ℕ → Data → List ℕ → Data
+terminating_data key value location state message time = object
+    (member (codes "column") (column_data location)
+    (member (codes "key") (string key)
+    (member (codes "line") (line_data location)
+    (member (codes "message") message
+    (member (codes "path") (path_data location)
+    (member (codes "profile") (profile_data location)
+    (member (codes "state") (string state)
+    (member (codes "terminated_after") (string time)
+    (member (codes "value") value no_members)))))))))
 
 -- where a part of a value stands: `column`, `key`, `line` and `path`
 abbrev pub source_data : FaultSource → Data
@@ -59,7 +76,7 @@ fault_data key location message sources = object
 
 -- the value that a key has, or null
 abbrev pub state_data : KeyState → Data
-state_data (states.Value literal source no_limit) = literal_data literal
+state_data (states.Value literal source remark) = literal_data literal
 state_data (states.NotJudged literal source) = literal_data literal
 state_data (states.Default literal) = literal_data literal
 state_data (states.Implied literal) = literal_data literal
@@ -74,7 +91,7 @@ first_location (first ∷ rest) = location_of first.source
 
 -- where it stands what a key has; of a value that is refused, where the first of its parts stands
 abbrev pub state_location : KeyState → Option SeenLocation
-state_location (states.Value literal source no_limit) = location_of source
+state_location (states.Value literal source remark) = location_of source
 state_location (states.NotJudged literal source) = location_of source
 state_location (states.Default literal) = None
 state_location (states.Implied literal) = None
@@ -93,7 +110,7 @@ value_state source = state_in source.file
 
 -- the word of what a key has: `value`, `not-judged`, `default`, `unset` or `fault`
 abbrev pub state_word : KeyState → List ℕ
-state_word (states.Value literal source no_limit) = value_state source
+state_word (states.Value literal source remark) = value_state source
 state_word (states.NotJudged literal source) = codes "not-judged"
 state_word (states.Default literal) = codes "default"
 state_word (states.Implied literal) = codes "default"
@@ -112,7 +129,7 @@ value_message source = message_in source.file
 
 -- what is said of what a key has, or null
 abbrev pub message_data : KeyState → Data
-message_data (states.Value literal source no_limit) = value_message source
+message_data (states.Value literal source remark) = value_message source
 message_data (states.NotJudged literal source) = null
 message_data (states.Default literal) = string (codes "default of the table")
 message_data (states.Implied literal) = string (codes "default of the table")
@@ -127,6 +144,9 @@ message_data (states.Fault message sources) = string (string_bytes message)
 abbrev pub state_object : List ℕ → KeyState → Data
 state_object key (states.Fault message sources) =
     fault_data key (first_location sources.items) (string (string_bytes message)) sources.items
+state_object key (states.Value literal source (remarks.TerminatedAfter time)) =
+    terminating_data key (literal_data literal) (location_of source) (value_state source)
+    (value_message source) (time_text (as_nanos time))
 state_object key so =
     setting_data key (state_data so) (state_location so) (state_word so) (message_data so)
 

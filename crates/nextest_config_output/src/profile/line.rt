@@ -1,16 +1,19 @@
 //! Lines of settings: a first column, and where it comes from.
 
-ghost use Rattle.std.specs.Prelude.{◌≡◌, IfOk, option_map, string_bytes};
+ghost use Rattle.std.specs.Prelude.{◌≡◌, IfOk, option_map, Some, string_bytes};
 ghost use Rattle.nextest_config_values.specs.Literal.Key.{key_text};
+ghost use Rattle.nextest_config_profiles.specs.Reach.{words_of};
 ghost use Rattle.nextest_config_output.specs.Profile.Keys.{key_path};
-ghost use Rattle.nextest_config_output.specs.Profile.Line.{fault_column, first_column, hidden_line, limit_mark, line_of, other_line, row_line, state_source};
+ghost use Rattle.nextest_config_output.specs.Profile.Line.{fault_column, first_column, hidden_line, line_of, mark_of_key, mark_of_unset, other_line, remark_text, row_line, state_source, unset_mark};
 
 use crate::findings::{Escaped, Escapes};
 use crate::profile::keys::KeyPath;
 use crate::profile::source::{SourceText, SourcesText};
-use nextest_config_profiles::report::{Hidden, KeyState, OtherKey, Row};
+use crate::profile::time::TimeText;
+use nextest_config_profiles::report::{Hidden, KeyState, OtherKey, Remark, Row};
 use nextest_config_values::literal::KeyText;
 use std::alloc::{AllocError, Global};
+use std::fmt;
 
 /// What is told of an empty text that takes away what nextest sets itself.
 pub(crate) const NO_VALUE: &str = "no value: the empty text takes the default away";
@@ -30,7 +33,8 @@ pub(crate) fn row_line(alloc: Global, name: &str, row: &Row<'_>) -> Result<Sourc
     ensures { IfOk result (λ line. line_of line ≡ row_line name.now row.now) }
 {
     let key = KeyPath(row.keys.as_slice()).to_string(alloc)?;
-    let first = first_column(alloc, key.as_str(), &row.state)?;
+    let mut first = first_column(alloc, key.as_str(), &row.state)?;
+    first.push_str(unset_mark(row.keys.as_slice(), &row.state))?;
     let source = state_source(alloc, name, &row.state)?;
     Ok(SourcedLine { first, source })
 }
@@ -100,13 +104,9 @@ fn state_source(
     ensures { IfOk result (λ text. option_map string_bytes text ≡ state_source name.now state.now) }
 {
     match state {
-        KeyState::Value {
-            source,
-            no_limit,
-            ..
-        } => {
+        KeyState::Value { source, remark, .. } => {
             let source = SourceText(name, *source);
-            let text = format!(in alloc; "{source}{}", limit_mark(*no_limit))?;
+            let text = format!(in alloc; "{source}{}", RemarkText(*remark))?;
             Ok(Some(text))
         }
         KeyState::NotJudged { source, .. } => {
@@ -127,9 +127,49 @@ fn state_source(
     }
 }
 
-// What stands behind the source of a time as long as none at all.
-fn limit_mark(no_limit: bool) -> &'static str
-    ensures { result.now ≡ limit_mark no_limit }
+// What stands behind the source of a value.
+#[derive(Clone, Copy)]
+struct RemarkText(Remark);
+
+impl fmt::Display for RemarkText {
+    ghost output = { λ text. Some (remark_text text.0) };
+
+    fn fmt<W: fmt::Write>(&self, f: &mut fmt::Formatter<W>) -> fmt::Result {
+        match self.0 {
+            Remark::Nothing => Ok(()),
+            Remark::NoLimit => f.write_str(" (no limit)"),
+            Remark::TerminatedAfter(time) => write!(f, " (terminated after {})", TimeText(time)),
+        }
+    }
+}
+
+// What stands behind a key that nothing gives.
+fn unset_mark(keys: &[&str], state: &KeyState<'_>) -> &'static str
+    ensures { result.now ≡ unset_mark (words_of keys.now) state.now }
 {
-    if no_limit { " (no limit)" } else { "" }
+    match state {
+        KeyState::Unset => mark_of_unset(keys),
+        _ => "",
+    }
+}
+
+// What stands behind these keys, where nothing gives them.
+fn mark_of_unset(keys: &[&str]) -> &'static str
+    ensures { result.now ≡ mark_of_unset (words_of keys.now) }
+{
+    match keys {
+        [key] => mark_of_key(key),
+        [_, rest @ ..] => mark_of_unset(rest),
+        [] => "",
+    }
+}
+
+fn mark_of_key(key: &str) -> &'static str
+    ensures { result.now ≡ mark_of_key key.now }
+{
+    if key == "terminate-after" {
+        " (a slow test goes on)"
+    } else {
+        ""
+    }
 }

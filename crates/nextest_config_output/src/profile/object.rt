@@ -1,9 +1,9 @@
 //! Objects of JSON of what is told of keys.
 
-ghost use Rattle.std.specs.Prelude.{◌≡◌, IfOk, option_map};
+ghost use Rattle.std.specs.Prelude.{◌≡◌, IfOk, option_map, string_bytes};
 ghost use Rattle.serde_json.specs.View.{view};
 ghost use Rattle.nextest_config_output.specs.Profile.Keys.{key_path};
-ghost use Rattle.nextest_config_output.specs.Profile.Object.{first_location, hidden_data, message_data, other_data, row_data, setting_data, state_data, state_location, state_word, value_message, value_state};
+ghost use Rattle.nextest_config_output.specs.Profile.Object.{first_location, hidden_data, message_data, other_data, row_data, setting_data, state_data, state_location, state_word, terminating_data, value_message, value_state};
 ghost use Rattle.nextest_config_output.specs.Profile.Location.{seen_location};
 
 use crate::profile::fault::fault_value;
@@ -13,7 +13,10 @@ use crate::profile::location::{
     Location, column_value, line_value, location_of, path_value, profile_value,
 };
 use crate::profile::source::OWN_DEFAULT;
-use nextest_config_profiles::report::{FaultSource, Hidden, KeyState, OtherKey, Row, Source};
+use crate::profile::time::TimeText;
+use nextest_config_profiles::report::{
+    FaultSource, Hidden, KeyState, OtherKey, Remark, Row, Source,
+};
 use nextest_config_values::literal::{KeyText, json_value};
 use serde_json::{Value, json};
 use std::alloc::{AllocError, Global};
@@ -30,6 +33,13 @@ pub(crate) fn row_value(alloc: Global, row: &Row<'_>) -> Result<Value, AllocErro
     match &row.state {
         KeyState::Fault { sources, .. } => {
             fault_value(alloc, keys, &location, message, sources.as_slice())
+        }
+        KeyState::Value {
+            remark: Remark::TerminatedAfter(time),
+            ..
+        } => {
+            let time = TimeText(*time).to_string(alloc)?;
+            terminating_value(alloc, keys, value, &location, state, message, time)
         }
         _ => setting_value(alloc, keys, value, &location, state, message),
     }
@@ -72,6 +82,32 @@ fn setting_value(
         "column": column_value(location),
         "state": Value::try_from_str(alloc, state)?,
         "message": message,
+    })
+}
+
+// The object of a key after which so often a slow test is terminated, with the time.
+fn terminating_value(
+    alloc: Global,
+    keys: &[&str],
+    value: Value,
+    place: &Option<Location<'_>>,
+    state: &str,
+    message: Value,
+    time: String,
+) -> Result<Value, AllocError>
+    ensures { IfOk result (λ object. view object ≡ terminating_data (key_path keys.now) (view value)
+        (option_map seen_location place.now) state.now (view message) (string_bytes time)) }
+{
+    json!(in alloc; {
+        "key": KeyPath(keys).to_string(alloc)?,
+        "value": value,
+        "profile": profile_value(alloc, place)?,
+        "path": path_value(alloc, place)?,
+        "line": line_value(place),
+        "column": column_value(place),
+        "state": Value::try_from_str(alloc, state)?,
+        "message": message,
+        "terminated_after": time,
     })
 }
 

@@ -3,7 +3,7 @@ use Rattle.std.specs.Prelude.{◌≡◌, ◌⊎◌, ℕ, List, [], ◌∷◌, Op
 use Rattle.std.proofs.Common.{Global}
 use Rattle.toml.specs.Data.{Data}
 use Rattle.nextest_config_values.specs.Duration.{duration_reading}
-use Rattle.nextest_config_values.specs.Read.{bool_reading, made_of, Reading, text_reading}
+use Rattle.nextest_config_values.specs.Read.{bool_reading, made_of, only, Reading, text_reading}
 use Rattle.nextest_config_elements.specs.GlobalTimeout.{global_timeout_of}
 use Rattle.nextest_config_elements.specs.Junit.{flaky_fail_reading}
 use Rattle.nextest_config_elements.specs.LeakTimeout.{leak_timeout_of, leak_timeout_reading}
@@ -27,6 +27,7 @@ use Rattle.nextest_config_profiles.specs.declared.report.given.Given.{Given}
 use Rattle.nextest_config_profiles.specs.declared.report.given.Given.TheVariants as given
 use Rattle.nextest_config_profiles.specs.declared.report.setting.Reader.{Reader}
 use Rattle.nextest_config_profiles.specs.declared.report.setting.Reader.TheVariants as readers
+use Rattle.nextest_config_profiles.specs.declared.report.written.Written.{Written}
 
 -- what is given, without the value
 abbrev pub given_of : {X : Type 0} → Effective X → Given
@@ -67,6 +68,7 @@ IsGivenAs readers.Text = IsGivenValue (string_bytes {Z = Global}) text_reading
 IsGivenAs readers.Boolean = IsGivenValue (λ it. it) bool_reading
 IsGivenAs readers.ReportSkipped = IsGivenValue (λ it. it) report_skip_reading
 IsGivenAs readers.FlakyFailStatus = IsGivenValue (λ it. it) flaky_fail_reading
+IsGivenAs readers.Documented = IsGivenValue (λ (it : Written). tt {0}) (only (tt {0}))
 
 -- what the profile gets for a setting, or what another one alone has there, as it stands
 abbrev pub IsReadFor : EffectiveProfile → Option (List ℕ) → SettingRule → Given → Type 0

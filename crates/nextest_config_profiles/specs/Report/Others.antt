@@ -19,7 +19,9 @@ use Rattle.nextest_config_profiles.specs.declared.report.parts.OtherKey.{OtherKe
 abbrev pub keys_told : List (List ℕ)
 keys_told = codes "retries" ∷ codes "flaky-result" ∷ codes "threads-required" ∷ codes "fail-fast"
     ∷ codes "slow-timeout" ∷ codes "leak-timeout" ∷ codes "global-timeout" ∷ codes "junit"
-    ∷ codes "bench" ∷ codes "overrides" ∷ codes "inherits" ∷ []
+    ∷ codes "bench" ∷ codes "overrides" ∷ codes "inherits" ∷ codes "default-filter"
+    ∷ codes "test-threads" ∷ codes "run-extra-args" ∷ codes "status-level"
+    ∷ codes "final-status-level" ∷ codes "success-output" ∷ codes "failure-output" ∷ []
 
 -- the word is none of these
 abbrev pub is_none_of : List (List ℕ) → List ℕ → Bool

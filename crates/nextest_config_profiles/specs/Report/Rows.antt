@@ -1,5 +1,5 @@
 -- What is told of a setting, key by key.
-use Rattle.std.specs.Prelude.{◌≡◌, ◌↔◌, ◌⊎◌, ℕ, Bool, true, false, List, [], ◌∷◌, ◌++◌, codes, filter, is_some, IsTrue, length, map, Option, Some, None, string_bytes}
+use Rattle.std.specs.Prelude.{◌≡◌, ◌↔◌, ◌&&◌, ℕ, Bool, true, false, List, [], ◌∷◌, ◌++◌, codes, filter, is_some, IsTrue, length, map, Option, Some, None, string_bytes}
 use Rattle.std.specs.List.{AllZip}
 use Rattle.toml.specs.Data.{as_table, Data, integer, string}
 use Rattle.toml.specs.View.{view}
@@ -7,7 +7,6 @@ use Rattle.nextest_config_values.specs.Read.{fault_of, fault_text, read_fault_at
 use Rattle.nextest_config_values.specs.Read.Fault.{Fault}
 use Rattle.nextest_config_values.specs.declared.read.value_fault.ValueFault.{ValueFault}
 use Rattle.nextest_config_lint.specs.Conversion.{IsConvertedAt}
-use Rattle.nextest_config_profiles.specs.LastValue.{IsLastValue}
 use Rattle.nextest_config_profiles.specs.Profile.{layers_in}
 use Rattle.nextest_config_profiles.specs.Reach.{words_of}
 use Rattle.nextest_config_profiles.specs.Said.{Path, said_at}
@@ -16,10 +15,11 @@ use Rattle.nextest_config_profiles.specs.declared.profile.EffectiveProfile.{Effe
 use Rattle.nextest_config_profiles.specs.Report.Given.{IsGivenFor}
 use Rattle.nextest_config_profiles.specs.Report.Hidden.{AreHidden}
 use Rattle.nextest_config_profiles.specs.Report.Literal.{IsLiteralOf}
-use Rattle.nextest_config_profiles.specs.Report.NoLimit.{IsNoLimit}
+use Rattle.nextest_config_profiles.specs.Report.Remark.{IsRemark}
 use Rattle.nextest_config_profiles.specs.Report.Setting.{IfAbsent, MemberRule, required, rule_of, SettingRule, taken, unset}
 use Rattle.nextest_config_profiles.specs.Report.Somes.{AreSomes}
 use Rattle.nextest_config_profiles.specs.Report.Source.{IsSource}
+use Rattle.nextest_config_profiles.specs.Report.Written.{IsDoubted}
 use Rattle.nextest_config_profiles.specs.declared.report.given.Given.{Given}
 use Rattle.nextest_config_profiles.specs.declared.report.given.Given.TheVariants as given
 use Rattle.nextest_config_profiles.specs.declared.report.rows.GivenSetting.{GivenSetting}
@@ -29,15 +29,7 @@ use Rattle.nextest_config_profiles.specs.declared.report.parts.Row.{Row}
 use Rattle.nextest_config_profiles.specs.declared.report.parts.Source.{Source}
 use Rattle.nextest_config_profiles.specs.declared.report.parts.KeyState.{KeyState}
 use Rattle.nextest_config_profiles.specs.declared.report.parts.KeyState.TheVariants as states
-
--- a setting, as a profile of the chain gives it, whether its durations are judged, and whether it
--- is told what a value hides
-pub record At : Type 0 where
-  pub effective : EffectiveProfile
-  pub profile : List ℕ
-  pub setting : SettingRule
-  pub judged : Bool
-  pub hiding : Bool
+pub use Rattle.nextest_config_profiles.specs.Report.At.{At, IsLastAt}
 
 -- a setting that a profile of the chain gives, as the code has it
 abbrev pub at_of : GivenSetting → At
@@ -49,22 +41,23 @@ at_of given = record {
   hiding = given.tells_hidden;
 }
 
--- this is what the last layer that says anything of keys of a profile has there
-abbrev pub IsLastAt : EffectiveProfile → List ℕ → Path → Option LayerValue → Type 0
-IsLastAt effective profile keys =
-    IsLastValue (map (said_at (profile ∷ keys)) (layers_in effective))
+-- ---- a value that stands in a layer
 
--- ---- a value that stands in a layer, which isn't judged where nextest may convert it
+-- a value is sure: its setting is judged, nextest doesn't convert it, and nothing is wrong with it by
+-- nextest's documentation
+abbrev pub IsSure : At → Path → Data → Type 0
+IsSure at keys value = (at.judged ≡ true) × (IsConvertedAt keys value → ⊥)
+    × (IsDoubted at.setting.reader keys value → ⊥)
 
 -- what is told of a value that stands in a layer: it and its place, and whether it is judged
 abbrev pub IsGivenState : At → Option (List ℕ) → Path → LayerValue → KeyState → Type 0
-IsGivenState at member keys found (states.Value literal source no_limit) =
-    (at.judged ≡ true) × (IsConvertedAt keys (view found.value.now) → ⊥)
+IsGivenState at member keys found (states.Value literal source remark) =
+    IsSure at keys (view found.value.now)
     × IsLiteralOf (view found.value.now) literal
     × IsSource at.effective found.layer at.profile keys source
-    × (IsTrue no_limit ↔ IsNoLimit at.setting.reader member (view found.value.now))
+    × IsRemark at member (view found.value.now) remark
 IsGivenState at member keys found (states.NotJudged literal source) =
-    ((at.judged ≡ false) ⊎ IsConvertedAt keys (view found.value.now))
+    (IsSure at keys (view found.value.now) → ⊥)
     × IsLiteralOf (view found.value.now) literal
     × IsSource at.effective found.layer at.profile keys source
 IsGivenState at member keys found other = ⊥
@@ -169,6 +162,15 @@ pub record AreWholeRows (at : At) (found : LayerValue) (rows : List Row) : Type 
 abbrev pub is_table : Data → Bool
 is_table value = is_some (as_table value)
 
+-- there is a key
+abbrev pub has_members : List MemberRule → Bool
+has_members [] = false
+has_members (first ∷ rest) = true
+
+-- the value is a table whose keys are told one by one
+abbrev pub has_parts : SettingRule → Data → Bool
+has_parts setting value = is_table value && has_members setting.members
+
 -- the rows of what a layer has for a setting: of a table key by key, else of the whole value
 abbrev pub AreFoundRows : At → LayerValue → Bool → List Row → Type 0
 AreFoundRows at found true rows = AllZip (IsMemberRow at) at.setting.members rows
@@ -180,7 +182,7 @@ IsAlone IsSo rows = (row : Row) × IsSo row × (rows ≡ row ∷ [])
 
 -- the rows of what the last layer has for a setting, or one that tells that nothing gives it
 abbrev pub AreRowsOf : At → Option LayerValue → List Row → Type 0
-AreRowsOf at (Some found) = AreFoundRows at found (is_table (view found.value.now))
+AreRowsOf at (Some found) = AreFoundRows at found (has_parts at.setting (view found.value.now))
 AreRowsOf at None = IsAlone (IsBareRow at.setting.keys (λ so. so ≡ states.Unset))
 
 -- the rows of a value that a profile gives a setting, by the last layer that says anything of it

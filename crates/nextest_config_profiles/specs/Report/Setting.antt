@@ -7,7 +7,7 @@ use Rattle.nextest_config_profiles.specs.declared.report.setting.Absent.{Absent}
 use Rattle.nextest_config_profiles.specs.declared.report.setting.Absent.TheVariants as declared
 use Rattle.nextest_config_profiles.specs.declared.report.setting.Member.{Member}
 use Rattle.nextest_config_profiles.specs.declared.report.setting.Reader.{Reader}
-use Rattle.nextest_config_profiles.specs.declared.report.setting.Reader.TheVariants.{Boolean, FailFast, FlakyFailStatus, FlakyResult, GlobalTimeout, LeakTimeout, ReportSkipped, Retries, SlowTimeout, Text, ThreadsRequired}
+use Rattle.nextest_config_profiles.specs.declared.report.setting.Reader.TheVariants.{Boolean, Documented, FailFast, FlakyFailStatus, FlakyResult, GlobalTimeout, LeakTimeout, ReportSkipped, Retries, SlowTimeout, Text, ThreadsRequired}
 use Rattle.nextest_config_profiles.specs.declared.report.setting.Setting.{Setting}
 
 -- what a reader takes for a key that is absent: this value, or nothing; or the key can't be absent
@@ -82,6 +82,13 @@ all_settings =
     ∷ setting (codes "slow-timeout" ∷ []) SlowTimeout slow_timeout_members
     ∷ setting (codes "leak-timeout" ∷ []) LeakTimeout leak_timeout_members
     ∷ setting (codes "global-timeout" ∷ []) GlobalTimeout []
+    ∷ setting (codes "default-filter" ∷ []) Documented []
+    ∷ setting (codes "test-threads" ∷ []) Documented []
+    ∷ setting (codes "run-extra-args" ∷ []) Documented []
+    ∷ setting (codes "status-level" ∷ []) Documented []
+    ∷ setting (codes "final-status-level" ∷ []) Documented []
+    ∷ setting (codes "success-output" ∷ []) Documented []
+    ∷ setting (codes "failure-output" ∷ []) Documented []
     ∷ setting (codes "junit" ∷ codes "path" ∷ []) Text []
     ∷ setting (codes "junit" ∷ codes "report-name" ∷ []) Text []
     ∷ setting (codes "junit" ∷ codes "store-success-output" ∷ []) Boolean []

@@ -9,6 +9,7 @@ ghost use Rattle.nextest_config_profiles.specs.Report.Setting.{rule_of};
 use crate::report::converted::{read_rest, unconverted};
 use crate::report::keys::path_in;
 use crate::report::setting::{Reader, Setting};
+use crate::report::written::Written;
 use crate::{Effective, EffectiveProfile};
 use nextest_config_elements::global_timeout::GlobalTimeout;
 use nextest_config_elements::junit::JunitFlakyFailStatus;
@@ -147,6 +148,7 @@ fn read_for<'p>(
         Reader::Boolean => given_by::<bool>(alloc, profile, alone, keys),
         Reader::ReportSkipped => given_by::<ReportSkipPolicy>(alloc, profile, alone, keys),
         Reader::FlakyFailStatus => given_by::<JunitFlakyFailStatus>(alloc, profile, alone, keys),
+        Reader::Documented => given_by::<Written>(alloc, profile, alone, keys),
     }
 }
 

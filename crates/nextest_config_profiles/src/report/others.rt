@@ -14,17 +14,7 @@ use crate::{EffectiveProfile, LayerValue};
 use std::alloc::{AllocError, Global};
 
 // The keys that are known in a profile, but for those that are told elsewhere.
-const OTHER_KEYS: &[&str] = &[
-    "default-filter",
-    "test-threads",
-    "run-extra-args",
-    "status-level",
-    "final-status-level",
-    "success-output",
-    "failure-output",
-    "scripts",
-    "archive",
-];
+const OTHER_KEYS: &[&str] = &["scripts", "archive"];
 
 fn other_keys() -> &'static [&'static str]
     ensures { words_of result.now ≡ other_keys }

@@ -1,5 +1,6 @@
 //! The parts of a report on a profile: its settings, what else it has, and what overrides may change.
 
+use std::time::Duration;
 use toml::Value;
 use toml_spans::Place;
 
@@ -51,11 +52,10 @@ pub enum KeyState<'a> {
     Value {
         literal: Literal,
         source: Source<'a>,
-        /// Whether it is a time as long as none at all.
-        no_limit: bool,
+        remark: Remark,
     },
-    /// This value, from there, of a setting with a duration that isn't judged here, or where
-    /// nextest may convert it.
+    /// This value, from there, of a setting with a duration that isn't judged here; or one that
+    /// nextest may convert, or with which something is wrong by its documentation alone.
     NotJudged {
         literal: Literal,
         source: Source<'a>,
@@ -75,6 +75,16 @@ pub enum KeyState<'a> {
         /// Where the parts of the value stand.
         sources: Vec<FaultSource<'a>>,
     },
+}
+
+/// What is remarked of a value.
+#[derive(Clone, Copy)]
+pub enum Remark {
+    Nothing,
+    /// It is a time as long as none at all.
+    NoLimit,
+    /// It is the number of periods after which a slow test is terminated: after so long.
+    TerminatedAfter(Duration),
 }
 
 /// Where a part of a value that is refused stands.

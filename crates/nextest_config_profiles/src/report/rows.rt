@@ -1,10 +1,10 @@
 //! What is told of a setting, key by key.
 
-ghost use Rattle.std.specs.Prelude.{◌≡◌, ◌∷◌, [], filter, IfOk, map, MatchOption, None, option_map, Some};
+ghost use Rattle.std.specs.Prelude.{◌≡◌, ◌∷◌, ◌↔◌, [], filter, IfOk, IsTrue, map, MatchOption, None, option_map, Some};
 ghost use Rattle.std.specs.List.{AllZip};
 ghost use Rattle.toml.specs.View.{view};
 ghost use Rattle.nextest_config_profiles.specs.Reach.{words_of};
-ghost use Rattle.nextest_config_profiles.specs.Report.Rows.{AreImplied, AreRowsFor, AreRowsOf, AreValueRows, AreWholeRows, at_of, IsAbsentRow, IsGivenRow, IsGivenState, IsImpliedRow, IsMemberRow, IsFoundMember, is_optional, IsNothingRow, IsNothingState, IsTaken, IsTakenAway, stands_for_table};
+ghost use Rattle.nextest_config_profiles.specs.Report.Rows.{AreImplied, AreRowsFor, AreRowsOf, AreValueRows, AreWholeRows, at_of, has_parts, IsAbsentRow, IsGivenRow, IsGivenState, IsImpliedRow, IsMemberRow, IsFoundMember, is_optional, IsNothingRow, IsNothingState, IsSure, IsTaken, IsTakenAway, stands_for_table};
 ghost use Rattle.nextest_config_profiles.specs.Report.Setting.{absent_of, member_of, rule_of};
 
 use crate::report::faulty::fault_row;
@@ -12,10 +12,11 @@ use crate::report::given::Given;
 use crate::report::hidden::hidden_rows;
 use crate::report::keys::{copy_of, with_key};
 use crate::report::last::last_at;
-use crate::report::no_limit::is_no_limit;
 use crate::report::parts::{KeyState, Literal, Row};
+use crate::report::remark::remark_of;
 use crate::report::setting::{Absent, Member, Setting};
 use crate::report::source::source_of;
+use crate::report::written::is_doubted;
 use crate::{EffectiveProfile, LayerValue};
 use nextest_config_lint::is_converted_at;
 use std::alloc::{AllocError, Global};
@@ -153,7 +154,7 @@ fn found_rows<'p>(
     ensures { IfOk result (λ rows. AreRowsOf (at_of given.entry) found.entry rows.items) }
 {
     match found {
-        Some(found) if found.value.is_table() => {
+        Some(found) if has_parts(given.setting, found.value) => {
             member_rows(alloc, given, given.setting.members)
         }
         Some(found) => whole_rows(alloc, given, found),
@@ -164,6 +165,13 @@ fn found_rows<'p>(
             Ok(rows)
         }
     }
+}
+
+// Whether a value is a table whose keys are told one by one.
+fn has_parts(setting: Setting, value: &Value) -> bool
+    ensures { result ≡ has_parts (rule_of setting) (view value.now) }
+{
+    value.is_table() && !setting.members.is_empty()
 }
 
 // The rows of the keys of a table.
@@ -244,16 +252,33 @@ fn given_state<'p>(
         (option_map (λ key. key.now) member.entry) (words_of keys.now) found.entry) }
 {
     let source = source_of(alloc, given.effective, found.layer, given.profile, keys)?;
-    let no_limit = is_no_limit(given.setting.reader, member, found.value);
+    let remark = remark_of(alloc, given, member, found.value)?;
     let literal = Literal::of(alloc, found.value.clone()?)?;
-    if !given.is_judged || is_converted_at(keys, found.value) {
-        return Ok(KeyState::NotJudged { literal, source });
+    if is_sure(alloc, given, keys, found.value)? {
+        return Ok(KeyState::Value {
+            literal,
+            source,
+            remark,
+        });
     }
-    Ok(KeyState::Value {
-        literal,
-        source,
-        no_limit,
-    })
+    Ok(KeyState::NotJudged { literal, source })
+}
+
+// Whether a value is sure: its setting is judged, nextest doesn't convert it, and nothing is wrong with
+// it by the documentation.
+fn is_sure(
+    alloc: Global,
+    given: GivenSetting<'_>,
+    keys: &[&str],
+    value: &Value,
+) -> Result<bool, AllocError>
+    ensures { IfOk result (λ sure.
+        IsTrue sure ↔ IsSure (at_of given.entry) (words_of keys.now) (view value.now)) }
+{
+    if !given.is_judged || is_converted_at(keys, value) {
+        return Ok(false);
+    }
+    Ok(!is_doubted(alloc, given.setting.reader, keys, value)?)
 }
 
 // The row of a key that no layer has.

@@ -17,6 +17,8 @@ pub(crate) enum Reader {
     Boolean,
     ReportSkipped,
     FlakyFailStatus,
+    /// None: the setting is known from nextest's documentation alone, and told as it is written.
+    Documented,
 }
 
 /// A setting: its path below a profile, what reads it, and the keys that its table may have, in
@@ -144,6 +146,41 @@ const SETTINGS: &[Setting] = &[
     Setting {
         keys: &["global-timeout"],
         reader: Reader::GlobalTimeout,
+        members: &[],
+    },
+    Setting {
+        keys: &["default-filter"],
+        reader: Reader::Documented,
+        members: &[],
+    },
+    Setting {
+        keys: &["test-threads"],
+        reader: Reader::Documented,
+        members: &[],
+    },
+    Setting {
+        keys: &["run-extra-args"],
+        reader: Reader::Documented,
+        members: &[],
+    },
+    Setting {
+        keys: &["status-level"],
+        reader: Reader::Documented,
+        members: &[],
+    },
+    Setting {
+        keys: &["final-status-level"],
+        reader: Reader::Documented,
+        members: &[],
+    },
+    Setting {
+        keys: &["success-output"],
+        reader: Reader::Documented,
+        members: &[],
+    },
+    Setting {
+        keys: &["failure-output"],
+        reader: Reader::Documented,
         members: &[],
     },
     Setting {
