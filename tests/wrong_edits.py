@@ -92,6 +92,11 @@ def body_of(lines, head):
     return head + 1, head + 1
 
 
+def without_comments(text, mark):
+    """A text without the lines that are comments."""
+    return "\n".join(line for line in text.split("\n") if not line.lstrip().startswith(mark))
+
+
 def without_bodies(text):
     """Source text without the bodies of its functions: types, constants, and what each function promises."""
     lines, kept, at = text.split("\n"), [], 0

@@ -3,7 +3,7 @@
 import pathlib
 import re
 
-from wrong_edits import ANGLES, checksum, without_bodies
+from wrong_edits import ANGLES, checksum, without_bodies, without_comments
 
 USE = re.compile(r"\buse ((?:crate|super|\w+)::[^;]*);")
 SPEC = re.compile(r"\bRattle\.(\w+)\.specs\.([\w.+]+)")
@@ -87,7 +87,8 @@ class Imports:
         """A checksum of what a file says."""
         if at not in self.said:
             text = self.texts[at]
-            self.said[at] = checksum(without_bodies(text) if at[1].startswith("src/") else text)
+            is_source = at[1].startswith("src/")
+            self.said[at] = checksum(without_bodies(without_comments(text, "//")) if is_source else without_comments(text, "--"))
         return self.said[at]
 
 

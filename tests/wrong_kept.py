@@ -7,7 +7,7 @@ import subprocess
 import sys
 import threading
 
-from wrong_edits import checksum
+from wrong_edits import checksum, without_comments
 from wrong_imports import Imports
 
 TESTS = pathlib.Path(__file__).parent
@@ -21,8 +21,8 @@ class KeptFile:
 
     The checksum is of the edit, of the files that it changes, of the definitions and of the sources without the bodies
     of functions that these rest on (wrong_imports.py), of those that hold the function that is to be refused, and of
-    what tries edits. Proofs, other bodies and the toolchain are left out: they change what is proved, and not whether
-    the edited body is wrong.
+    what tries edits. Comments, proofs, other bodies and the toolchain are left out: they change what is proved, or
+    nothing, and not whether the edited body is wrong.
     """
 
     def __init__(self, crates, text, has_all=True):
@@ -48,7 +48,7 @@ class KeptFile:
 
     def checksum(self, edit):
         crate = self.crates[edit.crate]
-        files = {file: crate.texts.get(file) for file, *_ in edit.pairs}
+        files = {file: without_comments(crate.texts.get(file, ""), "//") for file, *_ in edit.pairs}
         held = [(edit.crate, file) for file in {**files, **crate.holders(edit.told)} if file in crate.texts]
         return checksum(self.common, edit.text, files, self.imports.rest(held))
 

@@ -1,7 +1,7 @@
 -- What the files of a list say of experimental features.
 use mathlib.Core.Logic.Iff as iff
 use mathlib.Core.Logic.{⊎_map}
-use Rattle.std.proofs.Common.{◌≡◌, ◌⊎◌, ◌↔◌, ℕ, Bool, true, false, ◌||◌, List, [], ◌∷◌, ◌++◌, Contains, IsSome, IsTrue, is_some, Option, Some, None, inl, inr, refl, subst, sym, ap, ◌∙◌, ⊎_elim}
+use Rattle.std.proofs.Common.{◌≡◌, ◌⊎◌, ◌↔◌, Bool, true, false, ◌||◌, List, [], ◌∷◌, ◌++◌, Contains, IsSome, IsTrue, is_some, Option, Some, None, inl, inr, refl, subst, sym, ◌∙◌, ⊎_elim}
 use Rattle.std.proofs.lemmas.Bool.{true≢false}
 use Rattle.std.proofs.lemmas.Map.Views.{tells_apart}
 use Rattle.std.proofs.lemmas.Option.{same_Some}

@@ -12,19 +12,18 @@ use Rattle.nextest_config.specs.declared.nextest_version.source.ConfigSourceKind
 use Rattle.nextest_config.specs.declared.nextest_version.source.ConfigSourceKind.TheVariants.{DiscoveredRepository, ExplicitRepository, Tool}
 use Rattle.toml_spans.specs.Line.{found_below}
 use Rattle.toml_spans.specs.Step.{key, PathStep}
-use Rattle.nextest_config_lint.specs.Defined.{AreNamesOf, DefinesNamed, DefinesProfile, ListFile}
+use Rattle.nextest_config_lint.specs.Defined.{AreNamesOf, DefinesNamed, ListFile}
 use Rattle.nextest_config_lint.specs.File.{key_in, path_after, whole_path}
 use Rattle.nextest_config_lint.specs.FindingsLaws.{is_reference}
 use Rattle.nextest_config_lint.specs.Found.{default_filter_alone, default_filter_beside, feature_not_enabled, Found, FoundKind, found_severity, IsNearestMeant, Meant, name_of_tool, no_name, other_script, outside_tool, override_of_all, reserved_profile, script_of_all, setup_script_too, the_word, undefined_name, undefined_profile}
 use Rattle.nextest_config_lint.specs.Named.{other_kind}
 use Rattle.nextest_config_values.specs.NearestWord.{nearest_once}
-use Rattle.nextest_config_lint.specs.References.{default_filter_key, FileInList, HasKey, IsBesideFilter, IsDefaultFilterTold, IsDefinitionTold, IsFirstTold, IsGroupTextTold, IsKeptTold, IsMarkTold, IsMissingTold, IsNameTold, IsNearestTold, IsOfAll, IsOtherProfile, IsOverrideTold, IsParentNameTold, IsParentTold, IsPlaceTold, IsReferenceFound, IsSetupToo, IsSought, IsSubjectTold, IsTextTold, IsToldIf, IsUndefinedTold, IsWithoutPlatform, LacksFeature, steps_to, told_below, tool_mark_of}
+use Rattle.nextest_config_lint.specs.References.{default_filter_key, FileInList, HasKey, IsBesideFilter, IsDefaultFilterTold, IsDefinitionTold, IsFirstTold, IsGroupTextTold, IsKeptTold, IsMarkTold, IsMissingTold, IsNameTold, IsNearestTold, IsOfAll, IsOtherProfile, IsOverrideTold, IsParentNameTold, IsParentTold, IsPlaceTold, IsReferenceFound, IsSetupToo, IsSought, IsSubjectTold, IsTextTold, IsToldIf, IsUndefinedTold, IsWithoutPlatform, steps_to, told_below, tool_mark_of}
 use Rattle.nextest_config_lint.specs.RulePlaces.{another, an_override, a_group_of, a_name, a_parent, a_profile, a_script_of, a_script_rule, RulePlace, place_of, the_scripts}
 use Rattle.nextest_config_lint.specs.Settings.{a_value, SettingView, Subject}
 use Rattle.nextest_config_lint.specs.declared.finding.FindingSeverity.TheVariants.{Warning}
 use Rattle.nextest_config_lint.specs.declared.named.NamedKind.{NamedKind}
 use Rattle.nextest_config_lint.specs.declared.named.NamedKind.TheVariants.{Group, Script}
-use Rattle.nextest_config_lint.specs.declared.named.ScriptKind.{ScriptKind}
 
 -- ---- what is told of references
 

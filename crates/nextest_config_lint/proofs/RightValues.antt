@@ -1,5 +1,5 @@
 -- Whether nothing is wrong with a value, by what a check of it answers.
-use Rattle.std.specs.Prelude.{◌≡◌, ◌↔◌, Bool, true, false, IfErr, IfOk, IsSome, IsTrue, MatchResult, Ok, Err, OnOk, Option, Some, None, Result}
+use Rattle.std.specs.Prelude.{◌≡◌, ◌↔◌, Bool, false, IfErr, IfOk, IsSome, IsTrue, MatchResult, Ok, Err, OnOk, Option, Some, None, Result}
 use Rattle.nextest_config_values.specs.Read.Fault.{Always, fault_of, Fault, Refuses}
 use Rattle.nextest_config_values.specs.Read.{Check, FaultOrMemory}
 use Rattle.nextest_config_values.specs.declared.read.value_fault.ValueFault.{ValueFault}

@@ -1,6 +1,6 @@
 -- What is found of names that refer to others, and of rules between keys, after nextest's
 -- documentation.
-use Rattle.std.specs.Prelude.{◌≡◌, ◌≢◌, ◌<◌, ◌≤◌, ◌⊎◌, ℕ, length, Bool, cond, ◌&&◌, ◌||◌, List, [], ◌∷◌, ◌++◌, codes, map, nat_eq, not, IsSome, Option, Some, None, option_map, string_bytes}
+use Rattle.std.specs.Prelude.{◌≡◌, ◌≢◌, ◌<◌, ◌≤◌, ◌⊎◌, ℕ, length, Bool, List, [], ◌∷◌, ◌++◌, codes, map, nat_eq, not, IsSome, Option, Some, None, option_map, string_bytes}
 use Rattle.std.specs.Cmp.Lexicographic.{pointwise}
 use Rattle.toml.specs.Data.{as_str, as_table, Data, get, get_member, Members, no_members}
 use Rattle.toml_spans.specs.Step.{key, PathStep}

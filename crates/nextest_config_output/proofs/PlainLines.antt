@@ -1,9 +1,9 @@
 -- A line of printable ASCII that isn't cut is shown as it is.
-use Rattle.std.proofs.Common.{◌≡◌, ◌∙◌, ℕ, ◌<◌, ◌≤◌, ◌==◌, ◌&&◌, cond, nat_le, zero, suc, Bool, true, false, List, [], ◌∷◌, flat_map, length, take, ap, arith, refl, sym}
+use Rattle.std.proofs.Common.{◌≡◌, ◌∙◌, ℕ, ◌<◌, ◌≤◌, ◌==◌, cond, zero, suc, Bool, true, false, List, [], ◌∷◌, flat_map, length, take, ap, arith, refl, sym}
 use Rattle.std.proofs.lemmas.Bool.{true≢false}
 use Rattle.std.proofs.lemmas.Bool.Decides.{nat_tests}
 use Rattle.std.proofs.lemmas.List.{append-nil}
-use Rattle.std.specs.List.{list_all, slice_index}
+use Rattle.std.specs.List.{list_all}
 use Rattle.std.specs.Prelude.{chars}
 use Rattle.nextest_config_values.proofs.Printable.{ascii_chars, bounds, shown_itself, text_stays}
 use Rattle.nextest_config_values.specs.Literal.Shown.{is_printable}

@@ -1,30 +1,36 @@
 -- Times, as a duration that nextest reads.
-use Rattle.std.specs.Prelude.{ℕ, ◌*◌, ◌/◌, ◌%◌, ◌==◌, Bool, not, List, ◌∷◌, [], ◌++◌, codes, decimal, filter, if◌then◌else◌}
+use Rattle.std.specs.Prelude.{ℕ, ◌/◌, ◌%◌, ◌==◌, Bool, not, List, ◌∷◌, [], ◌++◌, codes, decimal, filter, if◌then◌else◌}
 use Rattle.std.specs.List.{join_by}
 
 -- how often a unit goes into a time, and its word
 abbrev pub Part : Type 0
 Part = ℕ × List ℕ
 
--- units in nanoseconds
+-- a microsecond, in nanoseconds
 abbrev pub microsecond : ℕ
 microsecond = 1_000
 
+-- a millisecond, in nanoseconds
 abbrev pub millisecond : ℕ
 millisecond = 1_000_000
 
+-- a second, in nanoseconds
 abbrev pub second : ℕ
 second = 1_000_000_000
 
+-- a minute, in nanoseconds
 abbrev pub minute : ℕ
 minute = 60_000_000_000
 
+-- an hour, in nanoseconds
 abbrev pub hour : ℕ
 hour = 3_600_000_000_000
 
+-- a day, in nanoseconds
 abbrev pub day : ℕ
 day = 86_400_000_000_000
 
+-- a week, in nanoseconds
 abbrev pub week : ℕ
 week = 604_800_000_000_000
 

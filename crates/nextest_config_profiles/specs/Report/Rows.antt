@@ -1,5 +1,5 @@
 -- What is told of a setting, key by key.
-use Rattle.std.specs.Prelude.{◌≡◌, ◌↔◌, ◌&&◌, ℕ, Bool, true, false, List, [], ◌∷◌, ◌++◌, codes, filter, is_some, IsTrue, length, map, Option, Some, None, string_bytes}
+use Rattle.std.specs.Prelude.{◌≡◌, ◌&&◌, ℕ, Bool, true, false, List, [], ◌∷◌, ◌++◌, codes, filter, is_some, length, map, Option, Some, None, string_bytes}
 use Rattle.std.specs.List.{AllZip}
 use Rattle.toml.specs.Data.{as_table, Data, integer, string}
 use Rattle.toml.specs.View.{view}
@@ -9,7 +9,7 @@ use Rattle.nextest_config_values.specs.declared.read.value_fault.ValueFault.{Val
 use Rattle.nextest_config_lint.specs.Conversion.{IsConvertedAt}
 use Rattle.nextest_config_profiles.specs.Profile.{layers_in}
 use Rattle.nextest_config_profiles.specs.Reach.{words_of}
-use Rattle.nextest_config_profiles.specs.Said.{Path, said_at}
+use Rattle.nextest_config_profiles.specs.Said.{Path}
 use Rattle.nextest_config_profiles.specs.declared.last_value.LayerValue.{LayerValue}
 use Rattle.nextest_config_profiles.specs.declared.profile.EffectiveProfile.{EffectiveProfile}
 use Rattle.nextest_config_profiles.specs.Report.Given.{IsGivenFor}
