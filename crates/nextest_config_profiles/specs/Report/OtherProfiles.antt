@@ -1,5 +1,5 @@
 -- Faults of settings in other profiles than the one that gives the setting.
-use Rattle.std.specs.Prelude.{◌≡◌, ◌⊎◌, ◌≢◌, ℕ, List, Option, Some, None, string_bytes}
+use Rattle.std.specs.Prelude.{◌≡◌, ◌⊎◌, ◌≢◌, ℕ, if◌then◌else◌, List, [], Option, Some, None, string_bytes}
 use Rattle.nextest_config_values.specs.Read.{fault_of}
 use Rattle.nextest_config_values.specs.declared.read.value_fault.ValueFault.{ValueFault}
 use Rattle.nextest_config_profiles.specs.Layer.{profiles_in}
@@ -11,6 +11,8 @@ use Rattle.nextest_config_profiles.specs.Report.Given.{IsGivenFor}
 use Rattle.nextest_config_profiles.specs.Report.Rows.{ArePlacesOf, IsMessage}
 use Rattle.nextest_config_profiles.specs.Report.Setting.{all_settings, SettingRule}
 use Rattle.nextest_config_profiles.specs.Report.Somes.{AreLists, AreSomes}
+use Rattle.nextest_config_profiles.specs.Report.Written.{is_documented}
+use Rattle.nextest_config_profiles.specs.declared.report.setting.Reader.{Reader}
 use Rattle.nextest_config_profiles.specs.declared.report.given.Given.{Given}
 use Rattle.nextest_config_profiles.specs.declared.report.given.Given.TheVariants as given
 use Rattle.nextest_config_profiles.specs.declared.report.parts.OtherProfileFault.{OtherProfileFault}
@@ -57,13 +59,19 @@ abbrev pub IsFaultOf : EffectiveProfile → SettingRule → Option (List ℕ) �
 IsFaultOf effective setting giver profile fault = ((giver ≡ Some profile) × (fault ≡ None))
     ⊎ ((giver ≢ Some profile) × IsFaultIf effective setting profile fault)
 
+-- of these names of profiles those whose values of a setting may be refused: none, where no reader
+-- reads it
+abbrev pub names_judged : Reader → List (List ℕ) → List (List ℕ)
+names_judged reader names = if is_documented reader then [] else names
+
 -- what is wrong with a setting of all profiles but the one that gives it, in the order of these
 -- names
 pub record AreFaultsOf (effective : EffectiveProfile) (names : List (List ℕ))
     (setting : SettingRule) (faults : List OtherProfileFault) : Type 0 where
   pub giver : Option (List ℕ)
   pub is_giver : IsGiver effective setting giver
-  pub are_faults : AreSomes (IsFaultOf effective setting giver) names faults
+  pub are_faults : AreSomes (IsFaultOf effective setting giver) (names_judged setting.reader names)
+      faults
 
 -- what is wrong with settings of all profiles but the one that gives each, setting by setting
 pub record AreOtherProfileFaults (effective : EffectiveProfile) (faults : List OtherProfileFault) :

@@ -3,7 +3,7 @@
 ghost use Rattle.std.specs.Prelude.{◌≡◌, ◌++◌, ◌∷◌, [], IfOk, List, map, OnOk};
 ghost use Rattle.std.specs.List.{AllZip, list_any};
 ghost use Rattle.nextest_config_profiles.specs.Reach.{words_of};
-ghost use Rattle.nextest_config_profiles.specs.Report.OtherProfiles.{AreFaultsOf, AreOtherProfileFaults};
+ghost use Rattle.nextest_config_profiles.specs.Report.OtherProfiles.{AreFaultsOf, AreOtherProfileFaults, names_judged};
 ghost use Rattle.nextest_config_profiles.specs.Report.ProfileReport.{has_fault, have_fault, is_fault, IsReport, rows_have_fault};
 ghost use Rattle.nextest_config_profiles.specs.Report.Rows.{AreRows};
 ghost use Rattle.nextest_config_profiles.specs.Report.Setting.{all_settings, rule_of};
@@ -17,7 +17,8 @@ use crate::report::others::others;
 use crate::report::overrides::overrides;
 use crate::report::parts::{ChainProfile, KeyState, OtherKey, OtherProfileFault, Override, Row};
 use crate::report::rows::rows_of;
-use crate::report::setting::{Setting, all_settings};
+use crate::report::setting::{Reader, Setting, all_settings};
+use crate::report::written::is_documented;
 use crate::{EffectiveProfile, profile_names};
 use std::alloc::{AllocError, Global};
 
@@ -124,8 +125,17 @@ fn push_setting<'a>(
     let giver = giver_of(&given);
     let rows = rows_of(alloc, effective, setting, tells_hidden, given)?;
     report.rows.push(rows)?;
+    let names = names_judged(setting.reader, names);
     push_faults(alloc, effective, setting, giver, names, &mut report.faults)?;
     Ok(())
+}
+
+// The names of the profiles whose values of a setting may be refused: none, where no reader reads
+// it.
+fn names_judged<'n, 'a>(reader: Reader, names: &'n [&'a str]) -> &'n [&'a str]
+    ensures { words_of result.now ≡ names_judged reader (words_of names.now) }
+{
+    if is_documented(reader) { &[] } else { names }
 }
 
 // Whether a row of a setting tells of a fault, or of no value.

@@ -45,8 +45,8 @@ pub(crate) fn is_doubted(
     Ok(false)
 }
 
-// Whether a setting is known from nextest's documentation alone.
-fn is_documented(reader: Reader) -> bool
+/// Whether a setting is known from nextest's documentation alone.
+pub(crate) fn is_documented(reader: Reader) -> bool
     ensures { result ≡ is_documented reader }
 {
     matches!(reader, Reader::Documented)

@@ -16,7 +16,7 @@ returns-clause-faults c =
       record {
         giver = option_map (λ name. name.now) c.giver_of-giver.result;
         is_giver = (c.in_ok-given.given, c.in_ok-given.ensures, c.giver_of-giver.ensures);
-        are_faults = are;
+        are_faults = rw c.names_judged-names.ensures at are;
       },
       pushed,
     )
