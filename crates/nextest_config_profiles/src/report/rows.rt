@@ -264,8 +264,8 @@ fn given_state<'p>(
     Ok(KeyState::NotJudged { literal, source })
 }
 
-// Whether a value is sure: its setting is judged, nextest doesn't convert it, and nothing is wrong with
-// it by the documentation.
+// Whether a value is sure: its setting is judged, nextest doesn't convert it, and nothing is wrong
+// with it by the documentation.
 fn is_sure(
     alloc: Global,
     given: GivenSetting<'_>,
