@@ -33,6 +33,7 @@ test: toolchain
 	tests/run $(PROGRAM) $(COMMAND)/out/nextest_config_cli
 	tests/random $(PROGRAM)
 	tests/random-files $(COMMAND)/out/nextest_config_cli
+	tests/random-schema $(COMMAND)/out/nextest_config_cli
 	tests/positions $(BENCH)
 	tests/random-profiles $(BENCH)
 	tests/refusals $(ROWS) $(PROGRAM) $(COMMAND)/out/nextest_config_cli

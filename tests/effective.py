@@ -19,8 +19,8 @@ from settings import OVERRIDE, PROFILE, REQUIRED, SETTINGS, SLOW_TIMEOUT, TIMES,
 DEFAULTS = pathlib.Path(__file__).resolve().parent.parent / "crates/nextest_config_profiles/src/defaults.rt"
 # What layers have at a path together: the last that has it, what that has there, and what is below a table.
 Laid = collections.namedtuple("Laid", "layer node below")
-# A line: the object that says it, its first column, and where it comes from.
-Line = collections.namedtuple("Line", "object first source")
+# A line: the object that says it, its first column, and where it comes from; of an override also what that is.
+Line = collections.namedtuple("Line", "object first source override", defaults=[None])
 TAKEN_AWAY = "no value: the empty text takes the default away"
 VERY_LONG = 946080000 * 10**9
 LONGEST = ((1 << 64) - 1) * 10**9 + 999999999
@@ -355,7 +355,7 @@ class Profile:
         texts = [", ".join(f"{key} = {literal(one)}" for key, one in it.items()) for it in (conditions, settings)]
         of = f" [profile.{name_text(spot['profile'])}]" if spot["profile"] != self.name else ""
         texts = [texts[0] or "every test", *filter(None, texts[1:])]
-        return Line(told, f"{self.place_text(spot)}:{of} {'; '.join(texts)}", None)
+        return Line(told, f"{self.place_text(spot)}:{of} {'; '.join(texts)}", None, value)
 
     def outside(self):
         """What is wrong with settings of other profiles than those that give them."""
@@ -373,14 +373,49 @@ def message_of(fault):
     return f"{rules.path_text(fault.steps)}: {fault.said()}" if fault.steps else fault.said()
 
 
-def profile_answers(listed, name, hides):
-    """The answers for people, and those for programs, of which any may be given."""
+def is_at(key, other):
+    """Whether a printed path is another one, or lies below it."""
+    return f"{key}.".startswith(f"{other}.")
+
+
+def only(lines, wanted):
+    """Of lines, each with what it hides behind it, those of keys that are wanted, lie below one, or have one in them."""
+    told = False
+    for line in lines:
+        if line.object.get("state") != "hidden":
+            key = line.object["key"]
+            told = any(is_at(key, one) or is_at(one, key) for one in wanted)
+        if told:
+            yield line
+
+
+def sets_wanted(override, wanted):
+    """Whether an override has a value of a setting in which a wanted key lies, or that lies in one; or a wanted key is
+    one that it has."""
+    named = [steps for steps in (one.split(".") for one in wanted) if steps[0] == "overrides"]
+    if any(not steps[1:] or steps[1] in override and steps[1] not in ("filter", "platform") for steps in named):
+        return True
+    for keys in SETTINGS:
+        key, value = keys_text(keys, "."), override
+        for one in keys:
+            value = value.get(one) if isinstance(value, dict) else None
+        if value is not None and any(is_at(key, one) or is_at(one, key) for one in wanted):
+            return True
+    return False
+
+
+def profile_answers(listed, name, hides, wanted=()):
+    """The answers for people, and those for programs, of which any may be given, of all keys or of those that are
+    wanted."""
     try:
         told = Profile(listed, name, hides)
     except Wrong as wrong:
         return [[Answer(2, "", f"{shown(line)}\n") for line in wrong.args[0]]] * 2
     settings = [line for keys, how in SETTINGS.items() for line in told.setting(keys, *how)]
     others, overrides, outside = list(told.others()), list(told.overrides()), "".join(told.outside())
+    if wanted:
+        settings, others = list(only(settings, wanted)), list(only(others, wanted))
+        overrides = [line for line in overrides if sets_wanted(line.override, wanted)]
     status = int(bool(outside) or any(line.object["state"] == "fault" for line in settings))
     lists = {"settings": settings, "others": others, "overrides": overrides}
     objects = {key: [line.object for line in lines] for key, lines in lists.items()}

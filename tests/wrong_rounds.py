@@ -24,6 +24,8 @@ PROOF_ERROR = re.compile(r"^(?:\./)?proofs/(\S+)/\w+\.antt:\d+:\d+: error: (.*)$
 NAMES = re.compile(r"has no field|is not in scope|has no `|was not admitted|(record|module) `[^`]*`( \(nearest|$)")
 # A goal of the function's own that was searched for, and not found.
 GOAL = re.compile(r"did not prove|gave up")
+# What is said of a function that is proved, or that has no hole left; of what it lends to another function, too.
+PROVED = ("proved", "proved where its callers give what it asks", "no holes")
 
 # The folder of the toolchain.
 TOOLCHAIN = pathlib.Path(subprocess.run(["rt", "doc"], capture_output=True, text=True, check=True).stdout.strip()).parent
@@ -40,7 +42,7 @@ class Report:
     def judge(self, edit):
         """How an edit came out, and why: it is `unspoken`, `survives`, is `refused` by a goal of its own, or by the `names` in its proof files, or neither is told: `unclear`."""
         told = {symbol: said for symbol, said in self.told.items() if re.sub(r"::fn::([^:]+).*", r"::\1", symbol) == edit.symbol}
-        unproved = {symbol: said for symbol, said in told.items() if said not in ("proved", "no holes")}
+        unproved = {symbol: said for symbol, said in told.items() if said not in PROVED}
         if not told:
             return "unspoken", "the check doesn't speak of its function"
         if not unproved:
@@ -99,7 +101,7 @@ class Rounds:
         self.take(usage)
         print(f"{self.crate.name}: as it stands, {usage.ru_utime + usage.ru_stime:.0f} s", flush=True)
         told = Report(text).told
-        wrong = [f"{symbol}: {said}" for symbol, said in told.items() if said != "proved"]
+        wrong = [f"{symbol}: {said}" for symbol, said in told.items() if said not in PROVED]
         if wrong:
             raise Failed(f"it isn't proved as it stands: {wrong[0]}")
         if told:

@@ -1,1 +1,1 @@
-pub mod Tools
+pub mod NamingWords

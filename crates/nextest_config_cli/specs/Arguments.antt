@@ -1,6 +1,7 @@
 -- What is asked for by the words of a command line, once `clap` has taken them.
-use Rattle.std.specs.Prelude.{◌≡◌, ◌≢◌, ℕ, Bool, true, false, List, map, codes, Err, Ok, Option, Some, None, option_map, MatchOption, slice_get, string_bytes}
+use Rattle.std.specs.Prelude.{◌≡◌, ◌≢◌, ℕ, Bool, true, false, List, map, codes, Err, Ok, Option, Some, None, option_map, MatchOption, slice_get, String, string_bytes}
 use denote.Ref.{Bor}
+use Rattle.std.proofs.Common.{Global}
 use Rattle.std.specs.List.{AllZip}
 use Rattle.semver.specs.Identifiers.{parts_of}
 use Rattle.semver.specs.Parse.{version_parts}
@@ -22,11 +23,18 @@ use Rattle.nextest_config_command.specs.declared.request.ProfileTask.{ProfileTas
 use Rattle.nextest_config_command.specs.declared.request.Request.{Request}
 use Rattle.nextest_config_command.specs.declared.request.Task.{Task}
 use Rattle.nextest_config_command.specs.declared.request.Task.TheVariants as task
-use Rattle.nextest_config_lint.specs.Explain.Topic.{topic_word, topics}
+use Rattle.nextest_config_lint.specs.Explain.Key.{explained_rule}
+use Rattle.nextest_config_lint.specs.Explain.KeyPath.{key_at}
+use Rattle.nextest_config_lint.specs.Explain.Nearest.{below_profile, explained_words}
+use Rattle.nextest_config_lint.specs.Explain.Topic.{topic_word}
+use Rattle.nextest_config_profiles.specs.Report.Wanted.{dotted, IsKeyNamed, path_of, told_paths}
+use Rattle.nextest_config_profiles.specs.declared.report.wanted.WantedKey.{WantedKey}
 use Rattle.nextest_config_lint.specs.declared.explain.topic.Topic.{Topic}
 use Rattle.nextest_config_cli.specs.declared.refusal.Refusal.{Refusal}
 use Rattle.nextest_config_cli.specs.declared.refusal.Refusal.TheVariants as refusal
 use Rattle.nextest_config_cli.specs.declared.arguments.Arguments.{Arguments}
+use Rattle.nextest_config_cli.specs.declared.arguments.Explained.{Explained}
+use Rattle.nextest_config_cli.specs.declared.arguments.Explained.TheVariants as explained
 
 -- the texts of words, without where they lie in memory
 abbrev pub texts : List (Bor (List ℕ)) → List (List ℕ)
@@ -55,10 +63,16 @@ pub record AsksCheck (arguments : Arguments) (check : Check) : Type 0 where
   pub overridden : check.override_version_check ≡ arguments.overridden
   pub lint : AsksLint arguments check.lint
 
--- the profile that is told: its name, whether with what values hide, and the format
+-- the key of a profile that a word names
+abbrev pub IsKey : List ℕ → WantedKey → Type 0
+IsKey word key = IsKeyNamed word (Some (path_of key))
+
+-- the profile that is told: its name, whether with what values hide, the keys of which alone it is
+-- told, and the format
 pub record AsksProfile (arguments : Arguments) (profile : ProfileTask) : Type 0 where
   pub name : text arguments.profile ≡ Some (string_bytes profile.name)
   pub all : profile.all ≡ arguments.all
+  pub keys : AllZip IsKey (texts arguments.keys.now) profile.keys.items
   pub format : text arguments.format ≡ Some (show.format_word profile.format)
 
 -- the subcommand, with what it takes
@@ -97,12 +111,25 @@ IsNoVersion word = (error : Error) × (version_parts word ≡ Err error)
 abbrev pub IsNoCode : List ℕ → Type 0
 IsNoCode word = (code : FindingCode) → code_word code ≢ word
 
+-- the word names no key of a profile, and comes nearest to this path
+abbrev pub IsNoKey : List ℕ → Option (String Global) → Type 0
+IsNoKey word near = IsKeyNamed word None
+    × IsNearest (map dotted told_paths) word (option_map string_bytes near)
+
+-- why a word isn't taken for a key: it names none, or memory ran out
+abbrev pub RefusesKey : List ℕ → Refusal → Type 0
+RefusesKey word (refusal.NotKey other near) = (other.now ≡ word) × IsNoKey word near
+RefusesKey word refusal.Memory = Unit {0}
+RefusesKey word other = ⊥
+
 -- why nothing is asked for of which this holds: a word is wrong, or no such thing fits the words
 abbrev pub IsRefused : {X : Type 0} → (X → Type 0) → Arguments → Refusal → Type 0
 IsRefused IsAsked arguments (refusal.NotVersion word) =
     (text arguments.current ≡ Some word.now) × IsNoVersion word.now
 IsRefused IsAsked arguments (refusal.NotCode word) =
     IsOneOf (texts arguments.allowed.now) (λ code. (code ≡ word.now) × IsNoCode code)
+IsRefused IsAsked arguments (refusal.NotKey word near) =
+    IsOneOf (texts arguments.keys.now) (λ key. (key ≡ word.now) × IsNoKey key near)
 IsRefused IsAsked arguments (refusal.Tool error) =
     IsOneOf (texts arguments.tools.now) (λ tool. RefusesArgument (IsArgumentFault tool) error)
 IsRefused {X} IsAsked arguments (refusal.Words said) = (asked : X) → IsAsked asked → ⊥
@@ -111,14 +138,30 @@ IsRefused IsAsked arguments other = ⊥
 
 -- ---- an explanation
 
--- what an explanation is asked of; without a word the list of all is asked for
-abbrev pub AsksTopic : Option (List ℕ) → Option Topic → Type 0
-AsksTopic word topic = word ≡ option_map topic_word topic
+-- no topic has this word
+abbrev pub IsNoTopic : List ℕ → Type 0
+IsNoTopic word = (topic : Topic) → topic_word topic ≢ word
 
--- why no explanation is asked for: the word is no topic, with the nearest one, or memory ran out
-abbrev pub IsTopicRefused : Option (List ℕ) → Refusal → Type 0
-IsTopicRefused word (refusal.NotTopic other near) = (word ≡ Some other.now)
-    × ((topic : Topic) → topic_word topic ≢ other.now)
-    × IsNearest (map topic_word topics) other.now (option_map (λ near. near.now) near)
-IsTopicRefused word refusal.Memory = Unit {0}
-IsTopicRefused word other = ⊥
+-- the explanation is that of the key to which the word leads
+abbrev pub IsKeyAsked : List ℕ → Explained → Type 0
+IsKeyAsked word (explained.Key key) = key_at word ≡ Some (explained_rule key)
+IsKeyAsked word other = ⊥
+
+-- what an explanation is asked of: a topic; a key, where the word is no topic; without a word the
+-- list of all
+abbrev pub AsksExplained : Option (List ℕ) → Explained → Type 0
+AsksExplained None asked = asked ≡ explained.All
+AsksExplained (Some word) (explained.Topic topic) = topic_word topic ≡ word
+AsksExplained (Some word) asked = IsNoTopic word × IsKeyAsked word asked
+
+-- why no key is explained: the word leads to none, with the nearest topic or key; or memory ran out
+abbrev pub IsNoKeyAsked : List ℕ → Refusal → Type 0
+IsNoKeyAsked word (refusal.NotTopic other near) = (other.now ≡ word) × (key_at word ≡ None)
+    × IsNearest explained_words (below_profile word) (option_map string_bytes near)
+IsNoKeyAsked word refusal.Memory = Unit {0}
+IsNoKeyAsked word other = ⊥
+
+-- why no explanation is asked for: the word is no topic and leads to no key, or memory ran out
+abbrev pub IsExplainedRefused : Option (List ℕ) → Refusal → Type 0
+IsExplainedRefused None refused = ⊥
+IsExplainedRefused (Some word) refused = IsNoTopic word × IsNoKeyAsked word refused

@@ -33,6 +33,7 @@ pub record AreArguments (subcommand : List ℕ) (found : Found) (arguments : Arg
   pub format : text arguments.format ≡ first_value found (codes "format")
   pub profile : text arguments.profile ≡ first_value found (codes "NAME")
   pub all : IsFlag found (codes "all") arguments.all
+  pub keys : texts arguments.keys.now ≡ words_at found (codes "key")
   pub table_only : IsFlag found (codes "table-only") arguments.table_only
   pub tools : texts arguments.tools.now ≡ words_at found (codes "tool-config-file")
   pub config_file : text arguments.files.config_file ≡ first_value found (codes "config-file")

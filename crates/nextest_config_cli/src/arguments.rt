@@ -4,13 +4,14 @@ ghost use Rattle.std.specs.Prelude.{◌≡◌, ◌≢◌, IfErr, IfOk, map, Matc
 ghost use Rattle.std.specs.List.{AllZip};
 ghost use Rattle.nextest_config_command.specs.Words.{text};
 ghost use Rattle.nextest_config_lint.specs.Code.{code_word};
-ghost use Rattle.nextest_config_cli.specs.Arguments.{Asks, AsksCheck, AsksLint, AsksProfile, AsksTask, AsksTopic, edition_of, IsRefused, IsTool, IsTopicRefused, texts};
+ghost use Rattle.nextest_config_cli.specs.Arguments.{Asks, AsksCheck, AsksExplained, AsksLint, AsksProfile, AsksTask, edition_of, IsExplainedRefused, IsKey, IsKeyAsked, IsNoKeyAsked, IsRefused, IsTool, RefusesKey, texts};
 
 use crate::command_line::{CHECK, LINT, PROFILE, SHOW};
 use crate::refusal::Refusal;
 use nextest_config::nextest_version::Edition;
 use nextest_config_command::{Check, FindingCode, LintOptions, ProfileTask, Request, Task, Words};
-use nextest_config_lint::explain::Topic;
+use nextest_config_lint::explain::{KeyExplanation, Topic, nearest_topic_or_key};
+use nextest_config_profiles::report::WantedKey;
 use nextest_config_values::read::Word;
 use nextest_config_values::tool_config::ToolConfigFile;
 use semver::Version;
@@ -28,6 +29,7 @@ pub(crate) struct Arguments<'m, 'a> {
     pub format: Option<&'a str>,
     pub profile: Option<&'a str>,
     pub all: bool,
+    pub keys: &'m [&'a str],
     pub table_only: bool,
     pub tools: &'m [&'a str],
     pub files: Words<'m>,
@@ -151,8 +153,37 @@ fn profile<'a>(alloc: Global, arguments: &Arguments<'_, 'a>) -> Result<ProfileTa
     Ok(ProfileTask {
         name: String::from_str(alloc, name)?,
         all: arguments.all,
+        keys: wanted_keys(alloc, arguments)?,
         format,
     })
+}
+
+// The keys of a profile of which alone it is told.
+fn wanted_keys<'a>(
+    alloc: Global,
+    arguments: &Arguments<'_, 'a>,
+) -> Result<Vec<WantedKey>, Refusal<'a>>
+    ensures keys { IfOk result (λ keys. AllZip IsKey (texts arguments.now.keys.now) keys.items) }
+    ensures refused { IfErr result (IsRefused (AsksProfile arguments.now) arguments.now) }
+{
+    let mut keys = Vec::new(alloc);
+    for word in arguments.keys {
+        let key = wanted_key(alloc, word)?;
+        let Ok(()) = keys.push(key) else {
+            return Err(Refusal::Memory);
+        };
+    }
+    Ok(keys)
+}
+
+// The key that a word names, or that there is none.
+fn wanted_key<'a>(alloc: Global, word: &'a str) -> Result<WantedKey, Refusal<'a>>
+    ensures { MatchResult result (IsKey word.now) (RefusesKey word.now) }
+{
+    match WantedKey::from_path(alloc, word)? {
+        Some(key) => Ok(key),
+        None => Err(Refusal::NotKey(word, WantedKey::nearest(alloc, word)?)),
+    }
 }
 
 // The files of tools.
@@ -194,15 +225,38 @@ fn value_with<T: Word>(word: &str) -> Option<T>
         .find(|value| value.as_word() == word)
 }
 
-/// What an explanation is asked of, if it is asked of anything; or why it is of nothing.
-pub(crate) fn topic<'a>(alloc: Global, word: Option<&'a str>) -> Result<Option<Topic>, Refusal<'a>>
-    ensures { MatchResult result (AsksTopic (text word.entry)) (IsTopicRefused (text word.entry)) }
+/// What is explained.
+#[derive(Clone, Copy)]
+pub(crate) enum Explained {
+    /// All topics, in a list.
+    All,
+    Topic(Topic),
+    Key(KeyExplanation),
+}
+
+/// What an explanation is asked of, or why it is of nothing.
+pub(crate) fn explained_by<'a>(
+    alloc: Global,
+    word: Option<&'a str>,
+) -> Result<Explained, Refusal<'a>>
+    ensures { MatchResult result (AsksExplained (text word.entry))
+        (IsExplainedRefused (text word.entry)) }
 {
     let Some(word) = word else {
-        return Ok(None);
+        return Ok(Explained::All);
     };
     match Topic::from_word(word) {
-        Some(topic) => Ok(Some(topic)),
-        None => Err(Refusal::NotTopic(word, Topic::nearest(alloc, word)?)),
+        Some(topic) => Ok(Explained::Topic(topic)),
+        None => explained_key(alloc, word),
+    }
+}
+
+// The key to which a word leads that is no topic, or that there is none.
+fn explained_key<'a>(alloc: Global, word: &'a str) -> Result<Explained, Refusal<'a>>
+    ensures { MatchResult result (IsKeyAsked word.now) (IsNoKeyAsked word.now) }
+{
+    match KeyExplanation::of(alloc, word)? {
+        Some(key) => Ok(Explained::Key(key)),
+        None => Err(Refusal::NotTopic(word, nearest_topic_or_key(alloc, word)?)),
     }
 }

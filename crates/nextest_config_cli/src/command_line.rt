@@ -19,6 +19,8 @@ pub(crate) const PROFILE: &str = "profile";
 
 pub(crate) const EXPLAIN: &str = "explain";
 
+pub(crate) const SCHEMA: &str = "schema";
+
 pub(crate) const CURRENT: &str = "current";
 
 pub(crate) const OVERRIDE: &str = "override";
@@ -30,6 +32,8 @@ pub(crate) const ALLOW: &str = "allow";
 pub(crate) const FORMAT: &str = "format";
 
 pub(crate) const ALL: &str = "all";
+
+pub(crate) const KEY: &str = "key";
 
 pub(crate) const TABLE_ONLY: &str = "table-only";
 
@@ -45,7 +49,7 @@ pub(crate) const NAME: &str = "NAME";
 
 pub(crate) const PATH: &str = "PATH";
 
-pub(crate) const CODE: &str = "CODE";
+pub(crate) const TOPIC: &str = "TOPIC";
 
 /// The command with its subcommands.
 pub(crate) fn command<'a>(alloc: Global) -> Result<Command<'a>, AllocError> {
@@ -58,7 +62,8 @@ pub(crate) fn command<'a>(alloc: Global) -> Result<Command<'a>, AllocError> {
         .subcommand(lint_command(alloc)?)?
         .subcommand(show_command(alloc)?)?
         .subcommand(profile_command(alloc)?)?
-        .subcommand(explain_command(alloc)?)
+        .subcommand(explain_command(alloc)?)?
+        .subcommand(schema_command(alloc)?)
 }
 
 fn check_command<'a>(alloc: Global) -> Result<Command<'a>, AllocError> {
@@ -91,22 +96,35 @@ fn profile_command<'a>(alloc: Global) -> Result<Command<'a>, AllocError> {
     let name = Arg::new(alloc, NAME)
         .help("The profile")
         .default_value("default");
+    let key = value(
+        alloc,
+        KEY,
+        "KEY",
+        "Show this key alone, by its path below the profile",
+    )
+    .action(ArgAction::Append);
     let command = Command::new(alloc, PROFILE)
         .about("Shows what a profile gets for its settings, and which file says so")
         .arg(name)?
         .arg(flag(alloc, ALL, "Show what each value hides, too")?)?
+        .arg(key)?
         .arg(show_format(alloc))?;
     with_list(alloc, command, path(alloc))
 }
 
 fn explain_command<'a>(alloc: Global) -> Result<Command<'a>, AllocError> {
-    let code = Arg::new(alloc, CODE).help(
+    let topic = Arg::new(alloc, TOPIC).help(
         "The code of a finding, as it stands at the end of its line, or nextest-version; \
-         else all codes are listed",
+         or the path of a key, as a finding has it; else all codes are listed",
     );
     Command::new(alloc, EXPLAIN)
-        .about("Says what a code means, with an example and the same mended")
-        .arg(code)
+        .about("Says what a code means, with an example, or what a key is for and may have")
+        .arg(topic)
+}
+
+fn schema_command<'a>(alloc: Global) -> Result<Command<'a>, AllocError> {
+    let about = "Prints a JSON Schema of a repository's configuration file, for editors";
+    Ok(Command::new(alloc, SCHEMA).about(about))
 }
 
 // The command with what says how findings are told, and which count.

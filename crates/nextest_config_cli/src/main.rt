@@ -1,5 +1,6 @@
 //! `nextest-config` checks, lints and shows what configuration files of nextest ask, what is wrong
-//! in them, and what profiles get for their settings, and explains the codes of what it finds.
+//! in them, and what profiles get for their settings; explains the codes of what it finds, and keys;
+//! and prints the schema of a file.
 #![tactic(auto)]
 
 mod arguments;
@@ -11,9 +12,11 @@ mod said;
 
 use file_system::FileSystem;
 use nextest_config_command::serve;
+use nextest_config_schema::schema_text;
 use refusal::Refusal;
 use request::{Asked, parse};
-use said::{explained, refuse, show};
+use said::{explanation_lines, refuse, show};
+use std::alloc::AllocError;
 use std::process::ExitCode;
 use std::{env, io};
 
@@ -41,12 +44,17 @@ fn run(rt: &HostRuntime, words: &[String]) -> u8 {
             &mut rt.stdout(),
             &mut rt.stderr(),
         ),
-        Ok(Asked::Explanation(topic)) => {
-            let lines = explained(rt.alloc(), topic);
-            show(lines, &mut rt.stdout(), &mut rt.stderr()).code()
+        Ok(Asked::Explanation(explained)) => {
+            show_lines(rt, explanation_lines(rt.alloc(), explained))
         }
+        Ok(Asked::Schema) => show_lines(rt, schema_text(rt.alloc())),
         Err(refusal) => refuse_words(rt, &refusal),
     }
+}
+
+// Shows lines, and answers the number that the program ends with.
+fn show_lines(rt: &HostRuntime, lines: Result<String, AllocError>) -> u8 {
+    show(lines, &mut rt.stdout(), &mut rt.stderr()).code()
 }
 
 // Says why the words ask for nothing, and answers the number that the program ends with.

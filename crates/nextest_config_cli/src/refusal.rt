@@ -16,8 +16,11 @@ pub(crate) enum Refusal<'a> {
     NotVersion(&'a str),
     /// This word is no code.
     NotCode(&'a str),
-    /// This word is no topic of an explanation. The word of one that it comes nearest to.
-    NotTopic(&'a str, Option<&'static str>),
+    /// This word is no topic of an explanation, and leads to no key. The word of a topic, or the
+    /// path of a key, that it comes nearest to.
+    NotTopic(&'a str, Option<String>),
+    /// This word is the path of no key of a profile. The path of one that it comes nearest to.
+    NotKey(&'a str, Option<String>),
     /// A word names no tool's file.
     Tool(ToolConfigFileParseError),
     /// The system doesn't name the current folder, from which files are looked for.

@@ -4,16 +4,15 @@ ghost use Rattle.std.specs.Prelude.{IfOk};
 ghost use Rattle.clap.specs.Matches.{found_of};
 ghost use Rattle.nextest_config_cli.specs.Matches.{AreArguments, IsAskedBy};
 
-use crate::arguments::{Arguments, request, topic};
+use crate::arguments::{Arguments, Explained, explained_by, request};
 use crate::command_line::{
-    ALL, ALLOW, CODE, CONFIG_FILE, CURRENT, DEFAULT_PATH, EXPLAIN, FORMAT, NAME, OVERRIDE, PATH,
-    STDIN_PATH, STRICT, TABLE_ONLY, TOOL_CONFIG_FILE, command,
+    ALL, ALLOW, CONFIG_FILE, CURRENT, DEFAULT_PATH, EXPLAIN, FORMAT, KEY, NAME, OVERRIDE, PATH,
+    SCHEMA, STDIN_PATH, STRICT, TABLE_ONLY, TOOL_CONFIG_FILE, TOPIC, command,
 };
 use crate::file_system::current_folder;
 use crate::refusal::Refusal;
 use clap::ArgMatches;
 use nextest_config_command::{Request, Words};
-use nextest_config_lint::explain::Topic;
 use nextest_config_values::literal::Shown;
 use std::alloc::{AllocError, Global};
 use std::io;
@@ -22,8 +21,9 @@ use std::io;
 #[derive(Drop)]
 pub(crate) enum Asked {
     Request(Request),
-    /// An explanation of this, or without it the list of all.
-    Explanation(Option<Topic>),
+    Explanation(Explained),
+    /// The schema of a configuration file.
+    Schema,
 }
 
 /// What the words ask for, the first of which is the program's name.
@@ -31,9 +31,10 @@ pub(crate) fn parse<'a>(rt: &HostRuntime, words: &'a [String]) -> Result<Asked, 
     let matches = matches(rt.alloc(), words)?;
     match matches.subcommand() {
         Some((EXPLAIN, matches)) => {
-            let topic = topic(rt.alloc(), matches.get_str(CODE))?;
-            Ok(Asked::Explanation(topic))
+            let explained = explained_by(rt.alloc(), matches.get_str(TOPIC))?;
+            Ok(Asked::Explanation(explained))
         }
+        Some((SCHEMA, _)) => Ok(Asked::Schema),
         Some((name, matches)) => Ok(Asked::Request(request_of(rt, name, matches)?)),
         None => Err(Refusal::Words("no subcommand is named")),
     }
@@ -99,6 +100,7 @@ fn arguments_of<'m, 'a>(
         format: matches.get_str(FORMAT),
         profile: matches.get_str(NAME),
         all: matches.get_flag(ALL),
+        keys: matches.get_strs(KEY).unwrap_or(&[]),
         table_only: matches.get_flag(TABLE_ONLY),
         tools: matches.get_strs(TOOL_CONFIG_FILE).unwrap_or(&[]),
         files: Words {

@@ -1,10 +1,11 @@
-//! What is said of words that ask for nothing, and of those that ask what a code means.
+//! What is said of words that ask for nothing, and of those that ask for an explanation.
 
-ghost use Rattle.std.specs.Prelude.{◌≡◌, IfOk, string_bytes};
-ghost use Rattle.nextest_config_cli.specs.Said.{Explains, not_topic_text, Says, ShowsExplained};
+ghost use Rattle.std.specs.Prelude.{◌≡◌, IfOk, option_map, string_bytes};
+ghost use Rattle.nextest_config_cli.specs.Said.{Explains, no_key_text, not_topic_text, Says, ShowsExplained};
 
+use crate::arguments::Explained;
 use crate::refusal::Refusal;
-use nextest_config_lint::explain::{Explanation, Topic, topic_list};
+use nextest_config_lint::explain::{Explanation, topic_list};
 use nextest_config_report::exit_status::ExitStatus;
 use nextest_config_report::streams::{
     CANNOT_WRITE, NOT_VERSION, OUT_OF_MEMORY, complain, is_reader_gone, write_report,
@@ -66,21 +67,22 @@ fn give_up<E: Write>(faults: &mut E, complaint: &str) -> ExitStatus {
     ExitStatus::NoOutcome
 }
 
-/// What is said of a topic, or without one the list of all.
-pub(crate) fn explained(alloc: Global, topic: Option<Topic>) -> Result<String, AllocError>
-    ensures { IfOk result (λ lines. ShowsExplained topic (string_bytes lines)) }
+/// What is said of a topic or of a key, or the list of all topics.
+pub(crate) fn explanation_lines(alloc: Global, explained: Explained) -> Result<String, AllocError>
+    ensures { IfOk result (λ lines. ShowsExplained explained (string_bytes lines)) }
 {
-    let text = explanation(alloc, topic)?;
+    let text = explanation(alloc, explained)?;
     let lines = shown_lines(alloc, text)?;
     Ok(lines)
 }
 
-fn explanation(alloc: Global, topic: Option<Topic>) -> Result<String, AllocError>
-    ensures { IfOk result (λ text. Explains topic (string_bytes text)) }
+fn explanation(alloc: Global, explained: Explained) -> Result<String, AllocError>
+    ensures { IfOk result (λ text. Explains explained (string_bytes text)) }
 {
-    match topic {
-        Some(topic) => Explanation::of(topic).to_string(alloc),
-        None => topic_list(alloc),
+    match explained {
+        Explained::All => topic_list(alloc),
+        Explained::Topic(topic) => Explanation::of(topic).to_string(alloc),
+        Explained::Key(key) => key.text(alloc),
     }
 }
 
@@ -93,7 +95,8 @@ fn refusal_lines(alloc: Global, refusal: &Refusal<'_>) -> Result<String, AllocEr
         Refusal::Words(said) => format!(in alloc; "{said}\n"),
         Refusal::NotVersion(word) => format!(in alloc; "{NOT_VERSION}{}\n", Shown(word)),
         Refusal::NotCode(word) => format!(in alloc; "not a code: {}\n", Shown(word)),
-        Refusal::NotTopic(word, nearest) => not_topic(alloc, word, *nearest),
+        Refusal::NotTopic(word, nearest) => not_topic(alloc, word, lent(nearest)),
+        Refusal::NotKey(word, nearest) => no_key(alloc, word, lent(nearest)),
         Refusal::Tool(error) => format!(in alloc; "{}\n", Shown(error.to_string(alloc)?.as_str())),
         Refusal::CurrentFolder(error) => {
             let reason = error.to_string(alloc)?;
@@ -103,15 +106,40 @@ fn refusal_lines(alloc: Global, refusal: &Refusal<'_>) -> Result<String, AllocEr
     }
 }
 
-// What is said of a word that is no topic, and comes nearest to this one.
+// A text, if there is one.
+fn lent(text: &Option<String>) -> Option<&str>
+    ensures { option_map (λ text. text.now) result ≡ option_map string_bytes text.now }
+{
+    match text {
+        Some(text) => Some(text.as_str()),
+        None => None,
+    }
+}
+
+// What is said of a path that is that of no key, and comes nearest to this one.
+fn no_key(alloc: Global, path: &str, nearest: Option<&str>) -> Result<String, AllocError>
+    ensures { IfOk result (λ line. string_bytes line
+        ≡ no_key_text path.now (option_map (λ near. near.now) nearest.entry)) }
+{
+    let quoted = QuotedText(path).to_string(alloc)?;
+    let path = Shown(quoted.as_str());
+    match nearest {
+        Some(near) => { format!(in alloc; "no key {path}, did you mean {}\n", QuotedText(near)) }
+        None => format!(in alloc; "no key {path}\n"),
+    }
+}
+
+// What is said of a word that is no topic and leads to no key, and comes nearest to this one.
 fn not_topic(alloc: Global, word: &str, nearest: Option<&str>) -> Result<String, AllocError>
-    ensures { IfOk result (λ line. string_bytes line ≡ not_topic_text word.now nearest.entry) }
+    ensures { IfOk result (λ line. string_bytes line
+        ≡ not_topic_text word.now (option_map (λ near. near.now) nearest.entry)) }
 {
     let word = Shown(word);
     match nearest {
         Some(near) => {
-            format!(in alloc; "not a code: {word}, did you mean {}\n", QuotedText(near))
+            let near = QuotedText(near);
+            format!(in alloc; "neither a code nor a key: {word}, did you mean {near}\n")
         }
-        None => format!(in alloc; "not a code: {word}\n"),
+        None => format!(in alloc; "neither a code nor a key: {word}\n"),
     }
 }

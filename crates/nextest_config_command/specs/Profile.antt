@@ -1,5 +1,5 @@
 -- What the command answers about a profile.
-use Rattle.std.specs.Prelude.{◌≡◌, ℕ, nat_eq, ◌==◌, Bool, false, ◌||◌, if◌then◌else◌, List, [], ◌++◌, codes, decimal, Option, Some, None, string_bytes}
+use Rattle.std.specs.Prelude.{◌≡◌, ℕ, nat_eq, ◌==◌, Bool, false, ◌||◌, if◌then◌else◌, List, [], ◌∷◌, ◌++◌, codes, decimal, map, Option, Some, None, string_bytes}
 use Rattle.std.specs.Cmp.Lexicographic.{pointwise}
 use Rattle.std.specs.List.{AllByRecursion, list_any}
 use Rattle.toml.specs.View.{view}
@@ -18,8 +18,11 @@ use Rattle.nextest_config_profiles.specs.Profile.{chain_in, files_in, layers_in}
 use Rattle.nextest_config_profiles.specs.declared.inherits.InheritsPlace.{InheritsPlace}
 use Rattle.nextest_config_profiles.specs.declared.layer.Layer.{Layer}
 use Rattle.nextest_config_profiles.specs.declared.profile.EffectiveProfile.{EffectiveProfile}
-use Rattle.nextest_config_profiles.specs.Report.ProfileReport.{has_fault, IsReport}
+use Rattle.nextest_config_profiles.specs.Report.Narrowed.{others_wanted, overrides_wanted, settings_wanted}
+use Rattle.nextest_config_profiles.specs.Report.ProfileReport.{has_fault, IsReport, settings_in}
+use Rattle.nextest_config_profiles.specs.Report.Wanted.{path_of}
 use Rattle.nextest_config_profiles.specs.declared.report.profile_report.ProfileReport.{ProfileReport}
+use Rattle.nextest_config_profiles.specs.Said.{Path}
 use Rattle.nextest_config_output.specs.Profile.OtherProfiles.{other_profiles_text}
 use Rattle.nextest_config_output.specs.Profile.Format.{IsProfileText}
 use Rattle.nextest_config_report.specs.Names.{names_text}
@@ -125,9 +128,28 @@ pub record IsReportTold (format : ShowFormat) (report : ProfileReport)
   pub said_is : answer.said ≡ for_people (other_profiles_text report)
   pub status_is : answer.status ≡ status_told report
 
+-- the report is what another one says of wanted paths: its chain, and what is wrong in other
+-- profiles, stay
+pub record IsNarrowed (wanted : List Path) (whole report : ProfileReport) : Type 0 where
+  pub settings : settings_in report ≡ settings_wanted wanted (settings_in whole)
+  pub others : report.others.items ≡ others_wanted wanted whole.others.items
+  pub overrides : report.overrides.items ≡ overrides_wanted wanted whole.overrides.items
+  pub chain : report.chain ≡ whole.chain
+  pub other_profiles : report.other_profiles ≡ whole.other_profiles
+
+-- the report is another one, or where paths are wanted what that says of these
+abbrev pub IsNarrowedIf : List Path → ProfileReport → ProfileReport → Type 0
+IsNarrowedIf [] whole report = report ≡ whole
+IsNarrowedIf (first ∷ rest) whole report = IsNarrowed (first ∷ rest) whole report
+
+-- what is told of a profile, as the task asks for it
+abbrev pub IsWantedReport : EffectiveProfile → ProfileTask → ProfileReport → Type 0
+IsWantedReport profile task report = (whole : ProfileReport) × IsReport profile task.all whole
+    × IsNarrowedIf (map path_of task.keys.items) whole report
+
 -- the answer is what is told of the profile that is asked for
 abbrev pub IsReported : EffectiveProfile → ProfileTask → AnswerView → Type 0
-IsReported profile task answer = (report : ProfileReport) × IsReport profile task.all report
+IsReported profile task answer = (report : ProfileReport) × IsWantedReport profile task report
     × IsReportTold task.format report answer
 
 -- ---- the answer

@@ -1,13 +1,14 @@
 //! What the command answers about a profile.
 
-ghost use Rattle.std.specs.Prelude.{◌≡◌, ◌==◌, ◌++◌, IfOk, MatchOption, OnOk, string_bytes};
+ghost use Rattle.std.specs.Prelude.{◌≡◌, ◌==◌, ◌++◌, IfOk, map, MatchOption, OnOk, string_bytes};
 ghost use Rattle.std.specs.List.{list_any};
 ghost use Rattle.nextest_config_profiles.specs.Inherits.{IsPlacedFault};
 ghost use Rattle.nextest_config_profiles.specs.Profile.{profile_wrong};
+ghost use Rattle.nextest_config_profiles.specs.Report.Wanted.{path_of};
 ghost use Rattle.nextest_config_command.specs.Answer.{answer_of};
 ghost use Rattle.nextest_config_command.specs.FileList.{AreDocuments};
 ghost use Rattle.nextest_config_command.specs.Found.{all_files, files_of};
-ghost use Rattle.nextest_config_command.specs.Profile.{front_text, IsAnsweredBy, IsNoProfileTold, IsProfiled, IsProfileIn, IsRefusedFor, IsReported, IsReportTold, IsWrongTold, line_text, is_like_path, lint_format, no_text, path_hint, ring_text, status_told, undefined_text};
+ghost use Rattle.nextest_config_command.specs.Profile.{front_text, IsAnsweredBy, IsNarrowedIf, IsNoProfileTold, IsProfiled, IsProfileIn, IsRefusedFor, IsReported, IsReportTold, IsWantedReport, IsWrongTold, line_text, is_like_path, lint_format, no_text, path_hint, ring_text, status_told, undefined_text};
 ghost use Rattle.nextest_config_command.specs.Request.{slash};
 
 use crate::answer::Answer;
@@ -20,7 +21,7 @@ use crate::request::ProfileTask;
 use nextest_config::nextest_version::Edition;
 use nextest_config_output::findings::{Escaped, Escapes, Format};
 use nextest_config_output::profile::{other_profiles_text, profile_text};
-use nextest_config_profiles::report::ProfileReport;
+use nextest_config_profiles::report::{ProfileReport, WantedKey};
 use nextest_config_profiles::{
     EffectiveProfile, InheritsPlace, Layer, ProfileFault, profile_names,
 };
@@ -112,9 +113,32 @@ fn report_of(
 ) -> Result<Answer, AllocError>
     ensures { IfOk result (λ answer. IsReported profile.now task.now (answer_of answer)) }
 {
-    let report = ProfileReport::of(alloc, profile, task.all)?;
+    let report = wanted_report(alloc, task, profile)?;
     let answer = told(alloc, task.format, &report)?;
     Ok(answer)
+}
+
+// What is told of a profile: of all keys, or of those alone that are asked for.
+fn wanted_report<'p>(
+    alloc: Global,
+    task: &ProfileTask,
+    profile: &'p EffectiveProfile<'p>,
+) -> Result<ProfileReport<'p>, AllocError>
+    ensures { IfOk result (IsWantedReport profile.now task.now) }
+{
+    let mut report = ProfileReport::of(alloc, profile, task.all)?;
+    narrow(&mut report, task.keys.as_slice());
+    Ok(report)
+}
+
+// Keeps of a report what is wanted, if anything is.
+fn narrow(report: &mut ProfileReport<'_>, wanted: &[WantedKey])
+    ensures { IsNarrowedIf (map path_of wanted.now) report.old report.new }
+{
+    match wanted {
+        [] => {}
+        [_, ..] => report.keep_only(wanted),
+    }
 }
 
 // What is told of a profile, as an answer.

@@ -3,6 +3,7 @@
 use nextest_config::nextest_version::Edition;
 use nextest_config_lint::FindingCode;
 use nextest_config_output::findings::Format;
+use nextest_config_profiles::report::WantedKey;
 use nextest_config_report::show::ShowFormat;
 use nextest_config_values::tool_config::ToolConfigFile;
 use semver::Version;
@@ -76,5 +77,7 @@ pub struct ProfileTask {
     pub name: String,
     /// Whether it is told, too, what each value hides.
     pub all: bool,
+    /// The keys of which alone it is told; without any it is told of all.
+    pub keys: Vec<WantedKey>,
     pub format: ShowFormat,
 }

@@ -1,32 +1,77 @@
 -- The keys that are known in a table, as plain data: what the value of each has to be, and what
 -- stands in that.
-use Rattle.std.specs.Prelude.{ℕ, Bool, true, false, List, [], ◌∷◌, map}
+use Rattle.std.specs.Prelude.{ℕ, Bool, true, false, List, [], ◌∷◌, map, Option, Some, None}
+use Rattle.toml.specs.Data.{array, boolean, Data, integer, no_items, string}
+use Rattle.nextest_config_elements.specs.declared.field.Absent.{Absent as declared_absent}
+use Rattle.nextest_config_elements.specs.declared.field.Absent.TheVariants as absents
 use Rattle.nextest_config_elements.specs.declared.field.FaultSeverity.{FaultSeverity}
 use Rattle.nextest_config_elements.specs.declared.field.FaultSeverity.TheVariants.{Error, ErrorUnlessConverted, Warning}
 use Rattle.nextest_config_elements.specs.declared.field.Field as declared_field
 use Rattle.nextest_config_elements.specs.declared.field.Field.{fold-Field}
+use Rattle.nextest_config_elements.specs.declared.field.Literal.{Literal}
+use Rattle.nextest_config_elements.specs.declared.field.Literal.TheVariants as literals
 use Rattle.nextest_config_elements.specs.declared.field.Parts as declared_parts
 use Rattle.nextest_config_elements.specs.declared.field.Parts.{fold-Parts}
 use Rattle.nextest_config_elements.specs.declared.field.Parts.TheOpen.{Field-F, Parts-F}
 use Rattle.nextest_config_elements.specs.declared.field.Shape.{Shape}
 
--- a key: what its value has to be, but for what stands in it; how grave a fault of that is; and
--- whether a table has to have the key
+-- what stands for a key that is absent: this value, if any, which the reader of its table takes;
+-- what the profile inherits, or else this value, if any, which nextest sets itself; or, in an
+-- override, what its profile has
+pub data Absent : Type 0 where
+  taken : Option Data → Absent
+  inherited : Option Data → Absent
+  of_profile : Absent
+
+-- nothing stands for a key that is absent
+abbrev pub nothing_taken : Absent
+nothing_taken = taken None
+
+-- the reader of a table takes this text for a key that is absent
+abbrev pub text_taken : List ℕ → Absent
+text_taken text = taken (Some (string text))
+
+-- nextest sets this text itself, where no profile that counts has the key
+abbrev pub text_inherited : List ℕ → Absent
+text_inherited text = inherited (Some (string text))
+
+-- a key: what its value has to be, but for what stands in it; how grave a fault of that is; whether
+-- a table has to have the key; and what stands for it where it is absent
 pub record KeyRule : Type 0 where
   pub key : List ℕ
   pub shape : Shape
   pub severity : FaultSeverity
   pub required : Bool
+  pub absent : Absent
 
--- a key that a table may have
+-- a key that a table may have, for which this stands where it is absent
+abbrev pub allowed_or : List ℕ → Shape → FaultSeverity → Absent → KeyRule
+allowed_or key shape severity absent = record {
+  key = key;
+  shape = shape;
+  severity = severity;
+  required = false;
+  absent = absent;
+}
+
+-- a key that a table may have, for which nothing stands where it is absent
 abbrev pub allowed : List ℕ → Shape → FaultSeverity → KeyRule
-allowed key shape severity =
-    record { key = key; shape = shape; severity = severity; required = false }
+allowed key shape severity = allowed_or key shape severity nothing_taken
+
+-- a key that a table has to have; where a value of another kind stands in the place of the table,
+-- this stands for it
+abbrev pub needed_or : List ℕ → Shape → FaultSeverity → Absent → KeyRule
+needed_or key shape severity absent = record {
+  key = key;
+  shape = shape;
+  severity = severity;
+  required = true;
+  absent = absent;
+}
 
 -- a key that a table has to have
 abbrev pub needed : List ℕ → Shape → FaultSeverity → KeyRule
-needed key shape severity =
-    record { key = key; shape = shape; severity = severity; required = true }
+needed key shape severity = needed_or key shape severity nothing_taken
 
 -- how grave a fault is in a value whose own faults are as grave as the outer one: in what is known
 -- from nextest's documentation alone, nothing is graver than that
@@ -67,6 +112,20 @@ fields_in parts = no_fields
 
 -- ---- what the code's values say
 
+-- a value, if there is one
+abbrev pub literal_of : Literal → Option Data
+literal_of literals.Nothing = None
+literal_of (literals.Boolean truth) = Some (boolean truth)
+literal_of (literals.Integer number) = Some (integer number)
+literal_of (literals.Text text) = Some (string text.now)
+literal_of literals.EmptyArray = Some (array no_items)
+
+-- what stands for a key that is absent
+abbrev pub absent_of : declared_absent → Absent
+absent_of (absents.Taken literal) = taken (literal_of literal)
+absent_of (absents.Inherited literal) = inherited (literal_of literal)
+absent_of absents.OfProfile = of_profile
+
 -- fields, each of which is put before those behind it
 abbrev pub fields_of : List (Fields → Fields) → Fields
 fields_of [] = no_fields
@@ -79,6 +138,7 @@ rule_of known = record {
   shape = known.shape;
   severity = known.severity;
   required = known.required;
+  absent = absent_of known.absent;
 }
 
 -- one level of a field, put before others

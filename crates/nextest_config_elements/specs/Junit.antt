@@ -1,10 +1,10 @@
 -- The setting `junit`, and the report that a profile writes by it.
-use Rattle.std.specs.Prelude.{◌≡◌, ◌⊎◌, ℕ, Bool, List, [], ◌∷◌, codes, Option, Some, None, IsSome, option_map, string_bytes}
+use Rattle.std.specs.Prelude.{◌≡◌, ◌⊎◌, ℕ, Bool, true, false, List, [], ◌∷◌, codes, Option, Some, None, IsSome, option_map, string_bytes}
 use Rattle.std.proofs.Common.{rules}
-use Rattle.toml.specs.Data.{Data, Members, as_table}
+use Rattle.toml.specs.Data.{boolean, Data, Members, as_table}
 use Rattle.nextest_config_values.specs.Helpers.Paths.{joined_path}
 use Rattle.nextest_config_values.specs.Read.{bool_reading, inner, kind, made_of, optional, Reading, text_reading, then, value_of, word_reading, wrong_kind}
-use Rattle.nextest_config_elements.specs.Fields.{allowed, field, Fields, no_fields, nothing}
+use Rattle.nextest_config_elements.specs.Fields.{allowed_or, field, Fields, inherited, no_fields, nothing, text_inherited}
 use Rattle.nextest_config_elements.specs.ReportSkipPolicy.{report_skip_reading}
 use Rattle.nextest_config_elements.specs.declared.field.FaultSeverity.TheVariants.{Error, ErrorUnlessConverted}
 use Rattle.nextest_config_elements.specs.declared.field.Shape.TheVariants as shapes
@@ -147,12 +147,17 @@ flaky_fail_status_key = codes "flaky-fail-status"
 -- the fields of the table `junit`
 abbrev pub junit_fields : Fields
 junit_fields =
-    field (allowed path_key shapes.Text ErrorUnlessConverted) nothing
-    (field (allowed report_name_key shapes.Text ErrorUnlessConverted) nothing
-    (field (allowed store_success_output_key shapes.Boolean ErrorUnlessConverted) nothing
-    (field (allowed store_failure_output_key shapes.Boolean ErrorUnlessConverted) nothing
-    (field (allowed report_skipped_key shapes.ReportSkipPolicy Error) nothing
-    (field (allowed flaky_fail_status_key shapes.FlakyFailStatus Error) nothing no_fields)))))
+    field (allowed_or path_key shapes.Text ErrorUnlessConverted (inherited None)) nothing
+    (field (allowed_or report_name_key shapes.Text ErrorUnlessConverted
+    (text_inherited (codes "nextest-run"))) nothing
+    (field (allowed_or store_success_output_key shapes.Boolean ErrorUnlessConverted
+    (inherited (Some (boolean false)))) nothing
+    (field (allowed_or store_failure_output_key shapes.Boolean ErrorUnlessConverted
+    (inherited (Some (boolean true)))) nothing
+    (field (allowed_or report_skipped_key shapes.ReportSkipPolicy Error
+    (text_inherited (codes "none"))) nothing
+    (field (allowed_or flaky_fail_status_key shapes.FlakyFailStatus Error
+    (text_inherited (codes "failure"))) nothing no_fields)))))
 
 -- the keys of `junit` after the path and the name, in turn
 abbrev pub keys_after_texts : Option (List ℕ) → Option (List ℕ) → Reading Members JunitTable

@@ -1,8 +1,9 @@
 -- The keys of nextest's configuration file: what the value of each has to be, and what stands in
 -- that. What a user writes in a file stands here by itself, and the code's table is proved to be
 -- this one.
-use Rattle.std.specs.Prelude.{ℕ, List, [], ◌∷◌, codes}
-use Rattle.nextest_config_elements.specs.Fields.{allowed, elements, elements_or_fields, features, field, Fields, fields, names, needed, no_fields, nothing, Parts, versions}
+use Rattle.std.specs.Prelude.{ℕ, pos, true, false, List, [], ◌∷◌, codes, Some, None}
+use Rattle.toml.specs.Data.{array, boolean, integer, no_items}
+use Rattle.nextest_config_elements.specs.Fields.{allowed, allowed_or, elements, elements_or_fields, features, field, Fields, fields, inherited, names, needed, no_fields, nothing, of_profile, Parts, taken, text_inherited, text_taken, versions}
 use Rattle.nextest_config_elements.specs.Junit.{junit_fields}
 use Rattle.nextest_config_elements.specs.LeakTimeout.{leak_timeout_fields}
 use Rattle.nextest_config_elements.specs.MaxFail.{fail_fast_fields}
@@ -24,15 +25,19 @@ each_text = elements Text nothing
 -- the fields of the table `bench` of a profile
 abbrev pub bench_fields : Fields
 bench_fields =
-    field (allowed (codes "slow-timeout") SlowTimeout Error) (fields slow_timeout_fields)
-    (field (allowed (codes "global-timeout") Duration Error) nothing no_fields)
+    field (allowed_or (codes "slow-timeout") SlowTimeout Error
+    (text_inherited (codes "30y"))) (fields slow_timeout_fields)
+    (field (allowed_or (codes "global-timeout") Duration Error
+    (text_inherited (codes "30y"))) nothing no_fields)
 
 -- the fields of the table `junit` of an override
 abbrev pub override_junit_fields : Fields
 override_junit_fields =
-    field (allowed (codes "store-success-output") Boolean ErrorUnlessConverted) nothing
-    (field (allowed (codes "store-failure-output") Boolean ErrorUnlessConverted) nothing
-    (field (allowed (codes "flaky-fail-status") FlakyFailStatus Error) nothing
+    field (allowed_or (codes "store-success-output") Boolean ErrorUnlessConverted
+    of_profile) nothing
+    (field (allowed_or (codes "store-failure-output") Boolean ErrorUnlessConverted
+    of_profile) nothing
+    (field (allowed_or (codes "flaky-fail-status") FlakyFailStatus Error of_profile) nothing
     (unread (codes "path" ∷ codes "report-name" ∷ codes "report-skipped" ∷ []))))
 
 -- the fields of the table `platform` of an override, or of a rule for scripts
@@ -44,20 +49,23 @@ platform_fields =
 -- the fields of an override
 abbrev pub override_fields : Fields
 override_fields =
-    field (allowed (codes "priority") Priority ErrorUnlessConverted) nothing
-    (field (allowed (codes "threads-required") ThreadsRequired Error) nothing
-    (field (allowed (codes "retries") Retries Error) retries_parts
-    (field (allowed (codes "flaky-result") FlakyResult Error) nothing
-    (field (allowed (codes "slow-timeout") SlowTimeout Error) (fields slow_timeout_fields)
-    (field (allowed (codes "leak-timeout") LeakTimeout Error) (fields leak_timeout_fields)
-    (field (allowed (codes "junit") Table Error) (fields override_junit_fields)
+    field (allowed_or (codes "priority") Priority ErrorUnlessConverted
+    (taken (Some (integer (pos 0))))) nothing
+    (field (allowed_or (codes "threads-required") ThreadsRequired Error of_profile) nothing
+    (field (allowed_or (codes "retries") Retries Error of_profile) retries_parts
+    (field (allowed_or (codes "flaky-result") FlakyResult Error of_profile) nothing
+    (field (allowed_or (codes "slow-timeout") SlowTimeout Error
+    of_profile) (fields slow_timeout_fields)
+    (field (allowed_or (codes "leak-timeout") LeakTimeout Error
+    of_profile) (fields leak_timeout_fields)
+    (field (allowed_or (codes "junit") Table Error of_profile) (fields override_junit_fields)
     (field (allowed (codes "filter") Text Warning) nothing
     (field (allowed (codes "platform") Platform Warning) (fields platform_fields)
-    (field (allowed (codes "default-filter") Text Warning) nothing
-    (field (allowed (codes "test-group") Text Warning) nothing
-    (field (allowed (codes "run-extra-args") Texts Warning) each_text
-    (field (allowed (codes "success-output") (Word TestOutputDisplay) Warning) nothing
-    (field (allowed (codes "failure-output") (Word TestOutputDisplay) Warning) nothing
+    (field (allowed_or (codes "default-filter") Text Warning of_profile) nothing
+    (field (allowed_or (codes "test-group") Text Warning (text_taken (codes "@global"))) nothing
+    (field (allowed_or (codes "run-extra-args") Texts Warning of_profile) each_text
+    (field (allowed_or (codes "success-output") (Word TestOutputDisplay) Warning of_profile) nothing
+    (field (allowed_or (codes "failure-output") (Word TestOutputDisplay) Warning of_profile) nothing
     (unread (codes "bench" ∷ [])))))))))))))))
 
 -- the fields of a rule that says for which tests scripts run
@@ -65,7 +73,8 @@ abbrev pub script_rule_fields : Fields
 script_rule_fields =
     field (allowed (codes "filter") Text Warning) nothing
     (field (allowed (codes "platform") Platform Warning) (fields platform_fields)
-    (field (allowed (codes "setup") TextOrTexts Warning) each_text
+    (field (allowed_or (codes "setup") TextOrTexts Warning
+    (taken (Some (array no_items)))) each_text
     (field (allowed (codes "list-wrapper") Text Warning) nothing
     (field (allowed (codes "run-wrapper") Text Warning) nothing no_fields))))
 
@@ -74,44 +83,63 @@ abbrev pub archive_include_fields : Fields
 archive_include_fields =
     field (needed (codes "path") RelativePath Warning) nothing
     (field (needed (codes "relative-to") (Word ArchiveRelativeTo) Warning) nothing
-    (field (allowed (codes "depth") Depth Warning) nothing
-    (field (allowed (codes "on-missing") (Word ArchiveOnMissing) Warning) nothing no_fields)))
+    (field (allowed_or (codes "depth") Depth Warning (taken (Some (integer (pos 16))))) nothing
+    (field (allowed_or (codes "on-missing") (Word ArchiveOnMissing) Warning
+    (text_taken (codes "warn"))) nothing no_fields)))
 
 -- the fields of the table `archive` of a profile
 abbrev pub archive_fields : Fields
 archive_fields =
-    field (allowed (codes "include") Array Warning) (elements Table (fields archive_include_fields))
+    field (allowed_or (codes "include") Array Warning
+    (taken (Some (array no_items)))) (elements Table (fields archive_include_fields))
     no_fields
 
 -- the fields of a profile
 abbrev pub profile_fields : Fields
 profile_fields =
-    field (allowed (codes "retries") Retries Error) retries_parts
-    (field (allowed (codes "flaky-result") FlakyResult Error) nothing
-    (field (allowed (codes "threads-required") ThreadsRequired Error) nothing
-    (field (allowed (codes "fail-fast") FailFast Error) (fields fail_fast_fields)
-    (field (allowed (codes "slow-timeout") SlowTimeout Error) (fields slow_timeout_fields)
-    (field (allowed (codes "leak-timeout") LeakTimeout Error) (fields leak_timeout_fields)
-    (field (allowed (codes "global-timeout") Duration Error) nothing
-    (field (allowed (codes "junit") Table Error) (fields junit_fields)
-    (field (allowed (codes "bench") Table Error) (fields bench_fields)
-    (field (allowed (codes "overrides") Array Error) (elements Table (fields override_fields))
-    (field (allowed (codes "inherits") Text Warning) nothing
-    (field (allowed (codes "default-filter") Text Warning) nothing
-    (field (allowed (codes "test-threads") Threads Warning) nothing
-    (field (allowed (codes "run-extra-args") Texts Warning) each_text
-    (field (allowed (codes "status-level") (Word StatusLevel) Warning) nothing
-    (field (allowed (codes "final-status-level") (Word FinalStatusLevel) Warning) nothing
-    (field (allowed (codes "success-output") (Word TestOutputDisplay) Warning) nothing
-    (field (allowed (codes "failure-output") (Word TestOutputDisplay) Warning) nothing
-    (field (allowed (codes "scripts") Array Warning) (elements Table (fields script_rule_fields))
-    (field (allowed (codes "archive") Table Warning) (fields archive_fields)
+    field (allowed_or (codes "retries") Retries Error
+    (inherited (Some (integer (pos 0))))) retries_parts
+    (field (allowed_or (codes "flaky-result") FlakyResult Error
+    (text_inherited (codes "pass"))) nothing
+    (field (allowed_or (codes "threads-required") ThreadsRequired Error
+    (inherited (Some (integer (pos 1))))) nothing
+    (field (allowed_or (codes "fail-fast") FailFast Error
+    (inherited (Some (boolean true)))) (fields fail_fast_fields)
+    (field (allowed_or (codes "slow-timeout") SlowTimeout Error
+    (text_inherited (codes "60s"))) (fields slow_timeout_fields)
+    (field (allowed_or (codes "leak-timeout") LeakTimeout Error
+    (text_inherited (codes "200ms"))) (fields leak_timeout_fields)
+    (field (allowed_or (codes "global-timeout") Duration Error
+    (text_inherited (codes "30y"))) nothing
+    (field (allowed_or (codes "junit") Table Error (inherited None)) (fields junit_fields)
+    (field (allowed_or (codes "bench") Table Error (inherited None)) (fields bench_fields)
+    (field (allowed_or (codes "overrides") Array Error
+    (inherited None)) (elements Table (fields override_fields))
+    (field (allowed_or (codes "inherits") Text Warning (text_taken (codes "default"))) nothing
+    (field (allowed_or (codes "default-filter") Text Warning
+    (text_inherited (codes "all()"))) nothing
+    (field (allowed_or (codes "test-threads") Threads Warning
+    (text_inherited (codes "num-cpus"))) nothing
+    (field (allowed_or (codes "run-extra-args") Texts Warning
+    (inherited (Some (array no_items)))) each_text
+    (field (allowed_or (codes "status-level") (Word StatusLevel) Warning
+    (text_inherited (codes "pass"))) nothing
+    (field (allowed_or (codes "final-status-level") (Word FinalStatusLevel) Warning
+    (text_inherited (codes "flaky"))) nothing
+    (field (allowed_or (codes "success-output") (Word TestOutputDisplay) Warning
+    (text_inherited (codes "never"))) nothing
+    (field (allowed_or (codes "failure-output") (Word TestOutputDisplay) Warning
+    (text_inherited (codes "immediate"))) nothing
+    (field (allowed_or (codes "scripts") Array Warning
+    (inherited None)) (elements Table (fields script_rule_fields))
+    (field (allowed_or (codes "archive") Table Warning (inherited None)) (fields archive_fields)
     no_fields)))))))))))))))))))
 
 -- the fields of the table `store`
 abbrev pub store_fields : Fields
 store_fields =
-    field (allowed (codes "dir") Text Warning) nothing no_fields
+    field (allowed_or (codes "dir") Text Warning
+    (text_taken (codes "target/nextest"))) nothing no_fields
 
 -- the fields of a test group
 abbrev pub group_fields : Fields
@@ -127,16 +155,19 @@ version_fields =
 -- the fields of the table `experimental`
 abbrev pub feature_fields : Fields
 feature_fields =
-    field (allowed (codes "setup-scripts") Boolean Error) nothing
-    (field (allowed (codes "wrapper-scripts") Boolean Error) nothing
-    (field (allowed (codes "benchmarks") Boolean Error) nothing no_fields))
+    field (allowed_or (codes "setup-scripts") Boolean Error (taken (Some (boolean false)))) nothing
+    (field (allowed_or (codes "wrapper-scripts") Boolean Error
+    (taken (Some (boolean false)))) nothing
+    (field (allowed_or (codes "benchmarks") Boolean Error
+    (taken (Some (boolean false)))) nothing no_fields))
 
 -- the fields of the command of a script, as a table
 abbrev pub command_fields : Fields
 command_fields =
     field (needed (codes "command-line") CommandLine Warning) (elements Scalar nothing)
     (field (allowed (codes "env") Table Warning) (names Scalar nothing)
-    (field (allowed (codes "relative-to") Text Warning) nothing no_fields))
+    (field (allowed_or (codes "relative-to") Text Warning
+    (text_taken (codes "none"))) nothing no_fields))
 
 -- what stands in the command of a script
 abbrev pub command_parts : Parts
@@ -145,8 +176,10 @@ command_parts = elements_or_fields Scalar command_fields
 -- the fields of the table `junit` of a script
 abbrev pub script_junit_fields : Fields
 script_junit_fields =
-    field (allowed (codes "store-success-output") Boolean Warning) nothing
-    (field (allowed (codes "store-failure-output") Boolean Warning) nothing no_fields)
+    field (allowed_or (codes "store-success-output") Boolean Warning
+    (taken (Some (boolean true)))) nothing
+    (field (allowed_or (codes "store-failure-output") Boolean Warning
+    (taken (Some (boolean true)))) nothing no_fields)
 
 -- the fields of a script that sets up tests
 abbrev pub setup_script_fields : Fields
@@ -154,15 +187,18 @@ setup_script_fields =
     field (needed (codes "command") Command Warning) command_parts
     (field (allowed (codes "slow-timeout") SlowTimeout Error) (fields slow_timeout_fields)
     (field (allowed (codes "leak-timeout") LeakTimeout Error) (fields leak_timeout_fields)
-    (field (allowed (codes "capture-stdout") Boolean Warning) nothing
-    (field (allowed (codes "capture-stderr") Boolean Warning) nothing
+    (field (allowed_or (codes "capture-stdout") Boolean Warning
+    (taken (Some (boolean false)))) nothing
+    (field (allowed_or (codes "capture-stderr") Boolean Warning
+    (taken (Some (boolean false)))) nothing
     (field (allowed (codes "junit") Table Warning) (fields script_junit_fields) no_fields)))))
 
 -- the fields of a script that wraps tests
 abbrev pub wrapper_script_fields : Fields
 wrapper_script_fields =
     field (needed (codes "command") Command Warning) command_parts
-    (field (allowed (codes "target-runner") (Word TargetRunner) Warning) nothing no_fields)
+    (field (allowed_or (codes "target-runner") (Word TargetRunner) Warning
+    (text_taken (codes "ignore"))) nothing no_fields)
 
 -- the fields of the table `scripts`
 abbrev pub scripts_fields : Fields

@@ -6,7 +6,7 @@ use Rattle.toml.specs.Data.{Data, Members, as_str}
 use Rattle.nextest_config_values.specs.Duration.{duration_reading}
 use Rattle.nextest_config_values.specs.Read.{kind, made_of, or_default, Reading, required, then, value_of, word_reading}
 use Rattle.nextest_config_elements.specs.Durations.{milliseconds}
-use Rattle.nextest_config_elements.specs.Fields.{allowed, field, Fields, needed, no_fields, nothing}
+use Rattle.nextest_config_elements.specs.Fields.{allowed, allowed_or, field, Fields, needed, no_fields, nothing, text_taken}
 use Rattle.nextest_config_elements.specs.FromTable.{set_by_table}
 use Rattle.nextest_config_elements.specs.declared.field.FaultSeverity.TheVariants.{Error}
 use Rattle.nextest_config_elements.specs.declared.field.Shape.TheVariants as shapes
@@ -58,7 +58,8 @@ result_key = codes "result"
 abbrev pub leak_timeout_fields : Fields
 leak_timeout_fields =
     field (needed period_key shapes.ShortDuration Error) nothing
-    (field (allowed result_key shapes.LeakTimeoutResult Error) nothing no_fields)
+    (field (allowed_or result_key shapes.LeakTimeoutResult Error
+    (text_taken (codes "pass"))) nothing no_fields)
 
 -- the table `leak-timeout` has a period, and may have a result; other keys don't count
 abbrev pub leak_timeout_table : Reading Members LeakTimeoutRecord

@@ -4,12 +4,12 @@ use Rattle.std.specs.Prelude.{◌≡◌, ◌<◌, ℕ, ℤ, pos, negsuc, Bool, t
 use Rattle.std.proofs.Common.{ap, inl, inr, refl, rules}
 use Rattle.std.specs.Duration.{as_nanos}
 use Rattle.std.specs.Fmt.{decimal}
-use Rattle.toml.specs.Data.{Data, Members, as_integer}
+use Rattle.toml.specs.Data.{boolean, Data, Members, as_integer}
 use Rattle.nextest_config_values.specs.Decisions.{below_decided, both_decided, IsDecided, same_decided, true_decided}
 use Rattle.nextest_config_values.specs.Duration.{duration_reading}
 use Rattle.nextest_config_values.specs.Read.Plain.{u32_decided}
 use Rattle.nextest_config_values.specs.Read.{after_check, bool_reading, both, Check, count_zero, delay_zero, in_range, IsU32, jitter_without_delay, kind, made_of, max_delay_below_delay, max_delay_zero, only, optional, or_default, outside, Reading, required, rule, rule_check, then, u32_reading, value_of, word_reading}
-use Rattle.nextest_config_elements.specs.Fields.{allowed, by_backoff, field, Fields, needed, no_fields, nothing, Parts}
+use Rattle.nextest_config_elements.specs.Fields.{allowed, allowed_or, by_backoff, field, Fields, needed, needed_or, no_fields, nothing, Parts, taken, text_taken}
 use Rattle.nextest_config_elements.specs.FromTable.{set_by_table}
 use Rattle.nextest_config_elements.specs.UnknownKeysLaws.{keys_check}
 use Rattle.nextest_config_elements.specs.declared.field.FaultSeverity.TheVariants.{Error}
@@ -133,27 +133,28 @@ keys_beside backoffs.Exponential = count_key ∷ delay_key ∷ jitter_key ∷ ma
 -- the fields of a table with a fixed backoff
 abbrev pub fixed_fields : Fields
 fixed_fields =
-    field (needed backoff_key shapes.Backoff Error) nothing
+    field (needed_or backoff_key shapes.Backoff Error (text_taken (codes "fixed"))) nothing
     (field (needed count_key shapes.U32 Error) nothing
-    (field (allowed delay_key shapes.Duration Error) nothing
-    (field (allowed jitter_key shapes.Boolean Error) nothing no_fields)))
+    (field (allowed_or delay_key shapes.Duration Error (text_taken (codes "0s"))) nothing
+    (field (allowed_or jitter_key shapes.Boolean Error
+    (taken (Some (boolean false)))) nothing no_fields)))
 
 -- the fields of a table with an exponential backoff
 abbrev pub exponential_fields : Fields
 exponential_fields =
-    field (needed backoff_key shapes.Backoff Error) nothing
+    field (needed_or backoff_key shapes.Backoff Error (text_taken (codes "fixed"))) nothing
     (field (needed count_key shapes.U32 Error) nothing
-    (field (needed delay_key shapes.Duration Error) nothing
-    (field (allowed jitter_key shapes.Boolean Error) nothing
+    (field (needed_or delay_key shapes.Duration Error (text_taken (codes "0s"))) nothing
+    (field (allowed_or jitter_key shapes.Boolean Error (taken (Some (boolean false)))) nothing
     (field (allowed max_delay_key shapes.Duration Error) nothing no_fields))))
 
 -- the fields of a table without a backoff, which may turn out to be either
 abbrev pub open_fields : Fields
 open_fields =
-    field (needed backoff_key shapes.Backoff Error) nothing
+    field (needed_or backoff_key shapes.Backoff Error (text_taken (codes "fixed"))) nothing
     (field (needed count_key shapes.U32 Error) nothing
-    (field (allowed delay_key shapes.Duration Error) nothing
-    (field (allowed jitter_key shapes.Boolean Error) nothing
+    (field (allowed_or delay_key shapes.Duration Error (text_taken (codes "0s"))) nothing
+    (field (allowed_or jitter_key shapes.Boolean Error (taken (Some (boolean false)))) nothing
     (field (allowed max_delay_key shapes.Duration Error) nothing no_fields))))
 
 -- what stands in the table `retries`, by its backoff

@@ -7,7 +7,7 @@ use Rattle.toml.specs.Data.{Data, Members, as_str}
 use Rattle.nextest_config_values.specs.Duration.{duration_reading}
 use Rattle.nextest_config_values.specs.Read.{count_reading, kind, made_of, only, optional, or_default, Reading, required, then, value_of, word_reading}
 use Rattle.nextest_config_elements.specs.Durations.{seconds}
-use Rattle.nextest_config_elements.specs.Fields.{allowed, field, Fields, needed, no_fields, nothing}
+use Rattle.nextest_config_elements.specs.Fields.{allowed, allowed_or, field, Fields, needed, no_fields, nothing, text_taken}
 use Rattle.nextest_config_elements.specs.FromTable.{set_by_table}
 use Rattle.nextest_config_elements.specs.declared.field.FaultSeverity.TheVariants.{Error, ErrorUnlessConverted}
 use Rattle.nextest_config_elements.specs.declared.field.Shape.TheVariants as shapes
@@ -83,8 +83,9 @@ abbrev pub slow_timeout_fields : Fields
 slow_timeout_fields =
     field (needed period_key shapes.Duration Error) nothing
     (field (allowed terminate_after_key shapes.Count ErrorUnlessConverted) nothing
-    (field (allowed grace_period_key shapes.Duration Error) nothing
-    (field (allowed on_timeout_key shapes.SlowTimeoutResult Error) nothing no_fields)))
+    (field (allowed_or grace_period_key shapes.Duration Error (text_taken (codes "10s"))) nothing
+    (field (allowed_or on_timeout_key shapes.SlowTimeoutResult Error
+    (text_taken (codes "fail"))) nothing no_fields)))
 
 -- the table `slow-timeout` has a period, and may have the rest; other keys don't count
 abbrev pub slow_timeout_table : Reading Members SlowTimeoutRecord

@@ -3,6 +3,7 @@
 ghost use Rattle.std.specs.Prelude.{◌≡◌};
 ghost use Rattle.nextest_config_elements.specs.Fields.{within};
 
+use crate::purpose::Purpose;
 use crate::word_list::WordList;
 
 /// A key that is known in a table.
@@ -18,6 +19,11 @@ pub struct Field {
     pub severity: FaultSeverity,
     /// Whether a table has to have the key.
     pub required: bool,
+    /// What stands for it where it is absent. Of a key that a table has to have, what stands for it
+    /// where a value of another kind stands in the place of the table.
+    pub absent: Absent,
+    /// What it is for.
+    pub purpose: Purpose,
 }
 
 impl Field {
@@ -29,6 +35,8 @@ impl Field {
         parts: Parts::Nothing,
         severity: FaultSeverity::Error,
         required: false,
+        absent: Absent::Taken(Literal::Nothing),
+        purpose: Purpose::Unsaid,
     };
 
     /// A key that is known from nextest's documentation alone.
@@ -47,6 +55,28 @@ pub enum FaultSeverity {
     ErrorUnlessConverted,
     /// The value breaks a rule that is known from nextest's documentation alone.
     Warning,
+}
+
+/// What stands for a key that is absent.
+#[derive(Clone, Copy)]
+pub enum Absent {
+    /// This, which the reader of its table takes.
+    Taken(Literal),
+    /// What the profile inherits, or else this, which nextest sets itself.
+    Inherited(Literal),
+    /// In an override, what its profile has.
+    OfProfile,
+}
+
+/// A value, or none.
+#[derive(Clone, Copy)]
+pub enum Literal {
+    Nothing,
+    Boolean(bool),
+    Integer(i64),
+    Text(&'static str),
+    /// An array without elements.
+    EmptyArray,
 }
 
 /// What a value has to be, but for what stands in it.

@@ -6,7 +6,8 @@ ghost use Rattle.nextest_config_values.specs.Read.{RefusesBy};
 ghost use Rattle.nextest_config_elements.specs.Junit.{default_of, empty_table, flaky_fail_reads_back, flaky_fail_statuses, flaky_fail_word, HasText, IsFirstMissing, junit_of, junit_reading, junit_table, JunitTable, report_in, report_of, SaysAll, settings_of};
 
 use crate::field::FaultSeverity::ErrorUnlessConverted;
-use crate::field::{Field, Shape};
+use crate::field::{Absent, Field, Literal, Shape};
+use crate::purpose::Purpose;
 use crate::report_skip_policy::ReportSkipPolicy;
 use nextest_config_values::helpers::join_path;
 use nextest_config_values::read::{FromToml, ValueFault, Word, optional};
@@ -269,34 +270,46 @@ impl JunitImpl {
             key: PATH_KEY,
             shape: Shape::Text,
             severity: ErrorUnlessConverted,
+            absent: Absent::Inherited(Literal::Nothing),
+            purpose: Purpose::JunitPath,
             ..Field::READ
         },
         Field {
             key: REPORT_NAME_KEY,
             shape: Shape::Text,
             severity: ErrorUnlessConverted,
+            absent: Absent::Inherited(Literal::Text("nextest-run")),
+            purpose: Purpose::JunitReportName,
             ..Field::READ
         },
         Field {
             key: STORE_SUCCESS_OUTPUT_KEY,
             shape: Shape::Boolean,
             severity: ErrorUnlessConverted,
+            absent: Absent::Inherited(Literal::Boolean(false)),
+            purpose: Purpose::JunitStoreSuccessOutput,
             ..Field::READ
         },
         Field {
             key: STORE_FAILURE_OUTPUT_KEY,
             shape: Shape::Boolean,
             severity: ErrorUnlessConverted,
+            absent: Absent::Inherited(Literal::Boolean(true)),
+            purpose: Purpose::JunitStoreFailureOutput,
             ..Field::READ
         },
         Field {
             key: REPORT_SKIPPED_KEY,
             shape: Shape::ReportSkipPolicy,
+            absent: Absent::Inherited(Literal::Text("none")),
+            purpose: Purpose::JunitReportSkipped,
             ..Field::READ
         },
         Field {
             key: FLAKY_FAIL_STATUS_KEY,
             shape: Shape::FlakyFailStatus,
+            absent: Absent::Inherited(Literal::Text("failure")),
+            purpose: Purpose::JunitFlakyFailStatus,
             ..Field::READ
         },
     ];

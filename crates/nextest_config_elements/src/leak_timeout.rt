@@ -5,8 +5,9 @@ ghost use Rattle.toml.specs.View.{view};
 ghost use Rattle.nextest_config_values.specs.Read.{RefusesAt, RefusesBy};
 ghost use Rattle.nextest_config_elements.specs.LeakTimeout.{default_leak_timeout, leak_timeout_of, leak_timeout_reading, leak_timeout_reads_back, leak_timeout_results, leak_timeout_table, leak_timeout_word, LeakTimeoutRecord};
 
-use crate::field::{Field, Shape};
+use crate::field::{Absent, Field, Literal, Shape};
 use crate::from_table::{FromTable, read_set};
+use crate::purpose::Purpose;
 use nextest_config_values::read::{FromToml, ReadFault, ValueFault, Word, or_default, required};
 use std::alloc::Global;
 use std::time::Duration;
@@ -35,11 +36,14 @@ impl LeakTimeout {
             key: PERIOD_KEY,
             shape: Shape::ShortDuration,
             required: true,
+            purpose: Purpose::LeakTimeoutPeriod,
             ..Field::READ
         },
         Field {
             key: RESULT_KEY,
             shape: Shape::LeakTimeoutResult,
+            absent: Absent::Taken(Literal::Text("pass")),
+            purpose: Purpose::LeakTimeoutResult,
             ..Field::READ
         },
     ];

@@ -11,6 +11,7 @@ pub mod leak_timeout;
 pub mod max_fail;
 pub mod priority;
 pub mod profile_setting;
+pub mod purpose;
 pub mod report_skip_policy;
 pub mod retry_policy;
 pub mod slow_timeout;

@@ -10,8 +10,9 @@ ghost use Rattle.nextest_config_elements.specs.UnknownKeys.{IsOneOf};
 
 mod rules;
 
-use crate::field::{Field, Shape};
+use crate::field::{Absent, Field, Literal, Shape};
 use crate::from_table::{FromTable, read_set};
+use crate::purpose::Purpose;
 use nextest_config_values::read::{
     FaultKind, ReadFault, Rule, ValueFault, Word, optional, or_default, required, value_at,
 };
@@ -40,6 +41,8 @@ const BACKOFF_FIELD: Field = Field {
     key: BACKOFF_KEY,
     shape: Shape::Backoff,
     required: true,
+    absent: Absent::Taken(Literal::Text("fixed")),
+    purpose: Purpose::RetriesBackoff,
     ..Field::READ
 };
 
@@ -47,24 +50,30 @@ const COUNT_FIELD: Field = Field {
     key: COUNT_KEY,
     shape: Shape::U32,
     required: true,
+    purpose: Purpose::RetriesCount,
     ..Field::READ
 };
 
 const DELAY_FIELD: Field = Field {
     key: DELAY_KEY,
     shape: Shape::Duration,
+    absent: Absent::Taken(Literal::Text("0s")),
+    purpose: Purpose::RetriesDelay,
     ..Field::READ
 };
 
 const JITTER_FIELD: Field = Field {
     key: JITTER_KEY,
     shape: Shape::Boolean,
+    absent: Absent::Taken(Literal::Boolean(false)),
+    purpose: Purpose::RetriesJitter,
     ..Field::READ
 };
 
 const MAX_DELAY_FIELD: Field = Field {
     key: MAX_DELAY_KEY,
     shape: Shape::Duration,
+    purpose: Purpose::RetriesMaxDelay,
     ..Field::READ
 };
 

@@ -8,8 +8,9 @@ ghost use Rattle.nextest_config_elements.specs.Durations.{seconds};
 ghost use Rattle.nextest_config_elements.specs.SlowTimeout.{default_grace_period, slow_timeout_of, slow_timeout_reading, slow_timeout_reads_back, slow_timeout_results, slow_timeout_table, slow_timeout_word, SlowTimeoutRecord, with_period};
 
 use crate::field::FaultSeverity::ErrorUnlessConverted;
-use crate::field::{Field, Shape};
+use crate::field::{Absent, Field, Literal, Shape};
 use crate::from_table::{FromTable, read_set};
+use crate::purpose::Purpose;
 use nextest_config_values::read::{
     FromToml, NonZeroCount, ReadFault, ValueFault, Word, optional, or_default, required,
 };
@@ -47,22 +48,28 @@ impl SlowTimeout {
             key: PERIOD_KEY,
             shape: Shape::Duration,
             required: true,
+            purpose: Purpose::SlowTimeoutPeriod,
             ..Field::READ
         },
         Field {
             key: TERMINATE_AFTER_KEY,
             shape: Shape::Count,
             severity: ErrorUnlessConverted,
+            purpose: Purpose::SlowTimeoutTerminateAfter,
             ..Field::READ
         },
         Field {
             key: GRACE_PERIOD_KEY,
             shape: Shape::Duration,
+            absent: Absent::Taken(Literal::Text("10s")),
+            purpose: Purpose::SlowTimeoutGracePeriod,
             ..Field::READ
         },
         Field {
             key: ON_TIMEOUT_KEY,
             shape: Shape::SlowTimeoutResult,
+            absent: Absent::Taken(Literal::Text("fail")),
+            purpose: Purpose::SlowTimeoutOnTimeout,
             ..Field::READ
         },
     ];

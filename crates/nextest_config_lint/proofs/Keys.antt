@@ -11,6 +11,7 @@ use Rattle.std.specs.Cmp.Lexicographic.{pointwise, slice_cmp}
 use Rattle.std.specs.List.{AllByRecursion, AllWithin, find, HoldsAt}
 use Rattle.std.specs.Map.{keys_of}
 use Rattle.std.specs.Map.Iter.{deref}
+use Rattle.std.specs.Option.{option_or}
 use Rattle.std.specs.Ordering.{match_ordering}
 use Rattle.toml.proofs.Views.{Entry}
 use Rattle.toml.specs.Data.{Data, get_member, member, Members, no_members}
@@ -86,6 +87,11 @@ found_lent test xs (Some x) first = found_first test xs (Some x.now) first
 pub seen_through : {X Y : Type 0} (seen : X → Y) (r : Option (Bor X)) → option_map (λ x. seen x.now) r ≡ option_map seen (option_map (λ x. x.now) r)
 seen_through seen None = refl
 seen_through seen (Some x) = refl
+
+-- what is seen of the first of two that there is
+pub seen_or : {X Y : Type 0} (seen : X → Y) (first later : Option X) → option_map seen (option_or first later) ≡ option_or (option_map seen first) (option_map seen later)
+seen_or seen None later = refl
+seen_or seen (Some x) later = refl
 
 -- a test of what is seen of elements
 pub find_seen : {X Y : Type 0} (seen : X → Y) (test : Y → Bool) (xs : List X) → option_map seen (find (λ x. test (seen x)) xs) ≡ find test (map seen xs)

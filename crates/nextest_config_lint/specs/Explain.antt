@@ -1,3 +1,10 @@
+pub mod Absent
+pub mod Expected
 pub mod Explanation
+pub mod Key
+pub mod KeyPath
+pub mod KnownKey
+pub mod Nearest
+pub mod Places
 pub mod Topic
 pub mod TopicList

@@ -1,3 +1,7 @@
+pub mod AbsentKeys
+pub mod DefaultReads
+pub mod Narrowed
+pub mod PathTexts
 pub mod Members
 pub mod Merging
 pub mod Selection

@@ -18,3 +18,4 @@ pub mod Inherits
 pub mod Junit
 pub mod Leaves
 pub mod Report
+pub mod AbsentKeys

@@ -16,4 +16,6 @@ pub mod Others
 pub mod Elements
 pub mod Overrides
 pub mod OtherProfiles
+pub mod Wanted
+pub mod Narrowed
 pub mod ProfileReport

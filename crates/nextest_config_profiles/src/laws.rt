@@ -4,10 +4,11 @@ ghost use Rattle.std.specs.Prelude.{◌≡◌, ◌↔◌, ◌∷◌, ◌++◌, [
 ghost use Rattle.std.specs.List.{AllByRecursion};
 ghost use Rattle.toml.specs.Data.{Data};
 ghost use Rattle.nextest_config_values.specs.Read.{made_of};
-ghost use Rattle.nextest_config_elements.specs.LeakTimeout.{leak_timeout_reading};
-ghost use Rattle.nextest_config_elements.specs.MaxFail.{fail_fast_reading};
-ghost use Rattle.nextest_config_elements.specs.RetryPolicy.{retry_policy_reading};
-ghost use Rattle.nextest_config_elements.specs.SlowTimeout.{slow_timeout_reading};
+ghost use Rattle.nextest_config_elements.specs.LeakTimeout.{leak_timeout_fields, leak_timeout_reading};
+ghost use Rattle.nextest_config_elements.specs.MaxFail.{fail_fast_fields, fail_fast_reading};
+ghost use Rattle.nextest_config_elements.specs.RetryPolicy.{open_fields, retry_policy_reading};
+ghost use Rattle.nextest_config_elements.specs.SlowTimeout.{slow_timeout_fields, slow_timeout_reading};
+ghost use Rattle.nextest_config_profiles.specs.AbsentKeys.{TakesAllTold};
 ghost use Rattle.nextest_config_profiles.specs.Alike.{given_by, given_value, TakesAlike};
 ghost use Rattle.nextest_config_profiles.specs.Chain.{IsChain, IsWrong, Wrong};
 ghost use Rattle.nextest_config_profiles.specs.Effective.{IsEffective};
@@ -68,6 +69,15 @@ pub fn law_settings_take_alike()
     ensures report_skipped { TakesAlike (made_of Some ⟦<ReportSkipPolicy as FromToml>⟧.reading) }
     ensures flaky_fail_status { TakesAlike
         (made_of Some ⟦<JunitFlakyFailStatus as FromToml>⟧.reading) }
+{}
+
+/// What is told as taken for a key that the table of a setting lacks is what its reader takes: the
+/// table means the same with this value put in. Of `retries` that holds under either backoff.
+pub fn law_absent_key_is_default()
+    ensures retries { TakesAllTold retry_policy_reading open_fields }
+    ensures fail_fast { TakesAllTold fail_fast_reading fail_fast_fields }
+    ensures slow_timeout { TakesAllTold slow_timeout_reading slow_timeout_fields }
+    ensures leak_timeout { TakesAllTold leak_timeout_reading leak_timeout_fields }
 {}
 
 /// Layers that say nothing of a path change nothing there. So what no file names is what nextest

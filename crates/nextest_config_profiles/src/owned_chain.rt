@@ -54,7 +54,8 @@ pub(crate) fn owned_chain(
     }
 }
 
-fn copies(alloc: Global, names: &[&str]) -> Result<Vec<String>, AllocError>
+/// Texts that are lent, as texts of their own.
+pub(crate) fn copies(alloc: Global, names: &[&str]) -> Result<Vec<String>, AllocError>
     ensures { IfOk result (λ copies. map string_bytes copies.items ≡ words_of names.now) }
 {
     let mut copies = Vec::new(alloc);

@@ -1,6 +1,7 @@
 //! What is told of a profile: each setting with the file that says so, what that hides, what else
 //! the profile has, and what overrides may change.
 
+mod absent;
 mod chain;
 mod converted;
 mod elements;
@@ -10,6 +11,7 @@ mod hidden;
 mod keys;
 mod last;
 mod literal;
+mod narrowed;
 mod no_limit;
 mod other_profiles;
 mod others;
@@ -21,6 +23,7 @@ mod rows;
 mod setting;
 mod source;
 mod standing;
+mod wanted;
 mod written;
 
 pub use parts::{
@@ -28,3 +31,4 @@ pub use parts::{
     Override, OverrideSetting, Remark, Row, Source,
 };
 pub use profile_report::ProfileReport;
+pub use wanted::WantedKey;

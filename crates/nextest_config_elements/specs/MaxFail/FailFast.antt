@@ -8,7 +8,7 @@ use Rattle.nextest_config_values.specs.Decisions.{IsDecided, same_text_decided}
 use Rattle.nextest_config_values.specs.Once.{HasMeaningOrFault}
 use Rattle.nextest_config_values.specs.Read.Plain.{count_decided}
 use Rattle.nextest_config_values.specs.Read.{in_range, IsCount, kind, made_of, only, or_default, Reading, required, then, value_of, word_reading, wrong_kind, wrong_value}
-use Rattle.nextest_config_elements.specs.Fields.{allowed, field, Fields, needed, no_fields, nothing}
+use Rattle.nextest_config_elements.specs.Fields.{allowed, allowed_or, field, Fields, needed, no_fields, nothing, text_taken}
 use Rattle.nextest_config_elements.specs.FromTable.{set_by_table}
 use Rattle.nextest_config_elements.specs.IntegerLaws.{fits_decided, not_both}
 use Rattle.nextest_config_elements.specs.MaxFail.Limit.{fail_fast_limit, mode_word}
@@ -35,7 +35,8 @@ terminate_key = codes "terminate"
 abbrev pub fail_fast_fields : Fields
 fail_fast_fields =
     field (needed max_fail_key shapes.MaxFail Error) nothing
-    (field (allowed terminate_key shapes.TerminateMode Error) nothing no_fields)
+    (field (allowed_or terminate_key shapes.TerminateMode Error
+    (text_taken (codes "wait"))) nothing no_fields)
 
 -- what `fail-fast` takes, as a refusal says it
 abbrev pub fail_fast_expected : List ℕ

@@ -6,8 +6,9 @@ ghost use Rattle.nextest_config_values.specs.Read.{RefusesAt, RefusesBy};
 ghost use Rattle.nextest_config_elements.specs.MaxFail.{fail_fast_reading, fail_fast_table, IsExpected, limit_of, max_fail_reading};
 
 use super::{MaxFail, TerminateMode};
-use crate::field::{Field, Shape};
+use crate::field::{Absent, Field, Literal, Shape};
 use crate::from_table::{FromTable, read_set};
+use crate::purpose::Purpose;
 use nextest_config_values::read::{FromToml, ReadFault, ValueFault, or_default, required};
 use std::alloc::Global;
 use toml::{Table, Value};
@@ -54,11 +55,14 @@ impl MaxFail {
             key: MAX_FAIL_KEY,
             shape: Shape::MaxFail,
             required: true,
+            purpose: Purpose::FailFastMaxFail,
             ..Field::READ
         },
         Field {
             key: TERMINATE_KEY,
             shape: Shape::TerminateMode,
+            absent: Absent::Taken(Literal::Text("wait")),
+            purpose: Purpose::FailFastTerminate,
             ..Field::READ
         },
     ];

@@ -1,11 +1,9 @@
 //! What has an explanation.
 
-ghost use Rattle.std.specs.Prelude.{◌≡◌, ◌≢◌, IfOk, map, MatchOption, option_map};
-ghost use Rattle.nextest_config_values.specs.NearestWord.{IsNearest};
+ghost use Rattle.std.specs.Prelude.{◌≡◌, ◌≢◌, IfOk, map, MatchOption};
 ghost use Rattle.nextest_config_lint.specs.Explain.Topic.{topic_word, topics};
 
 use crate::FindingCode;
-use nextest_config_values::nearest_word::nearest;
 use nextest_config_values::read::Word;
 use std::alloc::{AllocError, Global};
 
@@ -49,14 +47,16 @@ impl Topic {
         None
     }
 
-    /// The word of a topic that another word comes nearest to.
-    pub fn nearest(alloc: Global, word: &str) -> Result<Option<&'static str>, AllocError>
-        ensures { IfOk result (λ near. IsNearest (map topic_word topics) word.now
-            (option_map (λ word. word.now) near)) }
+    /// The words of all topics.
+    pub(crate) fn words<'w>(alloc: Global) -> Result<Vec<&'w str>, AllocError>
+        ensures { IfOk result (λ words.
+            map (λ word. word.now) words.items ≡ map topic_word topics) }
     {
-        let words = words(alloc)?;
-        let near = nearest(alloc, word, words.as_slice())?;
-        Ok(near)
+        let mut words = Vec::new(alloc);
+        for topic in &Topic::all(alloc)? {
+            words.push(topic.as_word())?;
+        }
+        Ok(words)
     }
 
     /// The word of the topic, which for a finding is its code.
@@ -68,15 +68,4 @@ impl Topic {
             Topic::NextestVersion => NEXTEST_VERSION,
         }
     }
-}
-
-// The words of all topics.
-fn words(alloc: Global) -> Result<Vec<&'static str>, AllocError>
-    ensures { IfOk result (λ words. map (λ word. word.now) words.items ≡ map topic_word topics) }
-{
-    let mut words = Vec::new(alloc);
-    for topic in &Topic::all(alloc)? {
-        words.push(topic.as_word())?;
-    }
-    Ok(words)
 }

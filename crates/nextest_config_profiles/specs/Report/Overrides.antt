@@ -11,11 +11,10 @@ use Rattle.nextest_config_profiles.specs.Profile.{chain_in, file_in, layers_in}
 use Rattle.nextest_config_profiles.specs.declared.layer.Layer.{Layer}
 use Rattle.nextest_config_profiles.specs.declared.profile.EffectiveProfile.{EffectiveProfile}
 use Rattle.nextest_config_profiles.specs.Report.Elements.{all_elements, ElementValue}
-use Rattle.nextest_config_profiles.specs.Report.Literal.{IsLiteralOf}
+use Rattle.nextest_config_profiles.specs.Report.Literal.{IsLiteralIf}
 use Rattle.nextest_config_profiles.specs.Report.Others.{is_none_of}
 use Rattle.nextest_config_profiles.specs.Report.Somes.{AreSomes}
 use Rattle.nextest_config_profiles.specs.Report.Source.{IsPlaceIn}
-use Rattle.nextest_config_profiles.specs.declared.report.parts.Literal.{Literal}
 use Rattle.nextest_config_profiles.specs.declared.report.parts.Override.{Override}
 use Rattle.nextest_config_profiles.specs.declared.report.parts.OverrideSetting.{OverrideSetting}
 use Rattle.nextest_config_profiles.specs.declared.report.parts.Source.{Source}
@@ -30,17 +29,11 @@ override_keys =
 abbrev pub member_at : List ℕ → Data → Option Data
 member_at name value = option_and_then (get_member name) (as_table value)
 
--- a value with a text that writes it, if there is a value
-abbrev pub IsSetIf : Option Data → Option Literal → Type 0
-IsSetIf None literal = literal ≡ None
-IsSetIf (Some value) None = ⊥
-IsSetIf (Some value) (Some literal) = IsLiteralOf value literal
-
 -- a key with its value, if an override has it
 abbrev pub IsSet : Data → List ℕ → Option OverrideSetting → Type 0
 IsSet value name None = member_at name value ≡ None
 IsSet value name (Some setting) =
-    (setting.key.now ≡ name) × IsSetIf (member_at name value) (Some setting.literal)
+    (setting.key.now ≡ name) × IsLiteralIf (member_at name value) (Some setting.literal)
 
 -- the keys that an override sets
 abbrev pub AreSettings : Data → List OverrideSetting → Type 0
@@ -68,8 +61,8 @@ pub record IsElementSource (effective : EffectiveProfile) (element : ElementValu
 pub record IsOverride (effective : EffectiveProfile) (element : ElementValue) (told : Override)
     : Type 0 where
   pub source_is : IsElementSource effective element told.source
-  pub filter_is : IsSetIf (member_at (codes "filter") element.value) told.filter
-  pub platform_is : IsSetIf (member_at (codes "platform") element.value) told.platform
+  pub filter_is : IsLiteralIf (member_at (codes "filter") element.value) told.filter
+  pub platform_is : IsLiteralIf (member_at (codes "platform") element.value) told.platform
   pub settings_are : AreSettings element.value told.settings.items
 
 -- the overrides of the profiles of the chain: those of a profile before those of what it falls back

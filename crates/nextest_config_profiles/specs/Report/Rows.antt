@@ -1,11 +1,12 @@
 -- What is told of a setting, key by key.
-use Rattle.std.specs.Prelude.{◌≡◌, ◌&&◌, ℕ, Bool, true, false, List, [], ◌∷◌, ◌++◌, codes, filter, is_some, length, map, Option, Some, None, string_bytes}
+use Rattle.std.specs.Prelude.{◌≡◌, ◌&&◌, ◌||◌, ℕ, Bool, true, false, List, [], ◌∷◌, ◌++◌, codes, filter, is_some, length, map, not, Option, Some, None, string_bytes}
 use Rattle.std.specs.List.{AllZip}
 use Rattle.toml.specs.Data.{as_table, Data, integer, string}
 use Rattle.toml.specs.View.{view}
 use Rattle.nextest_config_values.specs.Read.{fault_of, fault_text, read_fault_at}
 use Rattle.nextest_config_values.specs.Read.Fault.{Fault}
 use Rattle.nextest_config_values.specs.declared.read.value_fault.ValueFault.{ValueFault}
+use Rattle.nextest_config_elements.specs.Fields.{Absent, KeyRule, taken}
 use Rattle.nextest_config_lint.specs.Conversion.{IsConvertedAt}
 use Rattle.nextest_config_profiles.specs.Profile.{layers_in}
 use Rattle.nextest_config_profiles.specs.Reach.{words_of}
@@ -14,9 +15,9 @@ use Rattle.nextest_config_profiles.specs.declared.last_value.LayerValue.{LayerVa
 use Rattle.nextest_config_profiles.specs.declared.profile.EffectiveProfile.{EffectiveProfile}
 use Rattle.nextest_config_profiles.specs.Report.Given.{IsGivenFor}
 use Rattle.nextest_config_profiles.specs.Report.Hidden.{AreHidden}
-use Rattle.nextest_config_profiles.specs.Report.Literal.{IsLiteralOf}
+use Rattle.nextest_config_profiles.specs.Report.Literal.{IsLiteralIf, IsLiteralOf}
 use Rattle.nextest_config_profiles.specs.Report.Remark.{IsRemark}
-use Rattle.nextest_config_profiles.specs.Report.Setting.{IfAbsent, MemberRule, required, rule_of, SettingRule, taken, unset}
+use Rattle.nextest_config_profiles.specs.Report.Setting.{rule_of, SettingRule}
 use Rattle.nextest_config_profiles.specs.Report.Somes.{AreSomes}
 use Rattle.nextest_config_profiles.specs.Report.Source.{IsSource}
 use Rattle.nextest_config_profiles.specs.Report.Written.{IsDoubted}
@@ -43,8 +44,8 @@ at_of given = record {
 
 -- ---- a value that stands in a layer
 
--- a value is sure: its setting is judged, nextest doesn't convert it, and nothing is wrong with it by
--- nextest's documentation
+-- a value is sure: its setting is judged, nextest doesn't convert it, and nothing is wrong with it
+-- by nextest's documentation
 abbrev pub IsSure : At → Path → Data → Type 0
 IsSure at keys value = (at.judged ≡ true) × (IsConvertedAt keys value → ⊥)
     × (IsDoubted at.setting.reader keys value → ⊥)
@@ -71,12 +72,10 @@ pub record IsGivenRow (at : At) (member : Option (List ℕ)) (keys : Path) (foun
 
 -- ---- a key that no layer has
 
--- what a reader takes for a key that is absent, with a text that writes it
-abbrev pub IsTaken : IfAbsent → Option Literal → Type 0
-IsTaken (taken value) None = ⊥
-IsTaken (taken value) (Some literal) = IsLiteralOf value literal
-IsTaken unset literal = literal ≡ None
-IsTaken required literal = literal ≡ None
+-- what the reader of a table takes for a key that is absent, if anything
+abbrev pub value_taken : Absent → Option Data
+value_taken (taken value) = value
+value_taken other = None
 
 -- a value told as one kind of row, or, where there is none, that nothing gives it
 abbrev pub state_as : (Literal → KeyState) → Option Literal → KeyState
@@ -84,13 +83,14 @@ state_as kind (Some literal) = kind literal
 state_as kind None = states.Unset
 
 -- what a reader takes for a key that is absent, as one kind of row, or that nothing gives it
-pub record IsAbsentState (kind : Literal → KeyState) (absent : IfAbsent) (so : KeyState) : Type 0 where
-  pub literal : Option Literal
-  pub is_taken : IsTaken absent literal
-  pub is_state : so ≡ state_as kind literal
+pub record IsAbsentState (kind : Literal → KeyState) (absent : Absent) (so : KeyState) : Type 0
+  where
+    pub literal : Option Literal
+    pub is_taken : IsLiteralIf (value_taken absent) literal
+    pub is_state : so ≡ state_as kind literal
 
 -- the row of a key that no layer has: what its reader takes there, with what that hides
-pub record IsAbsentRow (at : At) (keys : Path) (absent : IfAbsent) (row : Row) : Type 0 where
+pub record IsAbsentRow (at : At) (keys : Path) (absent : Absent) (row : Row) : Type 0 where
   pub keys_are : words_of row.keys.items ≡ keys
   pub state_is : IsAbsentState states.Default absent row.state
   pub hides : AreHidden at.effective at.hiding at.profile keys (length (layers_in at.effective))
@@ -99,31 +99,26 @@ pub record IsAbsentRow (at : At) (keys : Path) (absent : IfAbsent) (row : Row) :
 -- ---- a table, key by key
 
 -- the row of a key of a table, where this is what the last layer has there, if anything
-abbrev pub IsFoundMember : At → MemberRule → Path → Option LayerValue → Row → Type 0
+abbrev pub IsFoundMember : At → KeyRule → Path → Option LayerValue → Row → Type 0
 IsFoundMember at member keys (Some found) = IsGivenRow at (Some member.key) keys found
 IsFoundMember at member keys None = IsAbsentRow at keys member.absent
 
 -- the path of a key of the table at a path
-abbrev pub keys_of_member : Path → MemberRule → Path
+abbrev pub keys_of_member : Path → KeyRule → Path
 keys_of_member keys member = keys ++ (member.key ∷ [])
 
 -- the row of a key of the table of a setting
-abbrev pub IsMemberRow : At → MemberRule → Row → Type 0
+abbrev pub IsMemberRow : At → KeyRule → Row → Type 0
 IsMemberRow at member row = (found : Option LayerValue)
     × IsLastAt at.effective at.profile (keys_of_member at.setting.keys member) found
     × IsFoundMember at member (keys_of_member at.setting.keys member) found row
 
 -- ---- a text or a number in the place of a table
 
--- a reader takes a table without the key
-abbrev pub may_be_absent : IfAbsent → Bool
-may_be_absent (taken value) = true
-may_be_absent unset = true
-may_be_absent required = false
-
--- the key may be absent from its table
-abbrev pub is_optional : MemberRule → Bool
-is_optional member = may_be_absent member.absent
+-- the value in the place of the table says nothing of the key: a table need not have it, or
+-- something is taken for it
+abbrev pub is_implied : KeyRule → Bool
+is_implied rule = not rule.required || is_some (value_taken rule.absent)
 
 -- a row that hides nothing
 pub record IsBareRow (keys : Path) (IsSo : KeyState → Type 0) (row : Row) : Type 0 where
@@ -132,7 +127,7 @@ pub record IsBareRow (keys : Path) (IsSo : KeyState → Type 0) (row : Row) : Ty
   pub hides : row.hidden.items ≡ []
 
 -- the row of a key of a table in the place of which a text or a number stands
-abbrev pub IsImpliedRow : Path → MemberRule → Row → Type 0
+abbrev pub IsImpliedRow : Path → KeyRule → Row → Type 0
 IsImpliedRow keys member =
     IsBareRow (keys_of_member keys member) (IsAbsentState states.Implied member.absent)
 
@@ -142,10 +137,10 @@ stands_for_table (string text) = true
 stands_for_table (integer number) = true
 stands_for_table other = false
 
--- the rows of the keys that may be absent, where a text or a number stands for their table
+-- the rows of the other keys of a table, where a text or a number stands in its place
 abbrev pub AreImplied : Bool → SettingRule → List Row → Type 0
 AreImplied true setting rows =
-    AllZip (IsImpliedRow setting.keys) (filter is_optional setting.members) rows
+    AllZip (IsImpliedRow setting.keys) (filter is_implied setting.members) rows
 AreImplied false setting rows = rows ≡ []
 
 -- the row of a value, and those of the other keys of the table for which it stands
@@ -163,7 +158,7 @@ abbrev pub is_table : Data → Bool
 is_table value = is_some (as_table value)
 
 -- there is a key
-abbrev pub has_members : List MemberRule → Bool
+abbrev pub has_members : List KeyRule → Bool
 has_members [] = false
 has_members (first ∷ rest) = true
 

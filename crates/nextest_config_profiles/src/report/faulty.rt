@@ -12,8 +12,9 @@ use crate::report::keys::{copy_of, with_key};
 use crate::report::last::{last_at, last_source};
 use crate::report::parts::{FaultSource, KeyState, Row};
 use crate::report::rows::bare_row;
-use crate::report::setting::{Member, Setting};
+use crate::report::setting::Setting;
 use crate::{EffectiveProfile, LayerValue};
+use nextest_config_elements::field::Field;
 use nextest_config_values::read::ValueFault;
 use std::alloc::{AllocError, Global};
 
@@ -124,7 +125,7 @@ fn member_places<'p>(
     effective: &'p EffectiveProfile<'p>,
     profile: &'p str,
     setting: Setting,
-    members: &'static [Member],
+    members: &'static [Field],
 ) -> Result<Vec<FaultSource<'p>>, AllocError>
     ensures { IfOk result (λ sources. ArePlacesAt effective.now profile.now
         (map (keys_of_member (rule_of setting).keys) (map member_of members.now))

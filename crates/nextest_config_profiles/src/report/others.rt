@@ -13,10 +13,10 @@ use crate::report::source::source_of;
 use crate::{EffectiveProfile, LayerValue};
 use std::alloc::{AllocError, Global};
 
-// The keys that are known in a profile, but for those that are told elsewhere.
 const OTHER_KEYS: &[&str] = &["scripts", "archive"];
 
-fn other_keys() -> &'static [&'static str]
+/// The keys that are known in a profile, but for those that are told elsewhere.
+pub(crate) fn other_keys() -> &'static [&'static str]
     ensures { words_of result.now ≡ other_keys }
 {
     OTHER_KEYS

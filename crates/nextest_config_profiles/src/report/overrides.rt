@@ -7,7 +7,8 @@ ghost use Rattle.toml_spans.specs.Step.{step_of};
 ghost use Rattle.nextest_config_profiles.specs.Profile.{file_in};
 ghost use Rattle.nextest_config_profiles.specs.Reach.{words_of};
 ghost use Rattle.nextest_config_profiles.specs.Report.Elements.{element_of};
-ghost use Rattle.nextest_config_profiles.specs.Report.Overrides.{AreOverrides, AreSettings, IsElementSource, IsOverride, IsSet, IsSetIf, IsSpanOfElement, member_at, override_keys, steps_to_element};
+ghost use Rattle.nextest_config_profiles.specs.Report.Literal.{IsLiteralIf};
+ghost use Rattle.nextest_config_profiles.specs.Report.Overrides.{AreOverrides, AreSettings, IsElementSource, IsOverride, IsSet, IsSpanOfElement, member_at, override_keys, steps_to_element};
 ghost use Rattle.nextest_config_profiles.specs.Report.Somes.{some_list};
 ghost use Rattle.nextest_config_profiles.specs.declared.report.parts.OverrideSetting.{OverrideSetting};
 
@@ -175,7 +176,7 @@ fn setting(
 
 // What an override has at a key.
 fn literal_at(alloc: Global, value: &Value, key: &str) -> Result<Option<Literal>, AllocError>
-    ensures { IfOk result (IsSetIf (member_at key.now (view value.now))) }
+    ensures { IfOk result (IsLiteralIf (member_at key.now (view value.now))) }
 {
     match at_key(value, key) {
         Some(value) => Ok(Some(Literal::of(alloc, value.clone()?)?)),
@@ -183,8 +184,8 @@ fn literal_at(alloc: Global, value: &Value, key: &str) -> Result<Option<Literal>
     }
 }
 
-// What a value has at a key.
-fn at_key<'v>(value: &'v Value, key: &str) -> Option<&'v Value>
+/// What a value has at a key.
+pub(crate) fn at_key<'v>(value: &'v Value, key: &str) -> Option<&'v Value>
     ensures { option_map (λ value. view value.now) result ≡ member_at key.now (view value.now) }
 {
     value_at(value.as_table()?, key)

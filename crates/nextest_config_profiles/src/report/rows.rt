@@ -3,10 +3,12 @@
 ghost use Rattle.std.specs.Prelude.{◌≡◌, ◌∷◌, ◌↔◌, [], filter, IfOk, IsTrue, map, MatchOption, None, option_map, Some};
 ghost use Rattle.std.specs.List.{AllZip};
 ghost use Rattle.toml.specs.View.{view};
+ghost use Rattle.nextest_config_elements.specs.Fields.{absent_of};
 ghost use Rattle.nextest_config_profiles.specs.Reach.{words_of};
-ghost use Rattle.nextest_config_profiles.specs.Report.Rows.{AreImplied, AreRowsFor, AreRowsOf, AreValueRows, AreWholeRows, at_of, has_parts, IsAbsentRow, IsGivenRow, IsGivenState, IsImpliedRow, IsMemberRow, IsFoundMember, is_optional, IsNothingRow, IsNothingState, IsSure, IsTaken, IsTakenAway, stands_for_table};
-ghost use Rattle.nextest_config_profiles.specs.Report.Setting.{absent_of, member_of, rule_of};
+ghost use Rattle.nextest_config_profiles.specs.Report.Rows.{AreImplied, AreRowsFor, AreRowsOf, AreValueRows, AreWholeRows, at_of, has_parts, IsAbsentRow, IsGivenRow, IsGivenState, IsImpliedRow, IsMemberRow, IsFoundMember, is_implied, IsNothingRow, IsNothingState, IsSure, IsTakenAway, stands_for_table};
+ghost use Rattle.nextest_config_profiles.specs.Report.Setting.{member_of, rule_of};
 
+use crate::report::absent::{is_taken, taken};
 use crate::report::faulty::fault_row;
 use crate::report::given::Given;
 use crate::report::hidden::hidden_rows;
@@ -14,10 +16,11 @@ use crate::report::keys::{copy_of, with_key};
 use crate::report::last::last_at;
 use crate::report::parts::{KeyState, Literal, Row};
 use crate::report::remark::remark_of;
-use crate::report::setting::{Absent, Member, Setting};
+use crate::report::setting::Setting;
 use crate::report::source::source_of;
 use crate::report::written::is_doubted;
 use crate::{EffectiveProfile, LayerValue};
+use nextest_config_elements::field::{Absent, Field};
 use nextest_config_lint::is_converted_at;
 use std::alloc::{AllocError, Global};
 use toml::Value;
@@ -178,7 +181,7 @@ fn has_parts(setting: Setting, value: &Value) -> bool
 fn member_rows<'p>(
     alloc: Global,
     given: GivenSetting<'p>,
-    members: &'static [Member],
+    members: &'static [Field],
 ) -> Result<Vec<Row<'p>>, AllocError>
     ensures { IfOk result (λ rows. AllZip (IsMemberRow (at_of given.entry))
         (map member_of members.now) rows.items) }
@@ -194,7 +197,7 @@ fn member_rows<'p>(
 fn member_row<'p>(
     alloc: Global,
     given: GivenSetting<'p>,
-    member: &'static Member,
+    member: &'static Field,
 ) -> Result<Row<'p>, AllocError>
     ensures { IfOk result (IsMemberRow (at_of given.entry) (member_of member.now)) }
 {
@@ -208,7 +211,7 @@ fn member_row<'p>(
 fn found_member<'p>(
     alloc: Global,
     given: GivenSetting<'p>,
-    member: &'static Member,
+    member: &'static Field,
     keys: Vec<&'p str>,
     found: Option<LayerValue<'p>>,
 ) -> Result<Row<'p>, AllocError>
@@ -304,18 +307,6 @@ fn absent_row<'p>(
     })
 }
 
-// What a reader takes for a key that is absent.
-fn taken(alloc: Global, absent: Absent) -> Result<Option<Literal>, AllocError>
-    ensures { IfOk result (IsTaken (absent_of absent)) }
-{
-    let value = match absent {
-        Absent::Text(text) => Value::String(String::from_str(alloc, text)?),
-        Absent::False => Value::Boolean(false),
-        Absent::Nothing | Absent::Required => return Ok(None),
-    };
-    Ok(Some(Literal::of(alloc, value)?))
-}
-
 // The rows of a value that is no table: where a text or a number stands for a table, also those of
 // its other keys.
 fn whole_rows<'p>(
@@ -359,32 +350,32 @@ fn stands_for_table(value: &Value) -> bool
 fn implied_rows<'p>(
     alloc: Global,
     setting: Setting,
-    members: &'static [Member],
+    members: &'static [Field],
 ) -> Result<Vec<Row<'p>>, AllocError>
     ensures { IfOk result (λ rows. AllZip (IsImpliedRow (rule_of setting).keys)
-        (filter is_optional (map member_of members.now)) rows.items) }
+        (filter is_implied (map member_of members.now)) rows.items) }
 {
     let mut rows = Vec::new(alloc);
     for member in members {
-        if is_optional(member) {
+        if is_implied(member) {
             rows.push(implied_row(alloc, setting, member)?)?;
         }
     }
     Ok(rows)
 }
 
-// Whether a key may be absent.
-fn is_optional(member: &Member) -> bool
-    ensures { result ≡ is_optional (member_of member.now) }
+// Whether the value in the place of a table says nothing of this key.
+fn is_implied(member: &Field) -> bool
+    ensures { result ≡ is_implied (member_of member.now) }
 {
-    !matches!(member.absent, Absent::Required)
+    !member.required || is_taken(member.absent)
 }
 
 // The row of a key of a table for which a text or a number stands.
 fn implied_row<'p>(
     alloc: Global,
     setting: Setting,
-    member: &'static Member,
+    member: &'static Field,
 ) -> Result<Row<'p>, AllocError>
     ensures { IfOk result (IsImpliedRow (rule_of setting).keys (member_of member.now)) }
 {

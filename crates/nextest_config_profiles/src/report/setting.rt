@@ -3,6 +3,12 @@
 ghost use Rattle.std.specs.Prelude.{◌≡◌, map};
 ghost use Rattle.nextest_config_profiles.specs.Report.Setting.{all_settings, rule_of};
 
+use nextest_config_elements::field::Field;
+use nextest_config_elements::leak_timeout::LeakTimeout;
+use nextest_config_elements::max_fail::MaxFail;
+use nextest_config_elements::retry_policy::RetryPolicy;
+use nextest_config_elements::slow_timeout::SlowTimeout;
+
 /// What reads a setting.
 #[derive(Clone, Copy)]
 pub(crate) enum Reader {
@@ -21,102 +27,20 @@ pub(crate) enum Reader {
     Documented,
 }
 
-/// A setting: its path below a profile, what reads it, and the keys that its table may have, in
-/// their order.
+/// A setting: its path below a profile, what reads it, and the fields of its table, if it may have
+/// one.
 #[derive(Clone, Copy)]
 pub(crate) struct Setting {
     pub keys: &'static [&'static str],
     pub reader: Reader,
-    pub members: &'static [Member],
+    pub members: &'static [Field],
 }
-
-/// A key of the table of a setting, and what its reader takes where it is absent.
-#[derive(Clone, Copy)]
-pub(crate) struct Member {
-    pub key: &'static str,
-    pub absent: Absent,
-}
-
-/// What a reader takes for a key that is absent.
-#[derive(Clone, Copy)]
-pub(crate) enum Absent {
-    Text(&'static str),
-    False,
-    /// The reader takes nothing.
-    Nothing,
-    /// The key can't be absent. A text or a number in the place of the table stands for it.
-    Required,
-}
-
-const RETRIES: &[Member] = &[
-    Member {
-        key: "backoff",
-        absent: Absent::Text("fixed"),
-    },
-    Member {
-        key: "count",
-        absent: Absent::Required,
-    },
-    Member {
-        key: "delay",
-        absent: Absent::Text("0s"),
-    },
-    Member {
-        key: "jitter",
-        absent: Absent::False,
-    },
-    Member {
-        key: "max-delay",
-        absent: Absent::Nothing,
-    },
-];
-
-const FAIL_FAST: &[Member] = &[
-    Member {
-        key: "max-fail",
-        absent: Absent::Required,
-    },
-    Member {
-        key: "terminate",
-        absent: Absent::Text("wait"),
-    },
-];
-
-const SLOW_TIMEOUT: &[Member] = &[
-    Member {
-        key: "period",
-        absent: Absent::Required,
-    },
-    Member {
-        key: "terminate-after",
-        absent: Absent::Nothing,
-    },
-    Member {
-        key: "grace-period",
-        absent: Absent::Text("10s"),
-    },
-    Member {
-        key: "on-timeout",
-        absent: Absent::Text("fail"),
-    },
-];
-
-const LEAK_TIMEOUT: &[Member] = &[
-    Member {
-        key: "period",
-        absent: Absent::Required,
-    },
-    Member {
-        key: "result",
-        absent: Absent::Text("pass"),
-    },
-];
 
 const SETTINGS: &[Setting] = &[
     Setting {
         keys: &["retries"],
         reader: Reader::Retries,
-        members: RETRIES,
+        members: RetryPolicy::OPEN_FIELDS,
     },
     Setting {
         keys: &["flaky-result"],
@@ -131,17 +55,17 @@ const SETTINGS: &[Setting] = &[
     Setting {
         keys: &["fail-fast"],
         reader: Reader::FailFast,
-        members: FAIL_FAST,
+        members: MaxFail::FIELDS,
     },
     Setting {
         keys: &["slow-timeout"],
         reader: Reader::SlowTimeout,
-        members: SLOW_TIMEOUT,
+        members: SlowTimeout::FIELDS,
     },
     Setting {
         keys: &["leak-timeout"],
         reader: Reader::LeakTimeout,
-        members: LEAK_TIMEOUT,
+        members: LeakTimeout::FIELDS,
     },
     Setting {
         keys: &["global-timeout"],
@@ -216,7 +140,7 @@ const SETTINGS: &[Setting] = &[
     Setting {
         keys: &["bench", "slow-timeout"],
         reader: Reader::SlowTimeout,
-        members: SLOW_TIMEOUT,
+        members: SlowTimeout::FIELDS,
     },
     Setting {
         keys: &["bench", "global-timeout"],

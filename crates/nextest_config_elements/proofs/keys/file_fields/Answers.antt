@@ -16,7 +16,21 @@ returns c =
     (row _ _ _ _ parts_nothing
     (row _ _ _ _ (search (row, table, parts_nothing) depth 20 fits 900)
     (row _ _ _ _ (search (row, table, parts_nothing) depth 20 fits 900)
-    (row _ _ _ _ (each_element _ _ _ (table _ _ (search (row, table, table_by_backoff, each_element, parts_nothing) depth 60 fits 3000)))
+    (row _ _ _ _ (each_element _ _ _ (table _ _ (row _ _ _ _ parts_nothing
+    (row _ _ _ _ parts_nothing
+    (row _ _ _ _ (search (row, table_by_backoff, parts_nothing) depth 20 fits 900)
+    (row _ _ _ _ parts_nothing
+    (row _ _ _ _ (search (row, table, parts_nothing) depth 20 fits 900)
+    (row _ _ _ _ (search (row, table, parts_nothing) depth 20 fits 900)
+    (row _ _ _ _ (search (row, table, parts_nothing) depth 20 fits 900)
+    (row _ _ _ _ parts_nothing
+    (row _ _ _ _ (search (row, table, parts_nothing) depth 20 fits 900)
+    (row _ _ _ _ parts_nothing
+    (row _ _ _ _ parts_nothing
+    (row _ _ _ _ (search (row, each_element, parts_nothing) depth 20 fits 900)
+    (row _ _ _ _ parts_nothing
+    (row _ _ _ _ parts_nothing
+    (row _ _ _ _ parts_nothing refl)))))))))))))))))
     (row _ _ _ _ parts_nothing
     (row _ _ _ _ parts_nothing
     (row _ _ _ _ parts_nothing

@@ -1,0 +1,9 @@
+use Rattle.std.proofs.Common.{◌==◌, rules, tests}
+use Rattle.std.proofs.lemmas.Iterator.Consumers.{map_from_collect}
+use Rattle.std.proofs.lemmas.Iterator.Splits.{YieldsList-from_slice_split}
+use Rattle.toml_spans.specs.Characters.{dot}
+use Rattle.nextest_config_lint.proofs.explain.key_path.pieces.Goals as goal
+
+pub returns : goal.returns
+returns c = map_from_collect _ c.collect.ensures.ran
+    (YieldsList-from_slice_split _ (λ b. b == dot) c.args.outside.now c.split.ensures.rest c.split.ensures.done c.split.ensures.closure (λ x b q k. search (rules, tests)))

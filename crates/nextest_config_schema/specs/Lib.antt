@@ -1,0 +1,7 @@
+pub mod Place
+pub mod Patterns
+pub mod Values
+pub mod Kinds
+pub mod Defaults
+pub mod Fields
+pub mod File

@@ -1,0 +1,12 @@
+//! A JSON Schema of nextest's configuration file, made of the table of its keys.
+#![tactic(auto)]
+
+mod defaults;
+mod fields;
+mod file;
+mod kinds;
+mod patterns;
+mod place;
+mod values;
+
+pub use file::{schema, schema_text};
