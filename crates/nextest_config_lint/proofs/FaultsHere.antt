@@ -25,7 +25,7 @@ use Rattle.nextest_config_elements.specs.declared.field.Shape.{Shape}
 use Rattle.nextest_config_elements.specs.declared.field.Shape.TheVariants as shapes
 use Rattle.nextest_config_lint.proofs.FaultsOf.{AllFaults, by_kind, no_fault}
 use Rattle.nextest_config_lint.specs.File.{reason_key, rule_key}
-use Rattle.nextest_config_lint.specs.Forms.{depth_form, line_form, line_or_table_expected, platform_form, scalar_form, texts_expected, texts_form, threads_form}
+use Rattle.nextest_config_lint.specs.Shapes.Forms.{depth_form, line_form, line_or_table_expected, one_word, platform_form, scalar_form, texts_expected, texts_form, threads_form}
 use Rattle.nextest_config_values.specs.Helpers.PathsLaws.{relative_path_reading}
 use Rattle.nextest_config_lint.specs.Rules.{rules_check}
 use Rattle.nextest_config_lint.specs.declared.settings.Rules.{Rules}
@@ -82,15 +82,14 @@ line expected value = here _ (refl, λ path. refl)
 relative_path : (value : Data) → AllFaults IsHere (relative_path_reading.faults value)
 relative_path value = by_kind IsHere _ _ (as_str value) (λ held is. here_if _ _ (refl, λ path. refl)) (here _ (refl, λ path. refl))
 
+this_word : (held expected : List ℕ) (value : Data) → AllFaults IsHere ((one_word held expected).faults value)
+this_word held expected value = by_kind IsHere _ _ (as_str value) (λ text is. here_if _ _ (refl, λ path. refl)) (here _ (refl, λ path. refl))
+
 depth : (value : Data) → AllFaults IsHere (depth_form.faults value)
-depth value =
-    by_kind IsHere _ _ (as_integer value) (λ held is. here_if _ _ (refl, λ path. refl))
-    (by_kind IsHere _ _ (as_str value) (λ held is. here_if _ _ (refl, λ path. refl)) (here _ (refl, λ path. refl)))
+depth value = by_kind IsHere _ _ (as_integer value) (λ held is. here_if _ _ (refl, λ path. refl)) (this_word _ _ value)
 
 threads : (value : Data) → AllFaults IsHere (threads_form.faults value)
-threads value =
-    by_kind IsHere _ _ (as_integer value) (λ held is. here_if _ _ (refl, λ path. refl))
-    (by_kind IsHere _ _ (as_str value) (λ held is. here_if _ _ (refl, λ path. refl)) (here _ (refl, λ path. refl)))
+threads value = by_kind IsHere _ _ (as_integer value) (λ held is. here_if _ _ (refl, λ path. refl)) (this_word _ _ value)
 
 threads_required : (value : Data) → AllFaults IsHere (threads_reading.faults value)
 threads_required value =

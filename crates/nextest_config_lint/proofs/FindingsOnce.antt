@@ -4,8 +4,7 @@ use Rattle.std.specs.Prelude.{◌≡◌, ℕ, ℤ, Bool, true, false, List, [], 
 use Rattle.std.proofs.Common.{arith, rules, sym, ap, ap₂, refl, subst, ◌∙◌, inl, inr}
 use Rattle.std.proofs.lemmas.Bool.{cases_lt}
 use Rattle.std.proofs.lemmas.List.Elements.{filter-append}
-use Rattle.std.specs.Fmt.{signed_decimal}
-use Rattle.toml.specs.Data.{as_str, Data, Members}
+use Rattle.toml.specs.Data.{as_integer, as_str, Data, Members}
 use Rattle.nextest_config_values.specs.Read.Fault.{Fault}
 use Rattle.nextest_config_values.specs.Read.{Reason}
 use Rattle.nextest_config.specs.NextestVersion.{all_features, Features, FeatureSetting, features_under, texts_in_one_order, word_of}
@@ -20,19 +19,17 @@ use Rattle.nextest_config_lint.specs.Document.{AreFindings, keys_of_document}
 use Rattle.nextest_config_lint.specs.Faults.{IsFoundKind, IsFoundOf}
 use Rattle.nextest_config_lint.specs.Features.{AreNamedFound, AreToolsFound, IsNameFound, IsStepTo}
 use Rattle.nextest_config_lint.specs.FindingsLaws.{own_findings}
-use Rattle.nextest_config_lint.specs.Found.{AreFoundIn, AreFoundOf, Found, found_at, FoundKind, Meant, refused, the_toml, tool_names, unknown_key, unknown_name}
+use Rattle.nextest_config_lint.specs.Found.{AreFoundIn, AreFoundOf, Found, found_at, FoundKind, Meant, refused, tool_names, unknown_key, unknown_name}
 use Rattle.nextest_config_lint.specs.References.{FileInList, in_list, IsReferenceFound}
 use Rattle.nextest_config_lint.specs.Settings.{a_value, absent_key, between, features_at, is_known, refused_key, settings_of, SettingView, Subject}
 use Rattle.nextest_config_lint.specs.Subjects.{IsLeftOpen, NamesFeatures}
 use Rattle.nextest_config_lint.proofs.Subjects.{named_not_right, named_not_wrong, never_wrong, one_wrong}
 use Rattle.nextest_config_elements.specs.declared.field.Shape.{Shape}
-use Rattle.nextest_config_elements.specs.MaxFail.{one_number}
-use Rattle.nextest_config_lint.specs.Integers.{IsIntegerHint}
-use Rattle.nextest_config_lint.specs.Meant.{digits_of, IsDurationHint, IsEitherHint, IsHintAt, IsHintOf, IsSecondsHint, IsShortHint, IsValueHint, taken_of, unknown_word_in}
-use Rattle.nextest_config_lint.specs.declared.integers.IntegerRange.{IntegerRange}
+use Rattle.nextest_config_elements.specs.declared.field.Shape.TheVariants as shapes
+use Rattle.nextest_config_lint.proofs.WrittenHints.{written_once}
+use Rattle.nextest_config_lint.specs.Hints.{IsHintAt, IsHintOf, IsLimitHint, IsValueHint, unknown_word_in}
+use Rattle.nextest_config_lint.specs.Hints.Durations.{digits_of, IsDurationHint, IsEitherHint, IsSecondsHint, IsShortHint}
 use Rattle.nextest_config_lint.specs.Unknown.{IsHintFor, IsKeyFound, IsKeyFoundFor, meant_beside, TableKey}
-use Rattle.nextest_config_lint.specs.declared.meant.Taken.{Taken}
-use Rattle.nextest_config_lint.specs.declared.meant.Taken.TheVariants.{Boolean, Duration, FailFast, Integer, ShortDuration, Tables}
 use Rattle.nextest_config_lint.specs.Severity.{IsSeverity}
 use Rattle.nextest_config_lint.specs.declared.finding.FindingSeverity.{FindingSeverity}
 use Rattle.nextest_config_lint.specs.Values.{accepted, AreFaults, AreFaultsFound, AreFeatures, AreFeaturesFound, AreFoundBy, AreNotes, AreNotesFound, faulty, IsOutcome, left_open, names_features, Outcome}
@@ -116,27 +113,23 @@ short_once : (digits : Option (List ℕ)) (a b : Option Meant) → IsShortHint d
 short_once None a b h k = h ∙ sym k
 short_once (Some digits) a b h k = either_once digits a b h k
 
-integer_once : (range : IntegerRange) (text : Option (List ℕ)) (a b : Option Meant) → IsIntegerHint range text a → IsIntegerHint range text b → a ≡ b
-integer_once range None a b h k = h ∙ sym k
-integer_once range (Some text) a b (inl (number, writes, is)) (inl (other, also, is_too)) =
-    is ∙ ap (λ (it : ℤ). Some (the_toml (signed_decimal it))) (one_number text number other writes.0.0.0 also.0.0.0) ∙ sym is_too
-integer_once range (Some text) a b (inl (number, writes, is)) (inr (none, is_too)) = absurd (none number writes)
-integer_once range (Some text) a b (inr (none, is)) (inl (number, writes, is_too)) = absurd (none number writes)
-integer_once range (Some text) a b (inr (none, is)) (inr (none_too, is_too)) = is ∙ sym is_too
+limit_once : (count : Option ℤ) (text : Option (List ℕ)) (a b : Option Meant) → IsLimitHint count text a → IsLimitHint count text b → a ≡ b
+limit_once None text a b h k = written_once shapes.FailFast text a b h k
+limit_once (Some number) text a b h k = h ∙ sym k
 
-meant_at_once : (path : List PathStep) (taken : Option Taken) (value : Data) (a b : Option Meant) → IsHintAt path taken value a → IsHintAt path taken value b → a ≡ b
-meant_at_once path (Some Duration) value a b h k = duration_once (digits_of value) a b h k
-meant_at_once path (Some ShortDuration) value a b h k = short_once (digits_of value) a b h k
-meant_at_once path (Some Boolean) value a b h k = h ∙ sym k
-meant_at_once path (Some FailFast) value a b h k = h ∙ sym k
-meant_at_once path (Some Tables) value a b h k = h ∙ sym k
-meant_at_once path (Some (Integer range)) value a b h k = integer_once range (as_str value) a b h k
-meant_at_once path None value a b h k = h ∙ sym k
+meant_at_once : (path : List PathStep) (shape : Shape) (value : Data) (a b : Option Meant) → IsHintAt path shape value a → IsHintAt path shape value b → a ≡ b
+meant_at_once path shapes.SlowTimeout value a b h k = duration_once (digits_of value) a b h k
+meant_at_once path shapes.Duration value a b h k = duration_once (digits_of value) a b h k
+meant_at_once path shapes.LeakTimeout value a b h k = short_once (digits_of value) a b h k
+meant_at_once path shapes.ShortDuration value a b h k = short_once (digits_of value) a b h k
+meant_at_once path shapes.FailFast value a b h k = limit_once (as_integer value) (as_str value) a b h k
+meant_at_once path shapes.Array value a b h k = h ∙ sym k
+meant_at_once path shape value a b h k = written_once shape (as_str value) a b h k
 
 value_hint_once : (unknown_word : Option (List ℕ × List (List ℕ))) (path : List PathStep) (shape : Shape) (value : Data) (a b : Option Meant)
     → IsValueHint unknown_word path shape value a → IsValueHint unknown_word path shape value b → a ≡ b
 value_hint_once (Some (name, known)) path shape value a b h k = meant_once known name a b h k
-value_hint_once None path shape value a b h k = meant_at_once path (taken_of shape) value a b h k
+value_hint_once None path shape value a b h k = meant_at_once path shape value a b h k
 
 hint_of_once : (path : List PathStep) (subject : Subject) (fault : Fault) (a b : Option Meant) → IsHintOf path subject fault a → IsHintOf path subject fault b → a ≡ b
 hint_of_once path (a_value shape parts value) fault a b h k = value_hint_once (unknown_word_in fault.cause) path shape value a b h k

@@ -11,7 +11,7 @@ use Rattle.nextest_config.specs.declared.nextest_version.edition.Edition.{Editio
 use Rattle.nextest_config.specs.declared.nextest_version.source.ConfigSourceKind.{ConfigSourceKind}
 use Rattle.nextest_config_lint.specs.Faults.{IsFoundOf}
 use Rattle.nextest_config_lint.specs.Found.{Found, found_at, FoundKind, found_of, Meant, refused, unjudged}
-use Rattle.nextest_config_lint.specs.Meant.{IsFaultHint}
+use Rattle.nextest_config_lint.specs.Hints.{IsFaultHint}
 use Rattle.nextest_config_lint.specs.Settings.{SettingView}
 use Rattle.nextest_config_lint.specs.Severity.{IsSeverity}
 use Rattle.nextest_config_lint.specs.Subjects.{IsLeftOpen, IsRight, IsWrong}

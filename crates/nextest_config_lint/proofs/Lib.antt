@@ -5,7 +5,7 @@ pub mod FirstNames
 pub mod FoundKinds
 pub mod FoundLists
 pub mod FoundValues
-pub mod MeantIntegers
+pub mod WrittenHints
 pub mod Keys
 pub mod Leading
 pub mod Mistakes

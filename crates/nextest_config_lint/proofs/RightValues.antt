@@ -1,4 +1,5 @@
--- Whether nothing is wrong with a value, by what a check of it answers.
+-- Whether a value passes a check, by what the check of it answers.
+use mathlib.Core.Logic.Iff as iff
 use Rattle.std.specs.Prelude.{◌≡◌, ◌↔◌, Bool, false, IfErr, IfOk, IsSome, IsTrue, MatchResult, Ok, Err, OnOk, Option, Some, None, Result}
 use Rattle.nextest_config_values.specs.Read.Fault.{Always, fault_of, Fault, Refuses}
 use Rattle.nextest_config_values.specs.Read.{Check, FaultOrMemory}
@@ -11,16 +12,17 @@ told M IsFault (Some fault) some refused = (fault, refused)
 told M IsFault None some refused = cc some
 
 module _ {D : Type 0} (check : Check D) (value : D) where
-  is_right_if : (checked : Result (Unit {0}) ValueFault) (right : Bool) → OnOk checked (check.passes value) → IfErr checked (Refuses (check.faults value) Always)
-      → MatchResult checked (λ _. IsTrue right) (λ fault. IsSome (fault_of fault) × (right ≡ false))
-      → IsTrue right ↔ ((fault : Fault) → check.faults value fault → ⊥)
-  is_right_if (Ok unit) right passes refused answer = ((λ _. (checked_none check value).1 passes), λ _. answer)
-  is_right_if (Err refusal) right passes refused (some, wrong) = let (fault, is) = told _ _ (fault_of refusal) some refused in
-      rw wrong ((λ never. cc never), λ none. absurd (none fault is))
+  -- the answer to a check is whether the value passes it
+  pub passes_if : (checked : Result (Unit {0}) ValueFault) (answer : Bool) → OnOk checked (check.passes value) → IfErr checked (Refuses (check.faults value) Always)
+      → MatchResult checked (λ _. IsTrue answer) (λ fault. IsSome (fault_of fault) × (answer ≡ false))
+      → IsTrue answer ↔ check.passes value
+  passes_if (Ok unit) answer passes refused answered = ((λ _. passes), λ _. answered)
+  passes_if (Err refusal) answer passes refused (some, wrong) = let (fault, is) = told _ _ (fault_of refusal) some refused in
+      rw wrong ((λ never. cc never), λ passes. absurd (check.never_both value fault passes is))
 
-  -- the answer to a check is that all is right exactly where nothing is wrong
+  -- and so is whether nothing is wrong with it
   pub are_right_if : {E : Type 0} (checked : Result (Unit {0}) ValueFault) (answer : Result Bool E) → OnOk checked (check.passes value) → IfErr checked (Refuses (check.faults value) Always)
       → IfOk answer (λ right. MatchResult checked (λ _. IsTrue right) (λ fault. IsSome (fault_of fault) × (right ≡ false)))
       → IfOk answer (λ right. IsTrue right ↔ ((fault : Fault) → check.faults value fault → ⊥))
-  are_right_if checked (Ok right) passes refused answered = is_right_if checked right passes refused answered
+  are_right_if checked (Ok right) passes refused answered = iff.trans (passes_if checked right passes refused answered) (iff.symm (checked_none check value))
   are_right_if checked (Err error) passes refused answered = tt

@@ -7,7 +7,7 @@ use Rattle.nextest_config_values.specs.Read.{no_duration, Reason, reason_at}
 use Rattle.toml_spans.specs.Line.{found_below}
 use Rattle.toml_spans.specs.Step.{PathStep, printed_path}
 use Rattle.nextest_config_lint.specs.Found.{Found, FoundKind, Meant, refused}
-use Rattle.nextest_config_lint.specs.Meant.{IsFaultHint}
+use Rattle.nextest_config_lint.specs.Hints.{IsFaultHint}
 use Rattle.nextest_config_lint.specs.Settings.{SettingView}
 use Rattle.nextest_config_lint.specs.Severity.{IsSeverity}
 use Rattle.nextest_config_lint.specs.declared.finding.FindingSeverity.{FindingSeverity}

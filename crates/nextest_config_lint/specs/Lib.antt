@@ -7,12 +7,10 @@ pub mod Features
 pub mod File
 pub mod Finding
 pub mod FindingsLaws
-pub mod Forms
 pub mod Found
 pub mod RingProfiles
 pub mod Inheritance
-pub mod Integers
-pub mod Meant
+pub mod Hints
 pub mod Mistake
 pub mod Named
 pub mod References

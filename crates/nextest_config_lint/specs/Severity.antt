@@ -4,7 +4,7 @@ use Rattle.nextest_config_values.specs.Read.Fault.{Cause, Fault, invalid_type}
 use Rattle.nextest_config_values.specs.Read.{for_reason}
 use Rattle.nextest_config_elements.specs.declared.field.FaultSeverity.{FaultSeverity}
 use Rattle.nextest_config_elements.specs.declared.field.FaultSeverity.TheVariants as of_field
-use Rattle.nextest_config_lint.specs.Conversion.{MayBecomeIf, wanted_of}
+use Rattle.nextest_config_lint.specs.Conversion.{MayBecome}
 use Rattle.nextest_config_lint.specs.Settings.{a_value, SettingView, Subject}
 use Rattle.nextest_config_lint.specs.declared.finding.FindingSeverity.{FindingSeverity}
 use Rattle.nextest_config_lint.specs.declared.finding.FindingSeverity.TheVariants.{Error, Warning}
@@ -16,7 +16,7 @@ IsWrongType cause = (found : List ℕ) × (expected : List ℕ)
 
 -- nextest may make the wanted kind of the value
 abbrev pub IsConvertible : Subject → Type 0
-IsConvertible (a_value shape parts value) = MayBecomeIf (wanted_of shape) value
+IsConvertible (a_value shape parts value) = MayBecome shape value
 IsConvertible subject = ⊥
 
 -- what is refused is of a kind that isn't taken, and nextest may make one of the wanted kind of it

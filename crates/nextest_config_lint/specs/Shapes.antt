@@ -1,5 +1,6 @@
 -- What a value has to be, but for what stands in it: what each shape takes, and what is wrong with a
 -- value that it doesn't take.
+pub mod Forms
 use Rattle.std.specs.Prelude.{◌≡◌, ◌⊎◌, ℕ, List, codes, Option, Some, None, IsSome}
 use Rattle.std.proofs.Common.{inl, inr, refl, sym, ◌∙◌, subst}
 use Rattle.toml.specs.Data.{Data, as_array, as_table}
@@ -20,7 +21,7 @@ use Rattle.nextest_config_elements.specs.SlowTimeout.{slow_timeout_reading, slow
 use Rattle.nextest_config_elements.specs.ThreadsRequired.{threads_reading}
 use Rattle.nextest_config_elements.specs.declared.field.Shape.{Shape}
 use Rattle.nextest_config_elements.specs.declared.field.Shape.TheVariants as shapes
-use Rattle.nextest_config_lint.specs.Forms.{command_form, command_line_form, depth_form, platform_form, scalar_form, texts_form, threads_form, word_form}
+use Rattle.nextest_config_lint.specs.Shapes.Forms.{command_form, command_line_form, depth_form, platform_form, scalar_form, texts_form, threads_form, word_form}
 
 -- any value is all right
 abbrev pub any_check : Check Data

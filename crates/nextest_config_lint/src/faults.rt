@@ -13,7 +13,7 @@ ghost use Rattle.nextest_config_lint.specs.Subjects.{IsLeftOpen};
 ghost use Rattle.nextest_config_lint.specs.Values.{TellsFault};
 
 use crate::finding::{Finding, FindingKind};
-use crate::meant::hint_of;
+use crate::hints::hint_of;
 use crate::settings::{Setting, Subject};
 use crate::severity::severity_of;
 use crate::values::ValueFindings;

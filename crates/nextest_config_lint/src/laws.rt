@@ -6,6 +6,7 @@ ghost use Rattle.std.specs.Ordering.{nat_cmp};
 ghost use Rattle.toml.specs.Data.{Data, Members};
 ghost use Rattle.toml.specs.Parse.{parse_document};
 ghost use Rattle.nextest_config_values.specs.Equality.{IsCopy, IsEquality};
+ghost use Rattle.nextest_config_values.specs.Literal.Value.{IsLiteral};
 ghost use Rattle.toml_spans.specs.Step.{PathStep};
 ghost use Rattle.nextest_config.specs.NextestVersion.{Ask, features_under, TextAsks, versions_reading};
 ghost use Rattle.nextest_config.specs.declared.nextest_version.edition.Edition.{Edition};
@@ -17,14 +18,17 @@ ghost use Rattle.nextest_config_elements.specs.LeakTimeout.{leak_timeout_fields,
 ghost use Rattle.nextest_config_elements.specs.MaxFail.{fail_fast_fields, fail_fast_reading};
 ghost use Rattle.nextest_config_elements.specs.RetryPolicy.{retries_parts, retry_policy_reading};
 ghost use Rattle.nextest_config_elements.specs.SlowTimeout.{slow_timeout_fields, slow_timeout_reading};
+ghost use Rattle.nextest_config_elements.specs.declared.field.Shape.{Shape};
 ghost use Rattle.nextest_config_elements.specs.declared.field.Shape.TheVariants as shapes;
 ghost use Rattle.nextest_config_lint.specs.Defined.{ListFile};
 ghost use Rattle.nextest_config_lint.specs.Document.{AreFindings};
 ghost use Rattle.nextest_config_lint.specs.File.{AreLocated};
 ghost use Rattle.nextest_config_lint.specs.Finding.{rank};
 ghost use Rattle.nextest_config_lint.specs.FindingsLaws.{FindsItsFault, IsFileWithoutError, IsNoLocatedError, IsNoError, IsTakenWhole, IsWithoutError, LeadsToValue, own_findings};
-ghost use Rattle.nextest_config_lint.specs.Found.{Found};
+ghost use Rattle.nextest_config_lint.specs.Found.{Found, Meant, the_toml};
+ghost use Rattle.nextest_config_lint.specs.Hints.Written.{IsMeantByText, Writes};
 ghost use Rattle.nextest_config_lint.specs.Settings.{has_default_period};
+ghost use Rattle.nextest_config_lint.specs.Shapes.{shape_check};
 ghost use Rattle.nextest_config_lint.specs.declared.file.LocatedFinding.{LocatedFinding};
 ghost use Rattle.nextest_config_lint.specs.declared.finding.FindingSeverity.{FindingSeverity};
 
@@ -91,6 +95,15 @@ pub fn law_no_error_reads()
         → AreFindings edition kind files position members all_found
         → AllByRecursion IsNoError all_found
         → (ask : Ask) × TextAsks edition kind (Some text) ask }
+{}
+
+/// A boolean or an integer that is hinted at is one that the text writes, and that the shape takes
+/// under each edition.
+pub fn law_hint_taken()
+    ensures { (edition : Edition) (shape : Shape) (text : List ℕ) (meant : Meant)
+        → IsMeantByText shape text (Some meant) → (value : Data) × Writes text value
+        × (shape_check edition shape).passes value
+        × ((told : List ℕ) × IsLiteral value told × (meant ≡ the_toml told)) }
 {}
 
 /// Key by key, nothing is wrong with a value of a setting exactly where its reader takes it whole:

@@ -67,8 +67,8 @@ fn is_right(alloc: Global, setting: &Setting) -> Result<bool, AllocError>
     }
 }
 
-// Whether nothing was found, unless memory was refused.
-fn is_accepted(checked: Result<(), ValueFault>) -> Result<bool, AllocError>
+/// Whether nothing was found, unless memory was refused.
+pub(crate) fn is_accepted(checked: Result<(), ValueFault>) -> Result<bool, AllocError>
     ensures { IfOk result (λ right. MatchResult checked (λ _. IsTrue right)
         (λ fault. IsSome (fault_of fault) × (right ≡ false))) }
 {

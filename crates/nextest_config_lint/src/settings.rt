@@ -94,7 +94,8 @@ impl<'a> Setting<'a> {
             severity,
             ..
         } = *field;
-        Setting::collect(alloc, shape, severity, &field.parts, &[], value, &mut all)?;
+        let path = Vec::new(alloc);
+        Setting::collect(alloc, shape, severity, &field.parts, path, value, &mut all)?;
         Ok(all)
     }
 
@@ -136,7 +137,6 @@ impl<'a> Setting<'a> {
         match value_at(table, field.key) {
             Some(value) => {
                 let path = path_to(alloc, path, Mark::Key(field.key))?;
-                let path = path.as_slice();
                 Setting::collect(alloc, field.shape, severity, &field.parts, path, value, all)
             }
             None => collect_absent(alloc, field, severity, path, all),
@@ -150,12 +150,12 @@ impl<'a> Setting<'a> {
         shape: Shape,
         severity: FaultSeverity,
         parts: &Parts,
-        path: &[Mark<'a>],
+        path: Vec<Mark<'a>>,
         value: &'a Value,
         all: &mut Vec<Setting<'a>>,
     ) -> Result<(), AllocError>
         ensures { OnOk result (map setting_view all.new.items ≡ map setting_view all.old.items
-            ++ settings_in shape severity (parts_of parts.now) (map mark_step path.now)
+            ++ settings_in shape severity (parts_of parts.now) (map mark_step path.entry.items)
             (view value.now)) }
     {
         let subject = Subject::Value {
@@ -163,8 +163,16 @@ impl<'a> Setting<'a> {
             parts: *parts,
             value,
         };
-        all.push(setting_at(alloc, severity, path, subject)?)?;
-        Setting::collect_below(alloc, severity, parts, path, value, all)
+        if matches!(parts, Parts::Nothing) {
+            all.push(Setting {
+                severity,
+                path,
+                subject,
+            })?;
+            return Ok(());
+        }
+        all.push(setting_at(alloc, severity, path.as_slice(), subject)?)?;
+        Setting::collect_below(alloc, severity, parts, path.as_slice(), value, all)
     }
 
     // Adds what is judged in a value.
@@ -333,7 +341,7 @@ impl<'a> Setting<'a> {
     {
         for (name, value) in table {
             let path = path_to(alloc, path, Mark::Key(name.as_str()))?;
-            Setting::collect(alloc, shape, severity, parts, path.as_slice(), value, all)?;
+            Setting::collect(alloc, shape, severity, parts, path, value, all)?;
         }
         Ok(())
     }
@@ -355,7 +363,7 @@ impl<'a> Setting<'a> {
     {
         for (index, value) in array.iter().enumerate() {
             let path = path_to(alloc, path, Mark::Index(index))?;
-            Setting::collect(alloc, shape, severity, parts, path.as_slice(), value, all)?;
+            Setting::collect(alloc, shape, severity, parts, path, value, all)?;
         }
         Ok(())
     }
@@ -401,7 +409,11 @@ fn collect_plain_elements<'a>(
             parts: Parts::Nothing,
             value,
         };
-        all.push(setting_at(alloc, severity, path.as_slice(), subject)?)?;
+        all.push(Setting {
+            severity,
+            path,
+            subject,
+        })?;
     }
     Ok(())
 }
@@ -556,7 +568,7 @@ fn path_to<'a>(
         (λ longer. map mark_step longer.items
         ≡ map mark_step path.now ++ (mark_step mark.entry ∷ [])) }
 {
-    let mut longer = Vec::new(alloc);
+    let mut longer = Vec::with_capacity(alloc, path.len() + 1)?;
     longer.extend_from_slice(path)?;
     longer.push(mark)?;
     Ok(longer)

@@ -5,7 +5,7 @@ ghost use Rattle.nextest_config_values.specs.Read.{cause_of, fault_of};
 ghost use Rattle.nextest_config_lint.specs.Settings.{setting_view, subject_view};
 ghost use Rattle.nextest_config_lint.specs.Severity.{IsConverted, IsConvertible, IsSeverity, IsWrongType, plain_severity};
 
-use crate::conversion::{may_become_if, wanted_of};
+use crate::conversion::may_become;
 use crate::finding::FindingSeverity;
 use crate::settings::{Setting, Subject};
 use nextest_config_elements::field::FaultSeverity;
@@ -67,7 +67,7 @@ fn is_convertible(subject: Subject) -> bool
     ensures { IsTrue result ↔ IsConvertible (subject_view subject.entry) }
 {
     match subject {
-        Subject::Value { shape, value, .. } => may_become_if(wanted_of(shape), value),
+        Subject::Value { shape, value, .. } => may_become(shape, value),
         _ => false,
     }
 }

@@ -7,7 +7,9 @@ ghost use Rattle.nextest_config_values.specs.Read.{Always, meaning, Refuses};
 ghost use Rattle.nextest_config.specs.NextestVersion.{version_reading, versions_reading};
 ghost use Rattle.nextest_config_lint.specs.Shapes.{feature_name_check, features_check, kind_check, or_table, shape_check};
 
-use crate::forms::{
+mod forms;
+
+use crate::shapes::forms::{
     check_command, check_command_line, check_depth, check_platform, check_relative_path,
     check_scalar, check_text, check_text_or_texts, check_threads, check_word,
 };

@@ -103,45 +103,29 @@ fn add_beside(
         (table_view table.now))
         findings.old.items findings.new.items) }
 {
-    let known = keys_of(alloc, fields)?;
-    add_unknown(alloc, known.as_slice(), path, table, findings)
-}
-
-// Adds the keys of a table that are none of these.
-fn add_unknown(
-    alloc: Global,
-    known: &[&'static str],
-    path: &[Mark],
-    table: &Table,
-    findings: &mut Vec<Finding>,
-) -> Result<(), AllocError>
-    ensures { OnOk result (AddsFound IsKeyFound
-        (map (key_at (words_of known.now) (map mark_step path.now))
-        (names_of (table_view table.now)))
-        findings.old.items findings.new.items) }
-{
     for name in table.keys() {
-        add_key(alloc, known, path, name.as_str(), findings)?;
+        add_key(alloc, fields, path, name.as_str(), findings)?;
     }
     Ok(())
 }
 
-// Adds a key, unless it is one of these.
+// Adds a key, unless it is that of one of these fields.
 fn add_key(
     alloc: Global,
-    known: &[&'static str],
+    fields: &[Field],
     path: &[Mark],
     name: &str,
     findings: &mut Vec<Finding>,
 ) -> Result<(), AllocError>
     ensures { OnOk result (AddsOne IsKeyFound
-        (key_at (words_of known.now) (map mark_step path.now) name.now)
+        (key_at (field_words (fields_view fields.now)) (map mark_step path.now) name.now)
         findings.old.items findings.new.items) }
 {
-    if is_known(known, name) {
+    if is_among(fields, name) {
         return Ok(());
     }
-    let hint = hint_for(alloc, known, path, name)?;
+    let known = keys_of(alloc, fields)?;
+    let hint = hint_for(alloc, known.as_slice(), path, name)?;
     let path = steps_of(alloc, path)?;
     let key = String::from_str(alloc, name)?;
     let kind = FindingKind::UnknownKey { key, hint };

@@ -25,6 +25,7 @@ pub mod Filtered
 pub mod Layered
 pub mod Messages
 pub mod Numbered
+pub mod Settings
 pub mod Somes
 pub mod VeryLong
 pub mod Without

@@ -1,10 +1,12 @@
 -- Paths of keys as texts.
 use Rattle.std.specs.Prelude.{codes, flat_map}
 use Rattle.std.proofs.Common.{◌≡◌, ◌≢◌, ◌∙◌, ◌<◌, ◌+◌, ◌++◌, ◌∷◌, ℕ, suc, [], List, Bor, ap, append-nil, append_assoc, arith, get_or, length, map, refl, sym, take}
-use Rattle.std.proofs.lemmas.List.{map_push, take_more}
+use Rattle.std.proofs.lemmas.Grind.{flat_map-append}
+use Rattle.std.proofs.lemmas.List.{map-append, map_push, take_more}
 use Rattle.std.specs.List.{join_by}
 use Rattle.nextest_config_profiles.specs.Reach.{words_of}
-use Rattle.nextest_config_profiles.specs.Report.Wanted.{dotted, HasNoDot, IsPathText}
+use Rattle.nextest_config_profiles.specs.Report.Setting.{SettingRule}
+use Rattle.nextest_config_profiles.specs.Report.Wanted.{dotted, HasNoDot, IsPathText, paths_of}
 use Rattle.nextest_config_profiles.specs.Said.{Path}
 
 -- ---- a text that is cut
@@ -56,3 +58,14 @@ one_more rule f g xs i x within before text firsts is =
       map_push g (firsts ++ so_far) y,
     )
     (ap (λ front. front ++ (g y ∷ [])) is ∙ append_assoc before (map g (firsts ++ so_far)) (g y ∷ []))
+
+-- the paths of the settings so far, and those of one more
+pub paths_more : {X : Type 0} (rule : X → SettingRule) (xs : List X) (i : ℕ) (x : X) (text more : List (List ℕ)) → i < length xs
+    → text ≡ map dotted (flat_map paths_of (map rule (take i xs))) → more ≡ text ++ map dotted (paths_of (rule (get_or xs i x)))
+    → more ≡ map dotted (flat_map paths_of (map rule (take (i + 1) xs)))
+paths_more rule xs i x text more within is added =
+    let so_far = map rule (take i xs) in
+    let y = rule (get_or xs i x) in
+    added ∙ ap (λ front. front ++ map dotted (paths_of y)) is ∙ sym (map-append dotted (flat_map paths_of so_far) (paths_of y))
+    ∙ ap (map dotted) (ap (λ rest. flat_map paths_of so_far ++ rest) (sym (append-nil (paths_of y))) ∙ sym (flat_map-append paths_of so_far (y ∷ [])))
+    ∙ ap (λ all. map dotted (flat_map paths_of all)) (sym (ap (map rule) (take_more xs i x within) ∙ map_push rule (take i xs) (get_or xs i x)))

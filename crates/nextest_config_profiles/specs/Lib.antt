@@ -19,3 +19,4 @@ pub mod Junit
 pub mod Leaves
 pub mod Report
 pub mod AbsentKeys
+pub mod OwnValues

@@ -14,6 +14,8 @@ ghost use Rattle.nextest_config_profiles.specs.Chain.{IsChain, IsWrong, Wrong};
 ghost use Rattle.nextest_config_profiles.specs.Effective.{IsEffective};
 ghost use Rattle.nextest_config_profiles.specs.Merged.{IsLeaf, Layers};
 ghost use Rattle.nextest_config_profiles.specs.OneLeaf.{AreApart, HasLeafAlone};
+ghost use Rattle.nextest_config_profiles.specs.OwnValues.{IsSetAsTold};
+ghost use Rattle.nextest_config_profiles.specs.Report.Setting.{all_settings};
 ghost use Rattle.nextest_config_profiles.specs.Said.{leaf, Path, said_at, silent};
 ghost use Rattle.nextest_config_profiles.specs.declared.effective.Effective.{Effective};
 
@@ -78,6 +80,12 @@ pub fn law_absent_key_is_default()
     ensures fail_fast { TakesAllTold fail_fast_reading fail_fast_fields }
     ensures slow_timeout { TakesAllTold slow_timeout_reading slow_timeout_fields }
     ensures leak_timeout { TakesAllTold leak_timeout_reading leak_timeout_fields }
+{}
+
+/// What nextest sets itself, below all files, has for each setting what the table of keys says is
+/// set there, if anything. Where it is a table, its `period` is that.
+pub fn law_defaults_as_told()
+    ensures { AllByRecursion IsSetAsTold all_settings }
 {}
 
 /// Layers that say nothing of a path change nothing there. So what no file names is what nextest

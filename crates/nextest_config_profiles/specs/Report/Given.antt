@@ -1,9 +1,10 @@
 -- Which profile gives a setting, and whether what it gives is a value.
-use Rattle.std.specs.Prelude.{◌≡◌, ◌⊎◌, ℕ, List, [], ◌∷◌, Option, Some, None, string_bytes}
+use Rattle.std.specs.Prelude.{◌≡◌, ◌⊎◌, ℕ, List, [], ◌∷◌, if◌then◌else◌, Option, Some, None, string_bytes}
 use Rattle.std.proofs.Common.{Global}
 use Rattle.toml.specs.Data.{Data}
 use Rattle.nextest_config_values.specs.Duration.{duration_reading}
 use Rattle.nextest_config_values.specs.Read.{bool_reading, made_of, only, Reading, text_reading}
+use Rattle.nextest_config_elements.specs.Fields.{KeyRule}
 use Rattle.nextest_config_elements.specs.GlobalTimeout.{global_timeout_of}
 use Rattle.nextest_config_elements.specs.Junit.{flaky_fail_reading}
 use Rattle.nextest_config_elements.specs.LeakTimeout.{leak_timeout_of, leak_timeout_reading}
@@ -12,6 +13,8 @@ use Rattle.nextest_config_elements.specs.ReportSkipPolicy.{report_skip_reading}
 use Rattle.nextest_config_elements.specs.RetryPolicy.{flaky_result_reading, retry_policy_of, retry_policy_reading}
 use Rattle.nextest_config_elements.specs.SlowTimeout.{slow_timeout_of, slow_timeout_reading}
 use Rattle.nextest_config_elements.specs.ThreadsRequired.{threads_reading}
+use Rattle.nextest_config_elements.specs.declared.field.Shape.{Shape}
+use Rattle.nextest_config_elements.specs.declared.field.Shape.TheVariants as shapes
 use Rattle.nextest_config_values.specs.declared.read.value_fault.ValueFault.{ValueFault}
 use Rattle.nextest_config_lint.specs.Conversion.{IsConvertedAt}
 use Rattle.nextest_config_profiles.specs.Effective.{IsEffective}
@@ -25,8 +28,7 @@ use Rattle.nextest_config_profiles.specs.Report.Converted.{IsRestRead, IsUnconve
 use Rattle.nextest_config_profiles.specs.Report.Setting.{SettingRule}
 use Rattle.nextest_config_profiles.specs.declared.report.given.Given.{Given}
 use Rattle.nextest_config_profiles.specs.declared.report.given.Given.TheVariants as given
-use Rattle.nextest_config_profiles.specs.declared.report.setting.Reader.{Reader}
-use Rattle.nextest_config_profiles.specs.declared.report.setting.Reader.TheVariants as readers
+use Rattle.nextest_config_profiles.specs.Report.Written.{is_documented}
 use Rattle.nextest_config_profiles.specs.declared.report.written.Written.{Written}
 
 -- what is given, without the value
@@ -55,24 +57,29 @@ abbrev pub IsGivenValue : {X Y : Type 0} → (X → Y) → Reading Data Y → Ef
     → Option (List ℕ) → Path → Given → Type 0
 IsGivenValue seen reading = IsGivenBy seen (made_of Some reading)
 
--- what the chain of a profile, or one profile alone, gives at keys by the reading of a setting
-abbrev pub IsGivenAs : Reader → EffectiveProfile → Option (List ℕ) → Path → Given → Type 0
-IsGivenAs readers.Retries = IsGivenBy retry_policy_of retry_policy_reading
-IsGivenAs readers.FlakyResult = IsGivenValue (λ it. it) flaky_result_reading
-IsGivenAs readers.ThreadsRequired = IsGivenValue (λ it. it) threads_reading
-IsGivenAs readers.FailFast = IsGivenBy (λ it. it) fail_fast_reading
-IsGivenAs readers.SlowTimeout = IsGivenBy slow_timeout_of slow_timeout_reading
-IsGivenAs readers.LeakTimeout = IsGivenBy leak_timeout_of leak_timeout_reading
-IsGivenAs readers.GlobalTimeout = IsGivenValue global_timeout_of duration_reading
-IsGivenAs readers.Text = IsGivenValue (string_bytes {Z = Global}) text_reading
-IsGivenAs readers.Boolean = IsGivenValue (λ it. it) bool_reading
-IsGivenAs readers.ReportSkipped = IsGivenValue (λ it. it) report_skip_reading
-IsGivenAs readers.FlakyFailStatus = IsGivenValue (λ it. it) flaky_fail_reading
-IsGivenAs readers.Documented = IsGivenValue (λ (it : Written). tt {0}) (only (tt {0}))
+-- what the chain of a profile, or one profile alone, gives at keys by the reading of a shape; what
+-- none reads is given as it is written
+abbrev pub IsGivenAs : Shape → EffectiveProfile → Option (List ℕ) → Path → Given → Type 0
+IsGivenAs shapes.Retries = IsGivenBy retry_policy_of retry_policy_reading
+IsGivenAs shapes.FlakyResult = IsGivenValue (λ it. it) flaky_result_reading
+IsGivenAs shapes.ThreadsRequired = IsGivenValue (λ it. it) threads_reading
+IsGivenAs shapes.FailFast = IsGivenBy (λ it. it) fail_fast_reading
+IsGivenAs shapes.SlowTimeout = IsGivenBy slow_timeout_of slow_timeout_reading
+IsGivenAs shapes.LeakTimeout = IsGivenBy leak_timeout_of leak_timeout_reading
+IsGivenAs shapes.Duration = IsGivenValue global_timeout_of duration_reading
+IsGivenAs shapes.Text = IsGivenValue (string_bytes {Z = Global}) text_reading
+IsGivenAs shapes.Boolean = IsGivenValue (λ it. it) bool_reading
+IsGivenAs shapes.ReportSkipPolicy = IsGivenValue (λ it. it) report_skip_reading
+IsGivenAs shapes.FlakyFailStatus = IsGivenValue (λ it. it) flaky_fail_reading
+IsGivenAs other = IsGivenValue (λ (it : Written). tt {0}) (only (tt {0}))
+
+-- the shape by which a value is read: any, of what is known from nextest's documentation alone
+abbrev pub shape_read : KeyRule → Shape
+shape_read rule = if is_documented rule.severity then shapes.Any else rule.shape
 
 -- what the profile gets for a setting, or what another one alone has there, as it stands
 abbrev pub IsReadFor : EffectiveProfile → Option (List ℕ) → SettingRule → Given → Type 0
-IsReadFor profile alone setting = IsGivenAs setting.reader profile alone setting.keys
+IsReadFor profile alone setting = IsGivenAs (shape_read setting.rule) profile alone setting.keys
 
 -- ---- but for what nextest may convert
 

@@ -73,11 +73,13 @@ is_named_by told (first ∷ key ∷ keys) = is_word first (codes "overrides") &&
 abbrev pub is_named : List Path → Override → Bool
 is_named wanted told = list_any (is_named_by told) wanted
 
+-- keys are a wanted path, or lie above or below one, and an override has a value there
+abbrev pub sets_keys : List Path → Override → Path → Bool
+sets_keys wanted told keys = is_related wanted keys && has_value keys told
+
 -- an override has a value at the keys of a setting that is a wanted key, or lies above or below one
 abbrev pub sets_wanted : List Path → Override → Bool
-sets_wanted wanted told =
-    list_any (λ setting. is_related wanted setting.keys && has_value setting.keys told)
-    all_settings
+sets_wanted wanted told = list_any (λ setting. sets_keys wanted told setting.keys) all_settings
 
 -- an override sets something of a setting that is wanted, or a wanted path names it
 abbrev pub is_override_wanted : List Path → Override → Bool

@@ -4,14 +4,14 @@ use Rattle.std.specs.Cmp.Lexicographic.{pointwise}
 use Rattle.toml.specs.Data.{as_str, Data}
 use Rattle.nextest_config_values.specs.Duration.{IsDuration}
 use Rattle.nextest_config_elements.specs.Durations.{seconds}
-use Rattle.nextest_config_profiles.specs.declared.report.setting.Reader.{Reader}
-use Rattle.nextest_config_profiles.specs.declared.report.setting.Reader.TheVariants as readers
+use Rattle.nextest_config_elements.specs.declared.field.Shape.{Shape}
+use Rattle.nextest_config_elements.specs.declared.field.Shape.TheVariants.{Duration, LeakTimeout, SlowTimeout}
 
 -- the setting is a time
-abbrev pub is_time : Reader → Bool
-is_time readers.SlowTimeout = true
-is_time readers.LeakTimeout = true
-is_time readers.GlobalTimeout = true
+abbrev pub is_time : Shape → Bool
+is_time SlowTimeout = true
+is_time LeakTimeout = true
+is_time Duration = true
 is_time other = false
 
 -- a part of a setting is its time itself: the whole setting, or the `period` of its table
@@ -38,6 +38,6 @@ abbrev pub IsVeryLong : Data → Type 0
 IsVeryLong value = IsVeryLongIf (as_str value)
 
 -- the value of a setting, or of a key of its table, is a time as long as none at all
-abbrev pub IsNoLimit : Reader → Option (List ℕ) → Data → Type 0
-IsNoLimit reader member value =
-    IsTrue (is_time reader) × (IsTrue (is_period member) × IsVeryLong value)
+abbrev pub IsNoLimit : Shape → Option (List ℕ) → Data → Type 0
+IsNoLimit shape member value =
+    IsTrue (is_time shape) × (IsTrue (is_period member) × IsVeryLong value)

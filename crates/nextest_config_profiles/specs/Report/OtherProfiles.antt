@@ -2,6 +2,7 @@
 use Rattle.std.specs.Prelude.{◌≡◌, ◌⊎◌, ◌≢◌, ℕ, if◌then◌else◌, List, [], Option, Some, None, string_bytes}
 use Rattle.nextest_config_values.specs.Read.{fault_of}
 use Rattle.nextest_config_values.specs.declared.read.value_fault.ValueFault.{ValueFault}
+use Rattle.nextest_config_elements.specs.declared.field.FaultSeverity.{FaultSeverity}
 use Rattle.nextest_config_profiles.specs.Layer.{profiles_in}
 use Rattle.nextest_config_profiles.specs.NameList.{AreInOrder, AreNamesOf}
 use Rattle.nextest_config_profiles.specs.Profile.{files_in}
@@ -12,7 +13,6 @@ use Rattle.nextest_config_profiles.specs.Report.Rows.{ArePlacesOf, IsMessage}
 use Rattle.nextest_config_profiles.specs.Report.Setting.{all_settings, SettingRule}
 use Rattle.nextest_config_profiles.specs.Report.Somes.{AreLists, AreSomes}
 use Rattle.nextest_config_profiles.specs.Report.Written.{is_documented}
-use Rattle.nextest_config_profiles.specs.declared.report.setting.Reader.{Reader}
 use Rattle.nextest_config_profiles.specs.declared.report.given.Given.{Given}
 use Rattle.nextest_config_profiles.specs.declared.report.given.Given.TheVariants as given
 use Rattle.nextest_config_profiles.specs.declared.report.parts.OtherProfileFault.{OtherProfileFault}
@@ -61,8 +61,8 @@ IsFaultOf effective setting giver profile fault = ((giver ≡ Some profile) × (
 
 -- of these names of profiles those whose values of a setting may be refused: none, where no reader
 -- reads it
-abbrev pub names_judged : Reader → List (List ℕ) → List (List ℕ)
-names_judged reader names = if is_documented reader then [] else names
+abbrev pub names_judged : FaultSeverity → List (List ℕ) → List (List ℕ)
+names_judged severity names = if is_documented severity then [] else names
 
 -- what is wrong with a setting of all profiles but the one that gives it, in the order of these
 -- names
@@ -70,7 +70,7 @@ pub record AreFaultsOf (effective : EffectiveProfile) (names : List (List ℕ))
     (setting : SettingRule) (faults : List OtherProfileFault) : Type 0 where
   pub giver : Option (List ℕ)
   pub is_giver : IsGiver effective setting giver
-  pub are_faults : AreSomes (IsFaultOf effective setting giver) (names_judged setting.reader names)
+  pub are_faults : AreSomes (IsFaultOf effective setting giver) (names_judged setting.rule.severity names)
       faults
 
 -- what is wrong with settings of all profiles but the one that gives each, setting by setting

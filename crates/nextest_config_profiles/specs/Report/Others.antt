@@ -1,9 +1,9 @@
 -- What a profile has beside the settings that are read here.
-use Rattle.std.specs.Prelude.{◌≡◌, ◌⊎◌, ℕ, Bool, not, List, [], ◌∷◌, ◌++◌, codes, filter, nat_eq, Option, Some, None}
+use Rattle.std.specs.Prelude.{◌≡◌, ◌⊎◌, ◌&&◌, ℕ, Bool, not, if◌then◌else◌, List, [], ◌∷◌, ◌++◌, codes, nat_eq, Option, Some, None}
 use Rattle.std.specs.Cmp.Lexicographic.{pointwise}
 use Rattle.std.specs.List.{AllByRecursion, list_any}
 use Rattle.toml.specs.Data.{Data}
-use Rattle.nextest_config_elements.specs.Fields.{field_words}
+use Rattle.nextest_config_elements.specs.Fields.{field, Fields, KeyRule, no_fields, Parts}
 use Rattle.nextest_config_elements.specs.Keys.{profile_fields}
 use Rattle.nextest_config_profiles.specs.Merged.{HasNoValue, IsMergedOver}
 use Rattle.nextest_config_profiles.specs.Profile.{chain_in, layers_in}
@@ -11,25 +11,35 @@ use Rattle.nextest_config_profiles.specs.declared.last_value.LayerValue.{LayerVa
 use Rattle.nextest_config_profiles.specs.declared.profile.EffectiveProfile.{EffectiveProfile}
 use Rattle.nextest_config_profiles.specs.Report.Literal.{IsLiteralOf}
 use Rattle.nextest_config_profiles.specs.Report.Rows.{IsLastAt}
+use Rattle.nextest_config_profiles.specs.Report.Setting.{is_setting, rules_in, table_fields}
 use Rattle.nextest_config_profiles.specs.Report.Somes.{AreSomes}
 use Rattle.nextest_config_profiles.specs.Report.Source.{IsSource}
 use Rattle.nextest_config_profiles.specs.declared.report.parts.OtherKey.{OtherKey}
 
--- the keys that are told elsewhere: those of the settings, what the chain is made by, and overrides
-abbrev pub keys_told : List (List ℕ)
-keys_told = codes "retries" ∷ codes "flaky-result" ∷ codes "threads-required" ∷ codes "fail-fast"
-    ∷ codes "slow-timeout" ∷ codes "leak-timeout" ∷ codes "global-timeout" ∷ codes "junit"
-    ∷ codes "bench" ∷ codes "overrides" ∷ codes "inherits" ∷ codes "default-filter"
-    ∷ codes "test-threads" ∷ codes "run-extra-args" ∷ codes "status-level"
-    ∷ codes "final-status-level" ∷ codes "success-output" ∷ codes "failure-output" ∷ []
+-- settings stand in the table at a key of a profile
+abbrev pub has_settings : KeyRule → Parts → Bool
+has_settings rule parts = list_any (λ inner. is_setting (rule.key ∷ []) inner.absent)
+    (rules_in (table_fields rule.shape parts))
 
 -- the word is none of these
 abbrev pub is_none_of : List (List ℕ) → List ℕ → Bool
 is_none_of words word = not (list_any (λ other. pointwise nat_eq other word) words)
 
+-- a key of a profile is told by itself: no setting is told at it, and neither the chain nor the
+-- overrides are made by it
+abbrev pub is_other : KeyRule → Parts → Bool
+is_other rule parts = (not (is_setting [] rule.absent) && not (has_settings rule parts))
+    && is_none_of (codes "inherits" ∷ codes "overrides" ∷ []) rule.key
+
+-- of fields the keys that are told by themselves
+abbrev pub others_among : Fields → List (List ℕ)
+others_among no_fields = []
+others_among (field rule parts rest) =
+    if is_other rule parts then rule.key ∷ others_among rest else others_among rest
+
 -- the other keys that are known in a profile
 abbrev pub other_keys : List (List ℕ)
-other_keys = filter (is_none_of keys_told) (field_words profile_fields)
+other_keys = others_among profile_fields
 
 -- what a profile has at a key, as the layers are merged, and which layer said so last
 pub record IsOtherOf (effective : EffectiveProfile) (key : List ℕ) (profile : List ℕ)

@@ -1,5 +1,5 @@
 -- What is told of overrides.
-use Rattle.std.specs.Prelude.{◌≡◌, ℕ, List, [], ◌∷◌, codes, filter, Option, Some, None, option_and_then}
+use Rattle.std.specs.Prelude.{◌≡◌, ℕ, Bool, List, [], ◌∷◌, codes, filter, Option, Some, None, option_and_then}
 use Rattle.std.specs.List.{AllZip}
 use Rattle.toml.specs.Data.{as_table, Data, get_member}
 use Rattle.nextest_config_elements.specs.Fields.{field_words}
@@ -19,11 +19,13 @@ use Rattle.nextest_config_profiles.specs.declared.report.parts.Override.{Overrid
 use Rattle.nextest_config_profiles.specs.declared.report.parts.OverrideSetting.{OverrideSetting}
 use Rattle.nextest_config_profiles.specs.declared.report.parts.Source.{Source}
 
+-- a key isn't one by which an override selects tests
+abbrev pub is_told : List ℕ → Bool
+is_told = is_none_of (codes "filter" ∷ codes "platform" ∷ [])
+
 -- the keys that are known in an override, but for those by which it selects tests
 abbrev pub override_keys : List (List ℕ)
-override_keys =
-    filter (is_none_of (codes "filter" ∷ codes "platform" ∷ []))
-    (field_words override_fields)
+override_keys = filter is_told (field_words override_fields)
 
 -- what a value has at a key
 abbrev pub member_at : List ℕ → Data → Option Data

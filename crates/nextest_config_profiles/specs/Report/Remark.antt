@@ -5,16 +5,16 @@ use Rattle.std.specs.Duration.{as_nanos, FitsDuration}
 use Rattle.toml.specs.Data.{as_integer, as_str, Data}
 use Rattle.toml.specs.View.{view}
 use Rattle.nextest_config_values.specs.Duration.{IsDuration}
+use Rattle.nextest_config_elements.specs.declared.field.Shape.{Shape}
+use Rattle.nextest_config_elements.specs.declared.field.Shape.TheVariants.{SlowTimeout}
 use Rattle.nextest_config_profiles.specs.Report.At.{At, IsLastAt}
 use Rattle.nextest_config_profiles.specs.Report.NoLimit.{IsNoLimit, very_large}
 use Rattle.nextest_config_profiles.specs.declared.last_value.LayerValue.{LayerValue}
 use Rattle.nextest_config_profiles.specs.declared.report.parts.Remark.{Remark}
 use Rattle.nextest_config_profiles.specs.declared.report.parts.Remark.TheVariants.{NoLimit, Nothing, TerminatedAfter}
-use Rattle.nextest_config_profiles.specs.declared.report.setting.Reader.{Reader}
-use Rattle.nextest_config_profiles.specs.declared.report.setting.Reader.TheVariants.{SlowTimeout}
 
 -- the setting is a timeout of slow tests
-abbrev pub is_slow_timeout : Reader → Bool
+abbrev pub is_slow_timeout : Shape → Bool
 is_slow_timeout SlowTimeout = true
 is_slow_timeout other = false
 
@@ -24,8 +24,8 @@ is_terminate_after None = false
 is_terminate_after (Some key) = pointwise nat_eq key (codes "terminate-after")
 
 -- a key says after how many periods a slow test is terminated
-abbrev pub is_number_of_periods : Reader → Option (List ℕ) → Bool
-is_number_of_periods reader member = is_slow_timeout reader && is_terminate_after member
+abbrev pub is_number_of_periods : Shape → Option (List ℕ) → Bool
+is_number_of_periods shape member = is_slow_timeout shape && is_terminate_after member
 
 -- the duration that a text writes, if it is one, and below what stands for no limit
 abbrev pub IsPeriodText : Option (List ℕ) → Option ℕ → Type 0
@@ -63,6 +63,6 @@ IsEndingIf false at value remark = remark ≡ Nothing
 -- none at all, or what comes of a number of periods
 abbrev pub IsRemark : At → Option (List ℕ) → Data → Remark → Type 0
 IsRemark at member value remark =
-    (IsNoLimit at.setting.reader member value × (remark ≡ NoLimit))
-    ⊎ ((IsNoLimit at.setting.reader member value → ⊥)
-    × IsEndingIf (is_number_of_periods at.setting.reader member) at value remark)
+    (IsNoLimit at.setting.rule.shape member value × (remark ≡ NoLimit))
+    ⊎ ((IsNoLimit at.setting.rule.shape member value → ⊥)
+    × IsEndingIf (is_number_of_periods at.setting.rule.shape member) at value remark)

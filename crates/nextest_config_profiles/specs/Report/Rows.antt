@@ -48,7 +48,7 @@ at_of given = record {
 -- by nextest's documentation
 abbrev pub IsSure : At → Path → Data → Type 0
 IsSure at keys value = (at.judged ≡ true) × (IsConvertedAt keys value → ⊥)
-    × (IsDoubted at.setting.reader keys value → ⊥)
+    × (IsDoubted at.setting.rule.severity keys value → ⊥)
 
 -- what is told of a value that stands in a layer: it and its place, and whether it is judged
 abbrev pub IsGivenState : At → Option (List ℕ) → Path → LayerValue → KeyState → Type 0

@@ -1,12 +1,12 @@
 -- Keys of a profile that are wanted.
 use Rattle.std.specs.Prelude.{◌≡◌, ◌≢◌, ℕ, Bool, List, [], ◌∷◌, ◌++◌, codes, flat_map, if◌then◌else◌, is_some, map, Option, Some, None, option_and_then, string_bytes}
 use Rattle.std.specs.List.{AllByRecursion, join_by}
-use Rattle.nextest_config_elements.specs.Fields.{by_backoff, elements, Fields, fields, fields_in, KeyRule, no_fields, Parts}
+use Rattle.nextest_config_elements.specs.Fields.{Fields, KeyRule, Parts}
 use Rattle.nextest_config_elements.specs.Keys.{profile_fields}
 use Rattle.nextest_config_lint.specs.Conversion.{field_named}
 use Rattle.nextest_config_profiles.specs.Report.Others.{other_keys}
 use Rattle.nextest_config_profiles.specs.Report.Rows.{keys_of_member}
-use Rattle.nextest_config_profiles.specs.Report.Setting.{all_settings, SettingRule}
+use Rattle.nextest_config_profiles.specs.Report.Setting.{all_settings, fields_below, SettingRule}
 use Rattle.nextest_config_profiles.specs.Said.{Path}
 use Rattle.nextest_config_profiles.specs.declared.report.wanted.WantedKey.{WantedKey}
 
@@ -31,13 +31,6 @@ pub record IsPathText (text : List ℕ) (keys : Path) : Type 0 where
   pub no_dots : AllByRecursion HasNoDot keys
 
 -- ---- the keys that the table of keys has below a profile
-
--- the fields of a table, or of the tables in an array; of `retries` those without a backoff
-abbrev pub fields_below : Parts → Fields
-fields_below (fields known) = known
-fields_below (by_backoff fixed exponential without) = without
-fields_below (elements shape each) = fields_in each
-fields_below other = no_fields
 
 -- the field to which keys lead, one below the other, from a table with these fields
 abbrev pub field_at : Path → Fields → Option (KeyRule × Parts)

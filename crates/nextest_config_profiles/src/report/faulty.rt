@@ -23,11 +23,11 @@ pub(crate) fn fault_row<'p>(
     alloc: Global,
     effective: &'p EffectiveProfile<'p>,
     profile: &'p str,
-    setting: Setting,
+    setting: Setting<'_>,
     fault: ValueFault,
 ) -> Result<Row<'p>, AllocError>
-    ensures { IfOk result (IsBareRow (rule_of setting).keys
-        (IsFaultState effective.now profile.now (rule_of setting) fault)) }
+    ensures { IfOk result (IsBareRow (rule_of setting.entry).keys
+        (IsFaultState effective.now profile.now (rule_of setting.entry) fault)) }
 {
     let sources = places(alloc, effective, profile, setting)?;
     let message = message(alloc, fault)?;
@@ -55,10 +55,10 @@ pub(crate) fn places<'p>(
     alloc: Global,
     effective: &'p EffectiveProfile<'p>,
     profile: &'p str,
-    setting: Setting,
+    setting: Setting<'_>,
 ) -> Result<Vec<FaultSource<'p>>, AllocError>
     ensures { IfOk result (λ sources.
-        ArePlacesOf effective.now profile.now (rule_of setting) sources.items) }
+        ArePlacesOf effective.now profile.now (rule_of setting.entry) sources.items) }
 {
     let found = last_at(alloc, effective, profile, setting.keys)?;
     let parts = part_places(alloc, effective, profile, setting, found)?;
@@ -71,11 +71,11 @@ fn part_places<'p>(
     alloc: Global,
     effective: &'p EffectiveProfile<'p>,
     profile: &'p str,
-    setting: Setting,
+    setting: Setting<'_>,
     found: Option<LayerValue<'p>>,
 ) -> Result<Vec<FaultSource<'p>>, AllocError>
     ensures { IfOk result (λ sources. ArePlacesAt effective.now profile.now
-        (parts_of (rule_of setting) found.entry) sources.items) }
+        (parts_of (rule_of setting.entry) found.entry) sources.items) }
 {
     match found {
         Some(found) if found.value.is_table() => {
@@ -124,11 +124,11 @@ fn member_places<'p>(
     alloc: Global,
     effective: &'p EffectiveProfile<'p>,
     profile: &'p str,
-    setting: Setting,
+    setting: Setting<'_>,
     members: &'static [Field],
 ) -> Result<Vec<FaultSource<'p>>, AllocError>
     ensures { IfOk result (λ sources. ArePlacesAt effective.now profile.now
-        (map (keys_of_member (rule_of setting).keys) (map member_of members.now))
+        (map (keys_of_member (rule_of setting.entry).keys) (map member_of members.now))
         sources.items) }
 {
     let mut sources = Vec::new(alloc);

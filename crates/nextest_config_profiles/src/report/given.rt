@@ -3,14 +3,15 @@
 ghost use Rattle.std.specs.Prelude.{◌≡◌, IfOk, option_map};
 ghost use Rattle.toml.specs.View.{view};
 ghost use Rattle.nextest_config_profiles.specs.Reach.{words_of};
-ghost use Rattle.nextest_config_profiles.specs.Report.Given.{given_of, IsFaultJudged, IsGivenBy, IsGivenFor, IsJudged, IsReadFor, IsValueJudged};
-ghost use Rattle.nextest_config_profiles.specs.Report.Setting.{rule_of};
+ghost use Rattle.nextest_config_profiles.specs.Report.Given.{given_of, IsFaultJudged, IsGivenBy, IsGivenFor, IsJudged, IsReadFor, IsValueJudged, shape_read};
+ghost use Rattle.nextest_config_profiles.specs.Report.Setting.{member_of, rule_of};
 
 use crate::report::converted::{read_rest, unconverted};
 use crate::report::keys::path_in;
-use crate::report::setting::{Reader, Setting};
-use crate::report::written::Written;
+use crate::report::setting::Setting;
+use crate::report::written::{Written, is_documented};
 use crate::{Effective, EffectiveProfile};
+use nextest_config_elements::field::{Field, Shape};
 use nextest_config_elements::global_timeout::GlobalTimeout;
 use nextest_config_elements::junit::JunitFlakyFailStatus;
 use nextest_config_elements::leak_timeout::LeakTimeout;
@@ -43,10 +44,10 @@ pub(crate) fn given_for<'p>(
     alloc: Global,
     profile: &'p EffectiveProfile<'_>,
     alone: Option<&'p str>,
-    setting: Setting,
+    setting: Setting<'_>,
 ) -> Result<Given<'p>, AllocError>
     ensures { IfOk result
-        (IsGivenFor profile.now (option_map (λ name. name.now) alone.entry) (rule_of setting)) }
+        (IsGivenFor profile.now (option_map (λ name. name.now) alone.entry) (rule_of setting.entry)) }
 {
     let given = read_for(alloc, profile, alone, setting)?;
     let judged = judged(alloc, profile, setting, given)?;
@@ -57,10 +58,10 @@ pub(crate) fn given_for<'p>(
 fn judged<'p>(
     alloc: Global,
     profile: &'p EffectiveProfile<'_>,
-    setting: Setting,
+    setting: Setting<'_>,
     given: Given<'p>,
 ) -> Result<Given<'p>, AllocError>
-    ensures { IfOk result (IsJudged profile.now (rule_of setting) given.entry) }
+    ensures { IfOk result (IsJudged profile.now (rule_of setting.entry) given.entry) }
 {
     match given {
         Given::Fault {
@@ -80,11 +81,11 @@ fn judged<'p>(
 fn judged_fault<'p>(
     alloc: Global,
     profile: &'p EffectiveProfile<'_>,
-    setting: Setting,
+    setting: Setting<'_>,
     name: &'p str,
     fault: ValueFault,
 ) -> Result<Given<'p>, AllocError>
-    ensures { IfOk result (IsFaultJudged profile.now (rule_of setting) name.now fault) }
+    ensures { IfOk result (IsFaultJudged profile.now (rule_of setting.entry) name.now fault) }
 {
     let path = path_in(alloc, name, setting.keys)?;
     match profile.value(alloc, path.as_slice())? {
@@ -102,13 +103,13 @@ fn judged_fault<'p>(
 // What is given for a setting, where the layers come to this value, which has a fault.
 fn judged_value<'p>(
     alloc: Global,
-    setting: Setting,
+    setting: Setting<'_>,
     name: &'p str,
     fault: ValueFault,
     value: Value,
 ) -> Result<Given<'p>, AllocError>
     ensures { IfOk result
-        (IsValueJudged (rule_of setting).keys name.now fault (view value)) }
+        (IsValueJudged (rule_of setting.entry).keys name.now fault (view value)) }
 {
     if is_converted_at(setting.keys, &value) {
         return Ok(Given::Value { profile: name });
@@ -130,26 +131,36 @@ fn read_for<'p>(
     alloc: Global,
     profile: &'p EffectiveProfile<'_>,
     alone: Option<&'p str>,
-    setting: Setting,
+    setting: Setting<'_>,
 ) -> Result<Given<'p>, AllocError>
     ensures { IfOk result
-        (IsReadFor profile.now (option_map (λ name. name.now) alone.entry) (rule_of setting)) }
+        (IsReadFor profile.now (option_map (λ name. name.now) alone.entry) (rule_of setting.entry)) }
 {
     let keys = setting.keys;
-    match setting.reader {
-        Reader::Retries => given_by::<RetryPolicy>(alloc, profile, alone, keys),
-        Reader::FlakyResult => given_by::<FlakyResult>(alloc, profile, alone, keys),
-        Reader::ThreadsRequired => given_by::<ThreadsRequired>(alloc, profile, alone, keys),
-        Reader::FailFast => given_by::<MaxFail>(alloc, profile, alone, keys),
-        Reader::SlowTimeout => given_by::<SlowTimeout>(alloc, profile, alone, keys),
-        Reader::LeakTimeout => given_by::<LeakTimeout>(alloc, profile, alone, keys),
-        Reader::GlobalTimeout => given_by::<GlobalTimeout>(alloc, profile, alone, keys),
-        Reader::Text => given_by::<String>(alloc, profile, alone, keys),
-        Reader::Boolean => given_by::<bool>(alloc, profile, alone, keys),
-        Reader::ReportSkipped => given_by::<ReportSkipPolicy>(alloc, profile, alone, keys),
-        Reader::FlakyFailStatus => given_by::<JunitFlakyFailStatus>(alloc, profile, alone, keys),
-        Reader::Documented => given_by::<Written>(alloc, profile, alone, keys),
+    match shape_read(setting.field) {
+        Shape::Retries => given_by::<RetryPolicy>(alloc, profile, alone, keys),
+        Shape::FlakyResult => given_by::<FlakyResult>(alloc, profile, alone, keys),
+        Shape::ThreadsRequired => given_by::<ThreadsRequired>(alloc, profile, alone, keys),
+        Shape::FailFast => given_by::<MaxFail>(alloc, profile, alone, keys),
+        Shape::SlowTimeout => given_by::<SlowTimeout>(alloc, profile, alone, keys),
+        Shape::LeakTimeout => given_by::<LeakTimeout>(alloc, profile, alone, keys),
+        Shape::Duration => given_by::<GlobalTimeout>(alloc, profile, alone, keys),
+        Shape::Text => given_by::<String>(alloc, profile, alone, keys),
+        Shape::Boolean => given_by::<bool>(alloc, profile, alone, keys),
+        Shape::ReportSkipPolicy => given_by::<ReportSkipPolicy>(alloc, profile, alone, keys),
+        Shape::FlakyFailStatus => given_by::<JunitFlakyFailStatus>(alloc, profile, alone, keys),
+        _ => given_by::<Written>(alloc, profile, alone, keys),
     }
+}
+
+// The shape by which a value is read: any, of what is known from nextest's documentation alone.
+fn shape_read(field: &Field) -> Shape
+    ensures { result ≡ shape_read (member_of field.now) }
+{
+    if is_documented(field.severity) {
+        return Shape::Any;
+    }
+    field.shape
 }
 
 // What the profile gets at keys, or what another one alone has there, by a type's reader.

@@ -18,7 +18,7 @@ use std::alloc::{AllocError, Global};
 /// the chain have there, if that is to be told.
 pub(crate) fn hidden_rows<'p>(
     alloc: Global,
-    given: GivenSetting<'p>,
+    given: GivenSetting<'_, 'p>,
     keys: &[&'p str],
     layer: usize,
 ) -> Result<Vec<Hidden<'p>>, AllocError>

@@ -1,18 +1,21 @@
 //! Of what is told of a profile that of wanted keys alone.
 
-ghost use Rattle.std.specs.Prelude.{◌≡◌, map, option_map, string_bytes};
+ghost use Rattle.std.specs.Prelude.{◌≡◌, ◌&&◌, ◌∷◌, [], map, option_map, string_bytes};
 ghost use Rattle.std.specs.List.{list_any};
 ghost use Rattle.toml.specs.View.{view};
 ghost use Rattle.nextest_config_profiles.specs.Reach.{words_of};
-ghost use Rattle.nextest_config_profiles.specs.Report.Narrowed.{are_related, has_rows, has_value, is_named, is_named_by, is_override_wanted, is_related, others_wanted, overrides_wanted, rows_wanted, sets_at, sets_key, sets_wanted, settings_wanted, value_below};
+ghost use Rattle.nextest_config_profiles.specs.Report.Narrowed.{are_related, has_rows, has_value, is_named, is_named_by, is_override_wanted, is_related, others_wanted, overrides_wanted, rows_wanted, sets_at, sets_key, sets_keys, sets_wanted, settings_wanted, value_below};
 ghost use Rattle.nextest_config_profiles.specs.Report.ProfileReport.{settings_in};
+ghost use Rattle.nextest_config_profiles.specs.Report.Setting.{is_setting, member_of, parts_in, settings_at, table_fields};
 ghost use Rattle.nextest_config_profiles.specs.Report.Wanted.{path_of};
 
 use crate::report::overrides::at_key;
 use crate::report::parts::{OtherKey, Override, OverrideSetting, Row};
 use crate::report::profile_report::ProfileReport;
-use crate::report::setting::all_settings;
+use crate::report::setting::{is_setting, table_fields};
 use crate::report::wanted::WantedKey;
+use nextest_config_elements::field::Field;
+use nextest_config_elements::keys::profile_fields;
 use toml::Value;
 
 impl ProfileReport<'_> {
@@ -85,8 +88,51 @@ fn is_named(told: &Override<'_>, wanted: &[WantedKey]) -> bool
 fn sets_wanted(told: &Override<'_>, wanted: &[WantedKey]) -> bool
     ensures { result ≡ sets_wanted (map path_of wanted.now) told.now }
 {
-    all_settings().iter().any(|setting| is_related(setting.keys, wanted)
-        && has_value(told, setting.keys))
+    let fields = profile_fields();
+    fields.iter().any(|field| sets_itself(told, wanted, field))
+        || fields
+            .iter()
+            .any(|field| sets_in_table(told, wanted, field))
+}
+
+// Whether this holds of a key of a profile, if it is a setting.
+fn sets_itself(told: &Override<'_>, wanted: &[WantedKey], field: &'static Field) -> bool
+    ensures { result ≡ (is_setting [] (member_of field.now).absent
+        && sets_keys (map path_of wanted.now) told.now ((member_of field.now).key ∷ [])) }
+{
+    is_setting(&[], field.absent) && sets_keys(told, wanted, &[field.key])
+}
+
+// Whether this holds of some setting in the table at a key of a profile.
+fn sets_in_table(told: &Override<'_>, wanted: &[WantedKey], table: &'static Field) -> bool
+    ensures { result ≡ list_any (λ setting. sets_keys (map path_of wanted.now) told.now setting.keys)
+        (settings_at ((member_of table.now).key ∷ [])
+        (table_fields (member_of table.now).shape (parts_in table.now))) }
+{
+    table_fields(table)
+        .iter()
+        .any(|field| sets_below(told, wanted, table.key, field))
+}
+
+// Whether this holds of a key of the table at a key of a profile, if it is a setting.
+fn sets_below(
+    told: &Override<'_>,
+    wanted: &[WantedKey],
+    table: &'static str,
+    field: &'static Field,
+) -> bool
+    ensures { result ≡ (is_setting (table.now ∷ []) (member_of field.now).absent
+        && sets_keys (map path_of wanted.now) told.now
+        (table.now ∷ (member_of field.now).key ∷ [])) }
+{
+    is_setting(&[table], field.absent) && sets_keys(told, wanted, &[table, field.key])
+}
+
+// Whether keys are a wanted path, or lie above or below one, and an override has a value there.
+fn sets_keys(told: &Override<'_>, wanted: &[WantedKey], keys: &[&str]) -> bool
+    ensures { result ≡ sets_keys (map path_of wanted.now) told.now (words_of keys.now) }
+{
+    is_related(keys, wanted) && has_value(told, keys)
 }
 
 // Whether a path is `overrides`, or leads on from there to a key that the override sets.

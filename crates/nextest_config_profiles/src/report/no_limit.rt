@@ -4,26 +4,26 @@ ghost use Rattle.std.specs.Prelude.{◌≡◌, ◌↔◌, IsTrue, option_map};
 ghost use Rattle.toml.specs.View.{view};
 ghost use Rattle.nextest_config_profiles.specs.Report.NoLimit.{is_period, is_time, IsNoLimit, IsVeryLong, IsVeryLongText};
 
-use crate::report::setting::Reader;
+use nextest_config_elements::field::Shape;
 use nextest_config_elements::slow_timeout::SlowTimeout;
 use nextest_config_values::duration::parse_duration;
 use toml::Value;
 
 /// Whether the value of a setting, or of a member of its table, is a time that no test reaches.
-pub(crate) fn is_no_limit(reader: Reader, member: Option<&str>, value: &Value) -> bool
+pub(crate) fn is_no_limit(shape: Shape, member: Option<&str>, value: &Value) -> bool
     ensures { IsTrue result
-        ↔ IsNoLimit reader (option_map (λ key. key.now) member.entry) (view value.now) }
+        ↔ IsNoLimit shape (option_map (λ key. key.now) member.entry) (view value.now) }
 {
-    is_time(reader) & is_period(member) & is_very_long(value)
+    is_time(shape) & is_period(member) & is_very_long(value)
 }
 
 // Whether a setting is a time.
-fn is_time(reader: Reader) -> bool
-    ensures { result ≡ is_time reader }
+fn is_time(shape: Shape) -> bool
+    ensures { result ≡ is_time shape }
 {
     matches!(
-        reader,
-        Reader::SlowTimeout | Reader::LeakTimeout | Reader::GlobalTimeout
+        shape,
+        Shape::SlowTimeout | Shape::LeakTimeout | Shape::Duration
     )
 }
 

@@ -31,13 +31,13 @@ pub(crate) fn giver_of<'p>(given: &Given<'p>) -> Option<&'p str>
 pub(crate) fn push_faults<'p>(
     alloc: Global,
     effective: &'p EffectiveProfile<'p>,
-    setting: Setting,
+    setting: Setting<'_>,
     giver: Option<&str>,
     names: &[&'p str],
     faults: &mut Vec<OtherProfileFault<'p>>,
 ) -> Result<(), AllocError>
     ensures { OnOk result ((added : List OtherProfileFault)
-        × AreSomes (IsFaultOf effective.now (rule_of setting)
+        × AreSomes (IsFaultOf effective.now (rule_of setting.entry)
         (option_map (λ name. name.now) giver.entry)) (words_of names.now) added
         × (faults.new.items ≡ faults.old.items ++ added)) }
 {
@@ -49,12 +49,12 @@ pub(crate) fn push_faults<'p>(
 fn faults_of<'p>(
     alloc: Global,
     effective: &'p EffectiveProfile<'p>,
-    setting: Setting,
+    setting: Setting<'_>,
     giver: Option<&str>,
     names: &[&'p str],
 ) -> Result<Vec<OtherProfileFault<'p>>, AllocError>
     ensures { IfOk result (λ faults.
-        AreSomes (IsFaultOf effective.now (rule_of setting)
+        AreSomes (IsFaultOf effective.now (rule_of setting.entry)
         (option_map (λ name. name.now) giver.entry)) (words_of names.now) faults.items) }
 {
     let mut faults = Vec::new(alloc);
@@ -68,13 +68,13 @@ fn faults_of<'p>(
 fn push_fault<'p>(
     alloc: Global,
     effective: &'p EffectiveProfile<'p>,
-    setting: Setting,
+    setting: Setting<'_>,
     giver: Option<&str>,
     profile: &'p str,
     faults: &mut Vec<OtherProfileFault<'p>>,
 ) -> Result<(), AllocError>
     ensures { OnOk result ((fault : Option OtherProfileFault)
-        × IsFaultOf effective.now (rule_of setting) (option_map (λ name. name.now) giver.entry)
+        × IsFaultOf effective.now (rule_of setting.entry) (option_map (λ name. name.now) giver.entry)
         profile.now fault
         × (faults.new.items ≡ faults.old.items ++ some_list fault)) }
 {
@@ -91,10 +91,10 @@ fn push_fault<'p>(
 fn fault_if<'p>(
     alloc: Global,
     effective: &'p EffectiveProfile<'p>,
-    setting: Setting,
+    setting: Setting<'_>,
     profile: &'p str,
 ) -> Result<Option<OtherProfileFault<'p>>, AllocError>
-    ensures { IfOk result (IsFaultIf effective.now (rule_of setting) profile.now) }
+    ensures { IfOk result (IsFaultIf effective.now (rule_of setting.entry) profile.now) }
 {
     let given = given_for(alloc, effective, Some(profile), setting)?;
     let fault = fault_of_given(alloc, effective, setting, profile, given)?;
@@ -105,12 +105,12 @@ fn fault_if<'p>(
 fn fault_of_given<'p>(
     alloc: Global,
     effective: &'p EffectiveProfile<'p>,
-    setting: Setting,
+    setting: Setting<'_>,
     profile: &'p str,
     given: Given<'p>,
 ) -> Result<Option<OtherProfileFault<'p>>, AllocError>
     ensures { IfOk result
-        (IsGivenFault effective.now (rule_of setting) profile.now given.entry) }
+        (IsGivenFault effective.now (rule_of setting.entry) profile.now given.entry) }
 {
     match given {
         Given::Fault { fault, .. } => {
@@ -125,12 +125,12 @@ fn fault_of_given<'p>(
 fn other_profile_fault<'p>(
     alloc: Global,
     effective: &'p EffectiveProfile<'p>,
-    setting: Setting,
+    setting: Setting<'_>,
     profile: &'p str,
     fault: ValueFault,
 ) -> Result<OtherProfileFault<'p>, AllocError>
     ensures { IfOk result
-        (IsOtherProfileFault effective.now (rule_of setting) profile.now fault) }
+        (IsOtherProfileFault effective.now (rule_of setting.entry) profile.now fault) }
 {
     Ok(OtherProfileFault {
         profile,

@@ -2,24 +2,53 @@
 
 ghost use Rattle.std.specs.Prelude.{◌≡◌, ◌∷◌, ◌++◌, [], IfOk, MatchOption, OnOk, Option, Some};
 ghost use Rattle.nextest_config_profiles.specs.Reach.{words_of};
-ghost use Rattle.nextest_config_profiles.specs.Report.Others.{AreOthers, IsOther, IsOtherOf, other_keys, PassesOther};
+ghost use Rattle.nextest_config_profiles.specs.Report.Others.{AreOthers, has_settings, is_other, IsOther, IsOtherOf, other_keys, PassesOther};
 ghost use Rattle.nextest_config_profiles.specs.Report.Rows.{IsLastAt};
+ghost use Rattle.nextest_config_profiles.specs.Report.Setting.{member_of, parts_in};
 ghost use Rattle.nextest_config_profiles.specs.Report.Somes.{some_list};
 ghost use Rattle.nextest_config_profiles.specs.declared.report.parts.OtherKey.{OtherKey};
 
 use crate::report::last::last_at;
 use crate::report::parts::{Literal, OtherKey};
+use crate::report::setting::{is_setting, table_fields};
 use crate::report::source::source_of;
 use crate::{EffectiveProfile, LayerValue};
+use nextest_config_elements::field::Field;
+use nextest_config_elements::keys::profile_fields;
 use std::alloc::{AllocError, Global};
 
-const OTHER_KEYS: &[&str] = &["scripts", "archive"];
-
 /// The keys that are known in a profile, but for those that are told elsewhere.
-pub(crate) fn other_keys() -> &'static [&'static str]
-    ensures { words_of result.now ≡ other_keys }
+pub(crate) fn other_keys(alloc: Global) -> Result<Vec<&'static str>, AllocError>
+    ensures { IfOk result (λ keys. words_of keys.items ≡ other_keys) }
 {
-    OTHER_KEYS
+    let fields = profile_fields();
+    let mut keys = Vec::new(alloc);
+    for field in fields {
+        if is_other(field) {
+            keys.push(field.key)?;
+        }
+    }
+    Ok(keys)
+}
+
+// Whether a key of a profile is told of by itself: no setting is told at it, and the chain and the
+// overrides aren't made by it.
+fn is_other(field: &'static Field) -> bool
+    ensures { result ≡ is_other (member_of field.now) (parts_in field.now) }
+{
+    !is_setting(&[], field.absent)
+        && !has_settings(field)
+        && field.key != "inherits"
+        && field.key != "overrides"
+}
+
+// Whether settings stand in the table at a key of a profile.
+fn has_settings(field: &'static Field) -> bool
+    ensures { result ≡ has_settings (member_of field.now) (parts_in field.now) }
+{
+    table_fields(field)
+        .iter()
+        .any(|inner| is_setting(&[field.key], inner.absent))
 }
 
 /// What else a profile has: of each key what the first profile of the chain has that has it.
@@ -29,9 +58,9 @@ pub(crate) fn others<'p>(
 ) -> Result<Vec<OtherKey<'p>>, AllocError>
     ensures { IfOk result (λ others. AreOthers effective.now others.items) }
 {
-    let keys = other_keys();
+    let keys = other_keys(alloc)?;
     let mut others = Vec::new(alloc);
-    for key in keys {
+    for key in &keys {
         push_other(alloc, effective, key, &mut others)?;
     }
     Ok(others)

@@ -8,7 +8,7 @@ ghost use Rattle.nextest_config_profiles.specs.Profile.{file_in};
 ghost use Rattle.nextest_config_profiles.specs.Reach.{words_of};
 ghost use Rattle.nextest_config_profiles.specs.Report.Elements.{element_of};
 ghost use Rattle.nextest_config_profiles.specs.Report.Literal.{IsLiteralIf};
-ghost use Rattle.nextest_config_profiles.specs.Report.Overrides.{AreOverrides, AreSettings, IsElementSource, IsOverride, IsSet, IsSpanOfElement, member_at, override_keys, steps_to_element};
+ghost use Rattle.nextest_config_profiles.specs.Report.Overrides.{AreOverrides, AreSettings, IsElementSource, IsOverride, IsSet, IsSpanOfElement, is_told, member_at, override_keys, steps_to_element};
 ghost use Rattle.nextest_config_profiles.specs.Report.Somes.{some_list};
 ghost use Rattle.nextest_config_profiles.specs.declared.report.parts.OverrideSetting.{OverrideSetting};
 
@@ -16,32 +16,31 @@ use crate::EffectiveProfile;
 use crate::report::elements::{Element, all_elements};
 use crate::report::parts::{Literal, Override, OverrideSetting, Source};
 use crate::report::source::file_place;
+use nextest_config_elements::keys::override_fields;
 use nextest_config_values::read::value_at;
 use std::alloc::{AllocError, Global};
 use toml::Value;
 use toml_spans::{Span, Step};
 
 // The keys that are known in an override, but for those by which it selects tests.
-const OVERRIDE_KEYS: &[&str] = &[
-    "priority",
-    "threads-required",
-    "retries",
-    "flaky-result",
-    "slow-timeout",
-    "leak-timeout",
-    "junit",
-    "default-filter",
-    "test-group",
-    "run-extra-args",
-    "success-output",
-    "failure-output",
-    "bench",
-];
-
-fn override_keys() -> &'static [&'static str]
-    ensures { words_of result.now ≡ override_keys }
+fn override_keys(alloc: Global) -> Result<Vec<&'static str>, AllocError>
+    ensures { IfOk result (λ keys. words_of keys.items ≡ override_keys) }
 {
-    OVERRIDE_KEYS
+    let fields = override_fields();
+    let mut keys = Vec::new(alloc);
+    for field in fields {
+        if is_told(field.key) {
+            keys.push(field.key)?;
+        }
+    }
+    Ok(keys)
+}
+
+// Whether a key isn't one by which an override selects tests.
+fn is_told(key: &str) -> bool
+    ensures { result ≡ is_told key.now }
+{
+    key != "filter" && key != "platform"
 }
 
 /// The overrides of the profiles of the chain, of which the first that applies and sets a key
@@ -135,9 +134,9 @@ fn steps_to(alloc: Global, element: &Element<'_>) -> Result<Vec<Step>, AllocErro
 fn settings(alloc: Global, value: &Value) -> Result<Vec<OverrideSetting>, AllocError>
     ensures { IfOk result (λ settings. AreSettings (view value.now) settings.items) }
 {
-    let keys = override_keys();
+    let keys = override_keys(alloc)?;
     let mut settings = Vec::new(alloc);
-    for key in keys {
+    for key in &keys {
         push_setting(alloc, value, key, &mut settings)?;
     }
     Ok(settings)

@@ -17,9 +17,10 @@ use crate::report::others::others;
 use crate::report::overrides::overrides;
 use crate::report::parts::{ChainProfile, KeyState, OtherKey, OtherProfileFault, Override, Row};
 use crate::report::rows::rows_of;
-use crate::report::setting::{Reader, Setting, all_settings};
+use crate::report::setting::{Setting, all_settings};
 use crate::report::written::is_documented;
 use crate::{EffectiveProfile, profile_names};
+use nextest_config_elements::field::FaultSeverity;
 use std::alloc::{AllocError, Global};
 
 /// What is told of a profile.
@@ -86,16 +87,16 @@ fn settings_report<'a>(
         AreOtherProfileFaults effective.now report.faults.items) }
 {
     let names = profile_names(alloc, effective.files())?;
-    let settings = all_settings();
+    let settings = all_settings(alloc)?;
     let mut report = SettingsReport {
         rows: Vec::new(alloc),
         faults: Vec::new(alloc),
     };
-    for setting in settings {
+    for setting in &settings {
         push_setting(
             alloc,
             effective,
-            *setting,
+            setting.lent(),
             names.as_slice(),
             tells_hidden,
             &mut report,
@@ -108,34 +109,34 @@ fn settings_report<'a>(
 fn push_setting<'a>(
     alloc: Global,
     effective: &'a EffectiveProfile<'a>,
-    setting: Setting,
+    setting: Setting<'_>,
     names: &[&'a str],
     tells_hidden: bool,
     report: &mut SettingsReport<'a>,
 ) -> Result<(), AllocError>
     ensures rows { OnOk result ((rows : List Row)
-        × AreRows effective.now tells_hidden (rule_of setting) rows
+        × AreRows effective.now tells_hidden (rule_of setting.entry) rows
         × (map (λ rows. rows.items) report.new.rows.items
         ≡ map (λ rows. rows.items) report.old.rows.items ++ rows ∷ [])) }
     ensures faults { OnOk result ((added : List OtherProfileFault)
-        × AreFaultsOf effective.now (words_of names.now) (rule_of setting) added
+        × AreFaultsOf effective.now (words_of names.now) (rule_of setting.entry) added
         × (report.new.faults.items ≡ report.old.faults.items ++ added)) }
 {
     let given = given_for(alloc, effective, None, setting)?;
     let giver = giver_of(&given);
     let rows = rows_of(alloc, effective, setting, tells_hidden, given)?;
     report.rows.push(rows)?;
-    let names = names_judged(setting.reader, names);
+    let names = names_judged(setting.field.severity, names);
     push_faults(alloc, effective, setting, giver, names, &mut report.faults)?;
     Ok(())
 }
 
 // The names of the profiles whose values of a setting may be refused: none, where no reader reads
 // it.
-fn names_judged<'n, 'a>(reader: Reader, names: &'n [&'a str]) -> &'n [&'a str]
-    ensures { words_of result.now ≡ names_judged reader (words_of names.now) }
+fn names_judged<'n, 'a>(severity: FaultSeverity, names: &'n [&'a str]) -> &'n [&'a str]
+    ensures { words_of result.now ≡ names_judged severity (words_of names.now) }
 {
-    if is_documented(reader) { &[] } else { names }
+    if is_documented(severity) { &[] } else { names }
 }
 
 // Whether a row of a setting tells of a fault, or of no value.

@@ -13,7 +13,7 @@ use crate::report::last::last_at;
 use crate::report::no_limit::is_no_limit;
 use crate::report::parts::Remark;
 use crate::report::rows::GivenSetting;
-use crate::report::setting::Reader;
+use nextest_config_elements::field::Shape;
 use nextest_config_elements::slow_timeout::SlowTimeout;
 use nextest_config_values::duration::parse_duration;
 use std::alloc::{AllocError, Global};
@@ -23,17 +23,17 @@ use toml::Value;
 /// What is remarked of the value of a setting, or of a member of its table.
 pub(crate) fn remark_of(
     alloc: Global,
-    given: GivenSetting<'_>,
+    given: GivenSetting<'_, '_>,
     member: Option<&str>,
     value: &Value,
 ) -> Result<Remark, AllocError>
     ensures { IfOk result (IsRemark (at_of given.entry) (option_map (λ key. key.now) member.entry)
         (view value.now)) }
 {
-    if is_no_limit(given.setting.reader, member, value) {
+    if is_no_limit(given.setting.field.shape, member, value) {
         return Ok(Remark::NoLimit);
     }
-    if is_number_of_periods(given.setting.reader, member) {
+    if is_number_of_periods(given.setting.field.shape, member) {
         let period = period_of(alloc, given)?;
         return Ok(ending(period, value));
     }
@@ -41,10 +41,10 @@ pub(crate) fn remark_of(
 }
 
 // Whether a member says after how many periods a slow test is terminated.
-fn is_number_of_periods(reader: Reader, member: Option<&str>) -> bool
-    ensures { result ≡ is_number_of_periods reader (option_map (λ key. key.now) member.entry) }
+fn is_number_of_periods(shape: Shape, member: Option<&str>) -> bool
+    ensures { result ≡ is_number_of_periods shape (option_map (λ key. key.now) member.entry) }
 {
-    matches!(reader, Reader::SlowTimeout) & is_terminate_after(member)
+    matches!(shape, Shape::SlowTimeout) & is_terminate_after(member)
 }
 
 fn is_terminate_after(member: Option<&str>) -> bool
@@ -57,7 +57,7 @@ fn is_terminate_after(member: Option<&str>) -> bool
 }
 
 // The period of the table of a setting, if it is a duration that a test may reach.
-fn period_of(alloc: Global, given: GivenSetting<'_>) -> Result<Option<Duration>, AllocError>
+fn period_of(alloc: Global, given: GivenSetting<'_, '_>) -> Result<Option<Duration>, AllocError>
     ensures { IfOk result (λ period.
         IsPeriodOf (at_of given.entry) (option_map as_nanos period)) }
 {

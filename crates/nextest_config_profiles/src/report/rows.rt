@@ -27,10 +27,10 @@ use toml::Value;
 
 /// A setting, as a profile of a chain gives it.
 #[derive(Clone, Copy)]
-pub(crate) struct GivenSetting<'p> {
+pub(crate) struct GivenSetting<'s, 'p> {
     pub effective: &'p EffectiveProfile<'p>,
     pub profile: &'p str,
-    pub setting: Setting,
+    pub setting: Setting<'s>,
     pub is_judged: bool,
     pub tells_hidden: bool,
 }
@@ -39,12 +39,12 @@ pub(crate) struct GivenSetting<'p> {
 pub(crate) fn rows_of<'p>(
     alloc: Global,
     effective: &'p EffectiveProfile<'p>,
-    setting: Setting,
+    setting: Setting<'_>,
     tells_hidden: bool,
     given: Given<'p>,
 ) -> Result<Vec<Row<'p>>, AllocError>
     ensures { IfOk result (λ rows.
-        AreRowsFor effective.now tells_hidden (rule_of setting) given.entry rows.items) }
+        AreRowsFor effective.now tells_hidden (rule_of setting.entry) given.entry rows.items) }
 {
     let (profile, is_judged) = match given {
         Given::Value { profile } => (profile, true),
@@ -86,9 +86,9 @@ fn alone<'p>(alloc: Global, row: Row<'p>) -> Result<Vec<Row<'p>>, AllocError>
 fn nothing_row<'p>(
     alloc: Global,
     effective: &'p EffectiveProfile<'p>,
-    setting: Setting,
+    setting: Setting<'_>,
 ) -> Result<Row<'p>, AllocError>
-    ensures { IfOk result (IsNothingRow effective.now (rule_of setting)) }
+    ensures { IfOk result (IsNothingRow effective.now (rule_of setting.entry)) }
 {
     let state = nothing_state(alloc, effective, setting)?;
     bare_row(alloc, copy_of(alloc, setting.keys)?, state)
@@ -97,9 +97,9 @@ fn nothing_row<'p>(
 fn nothing_state<'p>(
     alloc: Global,
     effective: &'p EffectiveProfile<'p>,
-    setting: Setting,
+    setting: Setting<'_>,
 ) -> Result<KeyState<'p>, AllocError>
-    ensures { IfOk result (IsNothingState effective.now (rule_of setting)) }
+    ensures { IfOk result (IsNothingState effective.now (rule_of setting.entry)) }
 {
     let found = last_at(alloc, effective, "default", setting.keys)?;
     taken_away(alloc, effective, setting, found)
@@ -109,10 +109,10 @@ fn nothing_state<'p>(
 fn taken_away<'p>(
     alloc: Global,
     effective: &'p EffectiveProfile<'p>,
-    setting: Setting,
+    setting: Setting<'_>,
     found: Option<LayerValue<'p>>,
 ) -> Result<KeyState<'p>, AllocError>
-    ensures { IfOk result (IsTakenAway effective.now (rule_of setting) found.entry) }
+    ensures { IfOk result (IsTakenAway effective.now (rule_of setting.entry) found.entry) }
 {
     match found {
         Some(found) => {
@@ -141,7 +141,7 @@ pub(crate) fn bare_row<'p>(
 }
 
 // The rows of a value: of a table key by key.
-fn value_rows<'p>(alloc: Global, given: GivenSetting<'p>) -> Result<Vec<Row<'p>>, AllocError>
+fn value_rows<'p>(alloc: Global, given: GivenSetting<'_, 'p>) -> Result<Vec<Row<'p>>, AllocError>
     ensures { IfOk result (λ rows. AreValueRows (at_of given.entry) rows.items) }
 {
     let found = last_at(alloc, given.effective, given.profile, given.setting.keys)?;
@@ -151,7 +151,7 @@ fn value_rows<'p>(alloc: Global, given: GivenSetting<'p>) -> Result<Vec<Row<'p>>
 // The rows of a setting, where this is what the last layer has for it.
 fn found_rows<'p>(
     alloc: Global,
-    given: GivenSetting<'p>,
+    given: GivenSetting<'_, 'p>,
     found: Option<LayerValue<'p>>,
 ) -> Result<Vec<Row<'p>>, AllocError>
     ensures { IfOk result (λ rows. AreRowsOf (at_of given.entry) found.entry rows.items) }
@@ -171,8 +171,8 @@ fn found_rows<'p>(
 }
 
 // Whether a value is a table whose keys are told one by one.
-fn has_parts(setting: Setting, value: &Value) -> bool
-    ensures { result ≡ has_parts (rule_of setting) (view value.now) }
+fn has_parts(setting: Setting<'_>, value: &Value) -> bool
+    ensures { result ≡ has_parts (rule_of setting.entry) (view value.now) }
 {
     value.is_table() && !setting.members.is_empty()
 }
@@ -180,7 +180,7 @@ fn has_parts(setting: Setting, value: &Value) -> bool
 // The rows of the keys of a table.
 fn member_rows<'p>(
     alloc: Global,
-    given: GivenSetting<'p>,
+    given: GivenSetting<'_, 'p>,
     members: &'static [Field],
 ) -> Result<Vec<Row<'p>>, AllocError>
     ensures { IfOk result (λ rows. AllZip (IsMemberRow (at_of given.entry))
@@ -196,7 +196,7 @@ fn member_rows<'p>(
 // The row of a key of a table.
 fn member_row<'p>(
     alloc: Global,
-    given: GivenSetting<'p>,
+    given: GivenSetting<'_, 'p>,
     member: &'static Field,
 ) -> Result<Row<'p>, AllocError>
     ensures { IfOk result (IsMemberRow (at_of given.entry) (member_of member.now)) }
@@ -210,7 +210,7 @@ fn member_row<'p>(
 // The row of a key of a table, where this is what the last layer has there.
 fn found_member<'p>(
     alloc: Global,
-    given: GivenSetting<'p>,
+    given: GivenSetting<'_, 'p>,
     member: &'static Field,
     keys: Vec<&'p str>,
     found: Option<LayerValue<'p>>,
@@ -227,7 +227,7 @@ fn found_member<'p>(
 // The row of a value that stands in a layer.
 fn given_row<'p>(
     alloc: Global,
-    given: GivenSetting<'p>,
+    given: GivenSetting<'_, 'p>,
     member: Option<&str>,
     keys: Vec<&'p str>,
     found: LayerValue<'p>,
@@ -246,7 +246,7 @@ fn given_row<'p>(
 
 fn given_state<'p>(
     alloc: Global,
-    given: GivenSetting<'p>,
+    given: GivenSetting<'_, 'p>,
     member: Option<&str>,
     keys: &[&str],
     found: LayerValue<'p>,
@@ -271,7 +271,7 @@ fn given_state<'p>(
 // with it by the documentation.
 fn is_sure(
     alloc: Global,
-    given: GivenSetting<'_>,
+    given: GivenSetting<'_, '_>,
     keys: &[&str],
     value: &Value,
 ) -> Result<bool, AllocError>
@@ -281,13 +281,13 @@ fn is_sure(
     if !given.is_judged || is_converted_at(keys, value) {
         return Ok(false);
     }
-    Ok(!is_doubted(alloc, given.setting.reader, keys, value)?)
+    Ok(!is_doubted(alloc, given.setting.field.severity, keys, value)?)
 }
 
 // The row of a key that no layer has.
 fn absent_row<'p>(
     alloc: Global,
-    given: GivenSetting<'p>,
+    given: GivenSetting<'_, 'p>,
     keys: Vec<&'p str>,
     absent: Absent,
 ) -> Result<Row<'p>, AllocError>
@@ -311,7 +311,7 @@ fn absent_row<'p>(
 // its other keys.
 fn whole_rows<'p>(
     alloc: Global,
-    given: GivenSetting<'p>,
+    given: GivenSetting<'_, 'p>,
     found: LayerValue<'p>,
 ) -> Result<Vec<Row<'p>>, AllocError>
     ensures { IfOk result (λ rows. AreWholeRows (at_of given.entry) found.entry rows.items) }
@@ -327,11 +327,11 @@ fn whole_rows<'p>(
 // What a value says of the other keys of the table for which it stands, if it does.
 fn rest_of_table<'p>(
     alloc: Global,
-    setting: Setting,
+    setting: Setting<'_>,
     value: &Value,
 ) -> Result<Vec<Row<'p>>, AllocError>
     ensures { IfOk result (λ rows.
-        AreImplied (stands_for_table (view value.now)) (rule_of setting) rows.items) }
+        AreImplied (stands_for_table (view value.now)) (rule_of setting.entry) rows.items) }
 {
     if stands_for_table(value) {
         return implied_rows(alloc, setting, setting.members);
@@ -349,10 +349,10 @@ fn stands_for_table(value: &Value) -> bool
 // The rows of the other keys of a table for which a text or a number stands.
 fn implied_rows<'p>(
     alloc: Global,
-    setting: Setting,
+    setting: Setting<'_>,
     members: &'static [Field],
 ) -> Result<Vec<Row<'p>>, AllocError>
-    ensures { IfOk result (λ rows. AllZip (IsImpliedRow (rule_of setting).keys)
+    ensures { IfOk result (λ rows. AllZip (IsImpliedRow (rule_of setting.entry).keys)
         (filter is_implied (map member_of members.now)) rows.items) }
 {
     let mut rows = Vec::new(alloc);
@@ -374,10 +374,10 @@ fn is_implied(member: &Field) -> bool
 // The row of a key of a table for which a text or a number stands.
 fn implied_row<'p>(
     alloc: Global,
-    setting: Setting,
+    setting: Setting<'_>,
     member: &'static Field,
 ) -> Result<Row<'p>, AllocError>
-    ensures { IfOk result (IsImpliedRow (rule_of setting).keys (member_of member.now)) }
+    ensures { IfOk result (IsImpliedRow (rule_of setting.entry).keys (member_of member.now)) }
 {
     let keys = with_key(alloc, setting.keys, member.key)?;
     let state = match taken(alloc, member.absent)? {

@@ -1,157 +1,116 @@
-//! The settings that are told, in their order (nextest's configuration reference).
+//! The settings that are told, as the table of keys has them.
 
-ghost use Rattle.std.specs.Prelude.{◌≡◌, map};
-ghost use Rattle.nextest_config_profiles.specs.Report.Setting.{all_settings, rule_of};
+ghost use Rattle.std.specs.Prelude.{◌≡◌, ◌++◌, IfOk, map, OnOk};
+ghost use Rattle.nextest_config_elements.specs.Fields.{absent_of, fields_in, fields_view, parts_of};
+ghost use Rattle.nextest_config_profiles.specs.Reach.{words_of};
+ghost use Rattle.nextest_config_profiles.specs.Report.Setting.{all_settings, fields_below, is_setting, member_of, parts_in, rule_of, rule_owned, settings_at, table_fields};
 
-use nextest_config_elements::field::Field;
-use nextest_config_elements::leak_timeout::LeakTimeout;
-use nextest_config_elements::max_fail::MaxFail;
-use nextest_config_elements::retry_policy::RetryPolicy;
-use nextest_config_elements::slow_timeout::SlowTimeout;
+use crate::report::keys::with_key;
+use nextest_config_elements::field::{Absent, Field, Literal, Parts, Shape};
+use nextest_config_elements::keys::profile_fields;
+use std::alloc::{AllocError, Global};
 
-/// What reads a setting.
+/// A setting: its path below a profile, its row in the table of keys, and the fields of its own
+/// table, if it may have one.
 #[derive(Clone, Copy)]
-pub(crate) enum Reader {
-    Retries,
-    FlakyResult,
-    ThreadsRequired,
-    FailFast,
-    SlowTimeout,
-    LeakTimeout,
-    GlobalTimeout,
-    Text,
-    Boolean,
-    ReportSkipped,
-    FlakyFailStatus,
-    /// None: the setting is known from nextest's documentation alone, and told as it is written.
-    Documented,
-}
-
-/// A setting: its path below a profile, what reads it, and the fields of its table, if it may have
-/// one.
-#[derive(Clone, Copy)]
-pub(crate) struct Setting {
-    pub keys: &'static [&'static str],
-    pub reader: Reader,
+pub(crate) struct Setting<'s> {
+    pub keys: &'s [&'static str],
+    pub field: &'static Field,
     pub members: &'static [Field],
 }
 
-const SETTINGS: &[Setting] = &[
-    Setting {
-        keys: &["retries"],
-        reader: Reader::Retries,
-        members: RetryPolicy::OPEN_FIELDS,
-    },
-    Setting {
-        keys: &["flaky-result"],
-        reader: Reader::FlakyResult,
-        members: &[],
-    },
-    Setting {
-        keys: &["threads-required"],
-        reader: Reader::ThreadsRequired,
-        members: &[],
-    },
-    Setting {
-        keys: &["fail-fast"],
-        reader: Reader::FailFast,
-        members: MaxFail::FIELDS,
-    },
-    Setting {
-        keys: &["slow-timeout"],
-        reader: Reader::SlowTimeout,
-        members: SlowTimeout::FIELDS,
-    },
-    Setting {
-        keys: &["leak-timeout"],
-        reader: Reader::LeakTimeout,
-        members: LeakTimeout::FIELDS,
-    },
-    Setting {
-        keys: &["global-timeout"],
-        reader: Reader::GlobalTimeout,
-        members: &[],
-    },
-    Setting {
-        keys: &["default-filter"],
-        reader: Reader::Documented,
-        members: &[],
-    },
-    Setting {
-        keys: &["test-threads"],
-        reader: Reader::Documented,
-        members: &[],
-    },
-    Setting {
-        keys: &["run-extra-args"],
-        reader: Reader::Documented,
-        members: &[],
-    },
-    Setting {
-        keys: &["status-level"],
-        reader: Reader::Documented,
-        members: &[],
-    },
-    Setting {
-        keys: &["final-status-level"],
-        reader: Reader::Documented,
-        members: &[],
-    },
-    Setting {
-        keys: &["success-output"],
-        reader: Reader::Documented,
-        members: &[],
-    },
-    Setting {
-        keys: &["failure-output"],
-        reader: Reader::Documented,
-        members: &[],
-    },
-    Setting {
-        keys: &["junit", "path"],
-        reader: Reader::Text,
-        members: &[],
-    },
-    Setting {
-        keys: &["junit", "report-name"],
-        reader: Reader::Text,
-        members: &[],
-    },
-    Setting {
-        keys: &["junit", "store-success-output"],
-        reader: Reader::Boolean,
-        members: &[],
-    },
-    Setting {
-        keys: &["junit", "store-failure-output"],
-        reader: Reader::Boolean,
-        members: &[],
-    },
-    Setting {
-        keys: &["junit", "report-skipped"],
-        reader: Reader::ReportSkipped,
-        members: &[],
-    },
-    Setting {
-        keys: &["junit", "flaky-fail-status"],
-        reader: Reader::FlakyFailStatus,
-        members: &[],
-    },
-    Setting {
-        keys: &["bench", "slow-timeout"],
-        reader: Reader::SlowTimeout,
-        members: SlowTimeout::FIELDS,
-    },
-    Setting {
-        keys: &["bench", "global-timeout"],
-        reader: Reader::GlobalTimeout,
-        members: &[],
-    },
-];
+/// A setting that owns its path.
+#[derive(Drop)]
+pub(crate) struct OwnedSetting {
+    keys: Vec<&'static str>,
+    field: &'static Field,
+}
 
-/// All settings.
-pub(crate) fn all_settings() -> &'static [Setting]
-    ensures { map rule_of result.now ≡ all_settings }
+impl OwnedSetting {
+    /// The setting, as it is lent.
+    pub(crate) fn lent(&self) -> Setting<'_>
+        ensures { rule_of result ≡ rule_owned self.now }
+    {
+        Setting {
+            keys: self.keys.as_slice(),
+            field: self.field,
+            members: fields_below(&self.field.parts),
+        }
+    }
+}
+
+/// All settings: first those of a profile itself, then those in its tables.
+pub(crate) fn all_settings(alloc: Global) -> Result<Vec<OwnedSetting>, AllocError>
+    ensures { IfOk result (λ settings. map rule_owned settings.items ≡ all_settings) }
 {
-    SETTINGS
+    let fields = profile_fields();
+    let mut settings = Vec::new(alloc);
+    push_settings(alloc, &[], fields, &mut settings)?;
+    for field in fields {
+        push_settings(alloc, &[field.key], table_fields(field), &mut settings)?;
+    }
+    Ok(settings)
+}
+
+// Pushes the settings among the fields of the table at these keys of a profile.
+fn push_settings(
+    alloc: Global,
+    above: &[&'static str],
+    fields: &'static [Field],
+    settings: &mut Vec<OwnedSetting>,
+) -> Result<(), AllocError>
+    ensures { OnOk result (map rule_owned settings.new.items ≡ map rule_owned settings.old.items
+        ++ settings_at (words_of above.now) (fields_view fields.now)) }
+{
+    for field in fields {
+        if is_setting(above, field.absent) {
+            let keys = with_key(alloc, above, field.key)?;
+            settings.push(OwnedSetting { keys, field })?;
+        }
+    }
+    Ok(())
+}
+
+/// Whether a field of the table at these keys of a profile is a setting, where this stands for it:
+/// the profile inherits it, and of the profile itself nextest sets a value, too.
+pub(crate) fn is_setting(above: &[&str], absent: Absent) -> bool
+    ensures { result ≡ is_setting (words_of above.now) (absent_of absent) }
+{
+    match absent {
+        Absent::Inherited(Literal::Nothing) => !above.is_empty(),
+        Absent::Inherited(_) => true,
+        Absent::Taken(_) | Absent::OfProfile => false,
+    }
+}
+
+/// The fields of a plain table.
+pub(crate) fn table_fields(field: &Field) -> &'static [Field]
+    ensures { fields_view result.now ≡ table_fields (member_of field.now).shape (parts_in field.now) }
+{
+    match field.shape {
+        Shape::Table => fields_in(&field.parts),
+        _ => &[],
+    }
+}
+
+/// The fields of a table, or of the tables in an array; of `retries` those without a backoff.
+pub(crate) fn fields_below(parts: &Parts) -> &'static [Field]
+    ensures { fields_view result.now ≡ fields_below (parts_of parts.now) }
+{
+    match parts {
+        Parts::Fields(fields) => fields,
+        Parts::Retries { open, .. } => open,
+        Parts::Elements(_, each) => fields_in(each),
+        _ => &[],
+    }
+}
+
+// The fields of a table.
+fn fields_in(parts: &Parts) -> &'static [Field]
+    ensures { fields_view result.now ≡ fields_in (parts_of parts.now) }
+{
+    match parts {
+        Parts::Fields(fields) => fields,
+        _ => &[],
+    }
 }

@@ -1,20 +1,20 @@
 //! Keys of a profile that alone are told.
 
 ghost use Rattle.std.specs.Prelude.{◌≡◌, ◌++◌, flat_map, IfOk, map, OnOk, option_map, string_bytes};
-ghost use Rattle.nextest_config_elements.specs.Fields.{fields_in, fields_view, parts_of};
+ghost use Rattle.nextest_config_elements.specs.Fields.{fields_view};
 ghost use Rattle.nextest_config_lint.specs.Conversion.{field_named};
 ghost use Rattle.nextest_config_lint.specs.Settings.{seen_field};
 ghost use Rattle.nextest_config_values.specs.NearestWord.{IsNearest};
 ghost use Rattle.nextest_config_profiles.specs.Reach.{words_of};
 ghost use Rattle.nextest_config_profiles.specs.Report.Setting.{all_settings, rule_of};
 ghost use Rattle.nextest_config_profiles.specs.Said.{Path};
-ghost use Rattle.nextest_config_profiles.specs.Report.Wanted.{dotted, field_at, fields_below, is_known, IsKeyNamed, IsPathText, path_of, paths_of, told_paths};
+ghost use Rattle.nextest_config_profiles.specs.Report.Wanted.{dotted, field_at, is_known, IsKeyNamed, IsPathText, path_of, paths_of, told_paths};
 
 use crate::owned_chain::copies;
 use crate::report::keys::with_key;
 use crate::report::others::other_keys;
-use crate::report::setting::{Setting, all_settings};
-use nextest_config_elements::field::{Field, Parts};
+use crate::report::setting::{Setting, all_settings, fields_below};
+use nextest_config_elements::field::Field;
 use nextest_config_elements::keys::profile_fields;
 use nextest_config_values::nearest_word::nearest;
 use std::alloc::{AllocError, Global};
@@ -105,35 +105,13 @@ fn field_named(key: &str, fields: &'static [Field]) -> Option<&'static Field>
     fields.iter().find(|field| field.key == key)
 }
 
-// The fields of a table, or of the tables in an array; of `retries` those without a backoff.
-fn fields_below(parts: &Parts) -> &'static [Field]
-    ensures { fields_view result.now ≡ fields_below (parts_of parts.now) }
-{
-    match parts {
-        Parts::Fields(fields) => fields,
-        Parts::Retries { open, .. } => open,
-        Parts::Elements(_, each) => fields_in(each),
-        _ => &[],
-    }
-}
-
-// The fields of a table.
-fn fields_in(parts: &Parts) -> &'static [Field]
-    ensures { fields_view result.now ≡ fields_in (parts_of parts.now) }
-{
-    match parts {
-        Parts::Fields(fields) => fields,
-        _ => &[],
-    }
-}
-
 // The paths of all that is told, as texts.
 fn told_paths(alloc: Global) -> Result<Vec<String>, AllocError>
     ensures { IfOk result (λ paths. map string_bytes paths.items ≡ map dotted told_paths) }
 {
     let mut paths = setting_paths(alloc)?;
-    let keys = other_keys();
-    for key in keys {
+    let keys = other_keys(alloc)?;
+    for key in &keys {
         paths.push(String::from_str(alloc, key)?)?;
     }
     Ok(paths)
@@ -144,18 +122,22 @@ fn setting_paths(alloc: Global) -> Result<Vec<String>, AllocError>
     ensures { IfOk result (λ paths.
         map string_bytes paths.items ≡ map dotted (flat_map paths_of all_settings)) }
 {
-    let settings = all_settings();
+    let settings = all_settings(alloc)?;
     let mut paths = Vec::new(alloc);
-    for setting in settings {
-        push_paths(alloc, *setting, &mut paths)?;
+    for setting in &settings {
+        push_paths(alloc, setting.lent(), &mut paths)?;
     }
     Ok(paths)
 }
 
 // Pushes the paths of a setting.
-fn push_paths(alloc: Global, setting: Setting, paths: &mut Vec<String>) -> Result<(), AllocError>
+fn push_paths(
+    alloc: Global,
+    setting: Setting<'_>,
+    paths: &mut Vec<String>,
+) -> Result<(), AllocError>
     ensures { OnOk result (map string_bytes paths.new.items
-        ≡ map string_bytes paths.old.items ++ map dotted (paths_of (rule_of setting))) }
+        ≡ map string_bytes paths.old.items ++ map dotted (paths_of (rule_of setting.entry))) }
 {
     paths.push(setting.keys.join(alloc, ".")?)?;
     let members = setting.members;

@@ -6,7 +6,7 @@ ghost use Rattle.toml.specs.View.{view};
 ghost use Rattle.nextest_config_profiles.specs.Reach.{words_of};
 ghost use Rattle.nextest_config_profiles.specs.Report.Written.{is_documented, IsDoubted, IsWrongAt};
 
-use crate::report::setting::Reader;
+use nextest_config_elements::field::FaultSeverity;
 use nextest_config_lint::is_right_at;
 use nextest_config_values::read::{FromToml, ValueFault};
 use std::alloc::{AllocError, Global};
@@ -32,24 +32,24 @@ impl FromToml for Written {
 /// value at these keys of a profile.
 pub(crate) fn is_doubted(
     alloc: Global,
-    reader: Reader,
+    severity: FaultSeverity,
     keys: &[&str],
     value: &Value,
 ) -> Result<bool, AllocError>
     ensures { IfOk result
-        (λ doubted. IsTrue doubted ↔ IsDoubted reader (words_of keys.now) (view value.now)) }
+        (λ doubted. IsTrue doubted ↔ IsDoubted severity (words_of keys.now) (view value.now)) }
 {
-    if is_documented(reader) {
+    if is_documented(severity) {
         return is_wrong_at(alloc, keys, value);
     }
     Ok(false)
 }
 
 /// Whether a setting is known from nextest's documentation alone.
-pub(crate) fn is_documented(reader: Reader) -> bool
-    ensures { result ≡ is_documented reader }
+pub(crate) fn is_documented(severity: FaultSeverity) -> bool
+    ensures { result ≡ is_documented severity }
 {
-    matches!(reader, Reader::Documented)
+    matches!(severity, FaultSeverity::Warning)
 }
 
 // Whether something is wrong with the value at a key of a profile.

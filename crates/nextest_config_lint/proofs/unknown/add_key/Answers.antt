@@ -12,6 +12,6 @@ returns c =
     let finding : Finding = record { path = c.in_ok-path.path; kind = UnknownKey c.in_ok-key.key c.in_ok-hint.hint } in
     let pushed : c.push.new.self.items ≡ c.args.findings.now.items ++ (finding ∷ []) = search rules in (
       Some (found_at (map mark_step c.args.path.now) (unknown_key c.args.name.now hint)),
-      rw (← c.if-is_known.ensures) (hint, c.in_ok-hint.ensures, refl),
+      rw (← c.if-is_among.ensures) (hint, rw (c.as_slice.ensures.value, c.in_ok-known.ensures) at c.in_ok-hint.ensures, refl),
       rw (pushed, map_push, c.in_ok-path.ensures, c.in_ok-key.ensures.ok) refl,
     )

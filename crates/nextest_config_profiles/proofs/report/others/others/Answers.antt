@@ -6,4 +6,4 @@ pub loop-key-preserved : goal.loop-key-preserved
 loop-key-preserved c =
     let (other, is_other, pushed) = c.in_ok-push_other.ensures in
     rw pushed
-    (some_more (IsOther c.args.effective.now) (λ word. word.now) c.other_keys-keys.result.now c.loop-key.key-index _ _ other c.loop-key-test.true c.loop-key.invariant is_other)
+    (some_more (IsOther c.args.effective.now) (λ word. word.now) _ c.loop-key.key-index _ _ other c.loop-key-test.true c.loop-key.invariant is_other)

@@ -6,4 +6,4 @@ use Rattle.nextest_config_profiles.proofs.report.others.others.Given as goal
 
 -- the keys so far
 abbrev pub invariant-loop-key : goal.invariant-loop-key
-invariant-loop-key l = AreSomes (IsOther l.fn.effective) (words_of (take l.key-index l.keys)) l.others.items
+invariant-loop-key l = AreSomes (IsOther l.fn.effective) (words_of (take l.key-index l.key-items)) l.others.items

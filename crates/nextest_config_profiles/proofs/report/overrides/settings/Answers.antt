@@ -7,4 +7,4 @@ pub loop-key-preserved : goal.loop-key-preserved
 loop-key-preserved c =
     let (setting, is_set, pushed) = c.in_ok-push_setting.ensures in
     rw pushed
-    (some_more (IsSet (view c.args.value.now)) (λ word. word.now) c.override_keys-keys.result.now c.loop-key.key-index _ _ setting c.loop-key-test.true c.loop-key.invariant is_set)
+    (some_more (IsSet (view c.args.value.now)) (λ word. word.now) _ c.loop-key.key-index _ _ setting c.loop-key-test.true c.loop-key.invariant is_set)

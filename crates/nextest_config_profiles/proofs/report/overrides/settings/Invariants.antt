@@ -7,4 +7,4 @@ use Rattle.nextest_config_profiles.proofs.report.overrides.settings.Given as goa
 
 -- the keys so far
 abbrev pub invariant-loop-key : goal.invariant-loop-key
-invariant-loop-key l = AreSomes (IsSet (view l.fn.value)) (words_of (take l.key-index l.keys)) l.settings.items
+invariant-loop-key l = AreSomes (IsSet (view l.fn.value)) (words_of (take l.key-index l.key-items)) l.settings.items
