@@ -95,7 +95,7 @@ fn sets_wanted(told: &Override<'_>, wanted: &[WantedKey]) -> bool
             .any(|field| sets_in_table(told, wanted, field))
 }
 
-// Whether this holds of a key of a profile, if it is a setting.
+// Whether a key of a profile is a setting that is wanted, and an override has a value there.
 fn sets_itself(told: &Override<'_>, wanted: &[WantedKey], field: &'static Field) -> bool
     ensures { result ≡ (is_setting [] (member_of field.now).absent
         && sets_keys (map path_of wanted.now) told.now ((member_of field.now).key ∷ [])) }
@@ -103,7 +103,8 @@ fn sets_itself(told: &Override<'_>, wanted: &[WantedKey], field: &'static Field)
     is_setting(&[], field.absent) && sets_keys(told, wanted, &[field.key])
 }
 
-// Whether this holds of some setting in the table at a key of a profile.
+// Whether some setting in the table at a key of a profile is wanted, and an override has a value
+// there.
 fn sets_in_table(told: &Override<'_>, wanted: &[WantedKey], table: &'static Field) -> bool
     ensures { result ≡ list_any (λ setting. sets_keys (map path_of wanted.now) told.now setting.keys)
         (settings_at ((member_of table.now).key ∷ [])
@@ -114,7 +115,7 @@ fn sets_in_table(told: &Override<'_>, wanted: &[WantedKey], table: &'static Fiel
         .any(|field| sets_below(told, wanted, table.key, field))
 }
 
-// Whether this holds of a key of the table at a key of a profile, if it is a setting.
+// Whether a key of the table at a key of a profile is such a setting.
 fn sets_below(
     told: &Override<'_>,
     wanted: &[WantedKey],
