@@ -25,8 +25,12 @@ pub adds_more : {A : Type 0} (IsFound : A → Option Found → Type 0) (xs ys : 
 adds_more IsFound xs ys before between now (all_found, are, so_far) (later, later_are, more) =
     (all_found ++ later, found_in_both IsFound xs ys all_found later are later_are, cc (more, so_far, append_assoc (map found_of before) (map Some all_found) (map Some later), map-append Some all_found later))
 
+-- those of one
+pub adds_one : {A : Type 0} (IsFound : A → Option Found → Type 0) (x : A) (before now : List Finding) → AddsOne IsFound x before now → AddsFound IsFound (x ∷ []) before now
+adds_one IsFound x before now (here, is, more) = (option_to_list here, (here, [], is, refl, sym (append-nil (option_to_list here))), more)
+
 -- those of one more
 pub adds_next : {X A : Type 0} (IsFound : A → Option Found → Type 0) (f : X → A) (xs : List X) (x : X) (before between now : List Finding)
     → AddsFound IsFound (map f xs) before between → AddsOne IsFound (f x) between now → AddsFound IsFound (map f (xs ++ (x ∷ []))) before now
-adds_next IsFound f xs x before between now so_far (here, is, more) = rw (map_push f xs x) (adds_more IsFound _ _ before between now so_far
-    (option_to_list here, (here, [], is, refl, sym (append-nil (option_to_list here))), more))
+adds_next IsFound f xs x before between now so_far one =
+    rw (map_push f xs x) (adds_more IsFound _ _ before between now so_far (adds_one IsFound (f x) between now one))

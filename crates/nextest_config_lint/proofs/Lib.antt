@@ -19,6 +19,7 @@ pub mod VersionOrder
 pub mod Walks
 pub mod ReferencesFound
 pub mod Severities
+pub mod Traversals
 pub mod ReadersFaults
 pub mod RetriesRead
 pub mod RightValues

@@ -1,10 +1,14 @@
 -- Whether a value passes a check, by what the check of it answers.
 use mathlib.Core.Logic.Iff as iff
-use Rattle.std.specs.Prelude.{◌≡◌, ◌↔◌, Bool, false, IfErr, IfOk, IsSome, IsTrue, MatchResult, Ok, Err, OnOk, Option, Some, None, Result}
+use Rattle.std.specs.Prelude.{◌≡◌, ◌↔◌, ◌&&◌, ◌++◌, [], ◌∷◌, Bool, false, true, List, refl, IfErr, IfOk, IsSome, IsTrue, MatchResult, Ok, Err, OnOk, Option, Some, None, Result}
+use Rattle.toml_spans.proofs.Elements.{all_joined, all_left, all_right}
+use Rattle.nextest_config.specs.declared.nextest_version.edition.Edition.TheVariants.{TableOnly}
 use Rattle.nextest_config_values.specs.Read.Fault.{Always, fault_of, Fault, Refuses}
 use Rattle.nextest_config_values.specs.Read.{Check, FaultOrMemory}
 use Rattle.nextest_config_values.specs.declared.read.value_fault.ValueFault.{ValueFault}
 use Rattle.nextest_config_lint.proofs.RetriesRead.{checked_none}
+use Rattle.nextest_config_lint.specs.FindingsLaws.{HasNoFault, HaveNoFault}
+use Rattle.nextest_config_lint.specs.Settings.{SettingView}
 
 -- a refusal for which memory was there tells a fault
 told : (M : Type 0) (IsFault : Fault → Type 0) (found : Option Fault) → IsSome found → FaultOrMemory found M IsFault → (fault : Fault) × IsFault fault
@@ -26,3 +30,13 @@ module _ {D : Type 0} (check : Check D) (value : D) where
       → IfOk answer (λ right. IsTrue right ↔ ((fault : Fault) → check.faults value fault → ⊥))
   are_right_if checked (Ok right) passes refused answered = iff.trans (passes_if checked right passes refused answered) (iff.symm (checked_none check value))
   are_right_if checked (Err error) passes refused answered = tt
+
+-- nothing is wrong with any of these, nor with one more
+pub one_more_right : (before : List SettingView) (setting : SettingView) (were is : Bool)
+    → IsTrue were ↔ HaveNoFault TableOnly before → IsTrue is ↔ HasNoFault TableOnly setting → IsTrue (were && is) ↔ HaveNoFault TableOnly (before ++ (setting ∷ []))
+one_more_right before setting true is so_far here = (
+  (λ right. all_joined (HasNoFault TableOnly) before (setting ∷ []) (so_far.0 refl) (here.0 right, tt)),
+  (λ none. here.1 (all_right (HasNoFault TableOnly) before (setting ∷ []) none).0),
+)
+one_more_right before setting false is so_far here =
+    ((λ never. cc never), λ none. so_far.1 (all_left (HasNoFault TableOnly) before (setting ∷ []) none))

@@ -21,6 +21,7 @@ pub mod Settings
 pub mod Severity
 pub mod Shapes
 pub mod Subjects
+pub mod Traversal
 pub mod Unknown
 pub mod Values
 pub mod Explain

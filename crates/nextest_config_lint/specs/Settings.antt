@@ -66,7 +66,7 @@ subject_view (subjects.Features value) = features_at (view value.now)
 -- what is judged at a path, without where it lies in memory
 abbrev pub setting_view : Setting → SettingView
 setting_view setting =
-    setting_at setting.severity (map mark_step setting.path.items) (subject_view setting.subject)
+    setting_at setting.severity (map mark_step setting.path.now) (subject_view setting.subject)
 
 -- ---- of a value
 
@@ -182,10 +182,13 @@ of_retries severity known path members of_fields =
     ++ flat_map (of_name severity (expected_by (backoff_in members)) known path)
     (names_of members))
 
+-- a value of this shape in which nothing stands
+abbrev pub plain_element : Shape → FaultSeverity → Collecting
+plain_element shape severity = with_parts shape severity nothing (λ path value. [])
+
 -- what comes of an array of which each element has this shape, and nothing stands in it
 abbrev pub plain_elements : Shape → FaultSeverity → List PathStep → Items → List SettingView
-plain_elements shape severity path =
-    at_items (with_parts shape severity nothing (λ path value. [])) path 0
+plain_elements shape severity path = at_items (plain_element shape severity) path 0
 
 -- ---- the table of keys
 

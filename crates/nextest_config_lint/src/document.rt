@@ -1,18 +1,20 @@
 //! All that is found in a document.
 
-ghost use Rattle.std.specs.Prelude.{◌≡◌, IfOk, List};
+ghost use Rattle.std.specs.Prelude.{◌≡◌, ◌++◌, [], IfOk, List};
 ghost use Rattle.toml.specs.View.{table_view};
 ghost use Rattle.nextest_config_lint.specs.Defined.{IsDefinedBy, ListFile};
-ghost use Rattle.nextest_config_lint.specs.Document.{AreFindings};
+ghost use Rattle.nextest_config_lint.specs.Document.{AreFindings, HasFound};
 ghost use Rattle.nextest_config_lint.specs.Found.{Found, Tells};
 
-use crate::defined::Defined;
+use crate::defined::{Defined, ListedFile, SETUP_SCRIPT, names_of_file};
 use crate::finding::Finding;
-use crate::references::find_references;
+use crate::references::{JudgedFile, add_reference};
 use crate::settings::Setting;
-use crate::unknown::find_unknown;
-use crate::values::{ValueFindings, find_in_values};
+use crate::traversal::{Visitor, visit_document};
+use crate::unknown::{add_beside, add_keys_in};
+use crate::values::{ValueFindings, find_in_value};
 use nextest_config::nextest_version::{ConfigSourceKind, Edition};
+use nextest_config_elements::keys::file_fields;
 use std::alloc::{AllocError, Global};
 use toml::Table;
 
@@ -34,25 +36,81 @@ pub fn findings(
         × AreFindings edition source.now files position (table_view document.now) all_found
         × Tells findings.items all_found) }
 {
-    let settings = Setting::all(alloc, document)?;
-    let ValueFindings {
-        mut faults,
-        mut features,
-        mut notes,
-    } = find_in_values(alloc, source, edition, settings.as_slice())?;
-    let mut unknown = find_unknown(alloc, document, settings.as_slice())?;
-    let mut references = find_references(
-        alloc,
+    let listed = ListedFile {
+        source,
+        document: Some(document),
+    };
+    let setup_scripts = names_of_file(alloc, SETUP_SCRIPT, &listed)?;
+    let file = JudgedFile {
         source,
         edition,
-        document,
-        settings.as_slice(),
-        defined,
         position,
-    )?;
-    references.append(&mut notes)?;
-    unknown.append(&mut references)?;
-    features.append(&mut unknown)?;
-    faults.append(&mut features)?;
-    Ok(faults)
+        defined,
+        setup_scripts: &setup_scripts,
+    };
+    let mut unknown = Vec::new(alloc);
+    add_beside(alloc, file_fields(), &[], document, &mut unknown)?;
+    let found = visit_document(alloc, document, FoundInValues::new(alloc, file))?;
+    found.behind(unknown)
+}
+
+// What is found so far of the values of a file, by kind.
+#[derive(Drop)]
+struct FoundInValues<'f> {
+    file: JudgedFile<'f>,
+    values: ValueFindings,
+    unknown: Vec<Finding>,
+    references: Vec<Finding>,
+}
+
+impl<'f> FoundInValues<'f> {
+    // Nothing so far.
+    fn new(alloc: Global, file: JudgedFile<'f>) -> FoundInValues<'f>
+        ensures file { result.file ≡ file.entry }
+        ensures found { HasFound result [] result }
+    {
+        FoundInValues {
+            file,
+            values: ValueFindings::new(alloc),
+            unknown: Vec::new(alloc),
+            references: Vec::new(alloc),
+        }
+    }
+
+    // All findings, in the order of their kinds; these unknown keys stand in front of the others.
+    fn behind(self, mut unknown: Vec<Finding>) -> Result<Vec<Finding>, AllocError>
+        ensures { IfOk result (λ findings. findings.items ≡ self.entry.values.faults.items
+            ++ (self.entry.values.features.items ++ ((unknown.items ++ self.entry.unknown.items)
+            ++ (self.entry.references.items ++ self.entry.values.notes.items)))) }
+    {
+        let FoundInValues {
+            file: _,
+            values,
+            unknown: mut inner,
+            mut references,
+        } = self;
+        let ValueFindings {
+            mut faults,
+            mut features,
+            mut notes,
+        } = values;
+        references.append(&mut notes)?;
+        unknown.append(&mut inner)?;
+        unknown.append(&mut references)?;
+        features.append(&mut unknown)?;
+        faults.append(&mut features)?;
+        Ok(faults)
+    }
+}
+
+impl Visitor for FoundInValues<'_> {
+    ghost has_visited = { HasFound };
+
+    fn visit(&mut self, alloc: Global, setting: &Setting) -> Result<(), AllocError> {
+        let found = find_in_value(alloc, self.file.source, self.file.edition, setting)?;
+        self.values.add(found)?;
+        add_keys_in(alloc, setting, &mut self.unknown)?;
+        add_reference(alloc, &self.file, setting, &mut self.references)?;
+        Ok(())
+    }
 }

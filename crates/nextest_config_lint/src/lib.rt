@@ -24,6 +24,7 @@ mod rules;
 mod settings;
 mod severity;
 mod shapes;
+mod traversal;
 mod unknown;
 mod values;
 

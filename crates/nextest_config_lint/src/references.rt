@@ -16,9 +16,7 @@ ghost use Rattle.nextest_config_lint.specs.Settings.{mark_step, setting_view};
 ghost use Rattle.nextest_config_lint.specs.declared.named.NamedKind.TheVariants.{Script};
 ghost use Rattle.nextest_config_lint.specs.declared.named.ScriptKind.TheVariants.{Setup};
 
-use crate::defined::{
-    DEFAULT_MIRI, DEFAULT_PROFILE, Defined, ListedFile, SETUP_SCRIPT, has_name, names_of_file,
-};
+use crate::defined::{DEFAULT_MIRI, DEFAULT_PROFILE, Defined, SETUP_SCRIPT, has_name};
 use crate::finding::{Finding, FindingKind, Hint};
 use crate::hints::nearest_hint;
 use crate::named::{NamedKind, ScriptKind};
@@ -37,69 +35,20 @@ const DEFAULT_FILTER_KEY: &str = "default-filter";
 // The most names among which the nearest is sought, since each may be far from it.
 const MOST_NAMES: usize = 100;
 
-// A file at a position of a list, judged under an edition.
+/// A file at a position of a list, judged under an edition.
 #[derive(Clone, Copy)]
-struct JudgedFile<'a> {
-    source: &'a ConfigSourceKind,
-    edition: Edition,
-    position: usize,
-    // What the list defines.
-    defined: &'a Defined,
-    // The setup scripts that the file defines itself, as their names are kept.
-    setup_scripts: &'a BTreeSet<String>,
+pub(crate) struct JudgedFile<'a> {
+    pub source: &'a ConfigSourceKind,
+    pub edition: Edition,
+    pub position: usize,
+    /// What the list defines.
+    pub defined: &'a Defined,
+    /// The setup scripts that the file defines itself, as their names are kept.
+    pub setup_scripts: &'a BTreeSet<String>,
 }
 
-/// What is found of each of the values of a document, in their order, in the file at this position
-/// of a list that defines this.
-pub(crate) fn find_references(
-    alloc: Global,
-    source: &ConfigSourceKind,
-    edition: Edition,
-    document: &Table,
-    settings: &[Setting],
-    defined: &Defined,
-    position: usize,
-) -> Result<Vec<Finding>, AllocError>
-    ensures { IfOk result (λ findings. (files : List ListFile) → IsDefinedBy files defined.now
-        → TellsSome (AreFoundIn (IsReferenceFound (in_list edition files
-        (file_with source.now (Some (table_view document.now))) position))
-        (map setting_view settings.now)) findings) }
-{
-    let listed = ListedFile {
-        source,
-        document: Some(document),
-    };
-    let setup_scripts = names_of_file(alloc, SETUP_SCRIPT, &listed)?;
-    let file = JudgedFile {
-        source,
-        edition,
-        position,
-        defined,
-        setup_scripts: &setup_scripts,
-    };
-    find_all(alloc, &file, settings)
-}
-
-// What is found of each of the values, in their order.
-fn find_all(
-    alloc: Global,
-    file: &JudgedFile,
-    settings: &[Setting],
-) -> Result<Vec<Finding>, AllocError>
-    ensures { IfOk result (λ findings. (files : List ListFile) (members : Members)
-        → IsJudgedIn files members file.now
-        → TellsSome (AreFoundIn (IsReferenceFound (judged_in files members file.now))
-        (map setting_view settings.now)) findings) }
-{
-    let mut findings = Vec::new(alloc);
-    for setting in settings {
-        add_reference(alloc, file, setting, &mut findings)?;
-    }
-    Ok(findings)
-}
-
-// Adds what is found of the value, if anything is.
-fn add_reference(
+/// Adds what is found of what is judged, if anything is.
+pub(crate) fn add_reference(
     alloc: Global,
     file: &JudgedFile,
     setting: &Setting,
@@ -125,7 +74,7 @@ fn path_to(alloc: Global, setting: &Setting, kind: &FindingKind) -> Result<Vec<S
     ensures { IfOk result (λ path. (told : FoundKind) → kind_view kind.now ≡ Some told
         → map step_of path.items ≡ (setting_view setting.now).path ++ steps_to told) }
 {
-    let mut path = steps_of(alloc, setting.path.as_slice())?;
+    let mut path = steps_of(alloc, setting.path)?;
     if is_of_default_filter(kind) {
         path.push(Step::Key(String::from_str(alloc, DEFAULT_FILTER_KEY)?))?;
     }
@@ -157,7 +106,7 @@ fn find_of(
 {
     match setting.subject {
         Subject::Value { value, .. } => {
-            let place = place_of(setting.path.as_slice());
+            let place = place_of(setting.path);
             find_at(alloc, file, place, value)
         }
         _ => Ok(None),

@@ -4,14 +4,15 @@ ghost use Rattle.std.specs.Prelude.{◌≡◌, ◌↔◌, false, IfOk, IsSome, I
 ghost use Rattle.toml.specs.View.{view};
 ghost use Rattle.nextest_config_values.specs.Read.{fault_of};
 ghost use Rattle.nextest_config.specs.declared.nextest_version.edition.Edition.TheVariants.{TableOnly};
-ghost use Rattle.nextest_config_lint.specs.FindingsLaws.{HasNoFault, HaveNoFault};
-ghost use Rattle.nextest_config_lint.specs.Right.{IsRightAt, IsRightBy};
+ghost use Rattle.nextest_config_lint.specs.FindingsLaws.{HasNoFault};
+ghost use Rattle.nextest_config_lint.specs.Right.{AreRight, IsRightAt, IsRightBy};
 ghost use Rattle.nextest_config_lint.specs.Settings.{seen_field, setting_view};
 
 use crate::conversion::field_named;
 use crate::rules::check_rules;
 use crate::settings::{Setting, Subject};
 use crate::shapes::check_shape;
+use crate::traversal::{Visitor, visit_value};
 use nextest_config::nextest_version::Edition;
 use nextest_config_elements::field::Field;
 use nextest_config_elements::keys::profile_fields;
@@ -35,21 +36,24 @@ fn is_right_by(alloc: Global, field: &Field, value: &Value) -> Result<bool, Allo
     ensures { IfOk result (λ right.
         IsTrue right ↔ IsRightBy (Some (seen_field field.now)) (view value.now)) }
 {
-    let settings = Setting::of_value(alloc, field, value)?;
-    are_right(alloc, settings.as_slice())
+    let rightness = Rightness { is_right: true };
+    let Rightness { is_right } = visit_value(alloc, field, value, rightness)?;
+    Ok(is_right)
 }
 
-// Whether nothing is wrong with any of these.
-fn are_right(alloc: Global, settings: &[Setting]) -> Result<bool, AllocError>
-    ensures { IfOk result (λ right.
-        IsTrue right ↔ HaveNoFault TableOnly (map setting_view settings.now)) }
-{
-    match settings {
-        [] => Ok(true),
-        [first, rest @ ..] => {
-            let right = is_right(alloc, first)?;
-            Ok(right && are_right(alloc, rest)?)
-        }
+// Whether nothing was wrong so far.
+#[derive(Drop)]
+struct Rightness {
+    is_right: bool,
+}
+
+impl Visitor for Rightness {
+    ghost has_visited = { AreRight };
+
+    fn visit(&mut self, alloc: Global, setting: &Setting) -> Result<(), AllocError> {
+        let right = is_right(alloc, setting)?;
+        self.is_right = self.is_right & right;
+        Ok(())
     }
 }
 

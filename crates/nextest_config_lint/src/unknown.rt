@@ -28,26 +28,8 @@ const SCOPES: &[Scope] = &[Scope::Top, Scope::Profile, Scope::Override, Scope::J
 // The `junit` of a script lacks keys of another one, which don't belong in that.
 const BESIDE_JUNIT: &[Scope] = &[Scope::Top, Scope::Profile, Scope::Override];
 
-/// The unknown keys of a document, those of the top first and then those of the values in it.
-pub(crate) fn find_unknown(
-    alloc: Global,
-    document: &Table,
-    settings: &[Setting],
-) -> Result<Vec<Finding>, AllocError>
-    ensures { IfOk result (TellsSome (AreFoundIn IsKeyFound
-        (keys_below file_table [] (table (table_view document.now))
-        ++ flat_map keys_in (map setting_view settings.now)))) }
-{
-    let mut findings = Vec::new(alloc);
-    add_beside(alloc, file_fields(), &[], document, &mut findings)?;
-    for setting in settings {
-        add_keys_in(alloc, setting, &mut findings)?;
-    }
-    Ok(findings)
-}
-
-// Adds the unknown keys of a value, if it is a table whose keys are judged.
-fn add_keys_in(
+/// Adds the unknown keys of a value, if it is a table whose keys are judged.
+pub(crate) fn add_keys_in(
     alloc: Global,
     setting: &Setting,
     findings: &mut Vec<Finding>,
@@ -57,7 +39,7 @@ fn add_keys_in(
 {
     match setting.subject {
         Subject::Value { parts, value, .. } => {
-            add_keys_below(alloc, &parts, setting.path.as_slice(), value, findings)
+            add_keys_below(alloc, &parts, setting.path, value, findings)
         }
         _ => Ok(()),
     }
@@ -90,8 +72,8 @@ fn add_keys_below(
     }
 }
 
-// Adds the keys of a table that are those of none of these fields.
-fn add_beside(
+/// Adds the keys of a table that are those of none of these fields.
+pub(crate) fn add_beside(
     alloc: Global,
     fields: &[Field],
     path: &[Mark],

@@ -1,10 +1,10 @@
 //! What is found of all that is judged in a document.
 
-ghost use Rattle.std.specs.Prelude.{◌≡◌, ◌++◌, [], ◌∷◌, IfOk, IsSome, MatchResult, OnOk, map};
+ghost use Rattle.std.specs.Prelude.{◌≡◌, ◌++◌, [], ◌∷◌, IfOk, IsSome, MatchResult, OnOk};
 ghost use Rattle.toml.specs.View.{view};
 ghost use Rattle.nextest_config_values.specs.Read.{fault_of};
 ghost use Rattle.nextest_config_lint.specs.Settings.{features_at, setting_view};
-ghost use Rattle.nextest_config_lint.specs.Values.{IsEmpty, TellsFault, TellsValue, TellsValues};
+ghost use Rattle.nextest_config_lint.specs.Values.{IsEmpty, TellsFault, TellsValue};
 
 use crate::faults::find_of_fault;
 use crate::features::find_of_features;
@@ -64,8 +64,8 @@ impl ValueFindings {
         Ok(findings)
     }
 
-    // Adds the findings of another value, each kind after the ones that there are.
-    fn add(&mut self, more: ValueFindings) -> Result<(), AllocError>
+    /// Adds the findings of another value, each kind after the ones that there are.
+    pub(crate) fn add(&mut self, more: ValueFindings) -> Result<(), AllocError>
         ensures faults { OnOk result
             (self.new.faults.items ≡ self.old.faults.items ++ more.faults.items) }
         ensures features { OnOk result
@@ -85,25 +85,8 @@ impl ValueFindings {
     }
 }
 
-/// What is found of all that is judged, in its order.
-pub(crate) fn find_in_values(
-    alloc: Global,
-    source: &ConfigSourceKind,
-    edition: Edition,
-    settings: &[Setting],
-) -> Result<ValueFindings, AllocError>
-    ensures { IfOk result (TellsValues edition source.now (map setting_view settings.now)) }
-{
-    let mut findings = ValueFindings::new(alloc);
-    for setting in settings {
-        let found = find_in_value(alloc, source, edition, setting)?;
-        findings.add(found)?;
-    }
-    Ok(findings)
-}
-
-// What is found of what is judged at a path.
-fn find_in_value(
+/// What is found of what is judged at a path.
+pub(crate) fn find_in_value(
     alloc: Global,
     source: &ConfigSourceKind,
     edition: Edition,

@@ -1,29 +1,17 @@
-use Rattle.std.proofs.Common.{◌≡◌, ◌++◌, refl, rules}
-use Rattle.nextest_config_lint.proofs.FoundLists.{told_in_both}
+-- The visitor began with nothing, so it has what is found of all that is judged.
+use Rattle.std.proofs.Common.{[]}
+use Rattle.std.proofs.lemmas.Result.{IfOk-weaker}
+use Rattle.toml.specs.View.{table_view}
+use Rattle.nextest_config_lint.proofs.FoundValues.{all_are_found}
 use Rattle.nextest_config_lint.proofs.document.findings.Goals as goal
 
 pub returns : goal.returns
-returns c files by =
-    let values = c.in_ok-faults.ensures in
-    let faults = values.faults in
-    let features = values.features in
-    let notes = values.notes in
-    let unknown = c.in_ok-unknown.ensures in
-    let references = c.in_ok-references.ensures files by in
-    let whole : c.append-4.new.self.items ≡ c.in_ok-faults.field-0.faults.items ++ (c.in_ok-faults.field-0.features.items ++ (c.in_ok-unknown.unknown.items ++ (c.in_ok-references.references.items ++ c.in_ok-faults.field-0.notes.items))) = search rules in (
-      faults.0 ++ (features.0 ++ (unknown.0 ++ (references.0 ++ notes.0))),
-      record {
-        faults = faults.0;
-        features = features.0;
-        unknown = unknown.0;
-        references = references.0;
-        notes = notes.0;
-        of_faults = rw (c.as_slice.ensures.value, c.in_ok-settings.ensures) at faults.1;
-        of_features = rw (c.as_slice.ensures.value, c.in_ok-settings.ensures) at features.1;
-        of_unknown = rw (c.as_slice-2.ensures.value, c.in_ok-settings.ensures) at unknown.1;
-        of_references = rw (c.as_slice-3.ensures.value, c.in_ok-settings.ensures) at references.1;
-        of_notes = rw (c.as_slice.ensures.value, c.in_ok-settings.ensures) at notes.1;
-        whole = refl;
-      },
-      rw whole (told_in_both _ _ _ _ faults.2 (told_in_both _ _ _ _ features.2 (told_in_both _ _ _ _ unknown.2 (told_in_both _ _ _ _ references.2 notes.2)))),
-    )
+returns c =
+    let members = table_view c.args.document.now in
+    let has = c.in_ok-found.ensures c.new.result [] c.new.ensures.found in
+    IfOk-weaker c.behind.result _ _ (λ findings whole. λ files by. all_are_found c.args.edition c.args.source.now files c.args.position members c.in_ok-found.found c.add_beside.new.findings.items findings.items
+    (rw c.new.ensures.file at has.values)
+    (rw (c.file_fields.ensures, c.new-unknown.ensures.items) at c.in_ok-add_beside.ensures)
+    has.unknown
+    (rw c.new.ensures.file at has.references files members (by, c.in_ok-setup_scripts.ensures))
+    whole) c.behind.ensures
