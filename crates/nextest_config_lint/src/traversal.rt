@@ -311,12 +311,8 @@ impl<'a, V: Visitor> Traversal<'a, V> {
             return Ok(());
         };
         self.visit_fields(known, severity, table)?;
-        self.show_refused(
-            severity,
-            known,
-            expected_by(Backoff::of_table(table)),
-            table,
-        )?;
+        let expected = expected_by(Backoff::of_table(table));
+        self.show_refused(severity, known, expected, table)?;
         self.show(severity, Subject::Between(Rules::Retries, value))
     }
 
