@@ -1,26 +1,16 @@
-//! Tables of whole files, each a block: a line `=== NAME | SOURCE`, the lines of the file, and what
+//! Tables of documents, each a block: a line `=== NAME | SOURCE`, the lines of the document, and what
 //! is found in it, a line each that begins with `> `. Where there is none, nothing is found.
 //!
-//! SOURCE is `repository`, `explicit` or `tool`. Words after it say more: `tables`, that an array
-//! of experimental features is refused; `latin-1`, that each character of the file is one byte. A
-//! file writes some characters as `\n` or `\u{..}`. A backslash at its end takes away the last line
-//! feed. Blank lines in front of the next block aren't the file's.
+//! SOURCE is `repository`, `explicit` or `tool`. `tables` behind it says that an array of
+//! experimental features is refused. A document writes some characters as `\n` or `\u{..}`.
 
-use crate::ThisCrate;
 use nextest_config::nextest_version::{ConfigSourceKind, Edition};
-use nextest_config_lint::{
-    Defined, FileContents, Finding, FindingKind, FindingSeverity, LocatedFinding, Place, Span,
-    findings, located,
-};
-use nextest_config_test_rows::rows::{
-    Escaped, Subject, compare, copied, cut, done, push, shown, unknown,
-};
+use nextest_config_lint::{Defined, Finding, FindingSeverity, findings};
+use nextest_config_test_rows::rows::{Escaped, Subject, compare, cut, done, push, shown, unknown};
 use nextest_config_test_rows::runner::Runner;
 use nextest_config_test_rows::tables::Held;
-use nextest_config_test_rows::told::Told;
 use nextest_config_test_rows::values::{FromRow, word};
 use nextest_config_values::identifier::ToolName;
-use nextest_config_values::read::Word;
 use std::alloc::AllocError;
 use toml::Table;
 
@@ -73,25 +63,6 @@ fn lines(rt: &impl Runner, body: &str, found: bool) -> String {
     lines
 }
 
-/// What is found in the file, as it is listed for a user: `LINE:COLUMN: SEVERITY: FINDING [CODE]`,
-/// with `*` for what `toml` says in words of its own.
-pub struct Listed;
-
-impl Subject for Listed {
-    fn answer(rt: &impl Runner, call: &str, input: &str) -> String {
-        told(rt, "listed", found_in(rt, call, input))
-    }
-}
-
-/// From where to where each of them stands: `LINE:COLUMN-LINE:COLUMN CODE`.
-pub struct Ranged;
-
-impl Subject for Ranged {
-    fn answer(rt: &impl Runner, call: &str, input: &str) -> String {
-        told(rt, "ranged", found_in(rt, call, input))
-    }
-}
-
 /// What is found in the document, in the order in which it is found: `SEVERITY: FINDING`.
 pub struct InOrder;
 
@@ -101,7 +72,7 @@ impl Subject for InOrder {
         let document = document(rt, input);
         let defined = done(rt, Defined::of_one(rt.alloc(), &source, Some(&document)));
         let found = findings(rt.call(), &source, edition(call), &document, &defined, 0);
-        told(rt, "", found)
+        told(rt, found)
     }
 }
 
@@ -112,7 +83,7 @@ impl Subject for Defining {
     fn answer(rt: &impl Runner, call: &str, input: &str) -> String {
         let source = source(rt, call);
         let document = document(rt, input);
-        told(rt, "", found_alone(rt, &source, edition(call), &document))
+        told(rt, found_alone(rt, &source, edition(call), &document))
     }
 }
 
@@ -142,95 +113,23 @@ impl<S: Subject> Subject for InRow<S> {
     }
 }
 
-/// The same of one statement in a repository's file, below the heading that a row has for its table
-/// or below a blank line.
-pub struct InTable;
-
-impl Subject for InTable {
-    fn answer(rt: &impl Runner, call: &str, input: &str) -> String {
-        let file = done(rt, format!(in rt.alloc(); "{call}\n{input}\n"));
-        InRow::<Listed>::answer(rt, "repository", file.as_str())
-    }
-}
-
-// What is found in a file that is its whole list.
-fn found_in(rt: &impl Runner, call: &str, file: &str) -> Result<Vec<LocatedFinding>, AllocError> {
-    let source = source(rt, call);
-    let contents = contents(rt, call, file);
-    located_alone(rt, &source, edition(call), contents.as_slice())
-}
-
-fn located_alone(
-    rt: &impl Runner,
-    source: &ConfigSourceKind,
-    edition: Edition,
-    contents: &[u8],
-) -> Result<Vec<LocatedFinding>, AllocError> {
-    let read = FileContents::of(rt.alloc(), contents)?;
-    let defined = Defined::of_one(rt.alloc(), source, read.document())?;
-    located(rt.call(), source, edition, contents, &defined, 0)
-}
-
-// A line of this form for each of them, or that memory was refused.
-fn told<T: Told<ThisCrate> + Drop>(
-    rt: &impl Runner,
-    form: &str,
-    found: Result<Vec<T>, AllocError>,
-) -> String {
+// A line for each of them, or that memory was refused.
+fn told(rt: &impl Runner, found: Result<Vec<Finding>, AllocError>) -> String {
     rt.end();
     match found {
-        Ok(found) => told_each(rt, form, found.as_slice()),
+        Ok(found) => told_each(rt, found.as_slice()),
         Err(error) => shown(rt, &error),
     }
 }
 
-fn told_each<T: Told<ThisCrate>>(rt: &impl Runner, form: &str, found: &[T]) -> String {
+fn told_each(rt: &impl Runner, found: &[Finding]) -> String {
     let mut lines = String::new(rt.alloc());
     for finding in found {
-        let line = finding.told(rt, form);
-        done(rt, write!(lines, "> {line}\n"));
+        let severity = severity(finding);
+        let text = shown(rt, finding);
+        done(rt, write!(lines, "> {severity}: {text}\n"));
     }
     lines
-}
-
-impl Told<ThisCrate> for Finding {
-    fn told(&self, rt: &impl Runner, _form: &str) -> String {
-        let severity = severity(self);
-        let text = shown(rt, self);
-        done(rt, format!(in rt.alloc(); "{severity}: {text}"))
-    }
-}
-
-impl Told<ThisCrate> for LocatedFinding {
-    fn told(&self, rt: &impl Runner, form: &str) -> String {
-        match form {
-            "ranged" => range_line(rt, self),
-            _ => listed_line(rt, self),
-        }
-    }
-}
-
-fn range_line(rt: &impl Runner, located: &LocatedFinding) -> String {
-    let Span { begin, end } = located.span;
-    let code = located.finding.code().as_word();
-    let range = format!(in rt.alloc();
-        "{}:{}-{}:{} {code}",
-        begin.line, begin.column, end.line, end.column
-    );
-    done(rt, range)
-}
-
-fn listed_line(rt: &impl Runner, located: &LocatedFinding) -> String {
-    let Place { line, column } = located.span.begin;
-    let severity = severity(&located.finding);
-    let text = shown(rt, &located.finding);
-    let text = match &located.finding.kind {
-        FindingKind::NotToml { message, .. } => starred(rt, message.as_str(), text.as_str()),
-        _ => text,
-    };
-    let code = located.finding.code().as_word();
-    let line = format!(in rt.alloc(); "{line}:{column}: {severity}: {text} [{code}]");
-    done(rt, line)
 }
 
 fn severity(finding: &Finding) -> &'static str {
@@ -238,16 +137,6 @@ fn severity(finding: &Finding) -> &'static str {
         FindingSeverity::Error => "error",
         FindingSeverity::Warning => "warning",
         FindingSeverity::Note => "note",
-    }
-}
-
-// A star in the place of what `toml` says, if that is one line.
-fn starred(rt: &impl Runner, message: &str, text: &str) -> String {
-    let behind = text.strip_prefix(message).unwrap_or(text);
-    if message.is_empty() || message.contains('\n') || message.contains('\r') {
-        copied(rt, text)
-    } else {
-        done(rt, format!(in rt.alloc(); "*{behind}"))
     }
 }
 
@@ -271,21 +160,6 @@ fn edition(call: &str) -> Edition {
     } else {
         Edition::ArrayAllowed
     }
-}
-
-// The bytes of a file.
-fn contents(rt: &impl Runner, call: &str, file: &str) -> Vec<u8> {
-    let text = file.strip_suffix("\\\n").unwrap_or(file);
-    let mut bytes = Vec::new(rt.alloc());
-    if call.ends_with(" latin-1") {
-        for character in text.chars() {
-            let byte = u8::try_from(u32::from(character)).unwrap_or(0);
-            done(rt, bytes.push(byte));
-        }
-    } else {
-        done(rt, bytes.extend_from_slice(text.as_bytes()));
-    }
-    bytes
 }
 
 /// The document that a text is.
