@@ -1,5 +1,7 @@
 //! What is done with the rows of tables.
 
+mod blocks;
+
 use crate::answers::{compare, cut};
 use crate::failure::Failure;
 use crate::runner::Runner;
@@ -86,6 +88,9 @@ impl<'r> Asking<'r> {
             Ok(table) => table,
             Err(failure) => return self.fail(path, 0, "", &failure),
         };
+        if blocks::is_of_blocks(text) {
+            return self.blocks(&mut table, path, text);
+        }
         for (index, line) in text.lines().enumerate() {
             if let Err(failure) = self.line(&mut table, line) {
                 self.fail(path, index.saturating_add(1), line, &failure);
