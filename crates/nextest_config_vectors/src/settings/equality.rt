@@ -1,8 +1,9 @@
 //! Equal values, and values that differ in one part alone.
 
-use crate::answers::{done, unknown};
+use crate::answers::done;
 use crate::compared::{Copied, copy, likenesses};
 use crate::failure::Failure;
+use crate::lists::compared;
 use crate::runner::Runner;
 use crate::values::FromRow;
 use nextest_config_elements::max_fail::MaxFailParseError;
@@ -29,7 +30,7 @@ pub fn equality(rt: &Runner, call: &str, input: &str) -> Result<String, Failure>
         "ToolConfigFileParseError" => likenesses::<ToolConfigFileParseError>(rt, input),
         "ToolName" => likenesses::<ToolName>(rt, input),
         "TrackDefault" => likenesses::<TrackDefault<u32>>(rt, input),
-        _ => unknown(rt, call),
+        _ => compared::equality(rt, call, input),
     }
 }
 
@@ -41,7 +42,7 @@ pub fn copies(rt: &Runner, call: &str, input: &str) -> Result<String, Failure> {
         "ToolName" => copy::<ToolName>(rt, input),
         "TrackDefault" => copy::<TrackDefault<u32>>(rt, input),
         "TrackDefault String" => copy::<TrackDefault<String>>(rt, input),
-        _ => unknown(rt, call),
+        _ => compared::copies(rt, call, input),
     }
 }
 

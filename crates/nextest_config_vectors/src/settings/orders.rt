@@ -1,8 +1,9 @@
 //! Orders, hashes and defaults.
 
-use crate::answers::{done, unknown, written};
+use crate::answers::{done, written};
 use crate::compared::{distinct, hashed, ordered};
 use crate::failure::Failure;
+use crate::lists::{compared, orders};
 use crate::printed::default;
 use crate::runner::Runner;
 use crate::values::FromRow;
@@ -36,7 +37,7 @@ pub fn orders(rt: &Runner, call: &str, input: &str) -> Result<String, Failure> {
         "ConfigIdentifier" => ordered::<Identifier>(rt, input),
         "TestPriority" => ordered::<TestPriority>(rt, input),
         "ToolName" => ordered::<Tool>(rt, input),
-        _ => unknown(rt, call),
+        _ => compared::orders(rt, call, input),
     }
 }
 
@@ -50,7 +51,7 @@ pub fn hashes(rt: &Runner, call: &str, input: &str) -> Result<String, Failure> {
         "hash of TestPriority" => hashed::<TestPriority>(rt, input),
         "hash of ToolName" => hashed::<Tool>(rt, input),
         "sorted TestPriority" => sorted(rt, input),
-        _ => unknown(rt, call),
+        _ => compared::sets(rt, call, input),
     }
 }
 
@@ -64,11 +65,11 @@ fn sorted(rt: &Runner, input: &str) -> Result<String, Failure> {
 }
 
 /// The value that a type has at first.
-pub fn defaults(rt: &Runner, call: &str, _input: &str) -> Result<String, Failure> {
+pub fn defaults(rt: &Runner, call: &str, input: &str) -> Result<String, Failure> {
     match call {
         "JunitImpl" => default::<JunitImpl>(rt),
         "TrackDefault u32" => default::<TrackDefault<u32>>(rt),
         "TrackDefault bool" => default::<TrackDefault<bool>>(rt),
-        _ => unknown(rt, call),
+        _ => orders::defaults(rt, call, input),
     }
 }

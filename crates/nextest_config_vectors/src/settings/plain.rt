@@ -3,6 +3,7 @@
 use crate::answers::{copied, cut, done, unknown};
 use crate::compared::plain;
 use crate::failure::Failure;
+use crate::lists::compared;
 use crate::runner::Runner;
 use crate::values::{FromRow, word};
 use nextest_config_elements::junit::MissingSetting;
@@ -26,7 +27,7 @@ pub fn plain_values(rt: &Runner, call: &str, input: &str) -> Result<String, Fail
         "NonZeroCount" => of_toml::<NonZeroCount>(rt, input),
         "QuotedText" => texts(rt, input),
         "TestPriorityOutOfRange" => of_rows::<TestPriorityOutOfRange>(rt, input),
-        _ => unknown(rt, call),
+        _ => compared::plain_values(rt, call, input),
     }
 }
 

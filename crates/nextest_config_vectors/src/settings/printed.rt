@@ -1,7 +1,8 @@
 //! Values that print, each as its text alone.
 
-use crate::answers::{shown, unknown, written};
+use crate::answers::{shown, written};
 use crate::failure::Failure;
+use crate::lists::printed;
 use crate::printed::{error, text};
 use crate::runner::Runner;
 use crate::settings::durations::durations;
@@ -40,7 +41,7 @@ fn text_of(rt: &Runner, call: &str, input: &str) -> Result<String, Failure> {
         "TestPriorityOutOfRange" => error::<TestPriorityOutOfRange>(rt, input),
         "ToolConfigFileParseError" => error::<ToolConfigFileParseError>(rt, input),
         "ToolName" => text::<ToolName>(rt, input),
-        _ => unknown(rt, call),
+        _ => printed::text_of(rt, call, input),
     }
 }
 
