@@ -9,26 +9,6 @@ use runner::Test;
 use std::env;
 
 #[test]
-fn rows_of_settings(rt: HostRuntime) {
-    let test = Test {
-        rt: &rt,
-        alloc: rt.alloc(),
-        is_marked: false,
-    };
-    nextest_config_test_settings::tables(&mut Compared(&test));
-}
-
-#[test]
-fn rows_of_lists(rt: HostRuntime) {
-    let test = Test {
-        rt: &rt,
-        alloc: rt.alloc(),
-        is_marked: false,
-    };
-    nextest_config_test_lists::tables(&mut Compared(&test));
-}
-
-#[test]
 fn rows_of_files(rt: HostRuntime) {
     let test = Test {
         rt: &rt,
@@ -53,8 +33,6 @@ fn rows_under_refused_memory(rt: HostRuntime) {
         is_marked: true,
     };
     let mut rows = Numbered::new(&test, task);
-    nextest_config_test_settings::tables(&mut rows);
-    nextest_config_test_lists::tables(&mut rows);
     nextest_config_test_files::tables(&mut rows);
     assert!(&rt; rows.number() > 0, "there is a row");
 }
