@@ -8,11 +8,19 @@ from random import Random
 
 import documents
 import places
+import rules
 import settings
 from inputs import array, chance, some_features, some_value, some_version, some_versions, table
 
-# How many tables with values of several keys are written at each place.
-SEVERAL = 40
+# How many tables with values of several keys are written at each place; and at one of the top, where a document has
+# room for one alone.
+SEVERAL, SEVERAL_AT_TOP = 40, 10
+# How many documents hold the settings in turn, and how many of these those with a date: JSON has none, so that
+# tests/random-schema passes over them.
+DOCUMENTS, WITH_DATES = 80, 8
+DATE = "1979-05-27"
+# A value of each kind, which is written at each place and for each key of a table.
+KINDS = ['"x"', "1", "true", "1.5", DATE, "[ ]", "{ }"]
 
 # A list of files: those by their names, the tools as pairs of a name and a file, the repository's in turn, what
 # standard input holds, the folder that the command runs in, and whether tables only are taken.
@@ -23,15 +31,66 @@ Repository = collections.namedtuple("Repository", "words path contents kind", de
 
 
 def values_of(path, place):
-    """What is written at a place: the values of its key, and tables with each value of one of their keys, and with
-    values of several."""
-    yield from settings.written_at(path)
+    """What is written at a place: the values of its key, those made for its reader, and tables with each of both at one
+    of their keys, and with values of several."""
+    yield from [*settings.written_at(path), *made_for(place.reader)]
     fields = place.reader.fields
-    for field in fields:
-        beside = {"count": "3"} if field == "backoff" else settings.BESIDE.get(path[-1], {})
-        yield from (table({**beside, field: value}.items()) for value in settings.VALUES[field])
+    for field, reader in fields.items():
+        values = [*settings.VALUES[field], *made_for(reader)]
+        yield from (table({**beside(path, field), field: value}.items()) for value in values)
     source = Random(str(path))
-    yield from dict.fromkeys(table(several(source, fields)) for _ in range(SEVERAL if fields else 0))
+    count = SEVERAL if path[1:] else SEVERAL_AT_TOP
+    yield from (table(several(source, fields)) for _ in range(count if fields else 0))
+
+
+def made_for(reader):
+    """A value of each kind, and the words that a reader takes with what comes near them."""
+    words = [word for word in reader.takes if word not in [*rules.KINDS.values(), "any value"]]
+    near = [text for word in words for text in (word, *near_to(word), f" {word}", f"{word} ")]
+    return [*KINDS, *(f'"{text}"' for text in ["", *near] if words)]
+
+
+def near_to(word):
+    """What is like a word but for its end, letter case and dashes."""
+    return word[:-1], f"{word}s", word.upper(), word.capitalize(), word.replace("-", "_")
+
+
+def beside(path, field=None):
+    """What stands beside a key of the table at a path."""
+    return {"count": "3"} if field == "backoff" else settings.BESIDE.get(path[-1], {})
+
+
+def unknown_in(words):
+    """Keys that a table with these doesn't know: near one of them, like one, a part of one, one of another table."""
+    near = [name for word in words for name in (*near_to(word), *word.split("-"))]
+    keys = dict.fromkeys([*near, *(key for rows in settings.HOMES.values() for key in rows), "zone"])
+    return [key for key in keys if key and key not in words]
+
+
+def strangers():
+    """Each table with all keys that it doesn't know."""
+    yield from (((key,), "1") for key in unknown_in(settings.TOP))
+    for path, place in places.places_in(settings.TOP):
+        words = place.rows or place.reader.fields
+        if words:
+            yield path, table({**beside(path), **dict.fromkeys(unknown_in(words), "1")}.items())
+
+
+def spread(turns, count):
+    """So many lists of turns, of which each is in one. What has no name in its path has a table of the top alone."""
+    lists = [[] for _ in range(count)]
+    for number, (path, value) in enumerate(sorted(turns, key=lambda turn: "*" in turn[0])):
+        rest = (lists[at % count] for at in range(number, number + count))
+        it = next(it for it in rest if all(other[0] != path[0] or "*" in path and "*" in other for other, _ in it))
+        it.append((path, value))
+    return lists
+
+
+def documents_of(turns):
+    """Lists of turns, for a document each."""
+    dates = [turn for turn in turns if DATE in turn[1]]
+    others = [turn for turn in turns if DATE not in turn[1]]
+    return spread(others, DOCUMENTS - WITH_DATES) + spread(dates, WITH_DATES)
 
 
 def several(random, fields):
@@ -60,11 +119,13 @@ def by_key(turns):
 
 # Tables of names, beside which no others stand in a document that has such a table as a value.
 WHOLE = {("profile",), ("scripts",), ("scripts", "setup"), ("scripts", "wrapper"), ("script",)}
-ALL = [(*it, value) for it in places.places_in(settings.TOP) if it[0] not in WHOLE for value in values_of(*it)]
+SINGLE = [it for it in places.places_in(settings.TOP) if it[0] not in WHOLE]
+ALL = [(*it, value) for it in SINGLE for value in dict.fromkeys(values_of(*it))]
 # Each place with each value that is written there, and with each that means something there.
 TURNS = [(path, value) for path, _, value in ALL]
 RIGHT_TURNS = [(path, value) for path, place, value in ALL if is_right(place, value)]
 KNOWN = [by_key(TURNS), by_key(RIGHT_TURNS)]
+IN_TURN = documents_of([*TURNS, *strangers()])
 # What scripts are written in place of their tables, in a file that has no others.
 SCRIPTS = {key: settings.written_at((key,)) for key in ("scripts", "script")}
 # Tables and arrays in each other's place, and others beside them.
@@ -284,11 +345,15 @@ def statement(random, path, name, value):
 
 
 def document_in_turn(random, number):
-    """A document of settings in the turn of all that are written, each in a profile or a group of its own."""
-    turns = TURNS[number % 80 :: 80]
+    """A document of settings, and of keys that aren't known, in the turn of all that are written, each in a profile or
+    a group of its own."""
+    turns = IN_TURN[number % DOCUMENTS]
     names = random.sample(["default", *(f"t{at}" for at in range(len(turns)))], len(turns))
     texts = [statement(random, path, name, value) for name, (path, value) in zip(names, turns)]
-    return "\n".join(sorted(texts, key=lambda text: text.startswith("[")))
+    text = "\n".join(sorted(texts, key=lambda text: text.startswith("[")))
+    if not documents.read(text.encode()):
+        raise ValueError(f"settings in turn that are no document: {text}")
+    return text
 
 
 def right_document_in_turn(random, number, is_tools):

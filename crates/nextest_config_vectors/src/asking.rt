@@ -1,0 +1,279 @@
+//! What is done with the rows of tables.
+
+mod blocks;
+
+use crate::answers::{compare, cut};
+use crate::failure::Failure;
+use crate::runner::Runner;
+use crate::settings;
+use crate::sizes::{Range, USUAL, grown, grows, ranges_of};
+use crate::table::{Mark, Row, is_blank, row_of};
+use crate::wrong_kinds::{Reader, VALUES, Value};
+use std::alloc::Global;
+use std::collections::BTreeSet;
+use std::fs;
+
+/// What is done with rows.
+#[derive(Clone, Copy, PartialEq, Eq)]
+pub enum Task {
+    /// Each is compared with what is answered; one that grows, up to a size.
+    Compare { upto: usize },
+    /// Each that may be asked under refused memory is listed.
+    List,
+    /// The one of these with this number is asked.
+    Ask(usize),
+}
+
+/// What goes through tables, and counts their rows and failures.
+#[derive(Drop)]
+pub struct Asking<'r> {
+    rt: &'r HostRuntime,
+    runner: Runner<'r>,
+    task: Task,
+    rows: usize,
+    failures: usize,
+    // How many of the rows of the table may be asked under refused memory.
+    number: usize,
+}
+
+// What is known of a table at one of its lines.
+#[derive(Drop)]
+struct Table {
+    sizes: Vec<Range>,
+    names: BTreeSet<String>,
+}
+
+// What a row asks.
+#[derive(Clone, Copy)]
+struct Asked<'t> {
+    mark: Mark,
+    name: &'t str,
+    call: &'t str,
+    input: &'t str,
+    wanted: &'t str,
+}
+
+impl<'r> Asking<'r> {
+    /// Before the first table.
+    pub fn new(rt: &'r HostRuntime, task: Task) -> Self {
+        Asking {
+            rt,
+            runner: Runner::new(rt, matches!(task, Task::Ask(_))),
+            task,
+            rows: 0,
+            failures: 0,
+            number: 0,
+        }
+    }
+
+    /// How many failures were told.
+    pub fn failures(&self) -> usize {
+        self.failures
+    }
+
+    /// Does the task with each row of the table at a path.
+    pub fn table(&mut self, path: &str) {
+        let before = self.rows;
+        match fs::read_to_string(self.rt, path) {
+            Ok(text) => self.lines(path, text.as_str()),
+            Err(error) => self.fail(path, 0, "", &Failure::Input(error)),
+        }
+        if self.rows == before {
+            self.fail(path, 0, "", &Failure::Unreadable("a table without rows"));
+        }
+    }
+
+    fn lines(&mut self, path: &str, text: &str) {
+        let mut table = match Table::new(self.runner.alloc()) {
+            Ok(table) => table,
+            Err(failure) => return self.fail(path, 0, "", &failure),
+        };
+        if blocks::is_of_blocks(text) {
+            return self.blocks(&mut table, path, text);
+        }
+        for (index, line) in text.lines().enumerate() {
+            if let Err(failure) = self.line(&mut table, line) {
+                self.fail(path, index.saturating_add(1), line, &failure);
+            }
+        }
+    }
+
+    // Tells that a line of a table fails, by its first field.
+    fn fail(&mut self, path: &str, line: usize, text: &str, failure: &Failure) {
+        let name = text.split(" | ").next().unwrap_or("");
+        let _ = println!(self.rt; "{path}:{line}: {name}: {failure}");
+        self.failures = self.failures.saturating_add(1);
+    }
+
+    fn line(&mut self, table: &mut Table, line: &str) -> Result<(), Failure> {
+        if is_blank(line) {
+            return Ok(());
+        }
+        if let Some(sizes) = line.strip_prefix("@ ") {
+            table.sizes = ranges_of(self.runner.alloc(), sizes)?;
+            return Ok(());
+        }
+        self.rows = self.rows.saturating_add(1);
+        let row = row_of(self.runner.alloc(), line)?;
+        self.row(table, &row)
+    }
+
+    fn row(&mut self, table: &mut Table, row: &Row) -> Result<(), Failure> {
+        match row.fields.as_slice() {
+            [name, call, input, wanted] => {
+                table.name(self.runner.alloc(), name.as_str())?;
+                let asked = Asked {
+                    mark: row.mark,
+                    name: name.as_str(),
+                    call: call.as_str(),
+                    input: input.as_str(),
+                    wanted: wanted.as_str(),
+                };
+                self.ask_at_sizes(&asked, &table.sizes)
+            }
+            [name, call, input, kinds, path, expected] => {
+                table.name(self.runner.alloc(), name.as_str())?;
+                self.ask_of_kinds(&Reader {
+                    name: name.as_str(),
+                    call: call.as_str(),
+                    input: input.as_str(),
+                    kinds: kinds.as_str(),
+                    path: path.as_str(),
+                    expected: expected.as_str(),
+                })
+            }
+            _ => Err(Failure::Unreadable("a row has four fields, or six")),
+        }
+    }
+
+    // Asks a row, at each of its sizes if it grows.
+    fn ask_at_sizes(&mut self, row: &Asked<'_>, sizes: &[Range]) -> Result<(), Failure> {
+        let grows = grows(row.call) || grows(row.input) || grows(row.wanted);
+        match self.task {
+            _ if !grows => self.ask(row),
+            Task::Compare { upto } => self.compare_ranges(row, sizes, upto),
+            Task::List | Task::Ask(_) => Ok(()),
+        }
+    }
+
+    fn compare_ranges(&self, row: &Asked<'_>, sizes: &[Range], upto: usize) -> Result<(), Failure> {
+        for range in sizes {
+            self.compare_range(row, range.first, range.last.min(upto))?;
+        }
+        Ok(())
+    }
+
+    fn compare_range(&self, row: &Asked<'_>, first: usize, last: usize) -> Result<(), Failure> {
+        for size in first..=last {
+            if let Err(failure) = self.compare_at(row, size) {
+                let why = format!(in self.runner.alloc(); "{failure}")?;
+                return Err(Failure::AtSize { size, why });
+            }
+        }
+        Ok(())
+    }
+
+    fn compare_at(&self, row: &Asked<'_>, size: usize) -> Result<(), Failure> {
+        let alloc = self.runner.alloc();
+        let call = grown(alloc, row.call, size)?;
+        let input = grown(alloc, row.input, size)?;
+        let wanted = grown(alloc, row.wanted, size)?;
+        let answer = answer(&self.runner, call.as_str(), input.as_str())?;
+        compare(&self.runner, answer.as_str(), wanted.as_str())
+    }
+
+    // Asks for values of each kind.
+    fn ask_of_kinds(&mut self, reader: &Reader<'_>) -> Result<(), Failure> {
+        for value in VALUES {
+            self.ask_of_kind(reader, value)?;
+        }
+        Ok(())
+    }
+
+    fn ask_of_kind(&mut self, reader: &Reader<'_>, value: &Value) -> Result<(), Failure> {
+        let alloc = self.runner.alloc();
+        let input = reader.input.replace(alloc, "@", value.text)?;
+        match reader.fault(alloc, value)? {
+            Some(fault) => self.ask(&Asked {
+                mark: Mark::Nothing,
+                name: reader.name,
+                call: reader.call,
+                input: input.as_str(),
+                wanted: fault.as_str(),
+            }),
+            None if matches!(self.task, Task::Compare { .. }) => {
+                let answer = answer(&self.runner, reader.call, input.as_str())?;
+                reader.takes(&self.runner, answer.as_str())
+            }
+            None => Ok(()),
+        }
+    }
+
+    // Does the task with a row.
+    fn ask(&mut self, row: &Asked<'_>) -> Result<(), Failure> {
+        match self.task {
+            Task::Compare { .. } => {
+                let answer = answer(&self.runner, row.call, row.input)?;
+                compare(&self.runner, answer.as_str(), row.wanted)
+            }
+            _ if row.mark == Mark::Held => Ok(()),
+            task => {
+                let number = self.number;
+                self.number = number.saturating_add(1);
+                match task {
+                    Task::Ask(asked) if asked == number => self.tell_twice(row),
+                    Task::List => self.list(row),
+                    _ => Ok(()),
+                }
+            }
+        }
+    }
+
+    fn list(&self, row: &Asked<'_>) -> Result<(), Failure> {
+        let mark = if row.mark == Mark::Idle { "- " } else { "" };
+        let (name, call, input) = (row.name, row.call, row.input);
+        Ok(println!(self.rt; "{mark}{name} | {call} | {input:?}")?)
+    }
+
+    fn tell_twice(&self, row: &Asked<'_>) -> Result<(), Failure> {
+        self.tell(row)?;
+        self.tell(row)
+    }
+
+    // Asks, and tells what was answered.
+    fn tell(&self, row: &Asked<'_>) -> Result<(), Failure> {
+        let answer = answer(&self.runner, row.call, row.input)?;
+        let told = match answer.as_str() {
+            answer if answer == row.wanted => "as the row says",
+            "out of memory" | "memory allocation failed" => "memory was refused",
+            answer => answer,
+        };
+        Ok(println!(self.rt; "= {told}")?)
+    }
+}
+
+impl Table {
+    // Before the first line.
+    fn new(alloc: Global) -> Result<Self, Failure> {
+        Ok(Table {
+            sizes: ranges_of(alloc, USUAL)?,
+            names: BTreeSet::new(alloc),
+        })
+    }
+
+    // Takes the name of a row, which no other row of the table has.
+    fn name(&mut self, alloc: Global, name: &str) -> Result<(), Failure> {
+        let name = String::from_str(alloc, name)?;
+        if self.names.contains(&name) {
+            return Err(Failure::Unreadable("another row of the table has this name"));
+        }
+        self.names.insert(name)?;
+        Ok(())
+    }
+}
+
+// What the call of a subject, `SUBJECT::CALL`, answers.
+fn answer(rt: &Runner, call: &str, input: &str) -> Result<String, Failure> {
+    let (subject, call) = cut(call, "::")?;
+    settings::answer(rt, subject, call, input)
+}

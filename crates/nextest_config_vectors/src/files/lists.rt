@@ -1,0 +1,283 @@
+//! Lists of files, and what profiles get of them. A block has the files in reading order, and a line
+//! `> PROFILE ASKED: ANSWER` for each answer. Its call names the profiles that the indexes have at
+//! hand, with spaces between.
+//!
+//! A file is a line `--- SOURCE` and its lines. SOURCE is `repository`, `explicit` or `tool NAME`.
+//! What is asked is one of these, all of which tell why the profile has none, where that is so, and
+//! of which file and line it is said:
+//!
+//! - `chain`: the profile and those whose settings it falls back on;
+//! - `value KEYS`: what the layers come to there, as TOML, or `nothing`; without keys in the
+//!   profile itself;
+//! - `leaves KEYS`: the leaves of that, each by the keys that lead to it from there, with the layer
+//!   that it comes from, or `nothing`;
+//! - `junit FOLDER`: the report that is written below the folder;
+//! - the keys of a setting: its value and the profile of which it is, or `nothing`.
+
+use crate::answers::{copied, cut, done, push, shown, unknown, written};
+use crate::failure::Failure;
+use crate::files::documents::{document, kind};
+use crate::runner::Runner;
+use crate::told::{self, Told, answered};
+use crate::values::{names, word};
+use nextest_config::nextest_version::ConfigSource;
+use nextest_config_elements::global_timeout::GlobalTimeout;
+use nextest_config_elements::junit::JunitFlakyFailStatus;
+use nextest_config_elements::leak_timeout::LeakTimeout;
+use nextest_config_elements::max_fail::MaxFail;
+use nextest_config_elements::profile_setting::ProfileSetting;
+use nextest_config_elements::report_skip_policy::ReportSkipPolicy;
+use nextest_config_elements::retry_policy::{FlakyResult, RetryPolicy};
+use nextest_config_elements::slow_timeout::SlowTimeout;
+use nextest_config_elements::threads_required::ThreadsRequired;
+use nextest_config_profiles::{
+    Effective, EffectiveProfile, InheritsPlace, Layer, Leaf, ProfileFault,
+};
+use std::collections::BTreeSet;
+use std::fmt::{Debug, Display};
+use toml::Table;
+use toml_spans::PartialIndex;
+
+// A file of a list.
+#[derive(Drop)]
+struct File<'t> {
+    source: ConfigSource,
+    document: Table,
+    index: PartialIndex<'t>,
+}
+
+/// What each line of a block asks of its files.
+pub fn lists(rt: &Runner, call: &str, input: &str) -> Result<String, Failure> {
+    let block = done(rt, format!(in rt.alloc(); "\n{input}"))?;
+    let (files, asked) = cut(block.as_str(), "\n> ")?;
+    let profiles = names(rt, call)?;
+    let files = read_files(rt, files, &profiles)?;
+    let layers = layers(rt, files.as_slice())?;
+    let mut told = String::new(rt.alloc());
+    for line in asked.split("\n> ") {
+        tell(rt, &mut told, layers.as_slice(), line)?;
+    }
+    Ok(told)
+}
+
+fn read_files<'t>(
+    rt: &Runner,
+    block: &'t str,
+    profiles: &'t BTreeSet<String>,
+) -> Result<Vec<File<'t>>, Failure> {
+    let mut files = Vec::new(rt.alloc());
+    for part in block.split("\n--- ").skip(1) {
+        let (source, text) = part.split_once('\n').unwrap_or((part, ""));
+        done(rt, files.push(read_file(rt, source, text, profiles)?))?;
+    }
+    Ok(files)
+}
+
+fn read_file<'t>(
+    rt: &Runner,
+    source: &str,
+    text: &'t str,
+    profiles: &'t BTreeSet<String>,
+) -> Result<File<'t>, Failure> {
+    let (word, name) = word(source);
+    let index = PartialIndex::of(rt.alloc(), text, "profile", profiles);
+    Ok(File {
+        source: ConfigSource {
+            kind: kind(rt, word, name)?,
+            path: copied(rt, source)?,
+        },
+        document: document(rt, text)?,
+        index: done(rt, index)?,
+    })
+}
+
+fn layers<'f>(rt: &Runner, files: &'f [File<'f>]) -> Result<Vec<Layer<'f>>, Failure> {
+    let mut layers = Vec::new(rt.alloc());
+    for file in files {
+        let layer = Layer {
+            source: &file.source,
+            document: &file.document,
+            index: &file.index,
+        };
+        done(rt, layers.push(layer))?;
+    }
+    Ok(layers)
+}
+
+// Adds what is to stand in a line.
+fn tell(rt: &Runner, told: &mut String, layers: &[Layer<'_>], line: &str) -> Result<(), Failure> {
+    let (call, _) = line.split_once(": ").unwrap_or((line, ""));
+    let (name, _) = word(call);
+    let answer = answered(rt, call, EffectiveProfile::of(rt.alloc(), layers, name))?;
+    if !told.is_empty() {
+        push(told, " && ")?;
+    }
+    done(rt, write!(told, "{call}: {answer}"))
+}
+
+impl Told for ProfileFault<'_> {
+    fn told(&self, rt: &Runner, _call: &str) -> Result<String, Failure> {
+        match self {
+            ProfileFault::NoProfile => copied(rt, "NoProfile"),
+            ProfileFault::Ring { profile, place } => {
+                let fault = format!(in rt.alloc(); "Ring {{ profile: {profile:?} }}");
+                placed(rt, done(rt, fault)?, place)
+            }
+            ProfileFault::NotDefined {
+                profile,
+                parent,
+                place,
+            } => {
+                let fault = format!(in rt.alloc();
+                    "NotDefined {{ profile: {profile:?}, parent: {parent:?} }}"
+                );
+                placed(rt, done(rt, fault)?, place)
+            }
+            ProfileFault::NotText { profile, place } => {
+                let fault = format!(in rt.alloc(); "NotText {{ profile: {profile:?} }}");
+                placed(rt, done(rt, fault)?, place)
+            }
+            ProfileFault::Memory => copied(rt, "Memory"),
+        }
+    }
+}
+
+// The text of a fault, with the file and the line where it is said.
+fn placed(
+    rt: &Runner,
+    fault: String,
+    place: &Option<InheritsPlace<'_>>,
+) -> Result<String, Failure> {
+    let Some(place) = place else {
+        return Ok(fault);
+    };
+    let path = &place.file.source.path;
+    let line = place.span.map_or(0, |span| span.begin.line);
+    done(rt, format!(in rt.alloc(); "{fault} ({path}:{line})"))
+}
+
+impl Told for EffectiveProfile<'_> {
+    fn told(&self, rt: &Runner, call: &str) -> Result<String, Failure> {
+        let (name, asked) = word(call);
+        match word(asked) {
+            ("chain", _) => done(rt, self.chain().join(rt.alloc(), ", ")),
+            ("value", path) => value(rt, self, name, path),
+            ("leaves", path) => leaves(rt, self, name, path),
+            ("junit", folder) => report(rt, self, folder),
+            _ => setting(rt, self, asked),
+        }
+    }
+}
+
+// What the layers come to at the path of a profile, or at one within it.
+fn value(
+    rt: &Runner,
+    profile: &EffectiveProfile<'_>,
+    name: &str,
+    path: &str,
+) -> Result<String, Failure> {
+    let path = done(rt, format!(in rt.alloc(); "{name}.{path}"))?;
+    let keys = keys(rt, path.as_str().trim_end_matches('.'))?;
+    let value = profile.value(rt.alloc(), keys.as_slice());
+    shown_or_nothing(rt, done(rt, value)?)
+}
+
+// The leaves of that, with their layers.
+fn leaves(
+    rt: &Runner,
+    profile: &EffectiveProfile<'_>,
+    name: &str,
+    path: &str,
+) -> Result<String, Failure> {
+    let path = done(rt, format!(in rt.alloc(); "{name}.{path}"))?;
+    let keys = keys(rt, path.as_str().trim_end_matches('.'))?;
+    let leaves = done(rt, profile.leaves(rt.alloc(), keys.as_slice()))?;
+    let mut told = String::new(rt.alloc());
+    for leaf in &leaves {
+        if !told.is_empty() {
+            push(&mut told, ", ")?;
+        }
+        push(&mut told, leaf_text(rt, leaf)?.as_str())?;
+    }
+    or_nothing(rt, told)
+}
+
+fn leaf_text(rt: &Runner, leaf: &Leaf) -> Result<String, Failure> {
+    let keys = done(rt, leaf.keys.join(rt.alloc(), "."))?;
+    let text = format!(in rt.alloc(); "{keys} = {} ({})", leaf.value, leaf.layer);
+    copied(rt, done(rt, text)?.as_str().trim_start_matches(" = "))
+}
+
+fn or_nothing(rt: &Runner, told: String) -> Result<String, Failure> {
+    if told.is_empty() {
+        return copied(rt, "nothing");
+    }
+    Ok(told)
+}
+
+fn keys<'t>(rt: &Runner, path: &'t str) -> Result<Vec<&'t str>, Failure> {
+    done(rt, path.split('.').collect(rt.alloc()))
+}
+
+fn shown_or_nothing<T: Display + Drop>(rt: &Runner, value: Option<T>) -> Result<String, Failure> {
+    match value {
+        Some(value) => shown(rt, &value),
+        None => copied(rt, "nothing"),
+    }
+}
+
+// The report below a folder, or why it isn't known.
+fn report(rt: &Runner, profile: &EffectiveProfile<'_>, folder: &str) -> Result<String, Failure> {
+    let junit = done(rt, profile.junit(rt.alloc()))?;
+    match junit.config(rt.alloc(), folder) {
+        Ok(Some(config)) => written(rt, config),
+        Ok(None) => copied(rt, "nothing"),
+        Err(fault) => written(rt, fault),
+    }
+}
+
+fn setting(rt: &Runner, profile: &EffectiveProfile<'_>, path: &str) -> Result<String, Failure> {
+    match path {
+        "retries" => given::<RetryPolicy>(rt, profile, path),
+        "flaky-result" => given::<FlakyResult>(rt, profile, path),
+        "threads-required" => given::<ThreadsRequired>(rt, profile, path),
+        "fail-fast" => given::<MaxFail>(rt, profile, path),
+        "slow-timeout" | "bench.slow-timeout" => given::<SlowTimeout>(rt, profile, path),
+        "leak-timeout" => given::<LeakTimeout>(rt, profile, path),
+        "global-timeout" | "bench.global-timeout" => given::<GlobalTimeout>(rt, profile, path),
+        "junit.path" | "junit.report-name" => given::<String>(rt, profile, path),
+        "junit.store-success-output" | "junit.store-failure-output" => {
+            given::<bool>(rt, profile, path)
+        }
+        "junit.report-skipped" => given::<ReportSkipPolicy>(rt, profile, path),
+        "junit.flaky-fail-status" => given::<JunitFlakyFailStatus>(rt, profile, path),
+        _ => unknown(rt, path),
+    }
+}
+
+fn given<T: ProfileSetting + Debug>(
+    rt: &Runner,
+    profile: &EffectiveProfile<'_>,
+    path: &str,
+) -> Result<String, Failure> {
+    let effective = profile.setting::<T>(rt.alloc(), keys(rt, path)?.as_slice());
+    effective_text(rt, done(rt, effective)?)
+}
+
+fn effective_text<T: ProfileSetting + Debug>(
+    rt: &Runner,
+    effective: Effective<'_, T>,
+) -> Result<String, Failure> {
+    match effective {
+        Effective::Value { profile, value } => of_profile(rt, written(rt, value)?, profile),
+        Effective::NotJudged { profile } => of_profile(rt, copied(rt, "not judged")?, profile),
+        Effective::Fault { profile, fault } => {
+            of_profile(rt, told::tell(rt, "", fault.at(rt.alloc(), ""))?, profile)
+        }
+        Effective::Nothing => copied(rt, "nothing"),
+    }
+}
+
+fn of_profile(rt: &Runner, text: String, profile: &str) -> Result<String, Failure> {
+    done(rt, format!(in rt.alloc(); "{text} ({profile})"))
+}

@@ -1,0 +1,5 @@
+//! Boards.
+
+pub mod calls;
+pub mod changes;
+pub mod commands;

@@ -1,0 +1,171 @@
+//! Values that rows write: configurations, verdicts and refusals of sources.
+
+use crate::answers::{done, unknown};
+use crate::failure::Failure;
+use crate::lists::sources::listed;
+use crate::runner::Runner;
+use crate::values::{FromRow, both, names, part, word};
+use nextest_config::board::BoardRefusal;
+use nextest_config::merge::PieceRefusal;
+use nextest_config::nextest_version::{
+    ConfigParseError, ConfigParseErrorKind, Edition, ExperimentalConfig, ListRefusal,
+    NextestVersionConfig, NextestVersionEval, NextestVersionReq, Severity, SourceText,
+    VersionOnlyConfig,
+};
+use nextest_config_values::read::ReadFault;
+use semver::Version;
+use std::alloc::AllocError;
+
+/// Writes a list of sources.
+impl FromRow for VersionOnlyConfig {
+    fn from_row(rt: &Runner, text: &str) -> Result<Self, Failure> {
+        done(rt, config_of(rt, text)?)
+    }
+}
+
+// What is read from a list of sources.
+fn config_of(rt: &Runner, text: &str) -> Result<Result<VersionOnlyConfig, ListRefusal>, Failure> {
+    let sources: Vec<SourceText> = listed(rt, text)?;
+    Ok(VersionOnlyConfig::from_list(rt.alloc(), &sources))
+}
+
+/// Writes a list of sources.
+impl FromRow for ExperimentalConfig {
+    fn from_row(rt: &Runner, text: &str) -> Result<Self, Failure> {
+        let alloc = rt.alloc();
+        let copy = part(VersionOnlyConfig::from_row(rt, text)?, |config| {
+            config.experimental().clone(alloc)
+        });
+        done(rt, copy)
+    }
+}
+
+/// Writes `Satisfied`, or `NAME VERSION CURRENT SOURCE`, where the current version isn't enough.
+impl FromRow for NextestVersionEval {
+    fn from_row(rt: &Runner, text: &str) -> Result<Self, Failure> {
+        if text == "Satisfied" {
+            Ok(NextestVersionEval::Satisfied)
+        } else {
+            verdict(rt, text)
+        }
+    }
+}
+
+fn verdict(rt: &Runner, text: &str) -> Result<NextestVersionEval, Failure> {
+    let (name, rest) = word(text);
+    let (version, rest) = word(rest);
+    let (current, source): (Version, _) = both(rt, rest, " ")?;
+    let version = Version::from_row(rt, version)?;
+    let config = config_for(name, NextestVersionReq::Version { version, source });
+    let alloc = rt.alloc();
+    let overridden = name.ends_with("Override");
+    let verdict = part(config, |config| config.eval(alloc, &current, overridden));
+    done(rt, verdict)
+}
+
+// What asks for a version, so that a lower one is an error or a warning.
+fn config_for(name: &str, asked: NextestVersionReq) -> NextestVersionConfig {
+    if name.starts_with("Error") {
+        NextestVersionConfig {
+            required: asked,
+            recommended: NextestVersionReq::None,
+        }
+    } else {
+        NextestVersionConfig {
+            required: NextestVersionReq::None,
+            recommended: asked,
+        }
+    }
+}
+
+impl FromRow for Severity {
+    fn from_row(rt: &Runner, text: &str) -> Result<Self, Failure> {
+        match text {
+            "Satisfied" => Ok(Severity::Satisfied),
+            "Warn" => Ok(Severity::Warn),
+            "Error" => Ok(Severity::Error),
+            _ => unknown(rt, text),
+        }
+    }
+}
+
+impl FromRow for Edition {
+    fn from_row(rt: &Runner, text: &str) -> Result<Self, Failure> {
+        match text {
+            "ArrayAllowed" => Ok(Edition::ArrayAllowed),
+            "TableOnly" => Ok(Edition::TableOnly),
+            _ => unknown(rt, text),
+        }
+    }
+}
+
+impl FromRow for ConfigParseErrorKind {
+    fn from_row(rt: &Runner, text: &str) -> Result<Self, Failure> {
+        let (name, rest) = word(text);
+        match name {
+            "TomlParseError" => Ok(ConfigParseErrorKind::TomlParseError),
+            "VersionOnlyDeserializeError" => {
+                Ok(ConfigParseErrorKind::VersionOnlyDeserializeError(ReadFault::from_row(
+                    rt, rest,
+                )?))
+            }
+            "ExperimentalFeaturesInToolConfig" => {
+                Ok(ConfigParseErrorKind::ExperimentalFeaturesInToolConfig {
+                    features: names(rt, rest)?,
+                })
+            }
+            "Memory" => Ok(ConfigParseErrorKind::Memory),
+            _ => unknown(rt, name),
+        }
+    }
+}
+
+/// Writes a list of sources that is refused, or `Memory`.
+impl FromRow for ConfigParseError {
+    fn from_row(rt: &Runner, text: &str) -> Result<Self, Failure> {
+        if text == "Memory" {
+            return Ok(ConfigParseError::from(AllocError));
+        }
+        match config_of(rt, text)? {
+            Err(ListRefusal::Refused { position: _, error }) => Ok(error),
+            _ => unknown(rt, text),
+        }
+    }
+}
+
+/// Writes a position and the error there, or `Memory`.
+impl FromRow for ListRefusal {
+    fn from_row(rt: &Runner, text: &str) -> Result<Self, Failure> {
+        if text == "Memory" {
+            return Ok(ListRefusal::Memory);
+        }
+        let (position, error) = both(rt, text, " ")?;
+        Ok(ListRefusal::Refused { position, error })
+    }
+}
+
+/// Writes a number of slots, an error, or `Memory`.
+impl FromRow for BoardRefusal {
+    fn from_row(rt: &Runner, text: &str) -> Result<Self, Failure> {
+        let (name, rest) = word(text);
+        match name {
+            "NoSuchSlot" => Ok(BoardRefusal::NoSuchSlot {
+                slots: usize::from_row(rt, rest)?,
+            }),
+            "Refused" => Ok(BoardRefusal::Refused(ConfigParseError::from_row(rt, rest)?)),
+            "Memory" => Ok(BoardRefusal::Memory),
+            _ => unknown(rt, name),
+        }
+    }
+}
+
+/// Writes a position and a number that is refused there, or `Memory`.
+impl FromRow for PieceRefusal<usize> {
+    fn from_row(rt: &Runner, text: &str) -> Result<Self, Failure> {
+        if text == "Memory" {
+            return Ok(PieceRefusal::Memory);
+        }
+        let (position, error) = both(rt, text, " ")?;
+        Ok(PieceRefusal::Refused { position, error })
+    }
+}
