@@ -12,7 +12,7 @@ PREFIX ?= /usr/local
 CHECK := crates/nextest_config_check
 COMMAND := crates/nextest_config_cli
 PROGRAM := $(CHECK)/out/nextest_config_check
-ROWS := crates/nextest_config_test_memory/out/nextest_config_test_memory_tests
+VECTORS := crates/nextest_config_vectors/out/nextest_config_vectors
 BENCH := crates/nextest_config_bench/out/nextest_config_bench
 BUILT := bin/nextest-config bin/nextest_config_check
 SCRIPT := scripts/check-nextest-config
@@ -30,13 +30,14 @@ test: toolchain
 	scripts/keys | cmp - docs/KEYS.md
 	tests/wrong-itself
 	rt ci | tests/wrong --behind --unkept
+	cd crates/nextest_config_vectors/data && ../out/nextest_config_vectors
 	tests/run $(PROGRAM) $(COMMAND)/out/nextest_config_cli
 	tests/random $(PROGRAM)
 	tests/random-files $(COMMAND)/out/nextest_config_cli
 	tests/random-schema $(COMMAND)/out/nextest_config_cli
 	tests/positions $(BENCH)
 	tests/random-profiles $(BENCH)
-	tests/refusals $(ROWS) $(PROGRAM) $(COMMAND)/out/nextest_config_cli
+	tests/refusals $(VECTORS) $(PROGRAM) $(COMMAND)/out/nextest_config_cli
 	bench/measure --small --program $(PROGRAM) --alone $(BENCH)
 	bench/measure-durations --small --alone $(BENCH)
 	bench/measure-hostile --small --program $(PROGRAM) --alone $(BENCH)

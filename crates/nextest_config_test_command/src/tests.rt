@@ -3,6 +3,7 @@
 mod blocks;
 mod explanations;
 mod formats;
+mod rows;
 mod runner;
 mod runs;
 mod streams;

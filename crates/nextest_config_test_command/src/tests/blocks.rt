@@ -7,11 +7,11 @@
 //! `*` for what `toml` says of the file that is no document.
 
 use crate::memory::{Held, MemoryFiles};
+use crate::tests::rows::{copied, cut, done, push, unknown};
+use crate::tests::runner::Runner;
 use crate::tests::streams::check_run;
 use crate::tests::words::request;
 use nextest_config_command::Request;
-use nextest_config_test_rows::rows::{copied, cut, done, push, unknown};
-use nextest_config_test_rows::runner::Runner;
 use std::collections::BTreeMap;
 
 /// A run: the words of the command, what they ask for, the wanted status, and what is to be written

@@ -4,13 +4,11 @@
 use crate::kept::{KeptStream, serve_kept};
 use crate::memory::{Held, MemoryFiles};
 use crate::tests::blocks::latin_1;
-use crate::tests::runner::Test;
+use crate::tests::rows::{compare, copied, cut, done, push, shown, tell_apart, unknown, written};
+use crate::tests::runner::{Runner, Test};
 use crate::tests::words::request;
 use nextest_config_command::FindingCode;
 use nextest_config_lint::explain::{ExampleFile, Explanation, Topic};
-use nextest_config_test_rows::compared::tell_apart;
-use nextest_config_test_rows::rows::{compare, copied, cut, done, push, shown, unknown, written};
-use nextest_config_test_rows::runner::Runner;
 use nextest_config_values::read::Word;
 use std::alloc::Global;
 use std::collections::BTreeMap;
@@ -188,7 +186,7 @@ fn topics_have_explanations_of_their_own(rt: HostRuntime) {
         done(&test, meanings.push(meaning));
     }
     assert_eq!(rt; meanings.len(), 35);
-    tell_apart(&test, meanings.as_slice(), meanings.as_slice());
+    tell_apart(&test, meanings.as_slice());
 }
 
 #[test]

@@ -1,8 +1,8 @@
 //! Runs of the command in each format, and with codes that are allowed.
 
 use crate::tests::blocks::check;
+use crate::tests::rows::copied;
 use crate::tests::runner::Test;
-use nextest_config_test_rows::rows::copied;
 
 const RUNS: &str = r#"
 === an error and a warning

@@ -1,8 +1,8 @@
 //! Runs of the command, with what they write and complain of.
 
 use crate::tests::blocks::check;
+use crate::tests::rows::copied;
 use crate::tests::runner::Test;
-use nextest_config_test_rows::rows::copied;
 
 const RUNS: &str = r#"
 === a tool's file, and the repository's above it

@@ -2,9 +2,9 @@
 
 use crate::memory::MemoryFiles;
 use crate::tests::blocks::Run;
+use crate::tests::rows::{compare, copied, done};
+use crate::tests::runner::Runner;
 use nextest_config_command::{Request, serve};
-use nextest_config_test_rows::rows::{compare, copied, done};
-use nextest_config_test_rows::runner::Runner;
 use std::alloc::Global;
 use std::io::{self, ErrorKind, Write};
 

@@ -2,13 +2,12 @@
 //! `=`.
 
 use crate::tests::blocks::characters;
+use crate::tests::rows::{done, unknown, word};
+use crate::tests::runner::Runner;
 use nextest_config::nextest_version::Edition;
 use nextest_config_command::{
     Check, FindingCode, LintOptions, RepositoryFile, Request, Task, Words,
 };
-use nextest_config_test_rows::rows::{done, unknown};
-use nextest_config_test_rows::runner::Runner;
-use nextest_config_test_rows::values::{FromRow, word};
 use nextest_config_values::read::Word;
 use nextest_config_values::tool_config::ToolConfigFile;
 use semver::Version;
@@ -41,7 +40,7 @@ fn task(rt: &impl Runner, words: &str) -> Task {
     let (subcommand, _) = word(words);
     match subcommand {
         "check" => Task::Check(Check {
-            current: Version::from_row(rt, value(words, "--current").unwrap_or("")),
+            current: version(rt, value(words, "--current").unwrap_or("")),
             override_version_check: has(words, "--override"),
             lint: lint_options(rt, words),
         }),
@@ -73,7 +72,7 @@ fn tools(rt: &impl Runner, words: &str) -> Vec<ToolConfigFile> {
     let mut tools = Vec::new(rt.alloc());
     for word in words.split(' ') {
         if let Some(tool) = word.strip_prefix("--tool-config-file=") {
-            done(rt, tools.push(ToolConfigFile::from_row(rt, tool)));
+            done(rt, tools.push(tool_file(rt, tool)));
         }
     }
     tools
@@ -135,4 +134,12 @@ fn named<T: Word>(rt: &impl Runner, word: &str) -> T {
         }
     }
     unknown(rt, word)
+}
+
+fn version(rt: &impl Runner, text: &str) -> Version {
+    done(rt, Version::parse(rt.alloc(), text))
+}
+
+fn tool_file(rt: &impl Runner, text: &str) -> ToolConfigFile {
+    done(rt, ToolConfigFile::from_str(rt.alloc(), text))
 }

@@ -115,7 +115,8 @@ pub fn asks(rt: &Runner, call: &str, input: &str) -> Result<String, Failure> {
     let mut config = asked(rt, earlier)?;
     let before = written(rt, &config)?;
     let answer = take_in_last(rt, call, &mut config, last)?;
-    as_it_was(rt, answer, before.as_str(), &config)
+    let now = written(rt, &config)?;
+    as_it_was(rt, answer, before.as_str(), now.as_str())
 }
 
 fn asked(rt: &Runner, input: &str) -> Result<NextestVersionConfig, Failure> {

@@ -1,6 +1,6 @@
 //! Two values that are joined.
 
-use crate::answers::{unknown, written};
+use crate::answers::unknown;
 use crate::failure::Failure;
 use crate::lists::lent::{as_it_was, changed};
 use crate::runner::Runner;
@@ -28,9 +28,10 @@ fn join<T: Merge + FromRow + Told + Debug + Drop>(
     input: &str,
 ) -> Result<String, Failure> {
     let (mut into, mut later): (T, T) = both(rt, input, " // ")?;
-    let before = written(rt, (&into, &later))?;
+    let before = format!(in rt.alloc(); "{into:?} {later:?}")?;
     rt.begin();
     let joined = into.merge(&mut later);
     let answer = changed(rt, "all", joined, &into)?;
-    as_it_was(rt, answer, before.as_str(), &(&into, &later))
+    let now = format!(in rt.alloc(); "{into:?} {later:?}")?;
+    as_it_was(rt, answer, before.as_str(), now.as_str())
 }

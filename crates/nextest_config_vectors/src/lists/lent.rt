@@ -1,10 +1,9 @@
 //! Calls that change what they are lent, and leave it as it was where memory is refused.
 
-use crate::answers::{copied, written};
+use crate::answers::copied;
 use crate::failure::Failure;
 use crate::runner::Runner;
 use crate::told::Told;
-use std::fmt::Debug;
 
 /// What is told of a value that a call changed, or why the call refused.
 pub fn changed<T: Told, E: Told + Drop>(
@@ -20,15 +19,10 @@ pub fn changed<T: Told, E: Told + Drop>(
     }
 }
 
-/// The answer of a call, unless memory was refused and what it was lent isn't as it was written
+/// The answer of a call, unless memory was refused and what it was lent isn't written now as it was
 /// before.
-pub fn as_it_was<T: Debug>(
-    rt: &Runner,
-    answer: String,
-    before: &str,
-    lent: &T,
-) -> Result<String, Failure> {
-    if is_refusal(answer.as_str()) && written(rt, lent)?.as_str() != before {
+pub fn as_it_was(rt: &Runner, answer: String, before: &str, now: &str) -> Result<String, Failure> {
+    if is_refusal(answer.as_str()) && now != before {
         copied(rt, "what was lent was changed")
     } else {
         Ok(answer)

@@ -45,7 +45,8 @@ fn join_all(
     let joined = merge_all(&mut whole, pieces);
     let answer = changed(rt, call, joined, &whole)?;
     done(rt, merge_all(&mut whole, pieces))?;
-    as_it_was(rt, answer, wanted, &whole)
+    let now = written(rt, &whole)?;
+    as_it_was(rt, answer, wanted, now.as_str())
 }
 
 /// Numbers whose join is refused as often as they are told.

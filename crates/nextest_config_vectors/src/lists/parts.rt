@@ -22,7 +22,9 @@ pub fn parts(rt: &Runner, call: &str, input: &str) -> Result<String, Failure> {
 
 fn of_error(rt: &Runner, error: &ConfigParseError) -> Result<String, Failure> {
     rt.begin();
-    written(rt, (error.kind(), error.source()))
+    let (kind, source) = (error.kind(), error.source());
+    rt.end();
+    Ok(format!(in rt.alloc(); "({kind:?}, {source:?})")?)
 }
 
 fn of_features(rt: &Runner, features: &ExperimentalConfig) -> Result<String, Failure> {
@@ -35,7 +37,8 @@ fn of_features(rt: &Runner, features: &ExperimentalConfig) -> Result<String, Fai
     let first_array = arrays.next();
     let second_array = arrays.next();
     let arrays = [first_array, second_array, arrays.next()];
-    written(rt, (errors, arrays))
+    rt.end();
+    Ok(format!(in rt.alloc(); "({errors:?}, {arrays:?})")?)
 }
 
 fn severity(rt: &Runner, verdict: &NextestVersionEval) -> Result<String, Failure> {

@@ -42,7 +42,8 @@ pub fn fields(rt: &Runner, call: &str, input: &str) -> Result<String, Failure> {
     let value = Value::from_row(rt, input)?;
     let table = done(rt, value.as_table().ok_or("a row has no table"))?;
     let (call, at) = cut(call, " at ")?;
-    let (call, key) = done(rt, call.rsplit_once(' ').ok_or("a row has no key"))?;
+    let key = call.rsplit_once(' ');
+    let (call, key) = key.ok_or(Failure::Unreadable("a row has no key"))?;
     field(rt, call, table, key, at)
 }
 

@@ -35,7 +35,8 @@ fn ask(rt: &Runner, call: &str, input: &str) -> Result<String, Failure> {
     if answer.as_str() == "done" {
         board.told(rt, "")
     } else {
-        as_it_was(rt, answer, before.as_str(), &board)
+        let now = written(rt, &board)?;
+        as_it_was(rt, answer, before.as_str(), now.as_str())
     }
 }
 
