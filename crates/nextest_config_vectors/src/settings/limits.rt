@@ -2,6 +2,7 @@
 
 use crate::answers::{copied, done, made, shown, text, unknown, written};
 use crate::failure::Failure;
+use crate::printed::default;
 use crate::runner::Runner;
 use crate::values::{FromRow, both, word};
 use nextest_config_elements::leak_timeout::LeakTimeout;
@@ -133,16 +134,35 @@ impl FromRow for TestPriorityOutOfRange {
 
 // Values that no text writes.
 fn plain(rt: &Runner, call: &str, name: &str) -> Result<String, Failure> {
-    rt.begin();
     match name {
-        "true" | "false" => written(rt, MaxFail::from_fail_fast(name == "true")),
-        "SlowTimeout::very_large" => written(rt, SlowTimeout::very_large()),
-        "LeakTimeout::default" => written(rt, LeakTimeout::default()),
-        "RetryPolicy::default" => policy(rt, RetryPolicy::default()),
-        "RetryPolicy::new_without_delay" => policy(rt, RetryPolicy::new_without_delay(3)),
-        "TestPriority::default" => written(rt, TestPriority::default()),
+        "true" | "false" => fail_fast(rt, name == "true"),
+        "SlowTimeout::very_large" => very_large(rt),
+        "LeakTimeout::default" => default::<LeakTimeout>(rt),
+        "RetryPolicy::default" => default_policy(rt),
+        "RetryPolicy::new_without_delay" => policy_without_delay(rt),
+        "TestPriority::default" => default::<TestPriority>(rt),
         _ => unknown(rt, call),
     }
+}
+
+fn fail_fast(rt: &Runner, fails: bool) -> Result<String, Failure> {
+    rt.begin();
+    written(rt, MaxFail::from_fail_fast(fails))
+}
+
+fn very_large(rt: &Runner) -> Result<String, Failure> {
+    rt.begin();
+    written(rt, SlowTimeout::very_large())
+}
+
+fn default_policy(rt: &Runner) -> Result<String, Failure> {
+    rt.begin();
+    policy(rt, RetryPolicy::default())
+}
+
+fn policy_without_delay(rt: &Runner) -> Result<String, Failure> {
+    rt.begin();
+    policy(rt, RetryPolicy::new_without_delay(3))
 }
 
 fn policy(rt: &Runner, policy: RetryPolicy) -> Result<String, Failure> {
