@@ -260,8 +260,9 @@ fn given<T: ProfileSetting + Debug>(
     profile: &EffectiveProfile<'_>,
     path: &str,
 ) -> Result<String, Failure> {
-    let effective = profile.setting::<T>(rt.alloc(), keys(rt, path)?.as_slice());
-    effective_text(rt, done(rt, effective)?)
+    let keys = keys(rt, path)?;
+    let effective = profile.setting::<T>(rt.alloc(), keys.as_slice())?;
+    effective_text(rt, effective)
 }
 
 fn effective_text<T: ProfileSetting + Debug>(

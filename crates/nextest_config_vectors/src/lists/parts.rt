@@ -24,9 +24,7 @@ fn of_error(rt: &Runner, error: &ConfigParseError) -> Result<String, Failure> {
     rt.begin();
     let (kind, source) = (error.kind(), error.source());
     rt.end();
-    let kind = written(rt, kind)?;
-    let source = written(rt, source)?;
-    Ok(format!(in rt.alloc(); "({kind}, {source})")?)
+    Ok(format!(in rt.alloc(); "({kind:?}, {source:?})")?)
 }
 
 fn of_features(rt: &Runner, features: &ExperimentalConfig) -> Result<String, Failure> {
@@ -40,9 +38,7 @@ fn of_features(rt: &Runner, features: &ExperimentalConfig) -> Result<String, Fai
     let second_array = arrays.next();
     let arrays = [first_array, second_array, arrays.next()];
     rt.end();
-    let errors = written(rt, errors)?;
-    let arrays = written(rt, arrays)?;
-    Ok(format!(in rt.alloc(); "({errors}, {arrays})")?)
+    Ok(format!(in rt.alloc(); "({errors:?}, {arrays:?})")?)
 }
 
 fn severity(rt: &Runner, verdict: &NextestVersionEval) -> Result<String, Failure> {

@@ -4,7 +4,7 @@ ghost use Rattle.std.specs.Prelude.{◌<◌, ℕ, codes};
 ghost use Rattle.nextest_config_values.specs.Decisions.{below_decided};
 ghost use Rattle.nextest_config_values.specs.Read.{number_reading};
 
-use crate::answers::{copied, cut, made, unknown};
+use crate::answers::{copied, cut, done, made, unknown};
 use crate::failure::Failure;
 use crate::runner::Runner;
 use crate::values::FromRow;
@@ -40,13 +40,10 @@ impl FromToml for Percent {
 /// What stands in a table at a key.
 pub fn fields(rt: &Runner, call: &str, input: &str) -> Result<String, Failure> {
     let value = Value::from_row(rt, input)?;
-    let Some(table) = value.as_table() else {
-        return Err(Failure::Unreadable("a row has no table"));
-    };
+    let table = done(rt, value.as_table().ok_or("a row has no table"))?;
     let (call, at) = cut(call, " at ")?;
-    let Some((call, key)) = call.rsplit_once(' ') else {
-        return Err(Failure::Unreadable("a row has no key"));
-    };
+    let key = call.rsplit_once(' ');
+    let (call, key) = key.ok_or(Failure::Unreadable("a row has no key"))?;
     field(rt, call, table, key, at)
 }
 
