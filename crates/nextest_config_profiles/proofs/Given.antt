@@ -1,19 +1,14 @@
 -- What profiles give, from what is laid over one another.
-use Rattle.std.proofs.Common.{◌≡◌, ℕ, List, [], ◌∷◌, Bor, Option, Some, None, MatchOption, ap, inl, inr, refl}
+use Rattle.std.proofs.Common.{ℕ, List, [], ◌∷◌, Option, Some, None, MatchOption, ap, inl, inr, refl}
 use Rattle.toml.specs.Data.{Data}
 use Rattle.nextest_config_values.specs.Read.{Reading}
-use Rattle.nextest_config_values.specs.declared.read.value_fault.ValueFault.{ValueFault}
 use Rattle.nextest_config_profiles.specs.Effective.{IsEffective, IsGiven, IsOf, IsRead, Passes}
 use Rattle.nextest_config_profiles.specs.Merged.{IsMergedOver, Layers}
 use Rattle.nextest_config_profiles.specs.Said.{Path}
 use Rattle.nextest_config_profiles.specs.Report.Converted.{IsRestRead}
-use Rattle.nextest_config_profiles.specs.Report.Given.{given_of, IsJudged}
-use Rattle.nextest_config_profiles.specs.Report.Setting.{SettingRule}
+use Rattle.nextest_config_profiles.specs.Report.Given.{given_of}
 use Rattle.nextest_config_profiles.specs.declared.effective.Effective.{Effective}
 use Rattle.nextest_config_profiles.specs.declared.effective.Effective.TheVariants as given
-use Rattle.nextest_config_profiles.specs.declared.profile.EffectiveProfile.{EffectiveProfile}
-use Rattle.nextest_config_profiles.specs.declared.report.given.Given.{Given}
-use Rattle.nextest_config_profiles.specs.declared.report.given.Given.TheVariants as told
 
 module _ {X Y : Type 0} (seen : X → Y) (reading : Reading Data (Option Y)) (layers : Layers) (keys : Path) (profile : List ℕ) (value : Data)
     (merged : IsMergedOver layers (profile ∷ keys) value) where
@@ -48,8 +43,3 @@ rest_read seen reading name value (given.Value profile x) read is = (is, (Some (
 rest_read seen reading name value (given.NotJudged profile) read is = (is, read)
 rest_read seen reading name value (given.Fault profile refused) read is = (is, read)
 rest_read seen reading name value given.Nothing read is = absurd read
-
--- what isn't a fault stays
-pub still_given : (profile : EffectiveProfile) (setting : SettingRule) (given : Given) → ((name : Bor (List ℕ)) (fault : ValueFault) → given ≡ told.Fault name fault → ⊥) → IsJudged profile setting given given
-still_given profile setting (told.Fault name fault) other = absurd (other name fault refl)
-still_given profile setting given other = refl

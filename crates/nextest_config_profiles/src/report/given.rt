@@ -59,7 +59,9 @@ pub(crate) fn given_for<'p>(
             let judged = judged_fault(alloc, effective, setting, profile, fault)?;
             Ok(judged)
         }
-        given => Ok(given),
+        Given::Value { profile } => Ok(Given::Value { profile }),
+        Given::NotJudged { profile } => Ok(Given::NotJudged { profile }),
+        Given::Nothing => Ok(Given::Nothing),
     }
 }
 

@@ -45,7 +45,7 @@ pub(crate) fn push_faults<'p>(
     ensures { OnOk result ((added : List OtherProfileFault)
         × AreSomes (IsFaultOf effective.now (rule_of setting.entry)
         (option_map (λ name. name.now) giver.entry))
-        (names_judged setting.entry.field.now.severity (names_of profiles.now)) added
+        (names_judged (rule_of setting.entry).rule.severity (names_of profiles.now)) added
         × (faults.new.items ≡ faults.old.items ++ added)) }
 {
     if is_documented(setting.field.severity) {
@@ -53,7 +53,8 @@ pub(crate) fn push_faults<'p>(
         return Ok(());
     }
     let mut added = faults_of(alloc, effective, setting, giver, profiles)?;
-    faults.append(&mut added)
+    faults.append(&mut added)?;
+    Ok(())
 }
 
 // What is wrong with a setting of these profiles, but of the one that gives it.

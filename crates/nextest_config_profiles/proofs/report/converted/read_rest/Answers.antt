@@ -5,8 +5,8 @@ use Rattle.nextest_config_profiles.proofs.report.converted.read_rest.Goals as go
 
 pub returns-in-Some : goal.returns-in-Some
 returns-in-Some g c =
-    let read = rw c.in-Some.is at c.in_ok-read_value.ensures in
+    let read = rw c.in-Some.is at c.in_ok-given.ensures in
     rw c.given_of.ensures (rest_read g.T.ProfileSetting.seen g.T.ProfileSetting.reading c.args.profile.now (view c.args.rest.now) c.in-Some.given read.0 read.1)
 
 pub returns-in-None : goal.returns-in-None
-returns-in-None g c = (refl, (None, rw c.in-None.is at c.in_ok-read_value.ensures))
+returns-in-None g c = (refl, (None, rw c.in-None.is at c.in_ok-given.ensures))

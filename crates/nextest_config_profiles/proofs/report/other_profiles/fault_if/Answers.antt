@@ -14,3 +14,9 @@ returns-then-is_silent c =
     let setting = rule_of c.args.setting in
     let none = no_value (layers_in effective) profile setting.keys c.requires (c.is_silent.ensures c.if-is_silent.true) in
     (Nothing, (Nothing, nothing_given (shape_read setting.rule) effective profile.name.now setting.keys none, refl), refl)
+
+pub given_for-requires : goal.given_for-requires
+given_for-requires c = rw c.from_ref.ensures.value (c.requires, tt)
+
+pub returns : goal.returns
+returns c = (c.in_ok-given.given, rw c.from_ref.ensures.value at c.in_ok-given.ensures, c.in_ok-fault.ensures)

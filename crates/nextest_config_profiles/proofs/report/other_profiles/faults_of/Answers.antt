@@ -8,8 +8,8 @@ use Rattle.nextest_config_profiles.proofs.LookedUp.{all_at}
 use Rattle.nextest_config_profiles.proofs.Somes.{some_more}
 use Rattle.nextest_config_profiles.proofs.report.other_profiles.faults_of.Goals as goal
 
-pub fault_of-fault-requires : goal.fault_of-fault-requires
-fault_of-fault-requires c =
+pub fault_of-requires : goal.fault_of-requires
+fault_of-requires c =
     all_at (IsLookedUp (layers_in c.args.effective.now)) c.args.profiles.now c.loop-profile.profile-index c.profile-item.result c.loop-profile-test.true c.profile-item.is c.requires
 
 pub loop-profile-preserved : goal.loop-profile-preserved

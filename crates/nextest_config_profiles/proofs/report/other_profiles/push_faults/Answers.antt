@@ -6,4 +6,4 @@ returns-then-is_documented c =
     rw (sym c.is_documented.ensures ∙ c.if-is_documented.true) ([], record { each = []; are_each = tt; whole = refl }, sym (append-nil c.args.faults.now.items))
 
 pub returns : goal.returns
-returns c = rw (sym c.is_documented.ensures ∙ c.if-is_documented.false) (c.in_ok-added.added.items, c.in_ok-added.ensures, c.append.ensures.items)
+returns c = rw (sym c.is_documented.ensures ∙ c.if-is_documented.false) (c.in_ok-added.added.items, c.in_ok-added.ensures, c.in_ok-append.ensures.items)
