@@ -134,7 +134,8 @@ fn push_setting<'a>(
         giver,
         profiles.all,
         &mut report.faults,
-    )
+    )?;
+    Ok(())
 }
 
 // Whether a row of a setting tells of a fault, or of no value.
