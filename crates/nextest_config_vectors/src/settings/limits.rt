@@ -152,7 +152,9 @@ fn fail_fast(rt: &Runner, fails: bool) -> Result<String, Failure> {
 
 fn very_large(rt: &Runner) -> Result<String, Failure> {
     rt.begin();
-    written(rt, SlowTimeout::very_large())
+    let timeout = SlowTimeout::very_large();
+    rt.end();
+    Ok(format!(in rt.alloc(); "{timeout:?}")?)
 }
 
 fn default_policy(rt: &Runner) -> Result<String, Failure> {
