@@ -11,6 +11,7 @@ pub mod Alike
 pub mod Defaults
 pub mod Layer
 pub mod Profile
+pub mod ProfileAlone
 pub mod SettingKey
 pub mod NameList
 pub mod OneLeaf

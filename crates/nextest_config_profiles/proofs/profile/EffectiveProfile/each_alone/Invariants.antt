@@ -1,0 +1,10 @@
+use Rattle.std.proofs.Common.{◌≡◌, take}
+use Rattle.nextest_config_profiles.specs.Profile.{layers_in}
+use Rattle.nextest_config_profiles.specs.ProfileAlone.{AreLookedUp, names_of}
+use Rattle.nextest_config_profiles.specs.Reach.{words_of}
+use Rattle.nextest_config_profiles.proofs.profile.EffectiveProfile.each_alone.Given as goal
+
+-- the profiles so far
+abbrev pub invariant-loop-name : goal.invariant-loop-name
+invariant-loop-name l =
+    AreLookedUp (layers_in l.fn.self) l.profiles.items × (names_of l.profiles.items ≡ words_of (take l.name-index l.names))
