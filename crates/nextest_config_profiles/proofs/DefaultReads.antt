@@ -1,12 +1,10 @@
 -- The readers of settings take for absent keys what is told.
 use Rattle.std.specs.Prelude.{codes}
-use Rattle.std.proofs.Common.{◌≡◌, ◌≢◌, ◌⊎◌, ◌∙◌, ◌++◌, ℕ, Bool, false, true, List, [], ◌∷◌, Option, Some, None, ap, inl, inr, lit<, refl, rules, subst, sym}
+use Rattle.std.proofs.Common.{◌≡◌, ◌≢◌, ◌⊎◌, ◌∙◌, ℕ, Bool, false, true, List, [], ◌∷◌, Option, Some, None, ap, inl, inr, lit<, refl, rules, subst, sym}
 use Rattle.std.proofs.lemmas.Bool.{false≢true}
 use Rattle.std.proofs.lemmas.Str.{chars-IsAscii}
-use Rattle.std.specs.Char.{is_ascii_digit}
-use Rattle.std.specs.Str.Parse.{digits_value}
 use Rattle.toml.specs.Data.{boolean, Data, get_member, Members, string}
-use Rattle.nextest_config_values.specs.Duration.{AreAll, duration_reading, IsDuration, IsItemText}
+use Rattle.nextest_config_values.specs.Duration.{duration_reading, IsDuration}
 use Rattle.nextest_config_values.specs.Decisions.{IsDecided}
 use Rattle.nextest_config_values.specs.Read.{bool_reading, BrokenRule, count_reading, either, Reading, rule_check, u32_reading, word_reading}
 use Rattle.nextest_config_elements.specs.LeakTimeout as leak
@@ -24,28 +22,29 @@ use Rattle.nextest_config_profiles.proofs.TakesAlike.{Passes, Takes, takes_check
 
 -- ---- durations
 
--- digits and an `s` write so many seconds
-seconds_text : (digits : List ℕ) (seconds : ℕ) → digits ≢ [] → AreAll is_ascii_digit digits → digits_value 10 digits ≡ seconds
-    → IsItemText (digits ++ codes "s") (record { number = seconds; unit = 1_000_000_000 })
-seconds_text digits seconds some are is = record {
-  space = [];
-  digits = digits;
-  gap = [];
-  word = codes "s";
-  whole = refl;
-  space_is_white = tt;
-  some_digits = some;
-  digits_are = are;
-  number_is = is;
-  gap_is_white = tt;
-  unit_is = refl;
-}
-
 pub no_delay : IsDuration (codes "0s") 0
 no_delay = record {
   items = record { number = 0; unit = 1_000_000_000 } ∷ [];
   some = λ none. cc none;
-  spelled = (codes "0s", [], chars-IsAscii (codes "0s") (search rules), seconds_text (codes "0") 0 (λ none. cc none) (refl, tt) refl, tt);
+  spelled = (
+    codes "0s",
+    [],
+    chars-IsAscii (codes "0s") (search rules),
+    record {
+      space = [];
+      digits = codes "0";
+      gap = [];
+      word = codes "s";
+      whole = refl;
+      space_is_white = tt;
+      some_digits = λ none. cc none;
+      digits_are = (refl, tt);
+      number_is = refl;
+      gap_is_white = tt;
+      unit_is = refl;
+    },
+    tt,
+  );
   fit = (lit< tt, tt);
   sum = refl;
   sum_fits = lit< tt;
@@ -55,7 +54,25 @@ pub ten_seconds : IsDuration (codes "10s") slow.default_grace_period
 ten_seconds = record {
   items = record { number = 10; unit = 1_000_000_000 } ∷ [];
   some = λ none. cc none;
-  spelled = (codes "10s", [], chars-IsAscii (codes "10s") (search rules), seconds_text (codes "10") 10 (λ none. cc none) (refl, (refl, tt)) refl, tt);
+  spelled = (
+    codes "10s",
+    [],
+    chars-IsAscii (codes "10s") (search rules),
+    record {
+      space = [];
+      digits = codes "10";
+      gap = [];
+      word = codes "s";
+      whole = refl;
+      space_is_white = tt;
+      some_digits = λ none. cc none;
+      digits_are = (refl, (refl, tt));
+      number_is = refl;
+      gap_is_white = tt;
+      unit_is = refl;
+    },
+    tt,
+  );
   fit = (lit< tt, tt);
   sum = refl;
   sum_fits = lit< tt;

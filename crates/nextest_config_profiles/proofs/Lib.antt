@@ -7,7 +7,6 @@ pub mod Merging
 pub mod Selection
 pub mod MergedOver
 pub mod LastSaid
-pub mod LookedUp
 pub mod Names
 pub mod NamesInOrder
 pub mod Ways

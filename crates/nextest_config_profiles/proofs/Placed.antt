@@ -51,7 +51,13 @@ nothing_at_all files profile none =
 
 pub some_value : (value : Data) → (said_here value ≡ silent → ⊥) × (said_here value ≡ barred → ⊥)
 some_value (table no_members) = (λ e. cc e, λ e. cc e)
-some_value value = (λ e. cc e, λ e. cc e)
+some_value (table (member key value rest)) = (λ e. cc e, λ e. cc e)
+some_value (string text) = (λ e. cc e, λ e. cc e)
+some_value (integer number) = (λ e. cc e, λ e. cc e)
+some_value (float number) = (λ e. cc e, λ e. cc e)
+some_value (boolean truth) = (λ e. cc e, λ e. cc e)
+some_value (datetime time) = (λ e. cc e, λ e. cc e)
+some_value (array items) = (λ e. cc e, λ e. cc e)
 
 pub no_text_placed : (layers : Layers) (profile : List ℕ) → InheritsNoText layers profile → HasNothing (of_inherits layers profile) → ⊥
 no_text_placed layers profile wrong none =

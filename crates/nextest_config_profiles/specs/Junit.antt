@@ -35,7 +35,9 @@ pub record GetsJunit (profile : EffectiveProfile) (junit : EffectiveJunit) : Typ
 -- the value that is given for a setting, where there is one that is judged
 abbrev pub value_in : {X : Type 0} → Effective X → Option X
 value_in (given.Value profile x) = Some x
-value_in other = None
+value_in (given.NotJudged profile) = None
+value_in (given.Fault profile refused) = None
+value_in given.Nothing = None
 
 -- the path that is given, or that nothing gives one
 abbrev pub path_in : {X : Type 0} → Effective X → Option (Option X)

@@ -11,7 +11,6 @@ pub mod Alike
 pub mod Defaults
 pub mod Layer
 pub mod Profile
-pub mod ProfileAlone
 pub mod SettingKey
 pub mod NameList
 pub mod OneLeaf

@@ -21,7 +21,9 @@ HasNoValue layers path =
 abbrev pub leaf_of : Said → Option Data
 leaf_of (leaf value) = Some value
 leaf_of bare = Some (table no_members)
-leaf_of other = None
+leaf_of silent = None
+leaf_of barred = None
+leaf_of branch = None
 
 -- a value has this leaf at a path below it
 abbrev pub HasLeaf : Data → Path → Data → Type 0

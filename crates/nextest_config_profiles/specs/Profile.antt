@@ -13,6 +13,8 @@ use Rattle.nextest_config_profiles.specs.Reach.{lent_files}
 use Rattle.nextest_config_profiles.specs.Said.{Path}
 use Rattle.nextest_config_profiles.specs.declared.effective.Effective.{Effective}
 use Rattle.nextest_config_profiles.specs.declared.layer.Layer.{Layer}
+use Rattle.nextest_config_profiles.specs.declared.owned_chain.OwnedFault.{OwnedFault}
+use Rattle.nextest_config_profiles.specs.declared.owned_chain.OwnedFault.TheVariants as owned
 use Rattle.nextest_config_profiles.specs.declared.profile.EffectiveProfile.{EffectiveProfile}
 use Rattle.nextest_config_profiles.specs.declared.profile.ProfileFault.{ProfileFault}
 use Rattle.nextest_config_profiles.specs.declared.profile.ProfileFault.TheVariants as faults
@@ -34,6 +36,15 @@ profile_wrong (faults.NotDefined profile parent place) =
     Some (not_defined (string_bytes profile) (string_bytes parent))
 profile_wrong (faults.NotText profile place) = Some (not_text (string_bytes profile))
 profile_wrong faults.Memory = None
+
+-- what a fault with texts of its own says, unless memory was refused
+abbrev pub owned_wrong : OwnedFault → Option Wrong
+owned_wrong owned.NoProfile = Some no_profile
+owned_wrong (owned.Ring profile) = Some (ring (string_bytes profile))
+owned_wrong (owned.NotDefined profile parent) =
+    Some (not_defined (string_bytes profile) (string_bytes parent))
+owned_wrong (owned.NotText profile) = Some (not_text (string_bytes profile))
+owned_wrong owned.Memory = None
 
 -- the fault tells what is wrong with the chain of a profile, unless memory was refused
 abbrev pub IsProfileFault : Layers → List ℕ → ProfileFault → Type 0

@@ -1,11 +1,11 @@
 //! What layers have, and what one says of a path of keys.
 
-ghost use Rattle.std.specs.Prelude.{◌≡◌, ◌++◌, IfOk, option_map};
+ghost use Rattle.std.specs.Prelude.{◌≡◌, ◌++◌, option_map};
 ghost use Rattle.toml.specs.View.{view};
 ghost use Rattle.nextest_config_profiles.specs.Said.{Path, said_at};
-ghost use Rattle.nextest_config_profiles.specs.Reach.{AreReached, layers_of, said_below, words_of};
+ghost use Rattle.nextest_config_profiles.specs.Reach.{said_below, words_of};
 
-use std::alloc::{AllocError, Global};
+use nextest_config_values::read::value_at;
 use toml::Value;
 
 /// What layers have for profiles, the lowest first.
@@ -31,48 +31,14 @@ pub(crate) fn follow<'a>(from: Option<&'a Value>, path: &[&str]) -> Reach<'a>
     ensures { (below : Path) → said_below below result
         ≡ said_at (words_of path.now ++ below) (option_map (λ value. view value.now) from.entry) }
 {
-    let Some(mut value) = from else {
+    let Some(value) = from else {
         return Reach::Nothing;
     };
-    for key in path {
-        let Some(table) = value.as_table() else {
-            return Reach::Barred;
-        };
-        let Some(member) = table.get(*key) else {
-            return Reach::Nothing;
-        };
-        value = member;
+    let [key, rest @ ..] = path else {
+        return Reach::Value(value);
+    };
+    match value.as_table() {
+        Some(table) => follow(value_at(table, key), rest),
+        None => Reach::Barred,
     }
-    Reach::Value(value)
-}
-
-/// Where a path leads on to from where another one leads.
-#[inline]
-pub(crate) fn follow_on<'a>(from: Reach<'a>, path: &[&str]) -> Reach<'a>
-    ensures { (below : Path) → said_below below result
-        ≡ said_below (words_of path.now ++ below) from.entry }
-{
-    match from {
-        Reach::Value(value) => follow(Some(value), path),
-        Reach::Nothing => Reach::Nothing,
-        Reach::Barred => Reach::Barred,
-    }
-}
-
-/// Where a path leads to in each layer.
-pub(crate) fn reached_at<'v>(
-    alloc: Global,
-    layers: LentLayers<'_, 'v>,
-    path: &[&str],
-) -> Result<Vec<Reach<'v>>, AllocError>
-    ensures { IfOk result (λ reached.
-        AreReached (layers_of layers.entry) (words_of path.now) reached.items) }
-{
-    let files = layers.files;
-    let mut reached = Vec::new(alloc);
-    reached.push(follow(layers.defaults, path))?;
-    for file in files {
-        reached.push(follow(*file, path))?;
-    }
-    Ok(reached)
 }

@@ -1,20 +1,11 @@
-use Rattle.std.proofs.Common.{option_map, subst}
-use Rattle.nextest_config_profiles.specs.Profile.{layers_in}
-use Rattle.nextest_config_profiles.specs.ProfileAlone.{IsLookedUp}
+use Rattle.std.proofs.Common.{option_map}
 use Rattle.nextest_config_profiles.specs.Report.OtherProfiles.{IsFaultOf}
 use Rattle.nextest_config_profiles.specs.Report.Setting.{rule_of}
-use Rattle.nextest_config_profiles.specs.declared.profile_alone.ProfileAlone.{ProfileAlone}
-use Rattle.nextest_config_profiles.proofs.LookedUp.{all_at}
 use Rattle.nextest_config_profiles.proofs.Somes.{some_more}
 use Rattle.nextest_config_profiles.proofs.report.other_profiles.faults_of.Goals as goal
 
-pub fault_of-requires : goal.fault_of-requires
-fault_of-requires c =
-    all_at (IsLookedUp (layers_in c.args.effective.now)) c.args.profiles.now c.loop-profile.profile-index c.profile-item.result c.loop-profile-test.true c.profile-item.is c.requires
-
-pub loop-profile-preserved : goal.loop-profile-preserved
-loop-profile-preserved c =
-    let is_fault = IsFaultOf c.args.effective.now (rule_of c.args.setting) (option_map (λ name. name.now) c.args.giver) in
-    rw c.in_ok-push_some.ensures
-    (some_more is_fault (λ profile. profile.name.now) c.args.profiles.now c.loop-profile.profile-index c.profile-item.result _ c.in_ok-fault.fault c.loop-profile-test.true c.loop-profile.invariant
-    (subst (λ (profile : ProfileAlone). is_fault profile.name.now c.in_ok-fault.fault) c.profile-item.is c.in_ok-fault.ensures))
+pub loop-name-preserved : goal.loop-name-preserved
+loop-name-preserved c =
+    let (fault, is_of_other_profile, pushed) = c.in_ok-push_fault.ensures in
+    rw pushed
+    (some_more (IsFaultOf c.args.effective.now (rule_of c.args.setting) (option_map (λ name. name.now) c.args.giver)) (λ word. word.now) c.args.names.now c.loop-name.name-index _ _ fault c.loop-name-test.true c.loop-name.invariant is_of_other_profile)

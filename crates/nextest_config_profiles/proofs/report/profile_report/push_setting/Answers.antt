@@ -5,7 +5,7 @@ use Rattle.nextest_config_profiles.proofs.report.profile_report.push_setting.Goa
 pub returns-clause-rows : goal.returns-clause-rows
 returns-clause-rows c = (
   c.in_ok-rows.rows.items,
-  (c.in_ok-given.given, rw c.requires.chain_is at c.in_ok-given.ensures, c.in_ok-rows.ensures),
+  (c.in_ok-given.given, c.in_ok-given.ensures, c.in_ok-rows.ensures),
   rw c.in_ok-push.ensures.items (map_push (λ rows. rows.items) c.args.report.now.rows.items c.in_ok-rows.rows),
 )
 
@@ -15,8 +15,8 @@ returns-clause-faults c =
       added,
       record {
         giver = option_map (λ name. name.now) c.giver_of-giver.result;
-        is_giver = (c.in_ok-given.given, rw c.requires.chain_is at c.in_ok-given.ensures, c.giver_of-giver.ensures);
-        are_faults = are;
+        is_giver = (c.in_ok-given.given, c.in_ok-given.ensures, c.giver_of-giver.ensures);
+        are_faults = rw c.names_judged-names.ensures at are;
       },
       pushed,
     )
