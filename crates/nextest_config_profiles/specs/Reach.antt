@@ -1,5 +1,5 @@
 -- What layers have, and where paths lead to.
-use Rattle.std.specs.Prelude.{ℕ, List, ◌∷◌, map, Option, option_map, Some}
+use Rattle.std.specs.Prelude.{◌≡◌, ℕ, List, ◌∷◌, ◌++◌, map, Option, option_map, Some}
 use Rattle.std.proofs.Common.{Bor}
 use Rattle.toml.specs.Data.{Data}
 use Rattle.toml.specs.View.{view}
@@ -30,3 +30,8 @@ lent_files files = map lent files
 -- what lent layers have, as data: what nextest sets itself, and above that the files
 abbrev pub layers_of : LentLayers → List (Option Data)
 layers_of layers = lent layers.defaults ∷ lent_files layers.files.now
+
+-- a path leads there in each of these layers
+abbrev pub AreReached : List (Option Data) → Path → List Reach → Type 0
+AreReached layers path reached =
+    (below : Path) → map (said_below below) reached ≡ map (said_at (path ++ below)) layers

@@ -13,12 +13,13 @@ mod leaves;
 mod locate;
 mod merged;
 mod name_list;
-mod owned_chain;
 mod profile;
+mod profile_alone;
 mod profiles;
 mod reach;
 pub mod report;
 mod setting_key;
+mod texts;
 
 pub use defaults::DEFAULTS;
 pub use effective::Effective;

@@ -1,6 +1,6 @@
 use Rattle.std.proofs.Common.{◌≡◌, map, string_bytes, take}
 use Rattle.nextest_config_profiles.specs.Reach.{words_of}
-use Rattle.nextest_config_profiles.proofs.owned_chain.copies.Given as goal
+use Rattle.nextest_config_profiles.proofs.texts.copies.Given as goal
 
 -- the names so far
 abbrev pub invariant-loop-name : goal.invariant-loop-name
