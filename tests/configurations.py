@@ -10,6 +10,7 @@ import documents
 import places
 import rules
 import settings
+from effective import key_text
 from inputs import array, chance, some_features, some_value, some_version, some_versions, table
 
 # How many tables with values of several keys are written at each place; and at one of the top, where a document has
@@ -51,8 +52,12 @@ def made_for(reader):
 
 
 def near_to(word):
-    """What is like a word but for its end, letter case and dashes."""
-    return word[:-1], f"{word}s", word.upper(), word.capitalize(), word.replace("-", "_")
+    """What is like a word but for its end, letter case and dashes, a letter that is left out, two that change places,
+    and as many others as may be, or one more."""
+    far = len(word) // 3
+    others = ("é" * count + word[count:] for count in (far, far + 1))
+    slips = word[:2] + word[3:], word[:2] + word[2:4][::-1] + word[4:], *others
+    return word[:-1], f"{word}s", word.upper(), word.capitalize(), word.replace("-", "_"), *slips
 
 
 def beside(path, field=None):
@@ -60,11 +65,16 @@ def beside(path, field=None):
     return {"count": "3"} if field == "backoff" else settings.BESIDE.get(path[-1], {})
 
 
+# Tables of settings whose keys belong nowhere else, and keys of no table.
+FIELDS = [settings.SLOW, settings.LEAK, settings.LIMIT, settings.VERSIONS, settings.POLICIES["exponential"].fields]
+STRANGE = ["zone", "Zone", "é", "", "-", "_", "0", "a b", "FAIL.FAST", "extra-args", "Filter", "test_group", "time"]
+
+
 def unknown_in(words):
     """Keys that a table with these doesn't know: near one of them, like one, a part of one, one of another table."""
     near = [name for word in words for name in (*near_to(word), *word.split("-"))]
-    keys = dict.fromkeys([*near, *(key for rows in settings.HOMES.values() for key in rows), "zone"])
-    return [key for key in keys if key and key not in words]
+    others = [key for table in [*settings.HOMES.values(), *FIELDS] for key in table]
+    return [key_text(key) for key in dict.fromkeys([*near, *others, *STRANGE]) if key not in words]
 
 
 def strangers():

@@ -57,7 +57,7 @@ class Lines:
 
 
 class Node:
-    """What stands at a path: the ranges of its key and its value, the line of its statement, and what is below.
+    """What stands at a path: the ranges of its key and its value, and what is below.
 
     It is a scalar or an `array` that is written as one, a table between braces (`inline`), by a header, by a dotted
     key or by the headers of others (`implicit`), or an array of `tables` with headers.
@@ -66,8 +66,7 @@ class Node:
     def __init__(self, kind, text, key=None):
         self.kind = kind
         self.text = text
-        # Where its statement begins, and where its key and its value do and end.
-        self.begin = text.begin
+        # Where its key and its value begin and end.
         self.key_at = key
         self.value_at = None
         self.scalar = None
@@ -91,10 +90,6 @@ class Node:
         for step in steps:
             node = node and node.below.get(step)
         return node
-
-    @property
-    def line(self):
-        return self.text.place(self.begin)[0]
 
     def key(self):
         """The range of the key, None where there is none."""
@@ -140,11 +135,9 @@ class Reader(Lines):
         super().__init__(text)
         self.text = text
         self.at = int(text.startswith("\ufeff"))
-        self.begin = 0
         self.root = table = Node("header", self)
         self.take(SPACE)
         while self.at < len(text):
-            self.begin = self.at
             if self.next("["):
                 table = self.header()
             else:

@@ -431,14 +431,34 @@ TIMES = [SLOW_TIMEOUT, LEAK_TIMEOUT, DURATION]
 
 # What is written for a key, right and wrong.
 
-SOME_COUNTS = ["2", "1", "0", "-1", '"2"', '"-0"', '"02"', "4294967296", "1.0", "true", "[ ]"]
+# Texts of integers, of which nextest may make ones or not.
+SOME_WRITTEN = [
+    *[f'"{text}"' for text in ["10", "0", "-1", "-0", "+5", "007", "-100", "101", "4294967295", "4294967296", "", "two"]],
+    *[f'"{text}"' for text in ["1.5", " 1", "1_0", "+", "+-1", "0x1", "٣"]],
+    *[f'"{number}"' for number in [(1 << 63) - 1, 1 << 63, -1 << 63, (-1 << 63) - 1]],
+]
+SOME_COUNTS = ["2", "1", "0", "-1", *SOME_WRITTEN, "4294967295", "4294967296", "true", "false", "[ ]"]
 SOME_TIMEOUTS = [
     *['"60s"', '"2m 30s"', '"5µs"', '"1day"', '"40y"', '"0s"', '"0"', '"1.5h"', '"1 000s"', '"5"', "60", "500", '"100"'],
-    *['"60 sec."', '""', "true", '["1s"]', '"99999999999999999999s"', "-1"],
+    *['"60 sec."', '""', "true", '["1s"]', '"99999999999999999999s"', "-1", "0", "99"],
+    *['"099"', '"18446744073709551615"'],
 ]
-SOME_SWITCHES = ["true", "false", '"true"', '"Yes"', '"x"', "1", "1.5", "[ ]"]
-SOME_RESULTS = ['"fail"', '"pass"', '"flaky"', '"Pass"', "true", '"f\\u001b[1m\\nl"']
-SOME_THREADS = ["4", "-2", '"num-cpus"', '"num-test-threads"', "0", '"4"', '"num_cpus"', '"num-test-treads"', "1.0", "[ ]"]
+# Texts near durations: those that nextest may take, and those that are none.
+SOME_DURATIONS = [
+    *(f'"{text}"' for text in ["1.5.2s", "1 0 0s", "1.5 h", " 1 5s ", "00", " 0", "0 ", "0.0", "0 0", "-0", "+0", " ", "1."]),
+    *(f'"{text}"' for text in ["1.s", ".5s", "1.5", "1.5.h", "1.5x", "1 5", "1. 5s", "1 .5s", "1,5s", "1.5h 30"]),
+    *(f'"{text}"' for text in ["-1.5s", "1.xs", "1..5s", "1_000s", "1.5 S", "1.5s.", "٣.٥s", "1 m s", "1h .5s", "1\u20035s"]),
+    *(f'"{number}{rest}"' for number in ((1 << 64) - 1, 1 << 64) for rest in ("s", ".5s", "s 1.5s")),
+    *['"18446744073709551615s 999999999ns"', '"18446744073709551615s 1000000000ns"', '"18446744073709551615.1 5s"'],
+    *['"1 8446744073709551615s"', '"1 8446744073709551616s"', '"18446744073709551616"'],
+    *['"+1"', '"-1"', '"5 "', '"٥"', '"5x"'],
+]
+SOME_SWITCHES = [
+    *["true", "false", "1", "0", "-5", "1.5", "[ ]", *(f'"{text}"' for text in ["true", "false", "Yes", "no", "oN", "OFF"])],
+    *(f'"{text}"' for text in ["1", "0", "TRUE", "x", "", "y", "f", "2", "01", "true ", " true", "enabled", "ſ"]),
+]
+SOME_RESULTS = ['"fail"', '"pass"', '"flaky"', '"Pass"', "true", '"f\\u001b[1m\\nl"', "'a\"b\\c'", '"immediate"']
+SOME_THREADS = ["4", "-2", '"num-cpus"', '"num-test-threads"', '"num-test-treads"', '"all"', "1.0", *SOME_COUNTS]
 SOME_OUTPUTS = ['"immediate"', '"final"', '"immediate-final"', '"never"', '"Final"', '"allways"', "true", "1"]
 SOME_LEVELS = [
     *(f'"{word}"' for word in ["none", "fail", "retry", "flaky", "slow", "leak", "pass", "skip", "all"]),
@@ -447,6 +467,14 @@ SOME_LEVELS = [
 SOME_TEXTS = [
     *["'test(a)'", '"all()"', "'日本語'", "'''\ntest(a)\n  | test(b)'''", '"""\nnot \\\n  test(b)"""', "1", "['a']", "true"],
 ]
+SOME_FILTERS = [
+    *["'test(a)'", '"all()"', "'test(/^a\\d/) and platform(host)'", '"default() - kind(bin)"', "'test(a) # b'", '"group(x)"'],
+    *["'not (test(é) | package(日本))'", "'test(foo(bar))'", "'test(a) && pkg(b)'", "'é'", "''", '"(all()"', "1", "['a']"],
+    *["'''\ntest(a)\n  | test(b)'''", '"""\nnot \\\n  test(b)"""', "'''\n  test(/a/) or\n  test(é, b)'''", "'test(/a)'"],
+    *['"test(\\u0061) AND all()"', '"test(\\\\d)"', "'not tests(a)'", '"""\r\nall( x )"""', "'日本 all()'", '"nt all()"'],
+    *["'platform(unix)'", '"\\tall() )"', "'test(/a/ /b/)'", "'all() & default('", "'not default()'", "true"],
+]
+SOME_PLATFORMS = ["'cfg(unix)'", '"x86_64-unknown-linux-gnu"', "''", '"cfg(target_os = \\"linux\\")"', "1", "[ ]", "true"]
 SOME_NAMES = [
     *['"db"', '"wrap"', "'e\u0301'", '"日本"', '"dbb"', '"DB"', '"@tool:my-tool:s"', '"@tool:x:s"', '"a b"', '"@global"'],
     *['""', '"@tool:gone:s"', '"wrapp"', "['db', 'wrap', 'dbb']", "1", "['db', 1, [ ]]", "true", "{ }"],
@@ -458,23 +486,26 @@ SOME_LINES = [
 SOME_SCALARS = ['"x"', '""', "true", "1", "-1.5", "[ ]", "{ }", "1979-05-27"]
 SOME_VERSIONS = ['"0.9.50"', '"0.9"', '"0.9.50-rc.1"', '"0.9.50+b"', '"0.9.5O"', "1", "[ ]"]
 SAME = {
-    "delay max-delay period grace-period global-timeout": SOME_TIMEOUTS,
-    "count terminate-after": SOME_COUNTS,
-    "jitter store-success-output store-failure-output setup-scripts wrapper-scripts benchmarks": SOME_SWITCHES,
-    "capture-stdout capture-stderr": SOME_SWITCHES,
+    "delay max-delay period grace-period": SOME_TIMEOUTS,
+    "global-timeout": SOME_TIMEOUTS + SOME_DURATIONS,
+    "count terminate-after": [*SOME_COUNTS, "1.0"],
+    "jitter store-success-output store-failure-output capture-stdout capture-stderr": SOME_SWITCHES,
+    "setup-scripts wrapper-scripts benchmarks": SOME_SWITCHES[:10],
     "flaky-result on-timeout result": SOME_RESULTS,
     "threads-required test-threads max-threads": SOME_THREADS,
     "status-level final-status-level": SOME_LEVELS,
     "success-output failure-output": SOME_OUTPUTS,
-    "path report-name filter default-filter host target dir": SOME_TEXTS,
+    "path report-name dir": SOME_TEXTS,
+    "filter default-filter": SOME_FILTERS,
+    "host target": SOME_PLATFORMS,
     "setup list-wrapper run-wrapper": SOME_NAMES,
     "required recommended": SOME_VERSIONS,
 }
 VALUES = {
     **{key: values for keys, values in SAME.items() for key in keys.split()},
     "retries": [
-        *["2", "0", "1_0", "4294967295", '"two"', '"2"', "-1", "4294967296", "[1]", "true"],
-        *['{ backoff = "fixed", count = 1, colour = 2 }'],
+        *[*SOME_COUNTS, "1_0", '"--1"', "[1]"],
+        *['{ backoff = "fixed", count = 1, colour = 2 }', '{ backoff = "fixed", count = 2, delay = "1s", jitter = true }'],
         *['{ backoff = "fixed", count = 3, jitter = true }', '{ backoff = "fixed", count = 1, max_delay = "1s" }'],
         *['{ backoff = "exponential", count = 3, delay = "2s", max-delay = "1s" }', '{ backoff = "fixed" }'],
         *['{ backof = "fixed", count = 0, jitter = true }', '{ backoff = "fixed", count = "1", jitter = true, x = 1 }'],
@@ -483,12 +514,25 @@ VALUES = {
         *['{ backoff = "exponential", delay = "0s", max-delay = "1.5s" }', '{ backoff = "fixd", count = -1, max-delay = 1 }'],
         *['{ backoff = "exponential", count = 2, delay = "x", max-delay = "0s" }'],
         *['{ backoff = "exponential", delay = "2s", max-delay = "1s", jitter = 1 }'],
+        # Two broken rules, a rule beside unknown keys and beside faults of keys that it asks or doesn't.
+        *(
+            f'{{ backoff = "exponential", count = 1, delay = "{delay}", max-delay = "0s", zone = 1 }}'
+            for delay in ("0s", "1s", "0")
+        ),
+        *['{ backoff = "exponential", count = 0, delay = "0s", zone = 1 }', '{ backoff = ["fixed"], count = 1 }'],
+        *['{ backoff = "exponential", count = 1, delay = "2s", max-delay = "1s", "" = 1, "a b" = 1, Zone = 1 }'],
+        *['{ backoff = "exponential", count = 0, delay = "1", jitter = "yes", max-delay = 1 }', "{ count = 0, delay = '0s' }"],
+        *['{ backoff = "fixed", count = 1, delay = 0, jitter = true }', "{ backoff = 1, count = 1, jitter = true }"],
+        *['{ backoff = "fixed", count = 0, delay = "0s", jitter = true }'],
+        *['{ backoff = "exponential", count = 1, delay = 5, max-delay = "1s" }', "{ backoff = 'fixed', count = 1, 'x\"y' = 1 }"],
+        *['{ backoff = "exponential", count = 1, max-delay = "1s" }'],
+        *['{ backoff = "fixd", count = 0, delay = "0s", max-delay = "0s" }'],
     ],
     "slow-timeout": [*SOME_TIMEOUTS, "{ terminate-after = 2 }", '{ period = "60s", terminate-afer = 2 }'],
     "leak-timeout": [*SOME_TIMEOUTS, '{ result = "pass" }', '{ period = "1s", colour = 1 }'],
-    "backoff": ['"fixed"', '"exponential"', '"fixd"', "1"],
-    "fail-fast": ["true", "false", "2", '{ terminate = "wait" }', '"true"', '"flase"'],
-    "max-fail": ["1", '"all"', "0", '"1"', '"-1"', '"+2"', '"ALL"', "true"],
+    "backoff": ['"fixed"', '"exponential"', '"fixd"', '"fix"', '"linear"', "1"],
+    "fail-fast": [*SOME_COUNTS, "9223372036854775807", '{ terminate = "wait" }', '"true"', '"false"', '"True"', '"flase"'],
+    "max-fail": ["1", '"all"', *SOME_COUNTS],
     "terminate": ['"wait"', '"immediate"', '"now"', "1"],
     "junit": ['{ path = "a.xml", report-name = "n" }', '"a.xml"', '{ path = "a", "report name" = 1 }', "1"],
     "report-skipped": ['"none"', '"ignored"', '"all"', '"some"', "true"],
@@ -499,10 +543,8 @@ VALUES = {
         *['"ci"', '"default"', '"nightly"', '"cii"', '"default-miri"', '"x y"', '"é"', '"e\u0301"', "''", "1", "['ci']"],
     ],
     "run-extra-args": ["['a', 'b']", "[\n  'a', # one\n  'b',\n]", '["a", 1]', '"a"', "[[ ]]", "[ ]", "{ }", "[1, 'a', true]"],
-    "priority": ["100", "-100", "0", "101", "-1000", '"5"', '"500"', "1.5", "true", "[ ]"],
-    "platform": [
-        *["'cfg(unix)'", '"x86_64-unknown-linux-gnu"', "{ host = 'cfg(unix)', target = 1 }", "{ hots = '' }", "1"],
-    ],
+    "priority": [*map(str, [100, -100, 0, 101, -101, 127, 128, -128, -129, 0x65]), '"true"', *SOME_COUNTS],
+    "platform": [*SOME_PLATFORMS, "{ host = 'cfg(unix)', target = 1 }", "{ host = 'unix', hots = '' }"],
     "test-group": [
         *['"serial"', '"db"', '"@global"', '"@tool:my-tool:g"', '"serail"', '"@tool:x"', '"1 a"', '"日本"'],
         *["'e\u0301'", "2", '"@tool:gone:g"', '"@tool::g"', '"@tool:x:#"', '""', "true"],
@@ -516,7 +558,7 @@ VALUES = {
     "archive": ["{ include = [ ] }", "{ includes = [ ] }", "{ }", "1", "[ ]"],
     "include": ["[ ]", "{ path = 'a' }", "[1]", "'a'"],
     "relative-to": ['"target"', '"traget"', '"none"', "1"],
-    "depth": ["0", "4", '"infinite"', "-1", '"5"', '"Infinite"', "true", "1.5"],
+    "depth": ["4", '"infinite"', '"Infinite"', '"all"', str(-1 << 63), *SOME_COUNTS],
     "on-missing": ['"ignore"', '"warn"', '"error"', '"skip"', '"Warn"', "1"],
     "script": ["{ }", "{ db = { command = 'x' } }", "[ ]", "{ wrap = 1 }"],
     "command": [*SOME_LINES, "{ command-line = 'x' }", "{ command-lines = 'x' }", "{ relative = 1 }"],
@@ -537,7 +579,10 @@ VALUES = {
         *["{ setup = { db = { command = 'x' } }, wrapper = { db = { command = 'y' } } }", "{ setup = 1, wrapper = [ ] }"],
         *["{ wrapper = { wrap = { command = 'x' } } }", "{ }", "{ setup = { }, wrapper = { }, wraper = { } }", "1", "[ ]"],
     ],
-    (0, "path"): ["'fixtures'", "'a/../b'", "'/a'", "''", "'..a'", "1"],
+    (0, "path"): [
+        *(f"'{text}'" for text in ["fixtures", "a/../b", "/a", "", "..a", "..", "../a", "a/..", "/", ".", "a..", "..\\a"]),
+        "1",
+    ],
     ("command", "relative-to"): SOME_TEXTS,
     ("env", "*"): SOME_SCALARS,
 }

@@ -50,8 +50,6 @@ class Writer(Lines):
         self.pieces = []
         self.at = 0
         self.ends = self.choice([["\n"], ["\n"], ["\r\n"], ["\n", "\r\n"]])
-        # Where the statement began that is being written.
-        self.begin = 0
         self.root = self.section = self.node("header")
         self.write_document()
         self.text = "".join(self.pieces)
@@ -288,7 +286,6 @@ class Writer(Lines):
         count = self.random.randrange(self.STATEMENTS + 1)
         for _ in range(count):
             self.blank_lines(0.2)
-            self.begin = self.at
             is_written = self.header() if self.chance(0.35) else self.pair(self.section, DEPTH)
             if is_written:
                 self.blank()

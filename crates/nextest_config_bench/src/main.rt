@@ -5,9 +5,8 @@
 //! - `duration` reads standard input as one duration.
 //! - `text` reads standard input as a text, and does nothing more; `document` then reads it with
 //!   `toml` alone, as one document, and `index` makes the index of its places.
-//! - `places` prints, of each document on standard input, where all that it holds stands, with a word
-//!   behind a path of which a partial index tells another place. A NUL stands between two documents,
-//!   and a blank line after each.
+//! - `places` prints, of each document on standard input, where all that it holds stands. A NUL stands
+//!   between two documents, and a blank line after each.
 //! - `documents` reads the documents on standard input with `toml` alone, a NUL between two of them;
 //!   `indexes` makes the partial index of each, too, which has the profiles at hand by which `ci` is
 //!   told, and `profile` then asks for the settings that `ci` gets of them, as files of one list.

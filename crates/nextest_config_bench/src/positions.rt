@@ -1,11 +1,10 @@
 //! Where the keys and the values of documents stand.
 
 use std::alloc::{AllocError, Global};
-use std::collections::BTreeSet;
 use std::io::{Input, Read};
 use std::str;
 use toml::{Table, Value};
-use toml_spans::{Index, PartialIndex, Place, Span, Step, line_of};
+use toml_spans::{Index, Place, Span, Step};
 
 // The document that is asked, what is known of it, and the runtime.
 #[derive(Drop)]
@@ -13,7 +12,6 @@ struct Asked<'t> {
     rt: &'t HostRuntime,
     text: &'t str,
     index: &'t Index,
-    partial: &'t PartialIndex<'t>,
 }
 
 pub(crate) fn run(rt: &HostRuntime, what: &str) -> Option<()> {
@@ -51,38 +49,11 @@ fn print_document(rt: &HostRuntime, text: &str) -> Option<()> {
     let index = Index::of(rt.alloc(), text).ok()?;
     let table = toml::table_from_str(rt.alloc(), text).ok();
     match (&index, &table) {
-        (Some(index), Some(table)) => print_places(rt, text, index, table),
+        (Some(index), Some(table)) => print_paths(&Asked { rt, text, index }, table),
         (None, None) => println!(rt; "no document").ok(),
         (Some(_), None) => println!(rt; "a document for the index alone").ok(),
         (None, Some(_)) => println!(rt; "a document for toml alone").ok(),
     }
-}
-
-// Prints where all stands, with an index beside it that has every other member of a table at hand.
-fn print_places(rt: &HostRuntime, text: &str, index: &Index, table: &Table) -> Option<()> {
-    let (name, members) = some_members(rt.alloc(), table).ok()?;
-    let partial = PartialIndex::of(rt.alloc(), text, name, &members).ok()?;
-    let asked = Asked {
-        rt,
-        text,
-        index,
-        partial: &partial,
-    };
-    print_paths(&asked, table)
-}
-
-// Every other member of the first table.
-fn some_members(alloc: Global, table: &Table) -> Result<(&str, BTreeSet<String>), AllocError> {
-    let mut some = BTreeSet::new(alloc);
-    for (name, value) in table {
-        if let Value::Table(members) = value {
-            for key in members.keys().step_by(2) {
-                some.insert(key.clone()?)?;
-            }
-            return Ok((name.as_str(), some));
-        }
-    }
-    Ok(("", some))
 }
 
 // Prints what is known of each path to a value.
@@ -169,29 +140,12 @@ fn size(value: &Value) -> usize {
     }
 }
 
-// Prints a path, the places of its key and of its value, and its line, with a word after where the
-// index tells another one, or the other index another place.
+// Prints a path, and the places of its key and of its value.
 fn print_path(asked: &Asked<'_>, path: &[Step]) -> Option<()> {
     let rt = asked.rt;
-    let (key, value) = (asked.index.key(path), asked.index.value(path));
     print_steps(rt, path)?;
-    print_span(rt, key)?;
-    print_span(rt, value)?;
-    let key_too = asked.partial.key(rt.alloc(), path).ok()?;
-    let value_too = asked.partial.value(rt.alloc(), path).ok()?;
-    if (key, value) != (key_too, value_too) {
-        print!(rt; " another place").ok()?;
-    }
-    let line = line_of(rt.alloc(), asked.text, path).ok()?;
-    match line {
-        Some(line) => print!(rt; " {line}").ok()?,
-        None => print!(rt; " none").ok()?,
-    }
-    if asked.index.line(path) == line {
-        Some(())
-    } else {
-        print!(rt; " another line").ok()
-    }
+    print_span(rt, asked.index.key(path))?;
+    print_span(rt, asked.index.value(path))
 }
 
 // Keys by the bytes of their text, and indexes.
@@ -241,7 +195,7 @@ fn print_beyond(asked: &Asked<'_>, path: &[Step], size: usize) -> Option<()> {
 
 // Whether the index knows the path.
 fn has_place(index: &Index, path: &[Step]) -> bool {
-    index.key(path).is_some() || index.value(path).is_some() || index.line(path).is_some()
+    index.key(path).is_some() || index.value(path).is_some()
 }
 
 // Ends the line, with a word before unless the text at a value's place is read as the value.

@@ -1,13 +1,12 @@
 //! What profiles get of lists of files.
 
 use nextest_config::nextest_version::{ConfigSource, ConfigSourceKind};
-use nextest_config_profiles::{EffectiveProfile, Layer, LayerValue, profiles_to_locate};
+use nextest_config_profiles::{EffectiveProfile, Layer, LayerValue};
 use std::alloc::{AllocError, Global};
-use std::collections::BTreeSet;
 use std::io::{Input, Read};
 use std::str;
 use toml::{Table, Value};
-use toml_spans::{PartialIndex, Span};
+use toml_spans::{Index, Span};
 
 const SETTINGS: [&str; 15] = [
     "retries",
@@ -29,10 +28,10 @@ const SETTINGS: [&str; 15] = [
 
 // A document with the index of its places.
 #[derive(Drop)]
-struct File<'t> {
+struct File {
     source: ConfigSource,
     document: Table,
-    index: PartialIndex<'t>,
+    index: Index,
 }
 
 pub(crate) fn run(rt: &HostRuntime, what: &str) -> Option<()> {
@@ -64,49 +63,27 @@ fn documents(alloc: Global, list: &str) -> Option<Vec<Table>> {
 }
 
 fn place(alloc: Global, list: &str) -> Option<()> {
-    let documents = documents(alloc, list)?;
-    let profiles = locate(alloc, &documents)?;
-    files(alloc, list, documents, &profiles)?;
+    files(alloc, list)?;
     Some(())
 }
 
-// The profiles whose places are asked for, where the profile `ci` is told.
-fn locate(alloc: Global, documents: &Vec<Table>) -> Option<BTreeSet<String>> {
-    let mut lent = Vec::new(alloc);
-    for document in documents {
-        lent.push(document).ok()?;
-    }
-    profiles_to_locate(alloc, lent.as_slice(), "ci").ok()
-}
-
-// The documents with their indexes, which have these profiles at hand.
-fn files<'t>(
-    alloc: Global,
-    list: &'t str,
-    documents: Vec<Table>,
-    profiles: &'t BTreeSet<String>,
-) -> Option<Vec<File<'t>>> {
+// The documents with their indexes.
+fn files(alloc: Global, list: &str) -> Option<Vec<File>> {
+    let documents = documents(alloc, list)?;
     let mut texts = list.split('\0');
     let mut files = Vec::new(alloc);
     for document in documents {
         let text = texts.next()?;
-        files
-            .push(file_of(alloc, text, document, profiles).ok()?)
-            .ok()?;
+        files.push(file_of(alloc, text, document)?).ok()?;
     }
     Some(files)
 }
 
-fn file_of<'t>(
-    alloc: Global,
-    text: &'t str,
-    document: Table,
-    profiles: &'t BTreeSet<String>,
-) -> Result<File<'t>, AllocError> {
-    Ok(File {
-        source: source(alloc)?,
+fn file_of(alloc: Global, text: &str, document: Table) -> Option<File> {
+    Some(File {
+        source: source(alloc).ok()?,
         document,
-        index: PartialIndex::of(alloc, text, "profile", profiles)?,
+        index: Index::of(alloc, text).ok()??,
     })
 }
 
@@ -117,7 +94,7 @@ fn source(alloc: Global) -> Result<ConfigSource, AllocError> {
     })
 }
 
-fn layers<'a>(alloc: Global, files: &'a [File<'a>]) -> Result<Vec<Layer<'a>>, AllocError> {
+fn layers(alloc: Global, files: &[File]) -> Result<Vec<Layer<'_>>, AllocError> {
     let mut layers = Vec::new(alloc);
     for file in files {
         layers.push(Layer {
@@ -131,9 +108,7 @@ fn layers<'a>(alloc: Global, files: &'a [File<'a>]) -> Result<Vec<Layer<'a>>, Al
 
 // Asks what the profile `ci` gets of a list.
 fn ask(alloc: Global, list: &str) -> Option<()> {
-    let documents = documents(alloc, list)?;
-    let profiles = locate(alloc, &documents)?;
-    let files = files(alloc, list, documents, &profiles)?;
+    let files = files(alloc, list)?;
     let layers = layers(alloc, files.as_slice()).ok()?;
     let profile = EffectiveProfile::of(alloc, layers.as_slice(), "ci").ok()?;
     ask_profiles(alloc, &profile).ok()
@@ -192,9 +167,7 @@ fn print_lists(rt: &HostRuntime, text: &str) -> Option<()> {
 // Prints what a list has below `profile`.
 fn print_list(rt: &HostRuntime, list: &str) -> Option<()> {
     let alloc = rt.alloc();
-    let documents = documents(alloc, list)?;
-    let profiles = locate(alloc, &documents)?;
-    let files = files(alloc, list, documents, &profiles)?;
+    let files = files(alloc, list)?;
     let layers = layers(alloc, files.as_slice()).ok()?;
     let profile = EffectiveProfile::of(alloc, layers.as_slice(), "default").ok()?;
     let all = profile.value(alloc, &[]).ok()??;

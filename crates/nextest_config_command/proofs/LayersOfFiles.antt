@@ -4,7 +4,7 @@ use Rattle.std.specs.List.{AllByRecursion, AllZip}
 use Rattle.toml_spans.proofs.Elements.{all_weaker}
 use Rattle.nextest_config.specs.NextestVersion.{place_of}
 use Rattle.nextest_config.specs.declared.nextest_version.edition.Edition.{Edition}
-use Rattle.toml_spans.specs.Partial.{IsPartialIndexOf}
+use Rattle.toml_spans.specs.Index.{IsIndexOf}
 use Rattle.nextest_config_profiles.specs.declared.layer.Layer.{Layer}
 use Rattle.toml.specs.View.{table_view}
 use Rattle.nextest_config_command.specs.FileFindings.{HasNoError}
@@ -26,7 +26,7 @@ lent_layer file indexed layer is lent = record {
   place_is = ap place_of lent.source_is ∙ is.place_is;
   is_text = is.is_text;
   document_is = is.document_is ∙ ap (λ document. Some (table_view document)) (sym lent.document_is);
-  index_is = subst (IsPartialIndexOf file.contents) (sym lent.index_is) is.index_is;
+  index_is = subst (IsIndexOf file.contents) (sym lent.index_is) is.index_is;
 }
 
 pub lent_layers : (files : List File) (indexed : List IndexedFile) (layers : List Layer) → AllZip IsIndexed files indexed → AllZip IsLent indexed layers → AreLayers files layers

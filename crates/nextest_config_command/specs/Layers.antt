@@ -4,7 +4,7 @@ use Rattle.std.specs.List.{AllZip}
 use Rattle.toml.specs.Parse.{parse_document}
 use Rattle.toml.specs.View.{table_view}
 use Rattle.nextest_config.specs.NextestVersion.{place_of}
-use Rattle.toml_spans.specs.Partial.{IsPartialIndexOf}
+use Rattle.toml_spans.specs.Index.{IsIndexOf}
 use Rattle.nextest_config_profiles.specs.Layer.{profiles_in}
 use Rattle.nextest_config_profiles.specs.NameList.{AreInOrder, AreNamesOf}
 use Rattle.nextest_config_profiles.specs.declared.layer.Layer.{Layer}
@@ -16,7 +16,7 @@ pub record IsLayer (file : File) (layer : Layer) : Type 0 where
   pub place_is : place_of layer.source.now ≡ file.place
   pub is_text : IsUtf8 file.contents
   pub document_is : parse_document file.contents ≡ Some (table_view layer.document.now)
-  pub index_is : IsPartialIndexOf file.contents layer.index.now
+  pub index_is : IsIndexOf file.contents layer.index.now
 
 -- files as layers, in their order
 abbrev pub AreLayers : List File → List Layer → Type 0
@@ -34,7 +34,7 @@ pub record IsIndexed (file : File) (indexed : IndexedFile) : Type 0 where
   pub place_is : place_of indexed.source.now ≡ file.place
   pub is_text : IsUtf8 file.contents
   pub document_is : parse_document file.contents ≡ Some (table_view indexed.document.now)
-  pub index_is : IsPartialIndexOf file.contents indexed.index
+  pub index_is : IsIndexOf file.contents indexed.index
 
 -- the layer is lent of a file with its index
 pub record IsLent (indexed : IndexedFile) (layer : Layer) : Type 0 where

@@ -24,7 +24,6 @@ use nextest_config_profiles::profile_names;
 use nextest_config_report::exit_status::ExitStatus;
 use nextest_config_report::show::{ShowFormat, show_text};
 use std::alloc::{AllocError, Global};
-use std::collections::BTreeSet;
 
 /// What the command answers: what it writes, what it says on the second stream, and the status that
 /// it ends with.
@@ -250,8 +249,7 @@ fn shown_text(
     ensures { IfOk result (λ text. IsTextShown format (all_files (files_of files.now))
         (configuration_of config.now) (string_bytes text)) }
 {
-    let none = BTreeSet::new(alloc);
-    let indexed = indexed_files(alloc, files, &none)?;
+    let indexed = indexed_files(alloc, files)?;
     let layers = layers(alloc, indexed.as_slice())?;
     let profiles = profile_names(alloc, layers.as_slice())?;
     let text = show_text(alloc, format, config, profiles.as_slice())?;

@@ -8,47 +8,30 @@ ghost use Rattle.nextest_config_command.specs.Layers.{IsIndexed, IsLent};
 
 use crate::parsed_file::{ParsedFile, ParsedFiles};
 use nextest_config::nextest_version::ConfigSource;
-use nextest_config_profiles::{Layer, profiles_to_locate};
+use nextest_config_profiles::Layer;
 use std::alloc::{AllocError, Global};
-use std::collections::BTreeSet;
 use toml::Table;
-use toml_spans::PartialIndex;
+use toml_spans::Index;
 
 /// A file that is a document, with the index of its places.
 #[derive(Drop)]
 pub(crate) struct IndexedFile<'f> {
     source: &'f ConfigSource,
     document: &'f Table,
-    index: PartialIndex<'f>,
+    index: Index,
 }
 
-/// The names of the profiles whose places are looked up where the profile of this name is told.
-pub(crate) fn names_to_locate(
-    alloc: Global,
-    files: &ParsedFiles<'_>,
-    name: &str,
-) -> Result<BTreeSet<String>, AllocError> {
-    let mut documents = Vec::new(alloc);
-    for file in files.tools.iter().chain(files.repository.iter()) {
-        if let Some((_, document)) = file.text() {
-            documents.push(document)?;
-        }
-    }
-    profiles_to_locate(alloc, documents.as_slice(), name)
-}
-
-/// The files, each of which is a document, with their indices, which have these profiles at hand.
+/// The files, each of which is a document, with their indices.
 pub(crate) fn indexed_files<'f>(
     alloc: Global,
     files: &'f ParsedFiles<'_>,
-    profiles: &'f BTreeSet<String>,
 ) -> Result<Vec<IndexedFile<'f>>, AllocError>
     requires { AreDocuments (all_files (files_of files.now)) }
     ensures { IfOk result
         (λ indexed. AllZip IsIndexed (all_files (files_of files.now)) indexed.items) }
 {
-    let mut all = indexed_each(alloc, files.tools.as_slice(), profiles)?;
-    let mut rest = indexed_each(alloc, files.repository.as_slice(), profiles)?;
+    let mut all = indexed_each(alloc, files.tools.as_slice())?;
+    let mut rest = indexed_each(alloc, files.repository.as_slice())?;
     all.append(&mut rest)?;
     Ok(all)
 }
@@ -56,32 +39,30 @@ pub(crate) fn indexed_files<'f>(
 fn indexed_each<'f>(
     alloc: Global,
     files: &'f [ParsedFile<'_>],
-    profiles: &'f BTreeSet<String>,
 ) -> Result<Vec<IndexedFile<'f>>, AllocError>
     requires { AreDocuments files.now }
     ensures { IfOk result (λ indexed. AllZip IsIndexed files.now indexed.items) }
 {
     let mut indexed = Vec::new(alloc);
     for file in files {
-        indexed.push(indexed_file(alloc, file, profiles)?)?;
+        indexed.push(indexed_file(alloc, file)?)?;
     }
     Ok(indexed)
 }
 
 // A file, which is a document, with its index.
-fn indexed_file<'f>(
-    alloc: Global,
-    file: &'f ParsedFile<'_>,
-    profiles: &'f BTreeSet<String>,
-) -> Result<IndexedFile<'f>, AllocError>
+fn indexed_file<'f>(alloc: Global, file: &'f ParsedFile<'_>) -> Result<IndexedFile<'f>, AllocError>
     requires { IsDocumentFile file.now }
     ensures { IfOk result (IsIndexed file.now) }
 {
-    match file.text() {
-        Some((text, document)) => Ok(IndexedFile {
+    let Some((text, document)) = file.text() else {
+        unreachable!()
+    };
+    match Index::of(alloc, text)? {
+        Some(index) => Ok(IndexedFile {
             source: file.source(),
             document,
-            index: PartialIndex::of(alloc, text, "profile", profiles)?,
+            index,
         }),
         None => unreachable!(),
     }

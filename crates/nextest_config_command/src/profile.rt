@@ -13,7 +13,7 @@ ghost use Rattle.nextest_config_command.specs.Request.{slash};
 
 use crate::answer::Answer;
 use crate::file_findings::Rules;
-use crate::layers::{indexed_files, layers, names_to_locate};
+use crate::layers::{indexed_files, layers};
 use crate::lint::Lint;
 use crate::parsed_file::ParsedFiles;
 use crate::printed::Printed;
@@ -78,8 +78,7 @@ fn profile_in(
     ensures { IfOk result (λ answer.
         IsProfileIn (all_files (files_of files.now)) task.now (answer_of answer)) }
 {
-    let profiles = names_to_locate(alloc, files, task.name.as_str())?;
-    let indexed = indexed_files(alloc, files, &profiles)?;
+    let indexed = indexed_files(alloc, files)?;
     let layers = layers(alloc, indexed.as_slice())?;
     let answer = profile_by(alloc, task, layers.as_slice())?;
     Ok(answer)

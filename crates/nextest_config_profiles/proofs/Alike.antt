@@ -66,14 +66,8 @@ same_leaf v w is alike = (alike [] v).0 is
 
 -- a leaf at the value itself is the value
 itself : (w v : Data) → leaf_of (said_here w) ≡ Some v → w ≡ v
-itself (table no_members) v h = cc h
 itself (table (member key value rest)) v h = absurd (cc h)
-itself (string text) v h = cc h
-itself (integer number) v h = cc h
-itself (float number) v h = cc h
-itself (boolean truth) v h = cc h
-itself (datetime time) v h = cc h
-itself (array items) v h = cc h
+itself w v h = cc h
 
 -- a value with the leaves of another that has a leaf at itself
 pub same_value : (v w : Data) → leaf_of (said_here v) ≡ Some v → AreAlike v w → w ≡ v

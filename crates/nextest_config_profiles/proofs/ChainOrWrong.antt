@@ -11,13 +11,8 @@ use Rattle.nextest_config_profiles.proofs.Placed.{no_text_placed, some_value}
 -- what is said of a text is that of no other value
 no_other_text : (value : Data) (text : List ℕ) → as_str value ≡ None → said_here value ≡ leaf (string text) → ⊥
 no_other_text (string held) text none same = cc none
-no_other_text (integer number) text none same = cc same
-no_other_text (float number) text none same = cc same
-no_other_text (boolean truth) text none same = cc same
-no_other_text (datetime time) text none same = cc same
-no_other_text (array items) text none same = cc same
-no_other_text (table no_members) text none same = cc same
 no_other_text (table (member key value rest)) text none same = cc same
+no_other_text value text none same = cc same
 
 module _ (layers : Layers) where
   -- where a way leads, the chain goes on, and is shorter

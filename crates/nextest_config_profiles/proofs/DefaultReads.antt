@@ -1,10 +1,12 @@
 -- The readers of settings take for absent keys what is told.
 use Rattle.std.specs.Prelude.{codes}
-use Rattle.std.proofs.Common.{◌≡◌, ◌≢◌, ◌⊎◌, ◌∙◌, ℕ, Bool, false, true, List, [], ◌∷◌, Option, Some, None, ap, inl, inr, lit<, refl, rules, subst, sym}
+use Rattle.std.proofs.Common.{◌≡◌, ◌≢◌, ◌⊎◌, ◌∙◌, ◌++◌, ℕ, Bool, false, true, List, [], ◌∷◌, Option, Some, None, ap, inl, inr, lit<, refl, rules, subst, sym}
 use Rattle.std.proofs.lemmas.Bool.{false≢true}
 use Rattle.std.proofs.lemmas.Str.{chars-IsAscii}
+use Rattle.std.specs.Char.{is_ascii_digit}
+use Rattle.std.specs.Str.Parse.{digits_value}
 use Rattle.toml.specs.Data.{boolean, Data, get_member, Members, string}
-use Rattle.nextest_config_values.specs.Duration.{duration_reading, IsDuration}
+use Rattle.nextest_config_values.specs.Duration.{AreAll, duration_reading, IsDuration, IsItemText}
 use Rattle.nextest_config_values.specs.Decisions.{IsDecided}
 use Rattle.nextest_config_values.specs.Read.{bool_reading, BrokenRule, count_reading, either, Reading, rule_check, u32_reading, word_reading}
 use Rattle.nextest_config_elements.specs.LeakTimeout as leak
@@ -22,29 +24,28 @@ use Rattle.nextest_config_profiles.proofs.TakesAlike.{Passes, Takes, takes_check
 
 -- ---- durations
 
+-- digits and an `s` write so many seconds
+seconds_text : (digits : List ℕ) (seconds : ℕ) → digits ≢ [] → AreAll is_ascii_digit digits → digits_value 10 digits ≡ seconds
+    → IsItemText (digits ++ codes "s") (record { number = seconds; unit = 1_000_000_000 })
+seconds_text digits seconds some are is = record {
+  space = [];
+  digits = digits;
+  gap = [];
+  word = codes "s";
+  whole = refl;
+  space_is_white = tt;
+  some_digits = some;
+  digits_are = are;
+  number_is = is;
+  gap_is_white = tt;
+  unit_is = refl;
+}
+
 pub no_delay : IsDuration (codes "0s") 0
 no_delay = record {
   items = record { number = 0; unit = 1_000_000_000 } ∷ [];
   some = λ none. cc none;
-  spelled = (
-    codes "0s",
-    [],
-    chars-IsAscii (codes "0s") (search rules),
-    record {
-      space = [];
-      digits = codes "0";
-      gap = [];
-      word = codes "s";
-      whole = refl;
-      space_is_white = tt;
-      some_digits = λ none. cc none;
-      digits_are = (refl, tt);
-      number_is = refl;
-      gap_is_white = tt;
-      unit_is = refl;
-    },
-    tt,
-  );
+  spelled = (codes "0s", [], chars-IsAscii (codes "0s") (search rules), seconds_text (codes "0") 0 (λ none. cc none) (refl, tt) refl, tt);
   fit = (lit< tt, tt);
   sum = refl;
   sum_fits = lit< tt;
@@ -54,25 +55,7 @@ pub ten_seconds : IsDuration (codes "10s") slow.default_grace_period
 ten_seconds = record {
   items = record { number = 10; unit = 1_000_000_000 } ∷ [];
   some = λ none. cc none;
-  spelled = (
-    codes "10s",
-    [],
-    chars-IsAscii (codes "10s") (search rules),
-    record {
-      space = [];
-      digits = codes "10";
-      gap = [];
-      word = codes "s";
-      whole = refl;
-      space_is_white = tt;
-      some_digits = λ none. cc none;
-      digits_are = (refl, (refl, tt));
-      number_is = refl;
-      gap_is_white = tt;
-      unit_is = refl;
-    },
-    tt,
-  );
+  spelled = (codes "10s", [], chars-IsAscii (codes "10s") (search rules), seconds_text (codes "10") 10 (λ none. cc none) (refl, (refl, tt)) refl, tt);
   fit = (lit< tt, tt);
   sum = refl;
   sum_fits = lit< tt;
@@ -175,19 +158,7 @@ jitter_taken = record {
 }
 
 pub retries_told : TakesAllTold retry.retry_policy_reading retry.open_fields
-retries_told = (
-  needed retry.retry_policy_reading retry.backoff_key (Some (string (codes "fixed"))),
-  (
-    needed retry.retry_policy_reading retry.count_key None,
-    (
-      value_told retry.retry_policy_reading retry.delay_key no_delay_value delay_taken,
-      (
-        value_told retry.retry_policy_reading retry.jitter_key (boolean false) jitter_taken,
-        (nothing_told retry.retry_policy_reading retry.max_delay_key, tt),
-      ),
-    ),
-  ),
-)
+retries_told = (needed _ _ _, (needed _ _ _, (value_told _ _ _ delay_taken, (value_told _ _ _ jitter_taken, (nothing_told _ _, tt)))))
 
 -- ---- fail-fast
 
@@ -199,10 +170,7 @@ terminate_taken = record {
 }
 
 pub fail_fast_told : TakesAllTold fail.fail_fast_reading fail.fail_fast_fields
-fail_fast_told = (
-  needed fail.fail_fast_reading fail.max_fail_key None,
-  (value_told fail.fail_fast_reading fail.terminate_key (string (codes "wait")) terminate_taken, tt),
-)
+fail_fast_told = (needed _ _ _, (value_told _ _ _ terminate_taken, tt))
 
 -- ---- slow-timeout
 
@@ -234,16 +202,7 @@ on_timeout_taken = record {
 }
 
 pub slow_timeout_told : TakesAllTold slow.slow_timeout_reading slow.slow_timeout_fields
-slow_timeout_told = (
-  needed slow.slow_timeout_reading slow.period_key None,
-  (
-    nothing_told slow.slow_timeout_reading slow.terminate_after_key,
-    (
-      value_told slow.slow_timeout_reading slow.grace_period_key ten_seconds_value grace_period_taken,
-      (value_told slow.slow_timeout_reading slow.on_timeout_key fail_value on_timeout_taken, tt),
-    ),
-  ),
-)
+slow_timeout_told = (needed _ _ _, (nothing_told _ _, (value_told _ _ _ grace_period_taken, (value_told _ _ _ on_timeout_taken, tt))))
 
 -- ---- leak-timeout
 
@@ -256,7 +215,4 @@ result_taken = record {
 }
 
 pub leak_timeout_told : TakesAllTold leak.leak_timeout_reading leak.leak_timeout_fields
-leak_timeout_told = (
-  needed leak.leak_timeout_reading leak.period_key None,
-  (value_told leak.leak_timeout_reading leak.result_key (string (codes "pass")) result_taken, tt),
-)
+leak_timeout_told = (needed _ _ _, (value_told _ _ _ result_taken, tt))

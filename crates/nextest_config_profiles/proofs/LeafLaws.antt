@@ -110,38 +110,15 @@ leaf_bars : (path : Path) (top : Option Data) (value : Data) (key : List ℕ) (b
 leaf_bars path None value key below h = absurd (cc h)
 leaf_bars [] (Some (table no_members)) value key below h = absurd (cc h)
 leaf_bars [] (Some (table (member k v rest))) value key below h = absurd (cc h)
-leaf_bars [] (Some (string text)) value key below h = refl
-leaf_bars [] (Some (integer number)) value key below h = refl
-leaf_bars [] (Some (float number)) value key below h = refl
-leaf_bars [] (Some (boolean truth)) value key below h = refl
-leaf_bars [] (Some (datetime time)) value key below h = refl
-leaf_bars [] (Some (array items)) value key below h = refl
 leaf_bars (k ∷ path) (Some (table held)) value key below h = leaf_bars path (get_member k held) value key below h
-leaf_bars (k ∷ path) (Some (string text)) value key below h = refl
-leaf_bars (k ∷ path) (Some (integer number)) value key below h = refl
-leaf_bars (k ∷ path) (Some (float number)) value key below h = refl
-leaf_bars (k ∷ path) (Some (boolean truth)) value key below h = refl
-leaf_bars (k ∷ path) (Some (datetime time)) value key below h = refl
-leaf_bars (k ∷ path) (Some (array items)) value key below h = refl
+leaf_bars path (Some other) value key below h = refl
 
 -- what leads to a value is a table with keys
 leads_on : (path : Path) (top : Option Data) (value : Data) (key : List ℕ) (below : Path) → said_at (path ++ key ∷ below) top ≡ leaf value → said_at path top ≡ branch
-leads_on path None value key below h = absurd (cc h)
-leads_on [] (Some (table no_members)) value key below h = absurd (cc h)
 leads_on [] (Some (table (member k v rest))) value key below h = refl
-leads_on [] (Some (string text)) value key below h = absurd (cc h)
-leads_on [] (Some (integer number)) value key below h = absurd (cc h)
-leads_on [] (Some (float number)) value key below h = absurd (cc h)
-leads_on [] (Some (boolean truth)) value key below h = absurd (cc h)
-leads_on [] (Some (datetime time)) value key below h = absurd (cc h)
-leads_on [] (Some (array items)) value key below h = absurd (cc h)
 leads_on (k ∷ path) (Some (table held)) value key below h = leads_on path (get_member k held) value key below h
-leads_on (k ∷ path) (Some (string text)) value key below h = absurd (cc h)
-leads_on (k ∷ path) (Some (integer number)) value key below h = absurd (cc h)
-leads_on (k ∷ path) (Some (float number)) value key below h = absurd (cc h)
-leads_on (k ∷ path) (Some (boolean truth)) value key below h = absurd (cc h)
-leads_on (k ∷ path) (Some (datetime time)) value key below h = absurd (cc h)
-leads_on (k ∷ path) (Some (array items)) value key below h = absurd (cc h)
+leads_on [] (Some (table no_members)) value key below h = absurd (cc h)
+leads_on path top value key below h = absurd (cc h)
 
 -- of a list that ends in what isn't silent and is no leaf, there is no leaf
 no_leaf_last : (all : List Said) (said : Said) → (said ≡ silent → ⊥) → ((value : Data) → leaf value ≡ said → ⊥) → (bare ≡ said → ⊥) → (p : ℕ) (v : Data)

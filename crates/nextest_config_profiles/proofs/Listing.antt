@@ -42,9 +42,6 @@ all_unmapped P f (x ∷ xs) h = (h.0, all_unmapped P f xs h.1)
 none_at_nothing : (below : Path) (value : Data) → HasLeafAt None below value → ⊥
 none_at_nothing below value h = cc h
 
-pub none_yet : (path : Path) → AreLeavesIn path no_members []
-none_yet path = record { each = tt; all = λ key below value h. absurd (none_at_nothing below value h) }
-
 pub some_branch : (entries : List Entry) → (length entries ≡ 0 → ⊥) → said_here (table (members_view entries)) ≡ branch
 some_branch [] some = absurd (some refl)
 some_branch (e ∷ entries) some = refl

@@ -28,15 +28,13 @@ key_itself k = ap is_eq (tied_itself nat_list_cmp_total k)
 
 skipped : (o : Ordering) (found : Option Data) (rest : Option Data) → is_eq o ≡ false
     → match_ordering o rest found rest ≡ rest
-skipped Less found rest other = refl
 skipped Equal found rest other = absurd (cc other)
-skipped Greater found rest other = refl
+skipped order found rest other = refl
 
 met : (o : Ordering) (found : Option Data) (rest : Option Data) → is_eq o ≡ true
     → match_ordering o rest found rest ≡ found
-met Less found rest same = absurd (cc same)
 met Equal found rest same = refl
-met Greater found rest same = absurd (cc same)
+met order found rest same = absurd (cc same)
 
 -- a look-up past another key
 pub past_member : (j k : List ℕ) (value : Data) (rest : Members) → is_key j k ≡ false

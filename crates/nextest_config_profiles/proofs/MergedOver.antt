@@ -19,11 +19,6 @@ pub says_long : (says : Option Data → Said) (files : List (Option (Bor Value))
 says_long says files i within =
     length-map _ _ ∙ length-map _ _ ∙ length-take i files ∙ omega (arith, within)
 
-pub one_file_more : (says : Option Data → Said) (below : Said) (files : List (Option (Bor Value))) (file : Option (Bor Value))
-    → all_over below (map says (lent_files (files ++ file ∷ []))) ≡ over (all_over below (map says (lent_files files))) (says (lent file))
-one_file_more says below files file =
-    ap (all_over below) (says_more says files file) ∙ all_over_both below (map says (lent_files files)) (says (lent file) ∷ [])
-
 pub merged_result : (layers : Layers) (path : Path) (merged : Option Value)
     → ((below : Path) → seen_at below (option_map view merged) ≡ all_over silent (map (said_at (path ++ below)) layers))
     → MatchOption merged (HasNoValue layers path) (λ value. IsMergedOver layers path (view value))

@@ -14,36 +14,18 @@ use Rattle.nextest_config_profiles.proofs.Members.{first_member, is_key, key_its
 pub over_silent : (said : Said) → over silent said ≡ seen said
 over_silent said = search rules
 
-pub over_nothing : (value : Option Data) → IsOver None value value
-over_nothing value path = sym (over_silent (said_at path value))
-
 -- a value is seen, whatever lies below it
 pub seen_value : (value : Data) → seen (said_here value) ≡ silent → ⊥
-seen_value (table no_members) h = cc h
 seen_value (table (member key value rest)) h = cc h
-seen_value (string text) h = cc h
-seen_value (integer number) h = cc h
-seen_value (float number) h = cc h
-seen_value (boolean truth) h = cc h
-seen_value (datetime time) h = cc h
-seen_value (array items) h = cc h
+seen_value value h = cc h
 
 bare_seen : (below : Said) → over below bare ≡ silent → ⊥
 bare_seen silent h = cc h
-bare_seen barred h = cc h
-bare_seen branch h = cc h
-bare_seen bare h = cc h
-bare_seen (leaf value) h = cc h
+bare_seen below h = cc h
 
 value_over : (below : Said) (value : Data) → over below (said_here value) ≡ silent → ⊥
 value_over below (table no_members) h = bare_seen below h
-value_over below (table (member key value rest)) h = cc h
-value_over below (string text) h = cc h
-value_over below (integer number) h = cc h
-value_over below (float number) h = cc h
-value_over below (boolean truth) h = cc h
-value_over below (datetime time) h = cc h
-value_over below (array items) h = cc h
+value_over below value h = cc h
 
 -- a table at one of whose keys something is seen has a member
 some_member : (key : List ℕ) (members : Members) → (seen_at [] (get_member key members) ≡ silent → ⊥)

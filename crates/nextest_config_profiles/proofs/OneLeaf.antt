@@ -17,18 +17,12 @@ branch_leaf (key ∷ path) (Some value) is = absurd (cc is)
 -- where a value stands on the way, that is a leaf
 barred_leaf : (path : Path) (top : Option Data) → said_at path top ≡ barred → (front rest : Path) × (value : Data) × (path ≡ front ++ rest) × (leaf_of (said_at front top) ≡ Some value)
 barred_leaf path None is = absurd (cc is)
-barred_leaf [] (Some (table no_members)) is = absurd (cc is)
 barred_leaf [] (Some (table (member key value rest))) is = absurd (cc is)
 barred_leaf [] (Some value) is = absurd (cc is)
 barred_leaf (key ∷ path) (Some (table members)) is =
     let (front, rest, value, whole, has) = barred_leaf path (get_member key members) is in
     (key ∷ front, rest, value, ap (λ keys. key ∷ keys) whole, has)
-barred_leaf (key ∷ path) (Some (string text)) is = ([], key ∷ path, string text, refl, refl)
-barred_leaf (key ∷ path) (Some (integer number)) is = ([], key ∷ path, integer number, refl, refl)
-barred_leaf (key ∷ path) (Some (float number)) is = ([], key ∷ path, float number, refl, refl)
-barred_leaf (key ∷ path) (Some (boolean truth)) is = ([], key ∷ path, boolean truth, refl, refl)
-barred_leaf (key ∷ path) (Some (datetime time)) is = ([], key ∷ path, datetime time, refl, refl)
-barred_leaf (key ∷ path) (Some (array items)) is = ([], key ∷ path, array items, refl, refl)
+barred_leaf (key ∷ path) (Some value) is = ([], key ∷ path, value, refl, refl)
 
 -- so nothing is said of a path apart from the one leaf
 module _ (top : Data) (path other : Path) (alone : HasLeafAlone top path) (apart : AreApart path other) where

@@ -22,9 +22,8 @@ use Rattle.nextest_config_profiles.proofs.LeafLaws.{nothing_or_said}
 
 one_silent : (o : Ordering) (value : Data) → said_at (codes "inherits" ∷ []) (Some value) ≡ silent
     → said_at (codes "inherits" ∷ []) (match_ordering o None (Some value) None) ≡ silent
-one_silent Less value h = refl
 one_silent Equal value h = h
-one_silent Greater value h = refl
+one_silent order value h = refl
 
 defaults_silent : (profile : List ℕ) → said_at (profile ∷ codes "inherits" ∷ []) (profiles_at default_values) ≡ silent
 defaults_silent profile = one_silent (slice_cmp nat_cmp profile (codes "default")) _ refl
@@ -51,13 +50,7 @@ nothing_at_all files profile none =
 
 pub some_value : (value : Data) → (said_here value ≡ silent → ⊥) × (said_here value ≡ barred → ⊥)
 some_value (table no_members) = (λ e. cc e, λ e. cc e)
-some_value (table (member key value rest)) = (λ e. cc e, λ e. cc e)
-some_value (string text) = (λ e. cc e, λ e. cc e)
-some_value (integer number) = (λ e. cc e, λ e. cc e)
-some_value (float number) = (λ e. cc e, λ e. cc e)
-some_value (boolean truth) = (λ e. cc e, λ e. cc e)
-some_value (datetime time) = (λ e. cc e, λ e. cc e)
-some_value (array items) = (λ e. cc e, λ e. cc e)
+some_value value = (λ e. cc e, λ e. cc e)
 
 pub no_text_placed : (layers : Layers) (profile : List ℕ) → InheritsNoText layers profile → HasNothing (of_inherits layers profile) → ⊥
 no_text_placed layers profile wrong none =

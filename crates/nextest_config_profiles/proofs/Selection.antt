@@ -50,21 +50,14 @@ module _ (target : Said) (decides : (below said : Said) → over below said ≡ 
 
 leaf_decides : (value : Data) (below said : Said) → over below said ≡ leaf value → ((said ≡ silent) × (below ≡ leaf value)) ⊎ (said ≡ leaf value)
 leaf_decides value below silent h = inl (refl, h)
-leaf_decides value below barred h = absurd (cc h)
-leaf_decides value below branch h = absurd (cc h)
-leaf_decides value silent bare h = absurd (cc h)
-leaf_decides value barred bare h = absurd (cc h)
-leaf_decides value branch bare h = absurd (cc h)
-leaf_decides value bare bare h = absurd (cc h)
-leaf_decides value (leaf other) bare h = absurd (cc h)
 leaf_decides value below (leaf other) h = inr h
+leaf_decides value silent bare h = absurd (cc h)
+leaf_decides value below said h = absurd (cc h)
 
 bare_decides : (below said : Said) → over below said ≡ bare → ((said ≡ silent) × (below ≡ bare)) ⊎ (said ≡ bare)
 bare_decides below silent h = inl (refl, h)
-bare_decides below barred h = absurd (cc h)
-bare_decides below branch h = absurd (cc h)
 bare_decides below bare h = inr refl
-bare_decides below (leaf other) h = absurd (cc h)
+bare_decides below said h = absurd (cc h)
 
 -- ---- an empty table that is left
 
@@ -72,29 +65,22 @@ abbrev IsNoBranch : Said → Type 0
 IsNoBranch said = said ≡ branch → ⊥
 
 over_bare : (below : Said) → IsNoBranch below → over below bare ≡ bare
-over_bare silent h = refl
-over_bare barred h = refl
 over_bare branch h = absurd (h refl)
-over_bare bare h = refl
-over_bare (leaf value) h = refl
+over_bare below h = refl
 
 -- over a table with keys, empty ones leave it
 keeps_branch : (all : List Said) → AllByRecursion IsEmpty all → all_over branch all ≡ branch
 keeps_branch [] h = refl
 keeps_branch (silent ∷ rest) h = keeps_branch rest h.1
 keeps_branch (bare ∷ rest) h = keeps_branch rest h.1
-keeps_branch (barred ∷ rest) h = absurd h.0
-keeps_branch (branch ∷ rest) h = absurd h.0
-keeps_branch (leaf value ∷ rest) h = absurd h.0
+keeps_branch (said ∷ rest) h = absurd h.0
 
 -- and over anything else they leave none
 makes_no_branch : (below : Said) (all : List Said) → IsNoBranch below → AllByRecursion IsEmpty all → IsNoBranch (all_over below all)
 makes_no_branch below [] none h = none
 makes_no_branch below (silent ∷ rest) none h = makes_no_branch below rest none h.1
 makes_no_branch below (bare ∷ rest) none h = makes_no_branch (over below bare) rest (λ e. cc (sym (over_bare below none) ∙ e)) h.1
-makes_no_branch below (barred ∷ rest) none h = absurd h.0
-makes_no_branch below (branch ∷ rest) none h = absurd h.0
-makes_no_branch below (leaf value ∷ rest) none h = absurd h.0
+makes_no_branch below (said ∷ rest) none h = absurd h.0
 
 -- one more layer below those of which each above the last value is empty
 emptied_below : (below said : Said) (rest old recent : List Said) → all_over (over below said) rest ≡ bare
@@ -122,17 +108,13 @@ value_no_branch : (below : Said) (old : List Said) → IsNoBranch below → Ends
 value_no_branch below [] none ends = none
 value_no_branch below (barred ∷ []) none ends = λ e. cc e
 value_no_branch below (leaf value ∷ []) none ends = λ e. cc e
-value_no_branch below (silent ∷ []) none ends = absurd ends
-value_no_branch below (branch ∷ []) none ends = absurd ends
-value_no_branch below (bare ∷ []) none ends = absurd ends
+value_no_branch below (said ∷ []) none ends = absurd ends
 value_no_branch below (said ∷ other ∷ rest) none ends = ends_later (over below said) other rest ends
   where
     ends_later : (below other : Said) (rest : List Said) → EndsIn IsValue (other ∷ rest) → IsNoBranch (all_over below (other ∷ rest))
     ends_later below barred [] ends = λ e. cc e
     ends_later below (leaf value) [] ends = λ e. cc e
-    ends_later below silent [] ends = absurd ends
-    ends_later below branch [] ends = absurd ends
-    ends_later below bare [] ends = absurd ends
+    ends_later below said [] ends = absurd ends
     ends_later below other (next ∷ rest) ends = ends_later (over below other) next rest ends
 
 -- ---- leaves
@@ -168,22 +150,19 @@ selected_leaf all position value (inl last) = inl (
 selected_leaf all position value (inr (last, emptied, is)) = inr (bare_left all position last emptied, is)
 
 pub seen_leaf : (said : Said) (value : Data) → leaf_of said ≡ Some value → IsSeenLeaf (seen said) value
-seen_leaf silent value h = absurd (cc h)
-seen_leaf barred value h = absurd (cc h)
-seen_leaf branch value h = absurd (cc h)
 seen_leaf bare value h = inr (refl, sym (ap (λ found. unwrap_or found value) h))
 seen_leaf (leaf other) value h = inl (ap (λ found. leaf (unwrap_or found value)) h)
+seen_leaf said value h = absurd (cc h)
 
 pub none_seen : (value : Data) → IsSeenLeaf silent value → ⊥
 none_seen value (inl h) = cc h
 none_seen value (inr h) = cc h.0
 
 pub leaf_seen : (said : Said) (value : Data) → IsSeenLeaf (seen said) value → leaf_of said ≡ Some value
-leaf_seen silent value h = absurd (none_seen value h)
-leaf_seen barred value h = absurd (none_seen value h)
 leaf_seen branch value (inl h) = absurd (cc h)
 leaf_seen branch value (inr h) = absurd (cc h.0)
 leaf_seen bare value (inl h) = absurd (cc h)
 leaf_seen bare value (inr h) = ap Some (sym h.1)
 leaf_seen (leaf other) value (inl h) = ap leaf_of h
 leaf_seen (leaf other) value (inr h) = absurd (cc h.0)
+leaf_seen said value h = absurd (none_seen value h)

@@ -43,27 +43,18 @@ takes_u32 = takes_number IsU32 u32_decided (codes "u32")
 takes_count : Takes AreAlike count_reading
 takes_count = takes_number IsCount count_decided (codes "a nonzero usize")
 
-takes_spelled : (held : List ℕ) → Takes AreAlike (duration_in held)
-takes_spelled held = record { means_too = λ v w alike x meant. meant }
-
 pub takes_duration : Takes AreAlike duration_reading
-takes_duration = takes_value takes_spelled (takes_none duration_expected) as_str (λ members. refl)
+takes_duration = takes_value (λ held. record { means_too = λ v w alike x meant. meant }) (takes_none duration_expected) as_str (λ members. refl)
 
 module _ {X : Type 0} (all : List X) (word : X → List ℕ) (reads_back : (x : X) → value_of word all (word x) ≡ Some x) where
-  takes_with_word : (held : List ℕ) → Takes AreAlike (with_word all word reads_back held)
-  takes_with_word held = record { means_too = λ v w alike x meant. meant }
-
   pub takes_word : Takes AreAlike (word_reading all word reads_back)
-  takes_word = takes_value takes_with_word (takes_none text_expected) as_str (λ members. refl)
+  takes_word = takes_value (λ held. record { means_too = λ v w alike x meant. meant }) (takes_none text_expected) as_str (λ members. refl)
 
 -- ---- threads-required
 
-takes_threads_in : (held : List ℕ) → Takes AreAlike (threads_in held)
-takes_threads_in held = record { means_too = λ v w alike x meant. meant }
-
 pub takes_threads : Takes AreAlike threads_reading
 takes_threads = takes_value (λ number. takes_made Count (takes_range IsCount count_decided threads_expected number))
-    (takes_value takes_threads_in (takes_none threads_expected) as_str (λ members. refl)) as_integer (λ members. refl)
+    (takes_value (λ held. record { means_too = λ v w alike x meant. meant }) (takes_none threads_expected) as_str (λ members. refl)) as_integer (λ members. refl)
 
 -- ---- retries
 
@@ -113,12 +104,9 @@ takes_retries = takes_value (λ number. takes_made Some (takes_retry_number numb
 
 -- ---- fail-fast
 
-takes_max_fail_in : (held : List ℕ) → Takes AreAlike (fail.max_fail_in held)
-takes_max_fail_in held = record { means_too = λ v w alike x meant. meant }
-
 takes_max_fail : Takes AreAlike fail.max_fail_reading
 takes_max_fail = takes_value (λ number. takes_made _ (takes_range IsCount count_decided fail.max_fail_expected number))
-    (takes_value takes_max_fail_in (takes_none fail.max_fail_expected) as_str (λ members. refl)) as_integer (λ members. refl)
+    (takes_value (λ held. record { means_too = λ v w alike x meant. meant }) (takes_none fail.max_fail_expected) as_str (λ members. refl)) as_integer (λ members. refl)
 
 takes_fail_table : Takes AlikeMembers fail.fail_fast_table
 takes_fail_table = takes_then (takes_required fail.max_fail_key takes_max_fail) (λ count.

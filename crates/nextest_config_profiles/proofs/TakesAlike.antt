@@ -64,9 +64,8 @@ module _ {X : Type 0} {held : Reading Data X} (takes_held : Takes AreAlike held)
   found_taken : (a b : Members) (x : X) → AlikeMembers a b → (found other : Option Data) → AlikeFound found other
       → either found (λ v. held.means v) (rest.means a) x → either other (λ v. held.means v) (rest.means b) x
   found_taken a b x alike None None both meant = takes_rest.means_too a b alike x meant
-  found_taken a b x alike None (Some w) both meant = absurd both
-  found_taken a b x alike (Some v) None both meant = absurd both
   found_taken a b x alike (Some v) (Some w) both meant = takes_held.means_too v w both x meant
+  found_taken a b x alike found other both meant = absurd both
 
   pub takes_key : (name : List ℕ) → Takes AlikeMembers (kind (get_member name) (at_key name held) rest)
   takes_key name = record { means_too = λ a b alike x meant. found_taken a b x alike (get_member name a) (get_member name b) (alike name) meant }

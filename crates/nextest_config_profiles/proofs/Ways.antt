@@ -13,12 +13,7 @@ use Rattle.nextest_config_profiles.specs.declared.chain.ChainFault.TheVariants.{
 -- what a text says
 pub text_said : (value : Data) (text : List ℕ) → as_str value ≡ Some text → said_here value ≡ leaf (string text)
 text_said (string held) text h = ap (λ found. leaf (string (unwrap_or found text))) h
-text_said (integer number) text h = absurd (cc h)
-text_said (float number) text h = absurd (cc h)
-text_said (boolean truth) text h = absurd (cc h)
-text_said (datetime time) text h = absurd (cc h)
-text_said (array items) text h = absurd (cc h)
-text_said (table held) text h = absurd (cc h)
+text_said value text h = absurd (cc h)
 
 module _ (layers : Layers) where
   -- the front of a way, and its end
@@ -72,22 +67,17 @@ pub chain_from : (layers : Layers) (name next : List ℕ) (rest : List (List ℕ
     → IsChain layers next rest → IsChain layers name (name ∷ rest)
 chain_from layers name next rest is_profile other is_next chain = (refl, is_profile, inr (other, (next, is_next, chain)))
 
-pub chain_ends : (layers : Layers) (name : List ℕ) → name ≡ default_profile → IsChain layers name (default_profile ∷ [])
-chain_ends layers name is = (sym is, inl is, inl (is, refl))
-
 pub next_profile_is : (layers : Layers) (name next : List ℕ) → IsNext layers name next → IsProfile layers next
 next_profile_is layers name next (inl none) = inl none.1
 next_profile_is layers name next (inr parent) = parent.1
 
 -- what is wrong right after a profile that is led to
 pub next_is_wrong : (layers : Layers) (name current : List ℕ) (fault : ChainFault) → Asks layers name current → IsNextFault layers current fault → IsChainFault layers name fault
-next_is_wrong layers name current Memory asks h = absurd h
-next_is_wrong layers name current NoProfile asks h = absurd h
-next_is_wrong layers name current (Ring profile) asks h = absurd h
 next_is_wrong layers name current (NotDefined profile parent) asks h =
     (subst (Asks layers name) (sym h.0) asks, (refl, subst (λ from. Inherits layers from parent.now) (sym h.0) h.1, h.2))
 next_is_wrong layers name current (NotText profile) asks h =
     (subst (Asks layers name) (sym h.0) asks, (refl, subst (InheritsNoText layers) (sym h.0) h.1))
+next_is_wrong layers name current other asks h = absurd h
 
 not_so : (b : Bool) → not b ≡ true → b ≡ false
 not_so true h = absurd (cc h)

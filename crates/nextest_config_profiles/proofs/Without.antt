@@ -12,9 +12,8 @@ use Rattle.nextest_config_profiles.specs.Report.Converted.{without}
 by_order : (o : Ordering) (e : Entry) (rest left : List Entry) (ms : Members) → members_view left ≡ ms
     → members_view (cond (is_eq o) rest (e ∷ left))
     ≡ match_ordering o (member (string_bytes e.0) (view e.1) ms) (members_view rest) (member (string_bytes e.0) (view e.1) ms)
-by_order Less e rest left ms same = ap (member (string_bytes e.0) (view e.1)) same
 by_order Equal e rest left ms same = refl
-by_order Greater e rest left ms same = ap (member (string_bytes e.0) (view e.1)) same
+by_order order e rest left ms same = ap (member (string_bytes e.0) (view e.1)) same
 
 pub removed : (k : List ℕ) (es : List Entry)
     → members_view (remove_entry (is_at (λ x. slice_cmp nat_cmp k (string_bytes x))) es) ≡ without k (members_view es)

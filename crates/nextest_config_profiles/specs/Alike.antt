@@ -19,9 +19,7 @@ pub record TakesAlike {X : Type 0} (reading : Reading Data X) : Type 0 where
 -- the profile whose value is given, and what is seen of that
 abbrev pub given_value : {X Y : Type 0} → (X → Y) → Effective X → Option (List ℕ × Y)
 given_value seen (given.Value profile x) = Some (profile.now, seen x)
-given_value seen (given.NotJudged profile) = None
-given_value seen (given.Fault profile refused) = None
-given_value seen given.Nothing = None
+given_value seen other = None
 
 -- the profile of which something is given
 abbrev pub given_by : {X : Type 0} → Effective X → Option (List ℕ)

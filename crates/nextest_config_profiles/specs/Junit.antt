@@ -35,16 +35,13 @@ pub record GetsJunit (profile : EffectiveProfile) (junit : EffectiveJunit) : Typ
 -- the value that is given for a setting, where there is one that is judged
 abbrev pub value_in : {X : Type 0} → Effective X → Option X
 value_in (given.Value profile x) = Some x
-value_in (given.NotJudged profile) = None
-value_in (given.Fault profile refused) = None
-value_in given.Nothing = None
+value_in other = None
 
 -- the path that is given, or that nothing gives one
 abbrev pub path_in : {X : Type 0} → Effective X → Option (Option X)
 path_in (given.Value profile x) = Some (Some x)
-path_in (given.NotJudged profile) = None
-path_in (given.Fault profile refused) = None
 path_in given.Nothing = Some None
+path_in other = None
 
 -- the six settings say all of a report: its path, or that it has none, and its five other parts
 pub record SaysReport (junit : EffectiveJunit) (report : Report (Option (List ℕ))) : Type 0 where

@@ -2,9 +2,7 @@
 use Rattle.std.specs.Prelude.{ℕ, zero, suc, codes, List, ◌∷◌, false, map, Option, None, slice_get}
 use Rattle.toml.specs.Data.{Data, get_member, Members}
 use Rattle.toml.specs.View.{table_view}
-use Rattle.toml_spans.specs.Index.{IsSpanOf}
-use Rattle.toml_spans.specs.Partial.{AreRangesOf, IsPartialIndexOf}
-use Rattle.toml_spans.specs.Ranges.{Ranges}
+use Rattle.toml_spans.specs.Index.{IsIndexOf, IsSpanOf, ranges_in}
 use Rattle.toml_spans.specs.Step.{PathStep}
 use Rattle.toml_spans.specs.declared.place.Span.{Span}
 use Rattle.nextest_config_lint.specs.File.{range_at}
@@ -32,5 +30,5 @@ file_at files (suc position) = slice_get files position
 
 -- the range of a path from the top of a file: that of its value, or without one that of its key
 abbrev pub IsSpanAt : Layer → List PathStep → Option Span → Type 0
-IsSpanAt file path span = (text : List ℕ) (ranges : Ranges) → IsPartialIndexOf text file.index.now
-    → AreRangesOf text ranges → IsSpanOf text (range_at false ranges path) span
+IsSpanAt file path span = (text : List ℕ) → IsIndexOf text file.index.now
+    → IsSpanOf text (range_at false (ranges_in file.index.now) path) span

@@ -21,9 +21,7 @@ HasNoValue layers path =
 abbrev pub leaf_of : Said → Option Data
 leaf_of (leaf value) = Some value
 leaf_of bare = Some (table no_members)
-leaf_of silent = None
-leaf_of barred = None
-leaf_of branch = None
+leaf_of other = None
 
 -- a value has this leaf at a path below it
 abbrev pub HasLeaf : Data → Path → Data → Type 0

@@ -5,11 +5,8 @@ use Rattle.nextest_config_profiles.specs.Said.{bare, barred, branch, leaf, Path,
 
 -- what is seen of what layers say: whether nothing is there, or nothing can be, is one
 abbrev pub seen : Said → Said
-seen silent = silent
 seen barred = silent
-seen branch = branch
-seen bare = bare
-seen (leaf value) = leaf value
+seen said = said
 
 -- what is seen at a path below a value, if there is one
 abbrev pub seen_at : Path → Option Data → Said
@@ -21,11 +18,7 @@ over below silent = below
 over below barred = silent
 over below branch = branch
 over branch bare = branch
-over silent bare = bare
-over barred bare = bare
-over bare bare = bare
-over (leaf value) bare = bare
-over below (leaf value) = leaf value
+over below said = said
 
 -- what is seen at each path is what one value lying over another gives
 abbrev pub IsOver : Option Data → Option Data → Option Data → Type 0

@@ -1,5 +1,6 @@
 -- A profile with what it falls back on.
-use Rattle.std.specs.Prelude.{◌≡◌, ℕ, codes, List, ◌∷◌, map, MatchOption, Option, Some, None, option_and_then, slice_get, string_bytes}
+use Rattle.std.specs.Prelude.{◌≡◌, ℕ, codes, List, [], ◌∷◌, map, MatchOption, Option, Some, None, option_and_then, slice_get, string_bytes}
+use Rattle.std.specs.List.{AllByRecursion}
 use Rattle.toml.specs.Data.{Data}
 use Rattle.toml.specs.View.{table_view}
 use Rattle.nextest_config_values.specs.Read.{Reading}
@@ -9,13 +10,13 @@ use Rattle.nextest_config_profiles.specs.Chain.{IsWrong, no_profile, not_defined
 use Rattle.nextest_config_profiles.specs.Effective.{IsEffective}
 use Rattle.nextest_config_profiles.specs.Merged.{Layers}
 use Rattle.nextest_config_profiles.specs.Layer.{file_at, IsSpanAt, profiles_at}
-use Rattle.nextest_config_profiles.specs.Reach.{lent_files}
+use Rattle.nextest_config_profiles.specs.Reach.{AreReached, lent_files}
 use Rattle.nextest_config_profiles.specs.Said.{Path}
 use Rattle.nextest_config_profiles.specs.declared.effective.Effective.{Effective}
 use Rattle.nextest_config_profiles.specs.declared.layer.Layer.{Layer}
-use Rattle.nextest_config_profiles.specs.declared.owned_chain.OwnedFault.{OwnedFault}
-use Rattle.nextest_config_profiles.specs.declared.owned_chain.OwnedFault.TheVariants as owned
 use Rattle.nextest_config_profiles.specs.declared.profile.EffectiveProfile.{EffectiveProfile}
+use Rattle.nextest_config_profiles.specs.declared.profile_alone.ProfileAlone.{ProfileAlone}
+use Rattle.nextest_config_profiles.specs.declared.profile_alone.Profiles.{Profiles}
 use Rattle.nextest_config_profiles.specs.declared.profile.ProfileFault.{ProfileFault}
 use Rattle.nextest_config_profiles.specs.declared.profile.ProfileFault.TheVariants as faults
 
@@ -36,15 +37,6 @@ profile_wrong (faults.NotDefined profile parent place) =
     Some (not_defined (string_bytes profile) (string_bytes parent))
 profile_wrong (faults.NotText profile place) = Some (not_text (string_bytes profile))
 profile_wrong faults.Memory = None
-
--- what a fault with texts of its own says, unless memory was refused
-abbrev pub owned_wrong : OwnedFault → Option Wrong
-owned_wrong owned.NoProfile = Some no_profile
-owned_wrong (owned.Ring profile) = Some (ring (string_bytes profile))
-owned_wrong (owned.NotDefined profile parent) =
-    Some (not_defined (string_bytes profile) (string_bytes parent))
-owned_wrong (owned.NotText profile) = Some (not_text (string_bytes profile))
-owned_wrong owned.Memory = None
 
 -- the fault tells what is wrong with the chain of a profile, unless memory was refused
 abbrev pub IsProfileFault : Layers → List ℕ → ProfileFault → Type 0
@@ -83,3 +75,23 @@ abbrev pub Gets : {X Y : Type 0} → (X → Y) → Reading Data (Option Y) → E
     → Effective X → Type 0
 Gets seen reading profile keys effective =
     IsEffective seen reading (layers_in profile) keys (chain_in profile) effective
+
+-- ---- what each layer has for one profile
+
+-- this is what these layers have for the profile of its name
+abbrev pub IsLookedUp : Layers → ProfileAlone → Type 0
+IsLookedUp layers profile = AreReached layers (profile.name.now ∷ []) profile.layers.items
+
+-- each is what these layers have for the profile of its name
+abbrev pub AreLookedUp : Layers → List ProfileAlone → Type 0
+AreLookedUp layers = AllByRecursion (IsLookedUp layers)
+
+-- the names of profiles
+abbrev pub names_of : List ProfileAlone → List (List ℕ)
+names_of = map (λ profile. profile.name.now)
+
+-- these are the profiles of the chain, and each is what the layers have for it
+pub record AreProfiles (profiles : Profiles) : Type 0 where
+  pub chain_is : names_of profiles.chain.now ≡ chain_in profiles.effective.now
+  pub chain_looked_up : AreLookedUp (layers_in profiles.effective.now) profiles.chain.now
+  pub all_looked_up : AreLookedUp (layers_in profiles.effective.now) profiles.all.now

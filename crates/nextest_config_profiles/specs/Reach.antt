@@ -1,5 +1,5 @@
 -- What layers have, and where paths lead to.
-use Rattle.std.specs.Prelude.{ℕ, List, ◌∷◌, map, Option, option_map, Some}
+use Rattle.std.specs.Prelude.{◌≡◌, ℕ, Bool, true, false, List, ◌∷◌, ◌++◌, map, Option, option_map, Some}
 use Rattle.std.proofs.Common.{Bor}
 use Rattle.toml.specs.Data.{Data}
 use Rattle.toml.specs.View.{view}
@@ -19,6 +19,11 @@ said_below below reached.Nothing = silent
 said_below below reached.Barred = barred
 said_below below (reached.Value value) = said_at below (Some (view value.now))
 
+-- this leads to a value
+abbrev pub is_value : Reach → Bool
+is_value (reached.Value value) = true
+is_value reach = false
+
 -- what a layer has that is lent, as data
 abbrev pub lent : Option (Bor Value) → Option Data
 lent = option_map (λ value. view value.now)
@@ -30,3 +35,8 @@ lent_files files = map lent files
 -- what lent layers have, as data: what nextest sets itself, and above that the files
 abbrev pub layers_of : LentLayers → List (Option Data)
 layers_of layers = lent layers.defaults ∷ lent_files layers.files.now
+
+-- a path leads there in each of these layers
+abbrev pub AreReached : List (Option Data) → Path → List Reach → Type 0
+AreReached layers path reached =
+    (below : Path) → map (said_below below) reached ≡ map (said_at (path ++ below)) layers

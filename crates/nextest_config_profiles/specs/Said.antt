@@ -1,6 +1,6 @@
 -- What a layer says of a path of keys (TOML 1.1, "Table").
 use Rattle.std.specs.Prelude.{ℕ, List, [], ◌∷◌, Option, Some, None}
-use Rattle.toml.specs.Data.{array, boolean, Data, datetime, float, get_member, integer, member, no_members, string, table}
+use Rattle.toml.specs.Data.{Data, get_member, member, no_members, table}
 
 -- keys, each in the table at those before it
 abbrev pub Path : Type 0
@@ -19,12 +19,7 @@ pub data Said : Type 0 where
 abbrev pub said_here : Data → Said
 said_here (table no_members) = bare
 said_here (table (member key value rest)) = branch
-said_here (string text) = leaf (string text)
-said_here (integer number) = leaf (integer number)
-said_here (float number) = leaf (float number)
-said_here (boolean truth) = leaf (boolean truth)
-said_here (datetime time) = leaf (datetime time)
-said_here (array items) = leaf (array items)
+said_here value = leaf value
 
 -- what a value, if there is one, says of a path below it
 abbrev pub said_at : Path → Option Data → Said

@@ -17,17 +17,13 @@ pub record IsLast (all : List Said) (position : ℕ) (said : Said) : Type 0 wher
 abbrev pub IsValue : Said → Type 0
 IsValue barred = Unit {0}
 IsValue (leaf value) = Unit {0}
-IsValue silent = ⊥
-IsValue branch = ⊥
-IsValue bare = ⊥
+IsValue other = ⊥
 
 -- there is nothing, or an empty table
 abbrev pub IsEmpty : Said → Type 0
 IsEmpty silent = Unit {0}
 IsEmpty bare = Unit {0}
-IsEmpty barred = ⊥
-IsEmpty branch = ⊥
-IsEmpty (leaf value) = ⊥
+IsEmpty other = ⊥
 
 -- a list is empty, or its last element is so
 abbrev pub EndsIn : (Said → Type 0) → List Said → Type 0

@@ -1,13 +1,16 @@
 //! What a chain of profiles gives a setting.
 
-ghost use Rattle.std.specs.Prelude.{◌≡◌, ◌∷◌, [], IfOk, map, MatchOption, None, string_bytes};
+ghost use Rattle.std.specs.Prelude.{◌∷◌, [], IfOk, MatchOption, None};
 ghost use Rattle.toml.specs.View.{view};
 ghost use Rattle.nextest_config_values.specs.Read.{RefusesBy};
 ghost use Rattle.nextest_config_profiles.specs.Effective.{IsEffective, IsGiven, IsOf, IsRead, Passes};
-ghost use Rattle.nextest_config_profiles.specs.Reach.{layers_of, words_of};
+ghost use Rattle.nextest_config_profiles.specs.Merged.{Layers};
+ghost use Rattle.nextest_config_profiles.specs.Profile.{AreLookedUp, names_of};
+ghost use Rattle.nextest_config_profiles.specs.Reach.{AreReached, words_of};
 
-use crate::merged::merged_over;
-use crate::reach::LentLayers;
+use crate::merged::merged_below;
+use crate::profile_alone::ProfileAlone;
+use crate::reach::Reach;
 use nextest_config_elements::profile_setting::ProfileSetting;
 use nextest_config_lint::is_unjudged;
 use nextest_config_values::read::ValueFault;
@@ -27,53 +30,40 @@ pub enum Effective<'p, T: Drop> {
     Nothing,
 }
 
-/// What the chain gives the setting at these keys.
+/// What the first of these profiles that counts gives the setting at these keys.
 pub(crate) fn first_given<'p, T: ProfileSetting>(
     alloc: Global,
-    layers: LentLayers<'_, '_>,
-    chain: &'p [String],
+    profiles: &[ProfileAlone<'p>],
     keys: &[&str],
 ) -> Result<Effective<'p, T>, AllocError>
-    ensures { IfOk result (IsEffective T.seen T.reading (layers_of layers.entry) (words_of keys.now)
-        (map string_bytes chain.now)) }
+    ensures { IfOk result (λ given. (layers : Layers) → AreLookedUp layers profiles.now
+        → IsEffective T.seen T.reading layers (words_of keys.now) (names_of profiles.now) given) }
 {
-    for profile in chain {
-        if let Some(given) = given_by(alloc, layers, profile.as_str(), keys)? {
-            return Ok(given);
+    let [profile, rest @ ..] = profiles else {
+        return Ok(Effective::Nothing);
+    };
+    match given_by(alloc, profile.name, profile.layers.as_slice(), keys)? {
+        Some(given) => Ok(given),
+        None => {
+            let later = first_given(alloc, rest, keys)?;
+            Ok(later)
         }
     }
-    Ok(Effective::Nothing)
 }
 
-/// What a profile alone gives the setting at these keys.
-pub(crate) fn given_alone<'p, T: ProfileSetting>(
+/// What a profile gives the setting, if it counts, where its name leads there in the layers.
+pub(crate) fn given_by<'p, T: ProfileSetting>(
     alloc: Global,
-    layers: LentLayers<'_, '_>,
     profile: &'p str,
-    keys: &[&str],
-) -> Result<Effective<'p, T>, AllocError>
-    ensures { IfOk result (IsEffective T.seen T.reading (layers_of layers.entry) (words_of keys.now)
-        (profile.now ∷ [])) }
-{
-    match given_by(alloc, layers, profile, keys)? {
-        Some(given) => Ok(given),
-        None => Ok(Effective::Nothing),
-    }
-}
-
-// What a profile gives the setting, if it counts.
-fn given_by<'p, T: ProfileSetting>(
-    alloc: Global,
-    layers: LentLayers<'_, '_>,
-    profile: &'p str,
+    layers: &[Reach<'_>],
     keys: &[&str],
 ) -> Result<Option<Effective<'p, T>>, AllocError>
-    ensures { IfOk result (λ given. MatchOption given
-        (Passes T.seen T.reading (layers_of layers.entry) (words_of keys.now) profile.now)
-        (IsGiven T.seen T.reading (layers_of layers.entry) (words_of keys.now) profile.now)) }
+    ensures { IfOk result (λ given. (all : Layers) → AreReached all (profile.now ∷ []) layers.now
+        → MatchOption given
+        (Passes T.seen T.reading all (words_of keys.now) profile.now)
+        (IsGiven T.seen T.reading all (words_of keys.now) profile.now)) }
 {
-    let path = path_of(alloc, profile, keys)?;
-    match merged_over(alloc, layers, path.as_slice())? {
+    match merged_below(layers, keys)? {
         Some(value) => {
             let given = read_value(alloc, profile, &value)?;
             Ok(given)
@@ -82,22 +72,8 @@ fn given_by<'p, T: ProfileSetting>(
     }
 }
 
-// The path of the setting in a profile.
-fn path_of<'a>(
-    alloc: Global,
-    profile: &'a str,
-    keys: &[&'a str],
-) -> Result<Vec<&'a str>, AllocError>
-    ensures { IfOk result (λ path. words_of path.items ≡ profile.now ∷ words_of keys.now) }
-{
-    let mut path = Vec::new(alloc);
-    path.push(profile)?;
-    path.extend_from_slice(keys)?;
-    Ok(path)
-}
-
-// What a profile's value of the setting is read as.
-fn read_value<'p, T: ProfileSetting>(
+/// What a profile's value of the setting is read as.
+pub(crate) fn read_value<'p, T: ProfileSetting>(
     alloc: Global,
     profile: &'p str,
     value: &Value,

@@ -56,6 +56,6 @@ fn place_of<'a>(
     Ok(InheritsPlace {
         file,
         value: found.value,
-        span: file.span(alloc, steps.as_slice())?,
+        span: file.span(steps.as_slice()),
     })
 }

@@ -27,6 +27,7 @@ pub(crate) fn last_value<'a>(layers: LentLayers<'_, 'a>, path: &[&str]) -> Optio
 
 /// What the last of the files that say anything of a path has there, or else the last of the layers
 /// below them, of which there are so many.
+#[inline]
 pub(crate) fn last_above<'a>(
     below: Option<LayerValue<'a>>,
     count: usize,

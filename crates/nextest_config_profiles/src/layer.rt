@@ -8,29 +8,27 @@ ghost use Rattle.nextest_config_profiles.specs.Reach.{layers_of, lent_files};
 
 use crate::reach::LentLayers;
 use nextest_config::nextest_version::ConfigSource;
+use nextest_config_lint::value_or_key;
 use nextest_config_values::read::value_at;
 use std::alloc::{AllocError, Global};
 use toml::{Table, Value};
-use toml_spans::{PartialIndex, Span, Step};
+use toml_spans::{Index, Span, Step};
 
 /// A file of a list, with its document and the index of its places.
 #[derive(Clone, Copy, Debug)]
 pub struct Layer<'a> {
     pub source: &'a ConfigSource,
     pub document: &'a Table,
-    pub index: &'a PartialIndex<'a>,
+    pub index: &'a Index,
 }
 
 impl Layer<'_> {
     /// The range of the value of a path from the top, or without one that of its key; `None` where
     /// the path leads to nothing.
-    pub fn span(&self, alloc: Global, path: &[Step]) -> Result<Option<Span>, AllocError>
-        ensures { IfOk result (IsSpanAt self.now (map step_of path.now)) }
+    pub fn span(&self, path: &[Step]) -> Option<Span>
+        ensures { IsSpanAt self.now (map step_of path.now) result }
     {
-        match self.index.value(alloc, path)? {
-            Some(span) => Ok(Some(span)),
-            None => self.index.key(alloc, path),
-        }
+        value_or_key(self.index, path)
     }
 }
 

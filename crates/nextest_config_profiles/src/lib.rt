@@ -10,15 +10,15 @@ mod last_value;
 pub mod laws;
 mod layer;
 mod leaves;
-mod locate;
 mod merged;
 mod name_list;
-mod owned_chain;
 mod profile;
+mod profile_alone;
 mod profiles;
 mod reach;
 pub mod report;
 mod setting_key;
+mod texts;
 
 pub use defaults::DEFAULTS;
 pub use effective::Effective;
@@ -27,7 +27,6 @@ pub use junit::{EffectiveJunit, JunitFault};
 pub use last_value::LayerValue;
 pub use layer::Layer;
 pub use leaves::Leaf;
-pub use locate::profiles_to_locate;
 pub use name_list::profile_names;
 pub use profile::{EffectiveProfile, ProfileFault};
 pub use setting_key::{

@@ -1,14 +1,14 @@
 //! Values that are merged: of two tables key by key, else the later one counts.
 
-ghost use Rattle.std.specs.Prelude.{◌≡◌, IfOk, map, MatchOption, None, OnOk, option_map, Some, string_bytes};
+ghost use Rattle.std.specs.Prelude.{◌≡◌, ◌++◌, IfOk, MatchOption, None, OnOk, option_map, Some, string_bytes};
 ghost use Rattle.toml.specs.Data.{table};
 ghost use Rattle.toml.specs.View.{table_view, view};
-ghost use Rattle.nextest_config_profiles.specs.Merged.{HasNoValue, IsMergedOver};
+ghost use Rattle.nextest_config_profiles.specs.Merged.{HasNoValue, IsMergedOver, Layers};
 ghost use Rattle.nextest_config_profiles.specs.Merging.{IsOver, over, Puts, seen_at};
-ghost use Rattle.nextest_config_profiles.specs.Reach.{layers_of, said_below, words_of};
+ghost use Rattle.nextest_config_profiles.specs.Reach.{AreReached, layers_of, said_below, words_of};
 ghost use Rattle.nextest_config_profiles.specs.Said.{Path};
 
-use crate::reach::{LentLayers, Reach, follow};
+use crate::reach::{LentLayers, Reach, follow_on, reached_at};
 use std::alloc::{AllocError, Global};
 use toml::{Table, Value};
 
@@ -22,15 +22,27 @@ pub(crate) fn merged_over(
         (HasNoValue (layers_of layers.entry) (words_of path.now))
         (λ value. IsMergedOver (layers_of layers.entry) (words_of path.now) (view value))) }
 {
-    let files = layers.files;
-    let mut merged = merge(None, follow(layers.defaults, path))?;
-    for file in files {
-        merged = merge(merged, follow(*file, path))?;
+    let reached = reached_at(alloc, layers, path)?;
+    let merged = merged_below(reached.as_slice(), &[])?;
+    Ok(merged)
+}
+
+/// What layers, the lowest first, come to at a path below the one that leads there in them, where
+/// they have anything there.
+pub(crate) fn merged_below(layers: &[Reach<'_>], path: &[&str]) -> Result<Option<Value>, AllocError>
+    ensures { IfOk result (λ merged. (all : Layers) (above : Path) → AreReached all above layers.now
+        → MatchOption merged (HasNoValue all (above ++ words_of path.now))
+        (λ value. IsMergedOver all (above ++ words_of path.now) (view value))) }
+{
+    let mut merged = None;
+    for layer in layers {
+        merged = merge(merged, follow_on(*layer, path))?;
     }
     Ok(merged)
 }
 
 // Merges what a layer has into what lies below it.
+#[inline]
 fn merge(below: Option<Value>, layer: Reach<'_>) -> Result<Option<Value>, AllocError>
     ensures { IfOk result (λ merged. (path : Path) → seen_at path (option_map view merged)
         ≡ over (seen_at path (option_map view below)) (said_below path layer.entry)) }

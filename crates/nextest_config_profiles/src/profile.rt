@@ -5,27 +5,28 @@ ghost use Rattle.std.specs.List.{AllByRecursion};
 ghost use Rattle.toml.specs.View.{view};
 ghost use Rattle.toml_spans.specs.Step.{step_of};
 ghost use Rattle.nextest_config_profiles.specs.Effective.{IsEffective};
-ghost use Rattle.nextest_config_profiles.specs.Chain.{IsChain};
+ghost use Rattle.nextest_config_profiles.specs.Chain.{chain_wrong, IsChain};
 ghost use Rattle.nextest_config_profiles.specs.Inherits.{HasPlace, IsPlacedFault};
 ghost use Rattle.nextest_config_profiles.specs.Layer.{all_layers};
 ghost use Rattle.nextest_config_profiles.specs.Merged.{HasNoValue, IsMergedOver};
-ghost use Rattle.nextest_config_profiles.specs.Profile.{chain_in, file_in, files_in, Gets, IsProfileFault, IsSpanIn, layer_at, layers_in, owned_wrong, profile_wrong, steps_to};
+ghost use Rattle.nextest_config_profiles.specs.Profile.{chain_in, file_in, files_in, Gets, IsProfileFault, IsSpanIn, layer_at, layers_in, profile_wrong, steps_to};
 ghost use Rattle.nextest_config_profiles.specs.SettingKey.{keys_of};
 ghost use Rattle.nextest_config_profiles.specs.LastValue.{IsLastValue};
 ghost use Rattle.nextest_config_profiles.specs.Leaves.{AreAllLeaves, IsLeafBelow};
 ghost use Rattle.nextest_config_profiles.specs.Reach.{layers_of, words_of};
 ghost use Rattle.nextest_config_profiles.specs.Said.{said_at};
 
+use crate::chain::{ChainFault, chain_of};
 use crate::defaults::default_document;
-use crate::effective::{Effective, first_given, given_alone};
+use crate::effective::{Effective, first_given, given_by};
 use crate::inherits::{InheritsPlace, inherits_place};
 use crate::last_value::{LayerValue, last_value};
 use crate::layer::{Layer, lent_layers, profiles_at, profiles_of_files};
 use crate::leaves::{Leaf, leaves_below};
 use crate::merged::merged_over;
-use crate::owned_chain::{OwnedFault, owned_chain};
-use crate::reach::LentLayers;
+use crate::reach::{LentLayers, reached_at};
 use crate::setting_key::SettingKey;
+use crate::texts::copies;
 use nextest_config_elements::profile_setting::ProfileSetting;
 use std::alloc::{AllocError, Global};
 use toml::{Table, Value};
@@ -79,14 +80,19 @@ impl<'a> EffectiveProfile<'a> {
     {
         let defaults = default_document(alloc)?;
         let profiles = profiles_of_files(alloc, layers)?;
-        match owned_chain(alloc, lent_layers(&defaults, profiles.as_slice()), name) {
+        match owned_chain(
+            alloc,
+            lent_layers(&defaults, profiles.as_slice()),
+            layers,
+            name,
+        ) {
             Ok(chain) => Ok(EffectiveProfile {
                 defaults,
                 layers,
                 profiles,
                 chain,
             }),
-            Err(fault) => Err(placed(alloc, layers, fault)?),
+            Err(fault) => Err(fault),
         }
     }
 
@@ -97,8 +103,8 @@ impl<'a> EffectiveProfile<'a> {
         self.chain.as_slice()
     }
 
-    // What its layers have for profiles.
-    fn lent(&self) -> LentLayers<'_, '_>
+    /// What its layers have for profiles.
+    pub(crate) fn lent(&self) -> LentLayers<'_, '_>
         ensures { layers_of result ≡ layers_in self.now }
     {
         lent_layers(&self.defaults, self.profiles.as_slice())
@@ -113,7 +119,8 @@ impl<'a> EffectiveProfile<'a> {
         ensures { IfOk result (IsEffective T.seen T.reading (layers_in self.now)
             (words_of keys.now) (chain_in self.now)) }
     {
-        let given = first_given(alloc, self.lent(), self.chain.as_slice(), keys)?;
+        let chain = self.chain_alone(alloc)?;
+        let given = first_given(alloc, chain.as_slice(), keys)?;
         Ok(given)
     }
 
@@ -140,8 +147,11 @@ impl<'a> EffectiveProfile<'a> {
         ensures { IfOk result (IsEffective T.seen T.reading (layers_in self.now)
             (words_of keys.now) (name.now ∷ [])) }
     {
-        let given = given_alone(alloc, self.lent(), name, keys)?;
-        Ok(given)
+        let layers = reached_at(alloc, self.lent(), &[name])?;
+        match given_by(alloc, name, layers.as_slice(), keys)? {
+            Some(given) => Ok(given),
+            None => Ok(Effective::Nothing),
+        }
     }
 
     /// What the last of the layers that say anything of a path below `profile` has there, if that
@@ -169,7 +179,7 @@ impl<'a> EffectiveProfile<'a> {
     {
         let steps = steps_to(alloc, path)?;
         match self.file(layer) {
-            Some(file) => file.span(alloc, steps.as_slice()),
+            Some(file) => Ok(file.span(steps.as_slice())),
             None => Ok(None),
         }
     }
@@ -195,10 +205,7 @@ impl<'a> EffectiveProfile<'a> {
     {
         match layer {
             0 => profiles_at(&self.defaults),
-            layer => match self.profiles.as_slice().get(layer - 1) {
-                Some(profiles) => *profiles,
-                None => None,
-            },
+            layer => *self.profiles.as_slice().get(layer - 1)?,
         }
     }
 
@@ -258,30 +265,51 @@ pub(crate) fn steps_to(alloc: Global, path: &[&str]) -> Result<Vec<Step>, AllocE
     Ok(steps)
 }
 
-// The fault with its place.
+// The chain of a profile, by what the layers of these files have for profiles.
+fn owned_chain<'a>(
+    alloc: Global,
+    lent: LentLayers<'_, '_>,
+    layers: &'a [Layer<'a>],
+    name: &str,
+) -> Result<Vec<String>, ProfileFault<'a>>
+    ensures chain { IfOk result (λ chain.
+        IsChain (layers_of lent.entry) name.now (map string_bytes chain.items)) }
+    ensures fault { IfErr result (IsProfileFault (layers_of lent.entry) name.now) }
+    ensures place { IfErr result (IsPlacedFault layers.now) }
+{
+    match chain_of(alloc, lent, name) {
+        Ok(chain) => {
+            let chain = copies(alloc, chain.as_slice())?;
+            Ok(chain)
+        }
+        Err(fault) => Err(placed(alloc, layers, fault)?),
+    }
+}
+
+// The fault with texts of its own, and its place.
 fn placed<'a>(
     alloc: Global,
     layers: &'a [Layer<'a>],
-    fault: OwnedFault,
+    fault: ChainFault<'_>,
 ) -> Result<ProfileFault<'a>, AllocError>
-    ensures fault { IfOk result (λ placed. profile_wrong placed ≡ owned_wrong fault) }
+    ensures fault { IfOk result (λ placed. profile_wrong placed ≡ chain_wrong fault.entry) }
     ensures place { IfOk result (IsPlacedFault layers.now) }
 {
     Ok(match fault {
-        OwnedFault::NoProfile => ProfileFault::NoProfile,
-        OwnedFault::Ring { profile } => ProfileFault::Ring {
-            place: inherits_place(alloc, layers, profile.as_str())?,
-            profile,
+        ChainFault::NoProfile => ProfileFault::NoProfile,
+        ChainFault::Ring { profile } => ProfileFault::Ring {
+            profile: String::from_str(alloc, profile)?,
+            place: inherits_place(alloc, layers, profile)?,
         },
-        OwnedFault::NotDefined { profile, parent } => ProfileFault::NotDefined {
-            place: inherits_place(alloc, layers, profile.as_str())?,
-            profile,
-            parent,
+        ChainFault::NotDefined { profile, parent } => ProfileFault::NotDefined {
+            profile: String::from_str(alloc, profile)?,
+            parent: String::from_str(alloc, parent)?,
+            place: inherits_place(alloc, layers, profile)?,
         },
-        OwnedFault::NotText { profile } => ProfileFault::NotText {
-            place: inherits_place(alloc, layers, profile.as_str())?,
-            profile,
+        ChainFault::NotText { profile } => ProfileFault::NotText {
+            profile: String::from_str(alloc, profile)?,
+            place: inherits_place(alloc, layers, profile)?,
         },
-        OwnedFault::Memory => ProfileFault::Memory,
+        ChainFault::Memory => ProfileFault::Memory,
     })
 }

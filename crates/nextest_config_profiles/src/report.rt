@@ -21,6 +21,7 @@ mod profile_report;
 mod remark;
 mod rows;
 mod setting;
+mod somes;
 mod source;
 mod standing;
 mod wanted;

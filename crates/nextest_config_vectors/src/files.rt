@@ -2,9 +2,7 @@
 
 pub mod documents;
 pub mod findings;
-pub mod lines;
 pub mod lists;
-pub mod locate;
 pub mod positions;
 
 use crate::answers::unknown;
@@ -17,11 +15,8 @@ pub fn answer(rt: &Runner, subject: &str, call: &str, input: &str) -> Result<Str
         "findings" => findings::findings(rt, call, input),
         "found" => documents::found(rt, call, input),
         "index" => positions::looked(rt, call, input),
-        "index of profiles" => positions::partial(rt, call, input),
-        "line" => lines::lines(rt, call, input),
         "place" => positions::places(rt, call, input),
         "profiles" => lists::lists(rt, call, input),
-        "profiles to locate" => locate::locate(rt, call, input),
         "severities" => findings::severities(rt, call, input),
         _ => unknown(rt, subject),
     }

@@ -1,16 +1,15 @@
 -- What is found in entries, beside what is found in their trees.
-use Rattle.std.proofs.Common.{◌≡◌, ℕ, zero, suc, ◌-◌, ◌<◌, ◌≤◌, List, [], ◌∷◌, drop, get_or, length, map, take, take_all, Option, Some, None, option_and_then, option_map, Bor, refl, ap, ◌∙◌, arith, Global, String, string_bytes}
+use Rattle.std.proofs.Common.{◌≡◌, ℕ, zero, suc, ◌-◌, ◌<◌, ◌≤◌, List, [], ◌∷◌, drop, get_or, length, map, take, take_all, Option, Some, None, option_and_then, option_map, Bor, refl, ap, ◌∙◌, arith}
 use Rattle.std.proofs.lemmas.Option.{none-some, same_Some}
 use Rattle.std.specs.BTreeMap.{is_at}
 use Rattle.std.specs.Map.{lookup}
 use Rattle.toml_spans.specs.Entry.{get_branch, get_tree, Pieces, pieces_of, push_tree, Tree}
 use Rattle.toml_spans.specs.EntryViews.{pairs_of, piece_of, tree_of, trees_from}
 use Rattle.toml_spans.specs.Ranges.{range_of}
-use Rattle.toml_spans.specs.Step.{key, PathStep, step_of}
+use Rattle.toml_spans.specs.Step.{step_of}
 use Rattle.toml_spans.specs.declared.entry.Entry.{Entry}
 use Rattle.toml_spans.specs.declared.entry.Piece.{Piece}
 use Rattle.toml_spans.specs.declared.step.Step.{Step}
-use Rattle.toml_spans.specs.declared.step.Step.TheVariants.{Key}
 use Rattle.toml_spans.proofs.Views.{at_text, Pair, tree_of-lookup}
 
 -- the first of some steps, and the rest
@@ -20,17 +19,6 @@ steps_front [] step d some same = absurd (omega (arith, some))
 steps_front (x ∷ steps) step d some same =
     let all : take (suc (length steps) - 1) steps ≡ steps = take_all _ steps (omega arith) in
     rw (same, all) refl
-
--- the first two, and the rest
-pub two_steps : (steps : List Step) (a b d e : Step) → 2 ≤ length steps → a ≡ get_or steps 0 d → b ≡ get_or steps 1 e → (rest : List PathStep) × (map step_of steps ≡ step_of a ∷ (step_of b ∷ rest))
-two_steps [] a b d e some first second = absurd (omega (arith, some))
-two_steps (x ∷ []) a b d e some first second = absurd (omega (arith, some))
-two_steps (x ∷ y ∷ steps) a b d e some first second = (map step_of steps, rw (first, second) refl)
-
--- which are keys
-pub two_keys : (path : List PathStep) (first second : Step) (rest : List PathStep) (a b : String Global) (text : List ℕ) → path ≡ step_of first ∷ (step_of second ∷ rest) → first ≡ Key a → second ≡ Key b → string_bytes a ≡ text
-    → path ≡ key text ∷ (key (string_bytes b) ∷ rest)
-two_keys path first second rest a b text is first_is second_is same = is ∙ rw (first_is, second_is, same) refl
 
 -- an entry at a key
 seen_of : (r : Option (Bor Entry)) → option_map (λ x. tree_of x.now) r ≡ option_map tree_of (option_map (λ x. x.now) r)

@@ -7,16 +7,16 @@ use Rattle.toml_parser.specs.Lexical.{first, is_word, Read, skip_blank, skip_ws}
 use Rattle.toml_parser.specs.Numbers.{unquoted, word_len}
 use Rattle.toml_parser.specs.Strings.{simple_key}
 use Rattle.toml.specs.Parse.{after_element, atom}
-use Rattle.toml.specs.Tables.{dotted, implicit}
+use Rattle.toml.specs.Tables.{Origin}
 use Rattle.toml_spans.specs.Entry.{array, Branches, get_branch, inline, insert_branch, no_branches, no_trees, piece, push_tree, replace_branch, scalar, table, Tree, Trees}
 use Rattle.toml_spans.specs.Key.{Part, Parts, parts_after}
 use Rattle.toml_spans.specs.KeyViews.{part_of, path_of}
 use Rattle.toml_spans.specs.Refusal.{Gives, refusal_of}
-use Rattle.toml_spans.specs.Table.{along_dots, along_header, at_part, Definition, Growth, new_tree, put, redefined, through_dot, through_header}
+use Rattle.toml_spans.specs.Table.{along, at_part, Definition, Growth, new_tree, put, redefined, through}
 use Rattle.toml_spans.specs.Value.{element_trees, member_trees, pair_tree, parts_equals, placed, value_tree}
 use Rattle.toml_spans.specs.declared.key.Part.{Part as CodePart}
 use Rattle.toml_spans.specs.declared.refusal.Refusal.{Refusal}
-use Rattle.toml_spans.specs.declared.refusal.Refusal.TheVariants.{Memory, NoDocument}
+use Rattle.toml_spans.specs.declared.refusal.Refusal.TheVariants.{NoDocument}
 use Rattle.toml_parser.specs.declared.error.ParseError.{ParseError}
 use Rattle.toml_parser.specs.declared.error.ParseError.TheVariants as parse_error
 
@@ -32,12 +32,6 @@ pub gives_read_err : {A B : Type 0} (f : A → B) (r : Result A Refusal) (expect
 gives_read_err f (Ok a) expected e Q h same refused = absurd h
 gives_read_err f (Err y) expected parse_error.OutOfMemory Q h same refused = λ is. absurd (cc (same y h, is))
 gives_read_err f (Err y) expected (parse_error.At k from to) Q h same refused = λ is. refused (λ memory. cc memory)
-
--- and of a request for memory
-pub gives_memory_err : {A B : Type 0} (f : A → B) (r : Result A Refusal) (expected : Option B) (Q : Refusal → Type 0)
-    → IsErrAnd r Q → ((y : Refusal) → Q y → y ≡ Memory) → Gives f r expected
-gives_memory_err f (Ok a) expected Q h same = absurd h
-gives_memory_err f (Err y) expected Q h same = λ is. absurd (cc (same y h, is))
 
 -- ---- keys
 
@@ -186,38 +180,20 @@ pub at_part_new : (part : Part) (what : Definition) (bs : Branches) → get_bran
 unfolding at_part
 at_part_new part what bs none = rw none
 
-pub header_ok : (part : Part) (path : List Part) (grow : Growth) (bs new : Branches) (t u : Tree) → get_branch part.0 bs ≡ Some t → through_header (along_header path grow) t ≡ Some u → new ≡ replace_branch part.0 u bs
-    → along_header (part ∷ path) grow bs ≡ Some new
-unfolding along_header
-header_ok part path grow bs new t u found step written = rw (found, step, written)
+pub along_ok : (by : Origin) (part : Part) (path : List Part) (grow : Growth) (bs new : Branches) (t u : Tree) → get_branch part.0 bs ≡ Some t → through by (along by path grow) t ≡ Some u → new ≡ replace_branch part.0 u bs
+    → along by (part ∷ path) grow bs ≡ Some new
+unfolding along
+along_ok by part path grow bs new t u found step written = rw (found, step, written)
 
-pub header_err : (part : Part) (path : List Part) (grow : Growth) (bs : Branches) (t : Tree) → get_branch part.0 bs ≡ Some t → through_header (along_header path grow) t ≡ None → along_header (part ∷ path) grow bs ≡ None
-unfolding along_header
-header_err part path grow bs t found step = rw (found, step)
+pub along_err : (by : Origin) (part : Part) (path : List Part) (grow : Growth) (bs : Branches) (t : Tree) → get_branch part.0 bs ≡ Some t → through by (along by path grow) t ≡ None → along by (part ∷ path) grow bs ≡ None
+unfolding along
+along_err by part path grow bs t found step = rw (found, step)
 
-pub header_new : (part : Part) (path : List Part) (grow : Growth) (bs inner new : Branches) → get_branch part.0 bs ≡ None → along_header path grow no_branches ≡ Some inner → new ≡ insert_branch part.0 (table part.1 implicit inner) bs
-    → along_header (part ∷ path) grow bs ≡ Some new
-unfolding along_header
-header_new part path grow bs inner new none step written = rw (none, step, written)
+pub along_new : (by : Origin) (part : Part) (path : List Part) (grow : Growth) (bs inner new : Branches) → get_branch part.0 bs ≡ None → along by path grow no_branches ≡ Some inner → new ≡ insert_branch part.0 (table part.1 by inner) bs
+    → along by (part ∷ path) grow bs ≡ Some new
+unfolding along
+along_new by part path grow bs inner new none step written = rw (none, step, written)
 
-pub header_new_err : (part : Part) (path : List Part) (grow : Growth) (bs : Branches) → get_branch part.0 bs ≡ None → along_header path grow no_branches ≡ None → along_header (part ∷ path) grow bs ≡ None
-unfolding along_header
-header_new_err part path grow bs none step = rw (none, step)
-
-pub dots_ok : (part : Part) (path : List Part) (grow : Growth) (bs new : Branches) (t u : Tree) → get_branch part.0 bs ≡ Some t → through_dot (along_dots path grow) t ≡ Some u → new ≡ replace_branch part.0 u bs
-    → along_dots (part ∷ path) grow bs ≡ Some new
-unfolding along_dots
-dots_ok part path grow bs new t u found step written = rw (found, step, written)
-
-pub dots_err : (part : Part) (path : List Part) (grow : Growth) (bs : Branches) (t : Tree) → get_branch part.0 bs ≡ Some t → through_dot (along_dots path grow) t ≡ None → along_dots (part ∷ path) grow bs ≡ None
-unfolding along_dots
-dots_err part path grow bs t found step = rw (found, step)
-
-pub dots_new : (part : Part) (path : List Part) (grow : Growth) (bs inner new : Branches) → get_branch part.0 bs ≡ None → along_dots path grow no_branches ≡ Some inner → new ≡ insert_branch part.0 (table part.1 dotted inner) bs
-    → along_dots (part ∷ path) grow bs ≡ Some new
-unfolding along_dots
-dots_new part path grow bs inner new none step written = rw (none, step, written)
-
-pub dots_new_err : (part : Part) (path : List Part) (grow : Growth) (bs : Branches) → get_branch part.0 bs ≡ None → along_dots path grow no_branches ≡ None → along_dots (part ∷ path) grow bs ≡ None
-unfolding along_dots
-dots_new_err part path grow bs none step = rw (none, step)
+pub along_new_err : (by : Origin) (part : Part) (path : List Part) (grow : Growth) (bs : Branches) → get_branch part.0 bs ≡ None → along by path grow no_branches ≡ None → along by (part ∷ path) grow bs ≡ None
+unfolding along
+along_new_err by part path grow bs none step = rw (none, step)

@@ -1,11 +1,12 @@
 -- The statements of a document (TOML 1.1), one after the other, and what stands where after each.
-use Rattle.std.specs.Prelude.{◌≡◌, ℕ, ◌==◌, ◌&&◌, if◌then◌else◌, List, [], ◌∷◌, ◌++◌, length, drop, slice_index, Option, Some, option_and_then, option_map}
+use Rattle.std.specs.Prelude.{◌≡◌, ℕ, ◌==◌, ◌&&◌, if◌then◌else◌, List, [], ◌∷◌, ◌++◌, drop, slice_index, Option, Some, option_and_then, option_map}
 use Rattle.toml_parser.specs.Lexical.{first, left_bracket, Read, right_bracket, skip_blank, skip_ws}
 use Rattle.toml_parser.specs.Strings.{recursion_limit}
 use Rattle.toml.specs.Parse.{after_byte, ends_line, read_map, skip_bom}
+use Rattle.toml.specs.Tables.{implicit}
 use Rattle.toml_spans.specs.Entry.{Branches, no_branches}
 use Rattle.toml_spans.specs.Key.{Part, Parts, parts}
-use Rattle.toml_spans.specs.Table.{along_header, array_table, at_part, Definition, pair, put, std_table}
+use Rattle.toml_spans.specs.Table.{along, array_table, at_part, Definition, pair, put, std_table}
 use Rattle.toml_spans.specs.Value.{pair_tree, value_tree}
 
 -- a statement: a key with what it defines
@@ -33,34 +34,34 @@ unfoldable pub statement_line : List ℕ → Read Statement
 statement_line text = option_and_then
     (λ s. if ends_line (skip_ws s.1) then Some s else Option.None) (statement text)
 
--- a walk over statements: what stands where, the key of the last header, and where the statements
--- begin, the last one first, each by the bytes that stand from there on
+-- what stands where after some statements, and the key of the last header
 pub record Walk : Type 0 where
   pub root : Branches
   pub section : List Part
-  pub begins : List ℕ
 
--- what stands where, and the last header, after a statement: a pair goes into the table of the last
--- header, and a header starts from the root
-abbrev pub grown : Walk → Parts → Definition → Option (Branches × List Part)
-grown walk key (pair t) = option_map (λ root. (root, walk.section))
-    (along_header walk.section (put key t) walk.root)
-grown walk key what = option_map (λ root. (root, key.0 ++ key.1 ∷ []))
-    (along_header key.0 (at_part key.1 what) walk.root)
-
--- the walk after one more statement, which begins at this text
-unfoldable pub walk_on : Walk → List ℕ → Statement → Option Walk
-walk_on walk start s = option_map
-    (λ new. record { root = new.0; section = new.1; begins = length start ∷ walk.begins })
-    (grown walk s.0 s.1)
+-- the walk after one more statement: a pair goes into the table of the last header, and a header
+-- starts from the root
+abbrev pub walk_on : Walk → Parts → Definition → Option Walk
+walk_on walk key (pair t) = option_map (λ root. record { root = root; section = walk.section })
+    (along implicit walk.section (put key t) walk.root)
+walk_on walk key what = option_map
+    (λ root. record { root = root; section = key.0 ++ key.1 ∷ [] })
+    (along implicit key.0 (at_part key.1 what) walk.root)
 
 -- the walk before the first statement
 abbrev pub no_walk : Walk
-no_walk = record { root = no_branches; section = []; begins = [] }
+no_walk = record { root = no_branches; section = [] }
 
 -- the walk over the statements of a text, up to where this rest of it begins
 pub data Walks (text : List ℕ) : Walk → List ℕ → Type 0 where
   begin : Walks text no_walk (skip_bom text)
   go_on : (walk next : Walk) (rest after : List ℕ) (s : Statement) → Walks text walk rest
-      → statement_line (skip_blank rest) ≡ Some (s, after)
-      → walk_on walk (skip_blank rest) s ≡ Some next → Walks text next after
+      → statement_line (skip_blank rest) ≡ Some (s, after) → walk_on walk s.0 s.1 ≡ Some next
+      → Walks text next after
+
+-- what stands where after all statements of a text
+pub record IsWalked (text : List ℕ) (root : Branches) : Type 0 where
+  pub section : List Part
+  pub rest : List ℕ
+  pub walks : Walks text (record { root = root; section = section }) rest
+  pub over : skip_blank rest ≡ []

@@ -1,7 +1,6 @@
 -- What stands where in a document: a tree of the keys and values of a text, each with its pieces.
 use Rattle.std.specs.Prelude.{ℕ, zero, suc, if◌then◌else◌, List, [], ◌∷◌, length, Option, Some, None, option_and_then}
 use Rattle.std.specs.Cmp.Lexicographic.{slice_cmp}
-use Rattle.std.specs.Option.{option_or}
 use Rattle.std.specs.Ordering.{match_ordering, nat_cmp}
 use Rattle.toml.specs.Data.{same_key}
 use Rattle.toml.specs.Tables.{header, Origin}
@@ -49,10 +48,6 @@ pieces_of (array k v ts) = record { of_key = k; of_value = Some v }
 pieces_of (inline k v bs) = record { of_key = k; of_value = Some v }
 pieces_of (table k origin bs) = record { of_key = Some k; of_value = None }
 pieces_of (tables k done last bs) = record { of_key = Some k; of_value = None }
-
--- the first of a tree's pieces: a key stands before its value
-abbrev pub first_piece : Pieces → Option Piece
-first_piece pieces = option_or pieces.of_key pieces.of_value
 
 -- a value that was read, after this key
 abbrev pub after_key : Piece → Tree → Tree

@@ -1,11 +1,10 @@
 -- The index of a document, and the ranges that it tells.
-use Rattle.std.specs.Prelude.{◌≡◌, List, ℕ, Option, Some, None, reverse, Result, IfOk, IfSome}
+use Rattle.std.specs.Prelude.{◌≡◌, List, ℕ, Option, Some, None, Result, IfOk, IfSome}
 use Rattle.std.specs.declared.alloc.AllocError.{AllocError}
 use Rattle.toml.specs.Data.{Members}
 use Rattle.toml.specs.Parse.{parse_document}
-use Rattle.toml_spans.specs.DocumentViews.{IsWalked}
+use Rattle.toml_spans.specs.Document.{IsWalked}
 use Rattle.toml_spans.specs.EntryViews.{branches_of}
-use Rattle.toml_spans.specs.Key.{Part}
 use Rattle.toml_spans.specs.Place.{ArePlacesOf, IsSpan}
 use Rattle.toml_spans.specs.Ranges.{Range, Ranges, ranges_of}
 use Rattle.toml_spans.specs.declared.index.Index.{Index}
@@ -23,12 +22,7 @@ IsSpanOf text (Some range) span = (places : Span) × (span ≡ Some places)
 
 -- the index is that of the text: of all its statements, and of its places
 pub record IsIndexOf (text : List ℕ) (index : Index) : Type 0 where
-  pub section : List Part
-  pub walked : IsWalked text (record {
-    root = branches_of index.root;
-    section = section;
-    begins = reverse index.begins.items;
-  })
+  pub walked : IsWalked text (branches_of index.root)
   pub places : ArePlacesOf text index.places
 
 -- what holds of the ranges that an index tells, where there is an index

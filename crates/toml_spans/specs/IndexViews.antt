@@ -1,5 +1,5 @@
 -- What is seen of pieces that were found.
-use Rattle.std.specs.Prelude.{◌≡◌, ℕ, option_map, Some}
+use Rattle.std.specs.Prelude.{option_map}
 use Rattle.toml_spans.specs.Entry as spec
 use Rattle.toml_spans.specs.EntryViews.{piece_of}
 use Rattle.toml_spans.specs.declared.index.Pieces.{Pieces}
@@ -10,7 +10,3 @@ pieces_from pieces = record {
   of_key = option_map piece_of pieces.key;
   of_value = option_map piece_of pieces.value;
 }
-
--- where the first of the pieces begins, if there is one
-abbrev pub IsFirstOf : spec.Pieces → ℕ → Type 0
-IsFirstOf pieces begin = (p : spec.Piece) → spec.first_piece pieces ≡ Some p → begin ≡ p.0

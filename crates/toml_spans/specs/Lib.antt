@@ -1,4 +1,3 @@
-pub mod Begin
 pub mod Characters
 pub mod Document
 pub mod DocumentViews
@@ -11,13 +10,10 @@ pub mod Key
 pub mod KeyViews
 pub mod Line
 pub mod Offsets
-pub mod Partial
 pub mod Place
 pub mod QuotedText
 pub mod Ranges
 pub mod Refusal
-pub mod Search
-pub mod Skip
 pub mod Step
 pub mod Table
 pub mod TableViews

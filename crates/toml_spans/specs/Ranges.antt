@@ -6,7 +6,7 @@ use Rattle.toml_parser.specs.Strings.{key as read_key}
 use Rattle.toml.specs.Data.{Data, Members}
 use Rattle.toml.specs.Parse.{after_byte, after_element, parse_value}
 use Rattle.toml_spans.specs.Entry.{Branches, Piece, pieces_of, tree_at}
-use Rattle.toml_spans.specs.Line.{found_in, IsStatementOf}
+use Rattle.toml_spans.specs.Line.{found_in}
 use Rattle.toml_spans.specs.Step.{index, key, PathStep}
 
 -- the bytes from the first place up to the second, places being counted from the text's beginning
@@ -52,12 +52,6 @@ IsRangeOf ranges path range = (ranges.of_key path ≡ Some range)
 abbrev pub HaveEntries : Members → Ranges → Type 0
 HaveEntries members ranges = (path : List PathStep)
     → HasEntry ranges path ↔ IsSome (found_in members path)
-
--- each entry lies within the path's statement
-abbrev pub LieWithinStatements : List ℕ → Ranges → Type 0
-LieWithinStatements text ranges = (path : List PathStep) (range : Range) (before front : List ℕ)
-    → IsRangeOf ranges path range → IsStatementOf text path before front
-    → (length before ≤ range.0) × (range.1 ≤ length front)
 
 -- the last key among these steps, or the text where there is none
 abbrev pub last_key_from : List ℕ → List PathStep → List ℕ

@@ -1,7 +1,7 @@
 -- Where keys and headers put what they define: the rules of `toml`'s tables, over trees (TOML 1.1,
 -- "Keys", "Table" and "Array of Tables").
-use Rattle.std.specs.Prelude.{List, [], ◌∷◌, Option, Some, None, option_map}
-use Rattle.toml.specs.Tables.{dotted, header, implicit}
+use Rattle.std.specs.Prelude.{List, [], ◌∷◌, Option, Some, None, option_and_then, option_map}
+use Rattle.toml.specs.Tables.{dotted, header, implicit, Origin}
 use Rattle.toml_spans.specs.Entry.{after_key, Branches, get_branch, insert_branch, no_branches, no_trees, Piece, push_tree, replace_branch, table, tables, Tree}
 use Rattle.toml_spans.specs.Key.{Part, Parts}
 
@@ -9,43 +9,34 @@ use Rattle.toml_spans.specs.Key.{Part, Parts}
 abbrev pub Growth : Type 0
 Growth = Branches → Option Branches
 
--- a header passes through any table that is no value, and into the last element of an array of
--- tables
-abbrev pub through_header : Growth → Tree → Option Tree
-through_header grow (table k origin bs) = option_map (table k origin) (grow bs)
-through_header grow (tables k done last bs) = option_map (tables k done last) (grow bs)
-through_header grow t = None
+-- What made a table says how a key goes: a header's key makes `implicit` tables on its way, and a
+-- dotted key `dotted` ones. A header passes any table; a dotted key passes none that a header
+-- defined, and one that it passes counts as its own.
+abbrev pub passed : Origin → Origin → Option Origin
+passed dotted header = None
+passed dotted origin = Some dotted
+passed by origin = Some origin
 
--- a dotted key passes through no table that a header defined
-abbrev pub through_dot : Growth → Tree → Option Tree
-through_dot grow (table k header bs) = None
-through_dot grow (table k origin bs) = option_map (table k dotted) (grow bs)
-through_dot grow t = None
+-- a key passes through a table that is no value, or into the last element of an array of tables,
+-- which a header defined
+abbrev pub through : Origin → Growth → Tree → Option Tree
+through by grow (table k origin bs) = option_and_then (λ o. option_map (table k o) (grow bs))
+    (passed by origin)
+through by grow (tables k done last bs) = option_and_then
+    (λ o. option_map (tables k done last) (grow bs)) (passed by header)
+through by grow t = None
 
--- the change at the table of a part of a header's key, which is made where it is missing
-abbrev pub by_header : Part → Growth → Branches → Option Tree → Option Branches
-by_header part grow bs None = option_map
-    (λ new. insert_branch part.0 (table part.1 implicit new) bs) (grow no_branches)
-by_header part grow bs (Some t) = option_map (λ new. replace_branch part.0 new bs)
-    (through_header grow t)
+-- the change at the table of a part of a key, which is made where it is missing
+abbrev pub by_part : Origin → Part → Growth → Branches → Option Tree → Option Branches
+by_part by part grow bs None = option_map
+    (λ new. insert_branch part.0 (table part.1 by new) bs) (grow no_branches)
+by_part by part grow bs (Some t) = option_map (λ new. replace_branch part.0 new bs)
+    (through by grow t)
 
--- the change at the table of a part of a dotted key, which is made where it is missing
-abbrev pub by_dot : Part → Growth → Branches → Option Tree → Option Branches
-by_dot part grow bs None = option_map
-    (λ new. insert_branch part.0 (table part.1 dotted new) bs) (grow no_branches)
-by_dot part grow bs (Some t) = option_map (λ new. replace_branch part.0 new bs)
-    (through_dot grow t)
-
--- the change, made in the table at the end of a header's path
-unfoldable pub along_header : List Part → Growth → Growth
-along_header [] grow bs = grow bs
-along_header (part ∷ path) grow bs = by_header part (along_header path grow) bs
-    (get_branch part.0 bs)
-
--- the change, made in the table at the end of the dots of a key
-unfoldable pub along_dots : List Part → Growth → Growth
-along_dots [] grow bs = grow bs
-along_dots (part ∷ path) grow bs = by_dot part (along_dots path grow) bs (get_branch part.0 bs)
+-- the change, made in the table at the end of some parts of a key
+unfoldable pub along : Origin → List Part → Growth → Growth
+along by [] grow bs = grow bs
+along by (part ∷ path) grow bs = by_part by part (along by path grow) bs (get_branch part.0 bs)
 
 -- what stands with a key on a line
 pub data Definition : Type 0 where
@@ -79,4 +70,4 @@ at_part part what bs = at_found part what bs (get_branch part.0 bs)
 
 -- the change that adds a pair to a table
 abbrev pub put : Parts → Tree → Growth
-put parts t = along_dots parts.0 (at_part parts.1 (pair t))
+put parts t = along dotted parts.0 (at_part parts.1 (pair t))

@@ -2,63 +2,48 @@
 
 ghost use Rattle.std.specs.Prelude.{◌≡◌, ◌≤◌, [], ◌∷◌, ◌++◌, IfErr, IfOk, None, OnOk, length};
 ghost use Rattle.toml.specs.Parse as grammar;
+ghost use Rattle.toml.specs.Tables.{implicit};
 ghost use Rattle.toml_spans.specs.Document as spec;
-ghost use Rattle.toml_spans.specs.DocumentViews.{Defines, IsWalked, statement_of, walk_of};
-ghost use Rattle.toml_spans.specs.EntryViews.{tree_of};
+ghost use Rattle.toml_spans.specs.Document.{IsWalked};
+ghost use Rattle.toml_spans.specs.DocumentViews.{Defines, statement_of};
+ghost use Rattle.toml_spans.specs.EntryViews.{branches_of, tree_of};
 ghost use Rattle.toml_spans.specs.KeyViews.{part_of, parts_of, path_of};
 ghost use Rattle.toml_spans.specs.Refusal.{Reads, Shortens};
 ghost use Rattle.toml_spans.specs.Table as tables;
 ghost use Rattle.toml_spans.specs.TableViews.{definition_of, Grows};
 
-use crate::entry::{Entry, Members};
+use crate::entry::{Entry, Members, Origin};
 use crate::key::{KeyParts, Part, parts};
 use crate::refusal::Refusal;
-use crate::table::{Definition, along_header};
+use crate::table::{Definition, along};
 use crate::value::{key_equals, value};
 use std::alloc::{AllocError, Global};
 use std::collections::BTreeMap;
 use toml_parser::RECURSION_LIMIT;
 use toml_parser::text::{byte_at, first, skip, skip_blank, skip_ws};
 
-/// Where a walk over the statements of a document stands.
-#[derive(Drop)]
-pub(crate) struct Walk {
-    /// What stands where after the statements.
-    pub(crate) root: Members,
-    /// The key of the last header.
-    pub(crate) section: Vec<Part>,
-    /// Where each statement begins: how many bytes stand from there on.
-    pub(crate) begins: Vec<usize>,
-}
-
-/// The walk over all statements of a text.
-pub(crate) fn walk_over(alloc: Global, text: &str) -> Result<Walk, Refusal>
-    ensures walked { IfOk result (λ walk. IsWalked text.now (walk_of walk)) }
+/// What stands where after all statements of a text.
+pub(crate) fn walk_over(alloc: Global, text: &str) -> Result<Members, Refusal>
+    ensures walked { IfOk result (λ root. IsWalked text.now (branches_of root)) }
     ensures refused { IfErr result
         (λ refusal. refusal ≡ Refusal.NoDocument → grammar.parse_document text.now ≡ None) }
 {
     let mut root = BTreeMap::new(alloc);
     let mut section = Vec::new(alloc);
-    let mut begins = Vec::new(alloc);
     let mut rest = skip_bom(text);
     'statements: loop {
         let start = skip_blank(rest, true);
         if start.is_empty() {
-            return Ok(Walk {
-                root,
-                section,
-                begins,
-            });
+            return Ok(root);
         }
         let ((key, what), after) = statement_line(alloc, start)?;
-        begins.push(start.len())?;
         define(alloc, &mut root, &mut section, key, what)?;
         rest = after;
     }
 }
 
-/// The text without a byte order mark at its beginning.
-pub(crate) fn skip_bom(text: &str) -> &str
+// The text without a byte order mark at its beginning.
+fn skip_bom(text: &str) -> &str
     ensures rest { result.now ≡ grammar.skip_bom text.now }
     ensures within { length result.now ≤ length text.now }
 {
@@ -85,8 +70,8 @@ fn define(
     }
 }
 
-/// Adds a pair to the table of a section.
-pub(crate) fn define_pair(
+// Adds a pair to the table of a section.
+fn define_pair(
     alloc: Global,
     root: &mut Members,
     section: &Vec<Part>,
@@ -94,29 +79,37 @@ pub(crate) fn define_pair(
     value: Entry,
 ) -> Result<(), Refusal>
     ensures { Grows root.old root.new result
-        (tables.along_header (path_of section.now.items)
+        (tables.along implicit (path_of section.now.items)
         (tables.put (parts_of key) (tree_of value))) }
 {
     let KeyParts { path, last } = key;
-    along_header(alloc, root, section, &path, last, Definition::Pair(value))
+    along(
+        alloc,
+        root,
+        Origin::Implicit,
+        section,
+        &path,
+        last,
+        Definition::Pair(value),
+    )
 }
 
-/// Adds the table of a header, which becomes the section.
-pub(crate) fn define_header(
+// Adds the table of a header, which becomes the section.
+fn define_header(
     alloc: Global,
     root: &mut Members,
     section: &mut Vec<Part>,
     key: KeyParts,
     what: Definition,
 ) -> Result<(), Refusal>
-    ensures grown { Grows root.old root.new result (tables.along_header (path_of key.path.items)
+    ensures grown { Grows root.old root.new result (tables.along implicit (path_of key.path.items)
         (tables.at_part (part_of key.last) (definition_of what))) }
     ensures section { OnOk result
         (path_of section.new.items ≡ path_of key.path.items ++ (part_of key.last ∷ [])) }
 {
     let KeyParts { mut path, last } = key;
     let copy = copy_of(&last)?;
-    along_header(alloc, root, &path, &[], copy, what)?;
+    along(alloc, root, Origin::Implicit, &path, &[], copy, what)?;
     path.push(last)?;
     *section = path;
     Ok(())
@@ -131,11 +124,8 @@ fn copy_of(part: &Part) -> Result<Part, AllocError>
     })
 }
 
-/// A statement that has its line to itself.
-pub(crate) fn statement_line(
-    alloc: Global,
-    text: &str,
-) -> Result<((KeyParts, Definition), &str), Refusal>
+// A statement that has its line to itself.
+fn statement_line(alloc: Global, text: &str) -> Result<((KeyParts, Definition), &str), Refusal>
     ensures value { Reads statement_of result (spec.statement_line text.now) }
     ensures shorter { Shortens text.now result }
 {

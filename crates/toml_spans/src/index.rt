@@ -1,19 +1,16 @@
 //! Where the keys and the values of a document stand.
 
-ghost use Rattle.std.specs.Prelude.{◌≡◌, ℕ, IfOk, List, MatchOption, None, length, map, option_and_then, option_map};
+ghost use Rattle.std.specs.Prelude.{◌≡◌, ℕ, IfOk, List, MatchOption, None, map, option_and_then, option_map};
 ghost use Rattle.toml.specs.Tables.{header};
 ghost use Rattle.toml.specs.Parse.{parse_document};
 ghost use Rattle.toml_spans.specs.Entry as trees;
 ghost use Rattle.toml_spans.specs.EntryViews.{branches_of, piece_of, tree_of, trees_from};
 ghost use Rattle.toml_spans.specs.Index.{IfIndexed, IsIndexOf, IsSpanOf, OfDocument, ranges_in};
-ghost use Rattle.toml_spans.specs.IndexViews.{IsFirstOf, pieces_from};
-ghost use Rattle.toml_spans.specs.Line.{HasNoLine, IsLine};
-ghost use Rattle.toml_spans.specs.Ranges as spec;
-ghost use Rattle.toml_spans.specs.Ranges.{AreApartOrNested, AreWritten, ElementsStand, EmptyArraysEnd, HaveEntries, HaveKeys, KeysComeFirst, KeysRead, LieWithinStatements, LieWithinValues, MembersStand, StandInTurn, ValuesRead};
+ghost use Rattle.toml_spans.specs.IndexViews.{pieces_from};
+ghost use Rattle.toml_spans.specs.Ranges.{AreApartOrNested, AreWritten, ElementsStand, EmptyArraysEnd, HaveEntries, HaveKeys, KeysComeFirst, KeysRead, LieWithinValues, MembersStand, StandInTurn, ValuesRead};
 ghost use Rattle.toml_spans.specs.Step.{step_of};
 
-use crate::begin::begin_before;
-use crate::document::{Walk, walk_over};
+use crate::document::walk_over;
 use crate::entry::{Entry, Members, Piece};
 use crate::place::{Places, Span};
 use crate::refusal::Refusal;
@@ -24,15 +21,14 @@ use std::alloc::{AllocError, Global};
 #[derive(Debug, Drop)]
 pub struct Index {
     root: Members,
-    begins: Vec<usize>,
     places: Places,
 }
 
 /// The pieces of what a path leads to: that of its key and that of its value, where it has one.
 #[derive(Clone, Copy)]
-pub(crate) struct Pieces {
-    pub(crate) key: Option<Piece>,
-    pub(crate) value: Option<Piece>,
+struct Pieces {
+    key: Option<Piece>,
+    value: Option<Piece>,
 }
 
 impl Index {
@@ -42,7 +38,6 @@ impl Index {
             (parse_document contents.now ≡ None) (IsIndexOf contents.now)) }
         ensures entries { IfIndexed result (λ ranges. OfDocument contents.now
             (λ members. HaveEntries members ranges)) }
-        ensures statements { IfIndexed result (LieWithinStatements contents.now) }
         ensures keys { IfIndexed result HaveKeys }
         ensures keys_read { IfIndexed result (KeysRead contents.now) }
         ensures values { IfIndexed result (AreWritten contents.now) }
@@ -57,18 +52,9 @@ impl Index {
         ensures nested { IfIndexed result AreApartOrNested }
     {
         match walk_over(alloc, contents) {
-            Ok(walk) => {
-                let Walk {
-                    root,
-                    section: _,
-                    begins,
-                } = walk;
+            Ok(root) => {
                 let places = Places::of(alloc, contents)?;
-                Ok(Some(Index {
-                    root,
-                    begins,
-                    places,
-                }))
+                Ok(Some(Index { root, places }))
             }
             Err(Refusal::NoDocument) => Ok(None),
             Err(Refusal::Memory) => Err(AllocError),
@@ -99,40 +85,10 @@ impl Index {
             None => None,
         }
     }
-
-    /// The line, from 1, on which the statement begins that holds what a path leads to, as
-    /// `line_of` tells it. `None` where the path leads to no value; the empty path has the first
-    /// line.
-    pub fn line(&self, path: &[Step]) -> Option<usize>
-        ensures { (text : List ℕ) → IsIndexOf text self.now → MatchOption result
-            (HasNoLine text (map step_of path.now)) (IsLine text (map step_of path.now)) }
-    {
-        if path.is_empty() {
-            return Some(1);
-        }
-        match pieces_at(&self.root, path) {
-            Some(pieces) => {
-                let begin = begin_before(&self.begins, first_of(pieces));
-                Some(self.places.before(begin).line)
-            }
-            None => None,
-        }
-    }
 }
 
-// Where the first of the pieces begins.
-fn first_of(pieces: Pieces) -> usize
-    ensures { IsFirstOf (pieces_from pieces) result }
-{
-    match (pieces.key, pieces.value) {
-        (Some(key), _) => key.from,
-        (None, Some(value)) => value.from,
-        (None, None) => 0,
-    }
-}
-
-/// The pieces of what a path leads to.
-pub(crate) fn pieces_at(members: &Members, path: &[Step]) -> Option<Pieces>
+// The pieces of what a path leads to.
+fn pieces_at(members: &Members, path: &[Step]) -> Option<Pieces>
     ensures { option_map pieces_from result
         ≡ option_map trees.pieces_of
         (trees.tree_at (branches_of members.now) (map step_of path.now)) }

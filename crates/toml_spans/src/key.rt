@@ -88,8 +88,8 @@ fn bare(alloc: Global, text: &str) -> Result<(String, &str), Refusal>
     Ok((String::from_str(alloc, key)?, rest))
 }
 
-/// How many bytes at the front are those of a bare key.
-pub(crate) fn bare_length(bytes: &[u8]) -> usize
+// How many bytes at the front are those of a bare key.
+fn bare_length(bytes: &[u8]) -> usize
     ensures length { result ≡ prefix_len class.is_bare bytes.now }
     ensures within { result ≤ length bytes.now }
 {

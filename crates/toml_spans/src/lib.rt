@@ -1,7 +1,6 @@
 //! Where keys and values stand in a document of TOML.
 #![tactic(auto)]
 
-mod begin;
 mod document;
 mod entry;
 mod front;
@@ -9,21 +8,16 @@ mod index;
 mod key;
 pub mod laws;
 mod line;
-mod partial;
 mod place;
 mod quoted_text;
 mod refusal;
-mod skip;
 mod step;
 mod table;
 mod value;
-mod wanted;
-mod wanted_walk;
 
 pub use front::place_after;
 pub use index::Index;
-pub use line::{line_after, line_of};
-pub use partial::PartialIndex;
+pub use line::line_after;
 pub use place::{Place, Span};
 pub use quoted_text::{QuotedText, quoted, write_by_code, write_quoted};
 pub use step::{NameText, PathText, Step, is_bare_key};

@@ -1,6 +1,7 @@
 //! Where keys and headers put what they define.
 
 ghost use Rattle.std.specs.Prelude.{◌≡◌, Some, string_bytes};
+ghost use Rattle.toml.specs.Tables.{dotted};
 ghost use Rattle.toml_spans.specs.EntryViews.{branches_of, origin_of, piece_of, tree_of};
 ghost use Rattle.toml_spans.specs.Entry as trees;
 ghost use Rattle.toml_spans.specs.KeyViews.{part_of, parts_of, path_of};
@@ -24,19 +25,21 @@ pub(crate) enum Definition {
     Element,
 }
 
-/// Follows a path as a header does, then dots as a dotted key does, and defines the last part
-/// there.
-#[cycle(along_header)]
-pub(crate) fn along_header(
+/// Follows a path, then dots as a dotted key does, and defines the last part there. A path makes the
+/// tables that are missing, by a header on its way or by a dotted key.
+#[cycle(along)]
+pub(crate) fn along(
     alloc: Global,
     members: &mut Members,
+    by: Origin,
     path: &[Part],
     dots: &[Part],
     last: Part,
     what: Definition,
 ) -> Result<(), Refusal>
-    ensures { Grows members.old members.new result (spec.along_header (path_of path.now)
-        (spec.along_dots (path_of dots.now) (spec.at_part (part_of last) (definition_of what)))) }
+    ensures { Grows members.old members.new result (spec.along (origin_of by) (path_of path.now)
+        (spec.along dotted (path_of dots.now)
+        (spec.at_part (part_of last) (definition_of what)))) }
 {
     let [part, rest @ ..] = path else {
         return along_dots(alloc, members, dots, last, what);
@@ -44,47 +47,20 @@ pub(crate) fn along_header(
     match members.get_mut(part.text.as_str()) {
         Some(slot) => {
             let entry = take(slot);
-            *slot = through_header(alloc, entry, rest, dots, last, what)?;
+            *slot = through(alloc, entry, by, rest, dots, last, what)?;
             Ok(())
         }
         None => {
             let mut inner = BTreeMap::new(alloc);
-            along_header(alloc, &mut inner, rest, dots, last, what)?;
-            let table = Entry::Table(part.piece, Origin::Implicit, inner);
+            along(alloc, &mut inner, by, rest, dots, last, what)?;
+            let table = Entry::Table(part.piece, by, inner);
             insert(members, part.text.clone()?, table)
         }
     }
 }
 
-// A header goes through a table, or into the last element of an array of tables.
-#[cycle(along_header)]
-fn through_header(
-    alloc: Global,
-    entry: Entry,
-    path: &[Part],
-    dots: &[Part],
-    last: Part,
-    what: Definition,
-) -> Result<Entry, Refusal>
-    ensures { Gives tree_of result (spec.through_header (spec.along_header (path_of path.now)
-        (spec.along_dots (path_of dots.now) (spec.at_part (part_of last) (definition_of what))))
-        (tree_of entry)) }
-{
-    match entry {
-        Entry::Table(key, origin, mut inner) => {
-            along_header(alloc, &mut inner, path, dots, last, what)?;
-            Ok(Entry::Table(key, origin, inner))
-        }
-        Entry::Tables(key, done, element, mut inner) => {
-            along_header(alloc, &mut inner, path, dots, last, what)?;
-            Ok(Entry::Tables(key, done, element, inner))
-        }
-        _ => Err(Refusal::NoDocument),
-    }
-}
-
-// Follows dots as a dotted key does, and defines the last part there.
-#[cycle(along_dots)]
+// Follows dots, if there are any, and defines the last part there.
+#[cycle(along)]
 fn along_dots(
     alloc: Global,
     members: &mut Members,
@@ -92,24 +68,55 @@ fn along_dots(
     last: Part,
     what: Definition,
 ) -> Result<(), Refusal>
-    ensures { Grows members.old members.new result
-        (spec.along_dots (path_of dots.now) (spec.at_part (part_of last) (definition_of what))) }
+    ensures { Grows members.old members.new result (spec.along dotted (path_of dots.now)
+        (spec.at_part (part_of last) (definition_of what))) }
 {
-    let [part, rest @ ..] = dots else {
-        return at_part(alloc, members, last, what);
-    };
-    match members.get_mut(part.text.as_str()) {
-        Some(slot) => {
-            let entry = take(slot);
-            *slot = through_dots(alloc, entry, rest, last, what)?;
-            Ok(())
+    if dots.is_empty() {
+        at_part(alloc, members, last, what)
+    } else {
+        along(alloc, members, Origin::Dotted, dots, &[], last, what)
+    }
+}
+
+// A key goes through a table, or into the last element of an array of tables.
+#[cycle(along)]
+fn through(
+    alloc: Global,
+    entry: Entry,
+    by: Origin,
+    path: &[Part],
+    dots: &[Part],
+    last: Part,
+    what: Definition,
+) -> Result<Entry, Refusal>
+    ensures { Gives tree_of result (spec.through (origin_of by)
+        (spec.along (origin_of by) (path_of path.now) (spec.along dotted (path_of dots.now)
+        (spec.at_part (part_of last) (definition_of what)))) (tree_of entry)) }
+{
+    match entry {
+        Entry::Table(key, origin, mut inner) => {
+            let origin = passed(by, origin)?;
+            along(alloc, &mut inner, by, path, dots, last, what)?;
+            Ok(Entry::Table(key, origin, inner))
         }
-        None => {
-            let mut inner = BTreeMap::new(alloc);
-            along_dots(alloc, &mut inner, rest, last, what)?;
-            let table = Entry::Table(part.piece, Origin::Dotted, inner);
-            insert(members, part.text.clone()?, table)
+        Entry::Tables(key, done, element, mut inner) => {
+            passed(by, Origin::Header)?;
+            along(alloc, &mut inner, by, path, dots, last, what)?;
+            Ok(Entry::Tables(key, done, element, inner))
         }
+        _ => Err(Refusal::NoDocument),
+    }
+}
+
+// What a table counts as made by once a key passed it. A dotted key goes through none that a header
+// defined.
+fn passed(by: Origin, origin: Origin) -> Result<Origin, Refusal>
+    ensures { Gives origin_of result (spec.passed (origin_of by) (origin_of origin)) }
+{
+    match (by, origin) {
+        (Origin::Dotted, Origin::Header) => Err(Refusal::NoDocument),
+        (Origin::Dotted, _) => Ok(Origin::Dotted),
+        _ => Ok(origin),
     }
 }
 
@@ -124,49 +131,6 @@ pub(crate) fn put(
 {
     let KeyParts { path, last } = key;
     along_dots(alloc, members, &path, last, Definition::Pair(value))
-}
-
-// A dotted key goes through a table that no header defined.
-#[cycle(along_dots)]
-fn through_dots(
-    alloc: Global,
-    entry: Entry,
-    dots: &[Part],
-    last: Part,
-    what: Definition,
-) -> Result<Entry, Refusal>
-    ensures { Gives tree_of result (spec.through_dot (spec.along_dots (path_of dots.now)
-        (spec.at_part (part_of last) (definition_of what))) (tree_of entry)) }
-{
-    match entry {
-        Entry::Table(key, origin, inner) => {
-            dotted_table(alloc, key, origin, inner, dots, last, what)
-        }
-        _ => Err(Refusal::NoDocument),
-    }
-}
-
-// A dotted key goes through a table unless a header defined it. The table counts as one that a
-// dotted key made from then on.
-#[cycle(along_dots)]
-fn dotted_table(
-    alloc: Global,
-    key: Piece,
-    origin: Origin,
-    mut inner: Members,
-    dots: &[Part],
-    last: Part,
-    what: Definition,
-) -> Result<Entry, Refusal>
-    ensures { Gives tree_of result (spec.through_dot (spec.along_dots (path_of dots.now)
-        (spec.at_part (part_of last) (definition_of what)))
-        (trees.table (piece_of key) (origin_of origin) (branches_of inner))) }
-{
-    if let Origin::Header = origin {
-        return Err(Refusal::NoDocument);
-    }
-    along_dots(alloc, &mut inner, dots, last, what)?;
-    Ok(Entry::Table(key, Origin::Dotted, inner))
 }
 
 // Defines the last part of a key.

@@ -100,8 +100,8 @@ fn members(alloc: Global, text: &str, depth: usize) -> Result<(Members, &str), R
     }
 }
 
-/// What follows an element and its comma, or begins with the closing bracket.
-pub(crate) fn past_element(text: &str, closing: u8) -> Result<&str, Refusal>
+// What follows an element and its comma, or begins with the closing bracket.
+fn past_element(text: &str, closing: u8) -> Result<&str, Refusal>
     ensures value { Gives (λ rest. rest.now) result (grammar.after_element closing text.now) }
     ensures within { IfOk result (λ rest. length rest.now ≤ length text.now) }
 {

@@ -1,5 +1,5 @@
 -- Which profile gives a setting, and whether what it gives is a value.
-use Rattle.std.specs.Prelude.{◌≡◌, ◌⊎◌, ℕ, List, [], ◌∷◌, if◌then◌else◌, Option, Some, None, string_bytes}
+use Rattle.std.specs.Prelude.{◌≡◌, ◌⊎◌, ℕ, List, ◌∷◌, if◌then◌else◌, Option, Some, None, string_bytes}
 use Rattle.std.proofs.Common.{Global}
 use Rattle.toml.specs.Data.{Data}
 use Rattle.nextest_config_values.specs.Duration.{duration_reading}
@@ -19,7 +19,7 @@ use Rattle.nextest_config_values.specs.declared.read.value_fault.ValueFault.{Val
 use Rattle.nextest_config_lint.specs.Conversion.{IsConvertedAt}
 use Rattle.nextest_config_profiles.specs.Effective.{IsEffective}
 use Rattle.nextest_config_profiles.specs.Merged.{HasNoValue, IsMergedOver}
-use Rattle.nextest_config_profiles.specs.Profile.{chain_in, layers_in}
+use Rattle.nextest_config_profiles.specs.Profile.{layers_in}
 use Rattle.nextest_config_profiles.specs.Said.{Path}
 use Rattle.nextest_config_profiles.specs.declared.effective.Effective.{Effective}
 use Rattle.nextest_config_profiles.specs.declared.effective.Effective.TheVariants as effective
@@ -38,28 +38,22 @@ given_of (effective.NotJudged profile) = given.NotJudged profile
 given_of (effective.Fault profile fault) = given.Fault profile fault
 given_of effective.Nothing = given.Nothing
 
--- the profiles of which the first that has a setting gives it: one alone, or those of the chain
-abbrev pub givers : EffectiveProfile → Option (List ℕ) → List (List ℕ)
-givers profile (Some name) = name ∷ []
-givers profile None = chain_in profile
-
--- what the chain of a profile, or one profile alone, gives at keys by a reading
+-- what the first of profiles that has something at keys gives there by a reading
 abbrev pub IsGivenBy : {X Y : Type 0} → (X → Y) → Reading Data (Option Y) → EffectiveProfile
-    → Option (List ℕ) → Path → Given → Type 0
-IsGivenBy {X} {Y} seen reading profile alone keys given =
+    → List (List ℕ) → Path → Given → Type 0
+IsGivenBy {X} {Y} seen reading profile names keys given =
     (effective : Effective X)
-    × IsEffective seen reading (layers_in profile) keys (givers profile alone) effective
+    × IsEffective seen reading (layers_in profile) keys names effective
     × (given ≡ given_of effective)
 
--- what the chain of a profile, or one profile alone, gives at keys by a reading of which no value
--- says that there is none
+-- what the first of profiles gives at keys by a reading of which no value says that there is none
 abbrev pub IsGivenValue : {X Y : Type 0} → (X → Y) → Reading Data Y → EffectiveProfile
-    → Option (List ℕ) → Path → Given → Type 0
+    → List (List ℕ) → Path → Given → Type 0
 IsGivenValue seen reading = IsGivenBy seen (made_of Some reading)
 
--- what the chain of a profile, or one profile alone, gives at keys by the reading of a shape; what
--- none reads is given as it is written
-abbrev pub IsGivenAs : Shape → EffectiveProfile → Option (List ℕ) → Path → Given → Type 0
+-- what the first of profiles gives at keys by the reading of a shape; what none reads is given as it
+-- is written
+abbrev pub IsGivenAs : Shape → EffectiveProfile → List (List ℕ) → Path → Given → Type 0
 IsGivenAs shapes.Retries = IsGivenBy retry_policy_of retry_policy_reading
 IsGivenAs shapes.FlakyResult = IsGivenValue (λ it. it) flaky_result_reading
 IsGivenAs shapes.ThreadsRequired = IsGivenValue (λ it. it) threads_reading
@@ -77,9 +71,9 @@ IsGivenAs other = IsGivenValue (λ (it : Written). tt {0}) (only (tt {0}))
 abbrev pub shape_read : KeyRule → Shape
 shape_read rule = if is_documented rule.severity then shapes.Any else rule.shape
 
--- what the profile gets for a setting, or what another one alone has there, as it stands
-abbrev pub IsReadFor : EffectiveProfile → Option (List ℕ) → SettingRule → Given → Type 0
-IsReadFor profile alone setting = IsGivenAs (shape_read setting.rule) profile alone setting.keys
+-- what the first of these profiles that has a setting gives it, as it stands
+abbrev pub IsReadFor : EffectiveProfile → List (List ℕ) → SettingRule → Given → Type 0
+IsReadFor profile names setting = IsGivenAs (shape_read setting.rule) profile names setting.keys
 
 -- ---- but for what nextest may convert
 
@@ -118,8 +112,8 @@ IsJudged profile setting (given.Fault name fault) judged =
     IsFaultJudged profile setting name.now fault judged
 IsJudged profile setting given judged = judged ≡ given
 
--- what the profile gets for a setting, or what another one alone has there, but for what nextest
--- may convert in it
-abbrev pub IsGivenFor : EffectiveProfile → Option (List ℕ) → SettingRule → Given → Type 0
-IsGivenFor profile alone setting judged = (given : Given) × IsReadFor profile alone setting given
+-- what the first of these profiles that has a setting gives it, but for what nextest may convert in
+-- it
+abbrev pub IsGivenFor : EffectiveProfile → List (List ℕ) → SettingRule → Given → Type 0
+IsGivenFor profile names setting judged = (given : Given) × IsReadFor profile names setting given
     × IsJudged profile setting given judged

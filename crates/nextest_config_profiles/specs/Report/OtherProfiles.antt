@@ -1,11 +1,11 @@
 -- Faults of settings in other profiles than the one that gives the setting.
-use Rattle.std.specs.Prelude.{◌≡◌, ◌⊎◌, ◌≢◌, ℕ, if◌then◌else◌, List, [], Option, Some, None, string_bytes}
+use Rattle.std.specs.Prelude.{◌≡◌, ◌⊎◌, ◌≢◌, ℕ, if◌then◌else◌, List, [], ◌∷◌, Option, Some, None, string_bytes}
 use Rattle.nextest_config_values.specs.Read.{fault_of}
 use Rattle.nextest_config_values.specs.declared.read.value_fault.ValueFault.{ValueFault}
 use Rattle.nextest_config_elements.specs.declared.field.FaultSeverity.{FaultSeverity}
 use Rattle.nextest_config_profiles.specs.Layer.{profiles_in}
 use Rattle.nextest_config_profiles.specs.NameList.{AreInOrder, AreNamesOf}
-use Rattle.nextest_config_profiles.specs.Profile.{files_in}
+use Rattle.nextest_config_profiles.specs.Profile.{chain_in, files_in}
 use Rattle.nextest_config_profiles.specs.Reach.{words_of}
 use Rattle.nextest_config_profiles.specs.declared.profile.EffectiveProfile.{EffectiveProfile}
 use Rattle.nextest_config_profiles.specs.Report.Given.{IsGivenFor}
@@ -26,8 +26,8 @@ giver_of given.Nothing = None
 
 -- the profile that gives a setting, if one does
 abbrev pub IsGiver : EffectiveProfile → SettingRule → Option (List ℕ) → Type 0
-IsGiver effective setting giver = (given : Given) × IsGivenFor effective None setting given
-    × (giver ≡ giver_of given)
+IsGiver effective setting giver = (given : Given)
+    × IsGivenFor effective (chain_in effective) setting given × (giver ≡ giver_of given)
 
 -- a fault of what a profile has for a setting, as it is told
 pub record IsOtherProfileFault (effective : EffectiveProfile) (setting : SettingRule)
@@ -43,14 +43,12 @@ abbrev pub IsGivenFault : EffectiveProfile → SettingRule → List ℕ → Give
 IsGivenFault effective setting profile (given.Fault of_it refused) None = ⊥
 IsGivenFault effective setting profile (given.Fault of_it refused) (Some fault) =
     IsOtherProfileFault effective setting profile refused fault
-IsGivenFault effective setting profile (given.Value of_it) fault = fault ≡ None
-IsGivenFault effective setting profile (given.NotJudged of_it) fault = fault ≡ None
-IsGivenFault effective setting profile given.Nothing fault = fault ≡ None
+IsGivenFault effective setting profile other fault = fault ≡ None
 
 -- what is wrong with what a profile alone has for a setting
 abbrev pub IsFaultIf : EffectiveProfile → SettingRule → List ℕ → Option OtherProfileFault → Type 0
 IsFaultIf effective setting profile fault = (given : Given)
-    × IsGivenFor effective (Some profile) setting given
+    × IsGivenFor effective (profile ∷ []) setting given
     × IsGivenFault effective setting profile given fault
 
 -- what is wrong with a setting of a profile, which is passed over where it gives the setting

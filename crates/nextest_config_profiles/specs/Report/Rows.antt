@@ -8,7 +8,7 @@ use Rattle.nextest_config_values.specs.Read.Fault.{Fault}
 use Rattle.nextest_config_values.specs.declared.read.value_fault.ValueFault.{ValueFault}
 use Rattle.nextest_config_elements.specs.Fields.{Absent, KeyRule, taken}
 use Rattle.nextest_config_lint.specs.Conversion.{IsConvertedAt}
-use Rattle.nextest_config_profiles.specs.Profile.{layers_in}
+use Rattle.nextest_config_profiles.specs.Profile.{chain_in, layers_in}
 use Rattle.nextest_config_profiles.specs.Reach.{words_of}
 use Rattle.nextest_config_profiles.specs.Said.{Path}
 use Rattle.nextest_config_profiles.specs.declared.last_value.LayerValue.{LayerValue}
@@ -291,5 +291,6 @@ AreRowsFor effective hiding setting given.Nothing = IsAlone (IsNothingRow effect
 
 -- what is told of a setting: what the profile gets for it
 abbrev pub AreRows : EffectiveProfile → Bool → SettingRule → List Row → Type 0
-AreRows effective hiding setting rows = (given : Given) × IsGivenFor effective None setting given
+AreRows effective hiding setting rows = (given : Given)
+    × IsGivenFor effective (chain_in effective) setting given
     × AreRowsFor effective hiding setting given rows

@@ -3,16 +3,16 @@
 ghost use Rattle.std.specs.Prelude.{◌≡◌, ◌↔◌, IfOk, IsTrue, option_map};
 ghost use Rattle.toml.specs.Data.{table};
 ghost use Rattle.toml.specs.View.{table_view, view};
-ghost use Rattle.nextest_config_values.specs.Read.{RefusesBy};
 ghost use Rattle.nextest_config_elements.specs.SlowTimeout.{terminate_after_key};
 ghost use Rattle.nextest_config_profiles.specs.Reach.{words_of};
 ghost use Rattle.nextest_config_profiles.specs.Report.Converted.{HasConverted, IsRestRead, IsUnconverted, without};
 
-use crate::report::given::Given;
+use crate::effective::read_value;
+use crate::report::given::{Given, given_of};
 use crate::report::keys::with_key;
 use nextest_config_elements::profile_setting::ProfileSetting;
-use nextest_config_lint::{is_converted_at, is_unjudged};
-use nextest_config_values::read::{ValueFault, value_at};
+use nextest_config_lint::is_converted_at;
+use nextest_config_values::read::value_at;
 use std::alloc::{AllocError, Global};
 use toml::{Table, Value};
 
@@ -77,27 +77,8 @@ pub(crate) fn read_rest<'p, T: ProfileSetting>(
 ) -> Result<Given<'p>, AllocError>
     ensures { IfOk result (IsRestRead T.reading profile.now (view rest.now)) }
 {
-    match T::read_setting(alloc, rest) {
-        Ok(_) => Ok(Given::Value { profile }),
-        Err(fault) => refused::<T>(alloc, profile, rest, fault),
+    match read_value::<T>(alloc, profile, rest)? {
+        Some(given) => Ok(given_of(given)),
+        None => Ok(Given::Value { profile }),
     }
-}
-
-// What this profile gives where the rest of its value is refused.
-fn refused<'p, T: ProfileSetting>(
-    alloc: Global,
-    profile: &'p str,
-    rest: &Value,
-    fault: ValueFault,
-) -> Result<Given<'p>, AllocError>
-    requires { RefusesBy T.reading (view rest.now) fault }
-    ensures { IfOk result (IsRestRead T.reading profile.now (view rest.now)) }
-{
-    if fault.is_memory() {
-        return Err(AllocError);
-    }
-    if is_unjudged(alloc, rest, &fault)? {
-        return Ok(Given::NotJudged { profile });
-    }
-    Ok(Given::Fault { profile, fault })
 }

@@ -1,18 +1,17 @@
 //! Values that their readers refuse, as the layers are merged.
 
-ghost use Rattle.std.specs.Prelude.{◌≡◌, ◌∷◌, ◌++◌, [], IfOk, map, OnOk, Option, string_bytes};
+ghost use Rattle.std.specs.Prelude.{◌∷◌, [], IfOk, map, string_bytes};
 ghost use Rattle.nextest_config_values.specs.Read.{fault_of};
-ghost use Rattle.nextest_config_profiles.specs.declared.report.parts.FaultSource.{FaultSource};
 ghost use Rattle.nextest_config_profiles.specs.Reach.{words_of};
 ghost use Rattle.nextest_config_profiles.specs.Report.Rows.{AreOrWhole, ArePlacesAt, ArePlacesOf, IsBareRow, IsFaultState, IsMessage, IsPlaceOf, keys_of_member, parts_of};
 ghost use Rattle.nextest_config_profiles.specs.Report.Setting.{member_of, rule_of};
-ghost use Rattle.nextest_config_profiles.specs.Report.Somes.{some_list};
 
 use crate::report::keys::{copy_of, with_key};
 use crate::report::last::{last_at, last_source};
 use crate::report::parts::{FaultSource, KeyState, Row};
 use crate::report::rows::bare_row;
 use crate::report::setting::Setting;
+use crate::report::somes::push_some;
 use crate::{EffectiveProfile, LayerValue};
 use nextest_config_elements::field::Field;
 use nextest_config_values::read::ValueFault;
@@ -115,7 +114,8 @@ fn whole_place<'p>(
 {
     let mut sources = Vec::new(alloc);
     let keys = copy_of(alloc, keys)?;
-    push_place(alloc, effective, profile, keys, &mut sources)?;
+    let place = place(alloc, effective, profile, keys)?;
+    push_some(&mut sources, place)?;
     Ok(sources)
 }
 
@@ -134,27 +134,10 @@ fn member_places<'p>(
     let mut sources = Vec::new(alloc);
     for member in members {
         let keys = with_key(alloc, setting.keys, member.key)?;
-        push_place(alloc, effective, profile, keys, &mut sources)?;
+        let place = place(alloc, effective, profile, keys)?;
+        push_some(&mut sources, place)?;
     }
     Ok(sources)
-}
-
-// Pushes where the last layer that says anything of these keys has them, if they have a value.
-fn push_place<'p>(
-    alloc: Global,
-    effective: &'p EffectiveProfile<'p>,
-    profile: &'p str,
-    keys: Vec<&'p str>,
-    sources: &mut Vec<FaultSource<'p>>,
-) -> Result<(), AllocError>
-    ensures { OnOk result ((source : Option FaultSource)
-        × IsPlaceOf effective.now profile.now (words_of keys.entry.items) source
-        × (sources.new.items ≡ sources.old.items ++ some_list source)) }
-{
-    if let Some(source) = place(alloc, effective, profile, keys)? {
-        sources.push(source)?;
-    }
-    Ok(())
 }
 
 // Where the last layer that says anything of these keys has them, if they have a value.

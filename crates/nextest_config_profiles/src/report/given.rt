@@ -1,11 +1,14 @@
 //! Which profile gives a setting, and whether what it gives is a value.
 
-ghost use Rattle.std.specs.Prelude.{◌≡◌, IfOk, option_map};
+ghost use Rattle.std.specs.Prelude.{◌≡◌, IfOk};
 ghost use Rattle.toml.specs.View.{view};
+ghost use Rattle.nextest_config_profiles.specs.Profile.{AreLookedUp, layers_in, names_of};
 ghost use Rattle.nextest_config_profiles.specs.Reach.{words_of};
-ghost use Rattle.nextest_config_profiles.specs.Report.Given.{given_of, IsFaultJudged, IsGivenBy, IsGivenFor, IsJudged, IsReadFor, IsValueJudged, shape_read};
+ghost use Rattle.nextest_config_profiles.specs.Report.Given.{given_of, IsFaultJudged, IsGivenBy, IsGivenFor, IsReadFor, IsValueJudged, shape_read};
 ghost use Rattle.nextest_config_profiles.specs.Report.Setting.{member_of, rule_of};
 
+use crate::effective::first_given;
+use crate::profile_alone::ProfileAlone;
 use crate::report::converted::{read_rest, unconverted};
 use crate::report::keys::path_in;
 use crate::report::setting::Setting;
@@ -38,37 +41,21 @@ pub(crate) enum Given<'p> {
     Nothing,
 }
 
-/// What the profile gets for a setting, or what another one alone has there, but for what nextest
-/// may convert in it.
+/// What the first of these profiles that has a setting gives it, but for what nextest may convert in
+/// it.
 pub(crate) fn given_for<'p>(
     alloc: Global,
-    profile: &'p EffectiveProfile<'_>,
-    alone: Option<&'p str>,
+    effective: &EffectiveProfile<'_>,
+    profiles: &[ProfileAlone<'p>],
     setting: Setting<'_>,
 ) -> Result<Given<'p>, AllocError>
+    requires { AreLookedUp (layers_in effective.now) profiles.now }
     ensures { IfOk result
-        (IsGivenFor profile.now (option_map (λ name. name.now) alone.entry) (rule_of setting.entry)) }
+        (IsGivenFor effective.now (names_of profiles.now) (rule_of setting.entry)) }
 {
-    let given = read_for(alloc, profile, alone, setting)?;
-    let judged = judged(alloc, profile, setting, given)?;
-    Ok(judged)
-}
-
-// What is given for a setting, where this is given of its value as it stands.
-fn judged<'p>(
-    alloc: Global,
-    profile: &'p EffectiveProfile<'_>,
-    setting: Setting<'_>,
-    given: Given<'p>,
-) -> Result<Given<'p>, AllocError>
-    ensures { IfOk result (IsJudged profile.now (rule_of setting.entry) given.entry) }
-{
-    match given {
-        Given::Fault {
-            profile: name,
-            fault,
-        } => {
-            let judged = judged_fault(alloc, profile, setting, name, fault)?;
+    match read_for(alloc, effective, profiles, setting)? {
+        Given::Fault { profile, fault } => {
+            let judged = judged_fault(alloc, effective, setting, profile, fault)?;
             Ok(judged)
         }
         Given::Value { profile } => Ok(Given::Value { profile }),
@@ -80,15 +67,15 @@ fn judged<'p>(
 // What is given for a setting, where what this profile has there has a fault.
 fn judged_fault<'p>(
     alloc: Global,
-    profile: &'p EffectiveProfile<'_>,
+    effective: &EffectiveProfile<'_>,
     setting: Setting<'_>,
     name: &'p str,
     fault: ValueFault,
 ) -> Result<Given<'p>, AllocError>
-    ensures { IfOk result (IsFaultJudged profile.now (rule_of setting.entry) name.now fault) }
+    ensures { IfOk result (IsFaultJudged effective.now (rule_of setting.entry) name.now fault) }
 {
     let path = path_in(alloc, name, setting.keys)?;
-    match profile.value(alloc, path.as_slice())? {
+    match effective.value(alloc, path.as_slice())? {
         Some(value) => {
             let judged = judged_value(alloc, setting, name, fault, value)?;
             Ok(judged)
@@ -126,30 +113,32 @@ fn judged_value<'p>(
     }
 }
 
-// What the profile gets for a setting, or what another one alone has there, as it stands.
+// What the first of these profiles that has a setting gives it, as it stands.
 fn read_for<'p>(
     alloc: Global,
-    profile: &'p EffectiveProfile<'_>,
-    alone: Option<&'p str>,
+    effective: &EffectiveProfile<'_>,
+    profiles: &[ProfileAlone<'p>],
     setting: Setting<'_>,
 ) -> Result<Given<'p>, AllocError>
-    ensures { IfOk result
-        (IsReadFor profile.now (option_map (λ name. name.now) alone.entry) (rule_of setting.entry)) }
+    requires { AreLookedUp (layers_in effective.now) profiles.now }
+    ensures { IfOk result (IsReadFor effective.now (names_of profiles.now) (rule_of setting.entry)) }
 {
     let keys = setting.keys;
     match shape_read(setting.field) {
-        Shape::Retries => given_by::<RetryPolicy>(alloc, profile, alone, keys),
-        Shape::FlakyResult => given_by::<FlakyResult>(alloc, profile, alone, keys),
-        Shape::ThreadsRequired => given_by::<ThreadsRequired>(alloc, profile, alone, keys),
-        Shape::FailFast => given_by::<MaxFail>(alloc, profile, alone, keys),
-        Shape::SlowTimeout => given_by::<SlowTimeout>(alloc, profile, alone, keys),
-        Shape::LeakTimeout => given_by::<LeakTimeout>(alloc, profile, alone, keys),
-        Shape::Duration => given_by::<GlobalTimeout>(alloc, profile, alone, keys),
-        Shape::Text => given_by::<String>(alloc, profile, alone, keys),
-        Shape::Boolean => given_by::<bool>(alloc, profile, alone, keys),
-        Shape::ReportSkipPolicy => given_by::<ReportSkipPolicy>(alloc, profile, alone, keys),
-        Shape::FlakyFailStatus => given_by::<JunitFlakyFailStatus>(alloc, profile, alone, keys),
-        _ => given_by::<Written>(alloc, profile, alone, keys),
+        Shape::Retries => given_by::<RetryPolicy>(alloc, effective, profiles, keys),
+        Shape::FlakyResult => given_by::<FlakyResult>(alloc, effective, profiles, keys),
+        Shape::ThreadsRequired => given_by::<ThreadsRequired>(alloc, effective, profiles, keys),
+        Shape::FailFast => given_by::<MaxFail>(alloc, effective, profiles, keys),
+        Shape::SlowTimeout => given_by::<SlowTimeout>(alloc, effective, profiles, keys),
+        Shape::LeakTimeout => given_by::<LeakTimeout>(alloc, effective, profiles, keys),
+        Shape::Duration => given_by::<GlobalTimeout>(alloc, effective, profiles, keys),
+        Shape::Text => given_by::<String>(alloc, effective, profiles, keys),
+        Shape::Boolean => given_by::<bool>(alloc, effective, profiles, keys),
+        Shape::ReportSkipPolicy => given_by::<ReportSkipPolicy>(alloc, effective, profiles, keys),
+        Shape::FlakyFailStatus => given_by::<JunitFlakyFailStatus>(
+            alloc, effective, profiles, keys,
+        ),
+        _ => given_by::<Written>(alloc, effective, profiles, keys),
     }
 }
 
@@ -163,24 +152,23 @@ fn shape_read(field: &Field) -> Shape
     field.shape
 }
 
-// What the profile gets at keys, or what another one alone has there, by a type's reader.
+// What the first of these profiles that has something at keys gives there, by a type's reader.
 fn given_by<'p, T: ProfileSetting>(
     alloc: Global,
-    profile: &'p EffectiveProfile<'_>,
-    alone: Option<&'p str>,
+    effective: &EffectiveProfile<'_>,
+    profiles: &[ProfileAlone<'p>],
     keys: &[&str],
 ) -> Result<Given<'p>, AllocError>
-    ensures { IfOk result (IsGivenBy T.seen T.reading profile.now
-        (option_map (λ name. name.now) alone.entry) (words_of keys.now)) }
+    requires { AreLookedUp (layers_in effective.now) profiles.now }
+    ensures { IfOk result (IsGivenBy T.seen T.reading effective.now (names_of profiles.now)
+        (words_of keys.now)) }
 {
-    match alone {
-        Some(name) => Ok(given_of(profile.setting_of::<T>(alloc, name, keys)?)),
-        None => Ok(given_of(profile.setting::<T>(alloc, keys)?)),
-    }
+    let given = first_given::<T>(alloc, profiles, keys)?;
+    Ok(given_of(given))
 }
 
-// What is given, without the value.
-fn given_of<'p, T: Drop>(effective: Effective<'p, T>) -> Given<'p>
+/// What is given, without the value.
+pub(crate) fn given_of<'p, T: Drop>(effective: Effective<'p, T>) -> Given<'p>
     ensures { result ≡ given_of effective.entry }
 {
     match effective {

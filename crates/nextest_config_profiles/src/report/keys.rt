@@ -6,6 +6,7 @@ ghost use Rattle.nextest_config_profiles.specs.Reach.{words_of};
 use std::alloc::{AllocError, Global};
 
 /// The path of keys of a profile.
+#[inline]
 pub(crate) fn path_in<'a>(
     alloc: Global,
     profile: &'a str,

@@ -1,20 +1,24 @@
 //! Faults of settings in other profiles than the one that gives the setting.
 
-ghost use Rattle.std.specs.Prelude.{◌≡◌, ◌++◌, IfOk, List, OnOk, Option, option_map};
-ghost use Rattle.nextest_config_profiles.specs.Reach.{words_of};
-ghost use Rattle.nextest_config_profiles.specs.Report.OtherProfiles.{giver_of, IsFaultIf, IsFaultOf, IsOtherProfileFault, IsGivenFault};
+ghost use Rattle.std.specs.Prelude.{◌≡◌, IfOk, option_map};
+ghost use Rattle.nextest_config_profiles.specs.Profile.{AreLookedUp, IsLookedUp, layers_in, names_of};
+ghost use Rattle.nextest_config_profiles.specs.Report.OtherProfiles.{giver_of, IsFaultIf, IsFaultOf, IsOtherProfileFault, IsGivenFault, names_judged};
 ghost use Rattle.nextest_config_profiles.specs.Report.Setting.{rule_of};
-ghost use Rattle.nextest_config_profiles.specs.Report.Somes.{AreSomes, some_list};
-ghost use Rattle.nextest_config_profiles.specs.declared.report.parts.OtherProfileFault.{OtherProfileFault};
+ghost use Rattle.nextest_config_profiles.specs.Report.Somes.{AreSomes};
 
 use crate::EffectiveProfile;
+use crate::profile_alone::ProfileAlone;
+use crate::reach::some_have;
 use crate::report::faulty::{message, places};
 use crate::report::given::{Given, given_for};
 use crate::report::keys::copy_of;
 use crate::report::parts::OtherProfileFault;
 use crate::report::setting::Setting;
+use crate::report::somes::push_some;
+use crate::report::written::is_documented;
 use nextest_config_values::read::ValueFault;
 use std::alloc::{AllocError, Global};
+use std::slice;
 
 /// The profile by which this is given, if anything is.
 pub(crate) fn giver_of<'p>(given: &Given<'p>) -> Option<&'p str>
@@ -27,64 +31,49 @@ pub(crate) fn giver_of<'p>(given: &Given<'p>) -> Option<&'p str>
     }
 }
 
-/// Pushes what is wrong with a setting of the profiles of these names, but of the one that gives it.
-pub(crate) fn push_faults<'p>(
+/// What is wrong with a setting of these profiles, but of the one that gives it.
+pub(crate) fn faults_of<'p>(
     alloc: Global,
     effective: &'p EffectiveProfile<'p>,
     setting: Setting<'_>,
     giver: Option<&str>,
-    names: &[&'p str],
-    faults: &mut Vec<OtherProfileFault<'p>>,
-) -> Result<(), AllocError>
-    ensures { OnOk result ((added : List OtherProfileFault)
-        × AreSomes (IsFaultOf effective.now (rule_of setting.entry)
-        (option_map (λ name. name.now) giver.entry)) (words_of names.now) added
-        × (faults.new.items ≡ faults.old.items ++ added)) }
-{
-    let mut added = faults_of(alloc, effective, setting, giver, names)?;
-    faults.append(&mut added)
-}
-
-// What is wrong with a setting of the profiles of these names, but of the one that gives it.
-fn faults_of<'p>(
-    alloc: Global,
-    effective: &'p EffectiveProfile<'p>,
-    setting: Setting<'_>,
-    giver: Option<&str>,
-    names: &[&'p str],
+    profiles: &[ProfileAlone<'p>],
 ) -> Result<Vec<OtherProfileFault<'p>>, AllocError>
+    requires { AreLookedUp (layers_in effective.now) profiles.now }
     ensures { IfOk result (λ faults.
         AreSomes (IsFaultOf effective.now (rule_of setting.entry)
-        (option_map (λ name. name.now) giver.entry)) (words_of names.now) faults.items) }
+        (option_map (λ name. name.now) giver.entry))
+        (names_judged (rule_of setting.entry).rule.severity (names_of profiles.now)) faults.items) }
 {
     let mut faults = Vec::new(alloc);
-    for name in names {
-        push_fault(alloc, effective, setting, giver, *name, &mut faults)?;
+    if is_documented(setting.field.severity) {
+        // No reader reads it, so none refuses it.
+        return Ok(faults);
+    }
+    for profile in profiles {
+        let fault = fault_of(alloc, effective, setting, giver, profile)?;
+        push_some(&mut faults, fault)?;
     }
     Ok(faults)
 }
 
-// Pushes what is wrong with a setting of a profile, unless it is the one that gives the setting.
-fn push_fault<'p>(
+// What is wrong with a setting of a profile, unless it is the one that gives the setting.
+fn fault_of<'p>(
     alloc: Global,
     effective: &'p EffectiveProfile<'p>,
     setting: Setting<'_>,
     giver: Option<&str>,
-    profile: &'p str,
-    faults: &mut Vec<OtherProfileFault<'p>>,
-) -> Result<(), AllocError>
-    ensures { OnOk result ((fault : Option OtherProfileFault)
-        × IsFaultOf effective.now (rule_of setting.entry) (option_map (λ name. name.now) giver.entry)
-        profile.now fault
-        × (faults.new.items ≡ faults.old.items ++ some_list fault)) }
+    profile: &ProfileAlone<'p>,
+) -> Result<Option<OtherProfileFault<'p>>, AllocError>
+    requires { IsLookedUp (layers_in effective.now) profile.now }
+    ensures { IfOk result (IsFaultOf effective.now (rule_of setting.entry)
+        (option_map (λ name. name.now) giver.entry) profile.now.name.now) }
 {
-    if giver == Some(profile) {
-        return Ok(());
+    if giver == Some(profile.name) {
+        return Ok(None);
     }
-    if let Some(fault) = fault_if(alloc, effective, setting, profile)? {
-        faults.push(fault)?;
-    }
-    Ok(())
+    let fault = fault_if(alloc, effective, setting, profile)?;
+    Ok(fault)
 }
 
 // What is wrong with what a profile alone has for a setting.
@@ -92,12 +81,17 @@ fn fault_if<'p>(
     alloc: Global,
     effective: &'p EffectiveProfile<'p>,
     setting: Setting<'_>,
-    profile: &'p str,
+    profile: &ProfileAlone<'p>,
 ) -> Result<Option<OtherProfileFault<'p>>, AllocError>
-    ensures { IfOk result (IsFaultIf effective.now (rule_of setting.entry) profile.now) }
+    requires { IsLookedUp (layers_in effective.now) profile.now }
+    ensures { IfOk result
+        (IsFaultIf effective.now (rule_of setting.entry) profile.now.name.now) }
 {
-    let given = given_for(alloc, effective, Some(profile), setting)?;
-    let fault = fault_of_given(alloc, effective, setting, profile, given)?;
+    if !some_have(profile.layers.as_slice(), setting.keys) {
+        return Ok(None);
+    }
+    let given = given_for(alloc, effective, slice::from_ref(profile), setting)?;
+    let fault = fault_of_given(alloc, effective, setting, profile.name, given)?;
     Ok(fault)
 }
 

@@ -1,16 +1,15 @@
 //! What a profile has beside the settings that are read here.
 
-ghost use Rattle.std.specs.Prelude.{◌≡◌, ◌∷◌, ◌++◌, [], IfOk, MatchOption, OnOk, Option, Some};
+ghost use Rattle.std.specs.Prelude.{◌≡◌, ◌∷◌, [], IfOk, MatchOption, Some};
 ghost use Rattle.nextest_config_profiles.specs.Reach.{words_of};
 ghost use Rattle.nextest_config_profiles.specs.Report.Others.{AreOthers, has_settings, is_other, IsOther, IsOtherOf, other_keys, PassesOther};
 ghost use Rattle.nextest_config_profiles.specs.Report.Rows.{IsLastAt};
 ghost use Rattle.nextest_config_profiles.specs.Report.Setting.{member_of, parts_in};
-ghost use Rattle.nextest_config_profiles.specs.Report.Somes.{some_list};
-ghost use Rattle.nextest_config_profiles.specs.declared.report.parts.OtherKey.{OtherKey};
 
 use crate::report::last::last_at;
 use crate::report::parts::{Literal, OtherKey};
 use crate::report::setting::{is_setting, table_fields};
+use crate::report::somes::push_some;
 use crate::report::source::source_of;
 use crate::{EffectiveProfile, LayerValue};
 use nextest_config_elements::field::Field;
@@ -61,25 +60,10 @@ pub(crate) fn others<'p>(
     let keys = other_keys(alloc)?;
     let mut others = Vec::new(alloc);
     for key in &keys {
-        push_other(alloc, effective, key, &mut others)?;
+        let other = other(alloc, effective, key)?;
+        push_some(&mut others, other)?;
     }
     Ok(others)
-}
-
-// Pushes what the profile has at a key, if anything.
-fn push_other<'p>(
-    alloc: Global,
-    effective: &'p EffectiveProfile<'p>,
-    key: &'static str,
-    others: &mut Vec<OtherKey<'p>>,
-) -> Result<(), AllocError>
-    ensures { OnOk result ((other : Option OtherKey) × IsOther effective.now key.now other
-        × (others.new.items ≡ others.old.items ++ some_list other)) }
-{
-    if let Some(other) = other(alloc, effective, key)? {
-        others.push(other)?;
-    }
-    Ok(())
 }
 
 // What the first profile of the chain has at a key that has it.

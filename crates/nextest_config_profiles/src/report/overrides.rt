@@ -1,6 +1,6 @@
 //! What is told of overrides.
 
-ghost use Rattle.std.specs.Prelude.{◌≡◌, ◌++◌, ◌∷◌, [], IfOk, map, OnOk, Option, option_map};
+ghost use Rattle.std.specs.Prelude.{◌≡◌, IfOk, map, option_map};
 ghost use Rattle.std.specs.List.{AllZip};
 ghost use Rattle.toml.specs.View.{view};
 ghost use Rattle.toml_spans.specs.Step.{step_of};
@@ -9,12 +9,11 @@ ghost use Rattle.nextest_config_profiles.specs.Reach.{words_of};
 ghost use Rattle.nextest_config_profiles.specs.Report.Elements.{element_of};
 ghost use Rattle.nextest_config_profiles.specs.Report.Literal.{IsLiteralIf};
 ghost use Rattle.nextest_config_profiles.specs.Report.Overrides.{AreOverrides, AreSettings, IsElementSource, IsOverride, IsSet, IsSpanOfElement, is_told, member_at, override_keys, steps_to_element};
-ghost use Rattle.nextest_config_profiles.specs.Report.Somes.{some_list};
-ghost use Rattle.nextest_config_profiles.specs.declared.report.parts.OverrideSetting.{OverrideSetting};
 
 use crate::EffectiveProfile;
 use crate::report::elements::{Element, all_elements};
 use crate::report::parts::{Literal, Override, OverrideSetting, Source};
+use crate::report::somes::push_some;
 use crate::report::source::file_place;
 use nextest_config_elements::keys::override_fields;
 use nextest_config_values::read::value_at;
@@ -95,7 +94,7 @@ fn source_of<'p>(
     ensures { IfOk result (IsElementSource effective.now (element_of element.now)) }
 {
     let steps = steps_to(alloc, element)?;
-    let span = span_of(alloc, effective, element.layer, steps.as_slice())?;
+    let span = span_of(effective, element.layer, steps.as_slice());
     Ok(Source {
         profile: element.profile,
         file: file_place(effective, element.layer, span),
@@ -103,17 +102,12 @@ fn source_of<'p>(
 }
 
 // The range of a path in the file of a layer, if it is one.
-fn span_of(
-    alloc: Global,
-    effective: &EffectiveProfile<'_>,
-    layer: usize,
-    steps: &[Step],
-) -> Result<Option<Span>, AllocError>
-    ensures { IfOk result (IsSpanOfElement (file_in effective.now layer) (map step_of steps.now)) }
+fn span_of(effective: &EffectiveProfile<'_>, layer: usize, steps: &[Step]) -> Option<Span>
+    ensures { IsSpanOfElement (file_in effective.now layer) (map step_of steps.now) result }
 {
     match effective.file(layer) {
-        Some(file) => file.span(alloc, steps),
-        None => Ok(None),
+        Some(file) => file.span(steps),
+        None => None,
     }
 }
 
@@ -137,26 +131,10 @@ fn settings(alloc: Global, value: &Value) -> Result<Vec<OverrideSetting>, AllocE
     let keys = override_keys(alloc)?;
     let mut settings = Vec::new(alloc);
     for key in &keys {
-        push_setting(alloc, value, key, &mut settings)?;
+        let setting = setting(alloc, value, key)?;
+        push_some(&mut settings, setting)?;
     }
     Ok(settings)
-}
-
-// Pushes a key with its value, if the override has it.
-fn push_setting(
-    alloc: Global,
-    value: &Value,
-    key: &'static str,
-    settings: &mut Vec<OverrideSetting>,
-) -> Result<(), AllocError>
-    ensures { OnOk result ((setting : Option OverrideSetting)
-        × IsSet (view value.now) key.now setting
-        × (settings.new.items ≡ settings.old.items ++ some_list setting)) }
-{
-    if let Some(setting) = setting(alloc, value, key)? {
-        settings.push(setting)?;
-    }
-    Ok(())
 }
 
 // A key with its value, if the override has it.

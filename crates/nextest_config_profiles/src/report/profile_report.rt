@@ -2,25 +2,24 @@
 
 ghost use Rattle.std.specs.Prelude.{◌≡◌, ◌++◌, ◌∷◌, [], IfOk, List, map, OnOk};
 ghost use Rattle.std.specs.List.{AllZip, list_any};
-ghost use Rattle.nextest_config_profiles.specs.Reach.{words_of};
-ghost use Rattle.nextest_config_profiles.specs.Report.OtherProfiles.{AreFaultsOf, AreOtherProfileFaults, names_judged};
+ghost use Rattle.nextest_config_profiles.specs.Profile.{AreProfiles, names_of};
+ghost use Rattle.nextest_config_profiles.specs.Report.OtherProfiles.{AreFaultsOf, AreOtherProfileFaults};
 ghost use Rattle.nextest_config_profiles.specs.Report.ProfileReport.{has_fault, have_fault, is_fault, IsReport, rows_have_fault};
 ghost use Rattle.nextest_config_profiles.specs.Report.Rows.{AreRows};
 ghost use Rattle.nextest_config_profiles.specs.Report.Setting.{all_settings, rule_of};
 ghost use Rattle.nextest_config_profiles.specs.declared.report.parts.OtherProfileFault.{OtherProfileFault};
 ghost use Rattle.nextest_config_profiles.specs.declared.report.parts.Row.{Row};
 
+use crate::profile_alone::Profiles;
 use crate::report::chain::chain;
 use crate::report::given::given_for;
-use crate::report::other_profiles::{giver_of, push_faults};
+use crate::report::other_profiles::{faults_of, giver_of};
 use crate::report::others::others;
 use crate::report::overrides::overrides;
 use crate::report::parts::{ChainProfile, KeyState, OtherKey, OtherProfileFault, Override, Row};
 use crate::report::rows::rows_of;
 use crate::report::setting::{Setting, all_settings};
-use crate::report::written::is_documented;
 use crate::{EffectiveProfile, profile_names};
-use nextest_config_elements::field::FaultSeverity;
 use std::alloc::{AllocError, Global};
 
 /// What is told of a profile.
@@ -87,56 +86,50 @@ fn settings_report<'a>(
         AreOtherProfileFaults effective.now report.faults.items) }
 {
     let names = profile_names(alloc, effective.files())?;
+    let all = effective.each_alone(alloc, names.as_slice())?;
+    let chain = effective.chain_alone(alloc)?;
+    let profiles = Profiles {
+        effective,
+        chain: chain.as_slice(),
+        all: all.as_slice(),
+    };
     let settings = all_settings(alloc)?;
     let mut report = SettingsReport {
         rows: Vec::new(alloc),
         faults: Vec::new(alloc),
     };
     for setting in &settings {
-        push_setting(
-            alloc,
-            effective,
-            setting.lent(),
-            names.as_slice(),
-            tells_hidden,
-            &mut report,
-        )?;
+        push_setting(alloc, profiles, setting.lent(), tells_hidden, &mut report)?;
     }
     Ok(report)
 }
 
-// Pushes what is told of a setting, where the profiles have these names.
+// Pushes what is told of a setting.
 fn push_setting<'a>(
     alloc: Global,
-    effective: &'a EffectiveProfile<'a>,
+    profiles: Profiles<'_, 'a>,
     setting: Setting<'_>,
-    names: &[&'a str],
     tells_hidden: bool,
     report: &mut SettingsReport<'a>,
 ) -> Result<(), AllocError>
+    requires { AreProfiles profiles }
     ensures rows { OnOk result ((rows : List Row)
-        × AreRows effective.now tells_hidden (rule_of setting.entry) rows
+        × AreRows profiles.entry.effective.now tells_hidden (rule_of setting.entry) rows
         × (map (λ rows. rows.items) report.new.rows.items
         ≡ map (λ rows. rows.items) report.old.rows.items ++ rows ∷ [])) }
     ensures faults { OnOk result ((added : List OtherProfileFault)
-        × AreFaultsOf effective.now (words_of names.now) (rule_of setting.entry) added
+        × AreFaultsOf profiles.entry.effective.now (names_of profiles.entry.all.now)
+        (rule_of setting.entry) added
         × (report.new.faults.items ≡ report.old.faults.items ++ added)) }
 {
-    let given = given_for(alloc, effective, None, setting)?;
+    let effective = profiles.effective;
+    let given = given_for(alloc, effective, profiles.chain, setting)?;
     let giver = giver_of(&given);
     let rows = rows_of(alloc, effective, setting, tells_hidden, given)?;
     report.rows.push(rows)?;
-    let names = names_judged(setting.field.severity, names);
-    push_faults(alloc, effective, setting, giver, names, &mut report.faults)?;
+    let mut added = faults_of(alloc, effective, setting, giver, profiles.all)?;
+    report.faults.append(&mut added)?;
     Ok(())
-}
-
-// The names of the profiles whose values of a setting may be refused: none, where no reader reads
-// it.
-fn names_judged<'n, 'a>(severity: FaultSeverity, names: &'n [&'a str]) -> &'n [&'a str]
-    ensures { words_of result.now ≡ names_judged severity (words_of names.now) }
-{
-    if is_documented(severity) { &[] } else { names }
 }
 
 // Whether a row of a setting tells of a fault, or of no value.

@@ -21,6 +21,13 @@ pub(crate) fn source_of<'p>(
 ) -> Result<Source<'p>, AllocError>
     ensures { IfOk result (IsSource effective.now layer profile.now (words_of keys.now)) }
 {
+    if layer == 0 {
+        // What nextest sets itself stands in no file.
+        return Ok(Source {
+            profile,
+            file: None,
+        });
+    }
     let path = path_in(alloc, profile, keys)?;
     let span = effective.span(alloc, layer, path.as_slice())?;
     let file = file_place(effective, layer, span);

@@ -10,10 +10,10 @@ ghost use Rattle.nextest_config_profiles.specs.Report.Setting.{all_settings, rul
 ghost use Rattle.nextest_config_profiles.specs.Said.{Path};
 ghost use Rattle.nextest_config_profiles.specs.Report.Wanted.{dotted, field_at, is_known, IsKeyNamed, IsPathText, path_of, paths_of, told_paths};
 
-use crate::owned_chain::copies;
 use crate::report::keys::with_key;
 use crate::report::others::other_keys;
 use crate::report::setting::{Setting, all_settings, fields_below};
+use crate::texts::{copies, lent};
 use nextest_config_elements::field::Field;
 use nextest_config_elements::keys::profile_fields;
 use nextest_config_values::nearest_word::nearest;
@@ -146,15 +146,4 @@ fn push_paths(
         paths.push(keys.join(alloc, ".")?)?;
     }
     Ok(())
-}
-
-// Texts, as words that are lent.
-fn lent<'t>(alloc: Global, texts: &'t [String]) -> Result<Vec<&'t str>, AllocError>
-    ensures { IfOk result (λ words. words_of words.items ≡ map string_bytes texts.now) }
-{
-    let mut words = Vec::new(alloc);
-    for text in texts {
-        words.push(text.as_str())?;
-    }
-    Ok(words)
 }

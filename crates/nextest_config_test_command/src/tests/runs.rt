@@ -42,30 +42,6 @@ $ check --current=0.9.49 --tool-config-file=my-tool:/etc/t.toml --table-only = 2
 $ lint --tool-config-file=my-tool:/etc/t.toml --table-only = 1
 > .config/nextest.toml:2:16: error: experimental: the array form of `experimental` isn't supported, use a table [array-form]
 
-=== versions, and no finding
-@ .config/nextest.toml
-nextest-version = { required = "0.9.50", recommended = "0.9.60" }
-$ lint --strict = 0
-$ lint --format=github = 0
-$ check --current=0.9.60 --strict = 0
-> satisfied: 0.9.60
-> known: none
-$ check --current=0.9.55 = 0
-> warning: 0.9.60 recommended by repository .config/nextest.toml, current 0.9.55
-> known: none
-$ check --current=0.9.55 --strict = 1
-> warning: 0.9.60 recommended by repository .config/nextest.toml, current 0.9.55
-> known: none
-$ check --current=0.9.55 --strict --override = 0
-> warning (overridden): 0.9.60 recommended by repository .config/nextest.toml, current 0.9.55
-> known: none
-$ check --current=0.9.50-b.1+c = 1
-> error: 0.9.50 required by repository .config/nextest.toml, current 0.9.50-b.1+c
-> known: none
-$ check --current=0.9.49 --strict --override = 0
-> error (overridden): 0.9.50 required by repository .config/nextest.toml, current 0.9.49
-> known: none
-
 === tools, of which the first is read last, and the repository above them
 @ other | folder
 @ /a.toml
@@ -154,50 +130,6 @@ $ lint --tool-config-file=u:/u.toml --config-file=ci.toml --format=github --stri
 > ::error file=/u.toml,line=1,endLine=1,col=5,endColumn=10,title=not-toml::/u.toml:1:5: *, did you mean false
 > ::error file=ci.toml,line=2,endLine=2,col=13,endColumn=14,title=invalid-type::ci.toml:2:13: profile.ci.overrides: invalid type: integer `1`, expected an array
 > ::warning file=ci.toml,line=3,endLine=3,col=1,endColumn=7,title=unknown-key::ci.toml:3:1: profile.ci: unknown key "retrie", did you mean "retries"
-
-=== a version out of its grammar
-@ .config/nextest.toml
-zone = 1
-nextest-version = "0.9.60-rc.1"
-$ check --current=1.0.0 = 2
-> .config/nextest.toml:1:1: warning: unknown key "zone" [unknown-key]
-> .config/nextest.toml:2:19: error: nextest-version: pre-release identifiers are not supported in nextest-version [pre-release]
-$ show = 2
-> .config/nextest.toml:1:1: warning: unknown key "zone" [unknown-key]
-> .config/nextest.toml:2:19: error: nextest-version: pre-release identifiers are not supported in nextest-version [pre-release]
-
-=== experimental features
-@ /t.toml
-experimental = []
-@ .config/nextest.toml
-experimental = { z = 1, wrapper-scripts = true, setup-scripts = true, "x\n" = false }
-@ ci.toml
-experimental = ["y", "benchmarks", "x"]
-$ show --tool-config-file=t:/t.toml = 0
-> required: none
-> recommended: none
-> known: setup-scripts, wrapper-scripts
-> unknown in repository .config/nextest.toml: "x\n", "z"
-> deprecated array form in tool t (/t.toml)
-> profiles: default, default-miri
-$ show --tool-config-file=t:/t.toml --config-file=ci.toml = 0
-> required: none
-> recommended: none
-> known: benchmarks
-> unknown in explicit ci.toml: "x", "y"
-> deprecated array form in tool t (/t.toml)
-> deprecated array form in explicit ci.toml
-> profiles: default, default-miri
-$ show --table-only = 0
-> required: none
-> recommended: none
-> known: setup-scripts, wrapper-scripts
-> unknown in repository .config/nextest.toml: "x\n", "z"
-> profiles: default, default-miri
-$ show --tool-config-file=t:/t.toml --table-only = 2
-> /t.toml:1:16: error: experimental: the array form of `experimental` isn't supported, use a table [array-form]
-> .config/nextest.toml:1:18: warning: experimental.z: unknown feature "z" [unknown-feature]
-> .config/nextest.toml:1:71: warning: experimental."x\n": unknown feature "x\n" [unknown-feature]
 
 === what another file of the list defines
 @ /t.toml
@@ -486,87 +418,6 @@ $ show --config-file=a←¶b.toml = 0
 > recommended: none
 > known: none
 > profiles: default, default-miri, ci
-
-=== files that ask for nothing
-@ other | folder
-@ /t.toml
-@ .config/nextest.toml
-# nothing
-$ lint --strict = 0
-$ show --tool-config-file=t:/t.toml other = 0
-> required: none
-> recommended: none
-> known: none
-> profiles: default, default-miri
-! no configuration file: other/.config/nextest.toml isn't there
-$ check --current=0.0.0 = 0
-> satisfied: 0.0.0
-> known: none
-
-=== no file
-@ a/b | folder
-@ c.toml
-zone = 1
-$ check --current=1.0.0 = 0
-> satisfied: 1.0.0
-> known: none
-! no configuration file: .config/nextest.toml isn't there
-$ check --current=1.0.0 --strict = 1
-> satisfied: 1.0.0
-> known: none
-! no configuration file: .config/nextest.toml isn't there
-$ lint --format=github = 0
-! no configuration file: .config/nextest.toml isn't there
-$ lint --strict a/b = 1
-! no configuration file: a/b/.config/nextest.toml isn't there
-$ lint --strict --default-path=a/b = 1
-! no configuration file: a/b/.config/nextest.toml isn't there
-$ show a/b --table-only = 0
-> required: none
-> recommended: none
-> known: none
-> profiles: default, default-miri
-! no configuration file: a/b/.config/nextest.toml isn't there
-$ lint a/b c.toml a/b = 0
-> c.toml:1:1: warning: unknown key "zone" [unknown-key]
-! no configuration file: a/b/.config/nextest.toml isn't there
-! no configuration file: a/b/.config/nextest.toml isn't there
-
-=== the nearest file
-@ ../.config/nextest.toml
-zone = 1
-@ ../../.config/nextest.toml
-nextest-version = "0.9.50"
-$ lint = 0
-> ../.config/nextest.toml:1:1: warning: unknown key "zone" [unknown-key]
-$ lint ../../.config/nextest.toml = 0
-$ show ../../.config/nextest.toml = 0
-> required: 0.9.50 by repository ../../.config/nextest.toml
-> recommended: none
-> known: none
-> profiles: default, default-miri
-
-=== the nearest file, where folders stand in its place
-@ .config/nextest.toml | folder
-@ ../.config/nextest.toml | folder
-@ ../../.config/nextest.toml
-zone = 1
-@ ../../../.config/nextest.toml
-zone = 1
-@ x | folder
-@ x/.config/nextest.toml | folder
-$ lint = 0
-> ../../.config/nextest.toml:1:1: warning: unknown key "zone" [unknown-key]
-$ lint x = 3
-! x/.config/nextest.toml: it is a folder
-$ lint .config/nextest.toml = 0
-! no configuration file: .config/nextest.toml/.config/nextest.toml isn't there
-
-=== the walk ends at the root
-@ ../../../.config/nextest.toml
-zone = 1
-$ lint = 0
-! no configuration file: .config/nextest.toml isn't there
 
 === files, folders and standard input
 @ -

@@ -3,7 +3,7 @@
 use crate::answers::{copied, done, shown, unknown};
 use crate::compared::ordered;
 use crate::failure::Failure;
-use crate::files::lines::steps;
+use crate::files::positions::steps;
 use crate::runner::Runner;
 use crate::values::{FromRow, names, word};
 use nextest_config_lint::{

@@ -1,6 +1,5 @@
 //! Lists of files, and what profiles get of them. A block has the files in reading order, and a line
-//! `> PROFILE ASKED: ANSWER` for each answer. Its call names the profiles that the indexes have at
-//! hand, with spaces between.
+//! `> PROFILE ASKED: ANSWER` for each answer. Its call is `list`.
 //!
 //! A file is a line `--- SOURCE` and its lines. SOURCE is `repository`, `explicit` or `tool NAME`.
 //! What is asked is one of these, all of which tell why the profile has none, where that is so, and
@@ -19,7 +18,7 @@ use crate::failure::Failure;
 use crate::files::documents::{document, kind};
 use crate::runner::Runner;
 use crate::told::{self, Told, answered};
-use crate::values::{names, word};
+use crate::values::word;
 use nextest_config::nextest_version::ConfigSource;
 use nextest_config_elements::global_timeout::GlobalTimeout;
 use nextest_config_elements::junit::JunitFlakyFailStatus;
@@ -33,25 +32,26 @@ use nextest_config_elements::threads_required::ThreadsRequired;
 use nextest_config_profiles::{
     Effective, EffectiveProfile, InheritsPlace, Layer, Leaf, ProfileFault,
 };
-use std::collections::BTreeSet;
 use std::fmt::{Debug, Display};
 use toml::Table;
-use toml_spans::PartialIndex;
+use toml_spans::Index;
 
 // A file of a list.
 #[derive(Drop)]
-struct File<'t> {
+struct File {
     source: ConfigSource,
     document: Table,
-    index: PartialIndex<'t>,
+    index: Index,
 }
 
 /// What each line of a block asks of its files.
 pub fn lists(rt: &Runner, call: &str, input: &str) -> Result<String, Failure> {
+    if call != "list" {
+        return unknown(rt, call);
+    }
     let block = done(rt, format!(in rt.alloc(); "\n{input}"))?;
     let (files, asked) = cut(block.as_str(), "\n> ")?;
-    let profiles = names(rt, call)?;
-    let files = read_files(rt, files, &profiles)?;
+    let files = read_files(rt, files)?;
     let layers = layers(rt, files.as_slice())?;
     let mut told = String::new(rt.alloc());
     for line in asked.split("\n> ") {
@@ -60,38 +60,32 @@ pub fn lists(rt: &Runner, call: &str, input: &str) -> Result<String, Failure> {
     Ok(told)
 }
 
-fn read_files<'t>(
-    rt: &Runner,
-    block: &'t str,
-    profiles: &'t BTreeSet<String>,
-) -> Result<Vec<File<'t>>, Failure> {
+fn read_files(rt: &Runner, block: &str) -> Result<Vec<File>, Failure> {
     let mut files = Vec::new(rt.alloc());
     for part in block.split("\n--- ").skip(1) {
         let (source, text) = part.split_once('\n').unwrap_or((part, ""));
-        done(rt, files.push(read_file(rt, source, text, profiles)?))?;
+        done(rt, files.push(read_file(rt, source, text)?))?;
     }
     Ok(files)
 }
 
-fn read_file<'t>(
-    rt: &Runner,
-    source: &str,
-    text: &'t str,
-    profiles: &'t BTreeSet<String>,
-) -> Result<File<'t>, Failure> {
+fn read_file(rt: &Runner, source: &str, text: &str) -> Result<File, Failure> {
     let (word, name) = word(source);
-    let index = PartialIndex::of(rt.alloc(), text, "profile", profiles);
+    let document = document(rt, text)?;
+    let Some(index) = done(rt, Index::of(rt.alloc(), text))? else {
+        return Err(Failure::Unreadable("a document has no index"));
+    };
     Ok(File {
         source: ConfigSource {
             kind: kind(rt, word, name)?,
             path: copied(rt, source)?,
         },
-        document: document(rt, text)?,
-        index: done(rt, index)?,
+        document,
+        index,
     })
 }
 
-fn layers<'f>(rt: &Runner, files: &'f [File<'f>]) -> Result<Vec<Layer<'f>>, Failure> {
+fn layers<'f>(rt: &Runner, files: &'f [File]) -> Result<Vec<Layer<'f>>, Failure> {
     let mut layers = Vec::new(rt.alloc());
     for file in files {
         let layer = Layer {

@@ -77,11 +77,6 @@ skip_more : (comments inside : Bool) (c : ℕ) (t r : List ℕ) (turn : Option B
 unfolding skip_from
 skip_more comments inside c t r turn same some is = rw (same, some) is
 
--- none more
-skip_ends : (comments inside : Bool) (c : ℕ) (t : List ℕ) → is_some (skip_turn comments inside c (first t)) ≡ false → skip_from comments inside (c ∷ t) ≡ c ∷ t
-unfolding skip_from
-skip_ends comments inside c t none = rw none refl
-
 -- where a run of blanks doesn't begin, none begins before a front of the text
 skip_none : (comments inside : Bool) (c : ℕ) (s r b : List ℕ) → is_some (skip_turn comments inside c (first s)) ≡ false → c ∷ s ≡ r ++ b → skip_from comments inside r ≡ r
 unfolding skip_from

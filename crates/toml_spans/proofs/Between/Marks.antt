@@ -13,7 +13,7 @@ use Rattle.toml_spans.specs.Key.{Part, Parts, parts_after}
 use Rattle.toml_spans.specs.Value.{parts_equals}
 use Rattle.toml_spans.proofs.Alone.{part_alone}
 use Rattle.toml_spans.proofs.Between.Values.{begins_with, found_test}
-use Rattle.toml_spans.proofs.Growth.Found.{Found, found_any, found_map, found_none, found_some, found_then}
+use Rattle.toml_spans.proofs.Found.{Found, found_any, found_map, found_none, found_some, found_then}
 use Rattle.toml_spans.proofs.Trees.Keys.{all_more}
 use Rattle.toml_spans.proofs.Trees.Rests.{rest_blank, rest_dropped, rest_on, rest_ws}
 use Rattle.toml_spans.proofs.Trees.Stands.{IsRest}

@@ -3,7 +3,7 @@ use Rattle.std.proofs.Common.{◌≡◌, ℕ, zero, suc, ◌≤◌, ◌==◌, Li
 use Rattle.std.proofs.lemmas.Option.{none-some, option_and_then_some, same_Some}
 use Rattle.std.proofs.NetLemmas.Options.{map_some}
 use Rattle.toml.specs.Parse.{after_element, atom}
-use Rattle.toml.specs.Tables.{header}
+use Rattle.toml.specs.Tables.{dotted, header}
 use Rattle.toml_parser.specs.Lexical.{first, Read, skip_blank}
 use Rattle.toml_spans.specs.Document.{Walk, Walks}
 use Rattle.toml_spans.specs.Entry.{after_key, Branches, no_branches, no_trees, Piece, piece, pieces_of, push_tree, scalar, table, tables, Tree, tree_at, tree_below, tree_from, Trees}
@@ -12,14 +12,13 @@ use Rattle.toml_spans.specs.Ranges.{IsAfterMark, IsFrom, MembersStand, Range, ra
 use Rattle.toml_spans.specs.Step.{PathStep}
 use Rattle.toml_spans.specs.Table.{at_part, pair, put}
 use Rattle.toml_spans.specs.Value.{element_trees, member_trees, pair_tree, parts_equals, placed, value_tree}
-use Rattle.toml_spans.proofs.Alone.{part_alone, value_alone}
 use Rattle.toml_spans.proofs.Order.Keys.{behind_from, after_is_key, holds_after_key}
 use Rattle.toml_spans.proofs.Between.Marks.{after_marked, equals_marked, IsMarked, PartsMarked, StartsMarked}
 use Rattle.toml_spans.proofs.Between.Ranges.{from_rest, of_value, range_begins}
 use Rattle.toml_spans.proofs.Between.Values.{begins_with, found_test}
 use Rattle.toml_spans.proofs.Between.Walks.{walk_holds}
-use Rattle.toml_spans.proofs.Growth.Found.{Found, found_any, found_both, found_map, found_none, found_some, found_then, found_weaker}
-use Rattle.toml_spans.proofs.Order.Changes.{at_part_keeps, dots_keep, IsKept}
+use Rattle.toml_spans.proofs.Found.{Found, found_any, found_both, found_map, found_none, found_some, found_then, found_weaker}
+use Rattle.toml_spans.proofs.Order.Changes.{at_part_keeps, along_keeps, IsKept}
 use Rattle.toml_spans.proofs.Order.Holds.{holds_along, holds_array, holds_from, holds_inline, holds_nowhere, holds_of_none, holds_pushed, holds_scalar, HoldsAmong, HoldsBelow, HoldsIn}
 use Rattle.toml_spans.proofs.Order.Ranges.{at_on}
 use Rattle.toml_spans.proofs.Order.Values.{of_pair}
@@ -54,7 +53,7 @@ key_here text k t marked = rw (after_is_key k t) (found_some k marked)
 put_marked : (text : List ℕ) (k : Parts) (t : Tree) (bs : Branches) → PartsMarked text k → HoldsIn (KeyMarked text) bs → HoldsBelow (KeyMarked text) t → Found (put k t bs) (HoldsIn (KeyMarked text))
 put_marked text k t bs marked holds value =
     let kept = keys_kept text in
-    (dots_keep _ _ _ _ kept k.0 (at_part k.1 (pair t)) marked.0 (at_part_keeps _ _ _ _ kept k.1 (pair t) marked.1 marked.1
+    (along_keeps _ _ _ _ kept dotted k.0 (at_part k.1 (pair t)) marked.0 (at_part_keeps _ _ _ _ kept k.1 (pair t) marked.1 marked.1
     (λ u is. of_pair (λ z. HoldsBelow (KeyMarked text) (after_key k.1.1 z)) t u is (holds_after_key (KeyMarked text) k.1.1 t (key_here text k.1.1 t marked.1) value)))).each bs holds
 
 -- what steps lead to holds it below, too
@@ -112,7 +111,7 @@ module _ (text : List ℕ) where
     -- a key and its value, by what is known of the key
     pair_known : (Q : Parts → Type 0) (s : List ℕ) → IsRest text s → Found (parts_equals s) (λ k. Q k.0) → Found (pair_tree read s) (λ p. Q p.0.0 × HoldsBelow (KeyMarked text) p.0.1 × IsRest s p.1)
     pair_known Q s from known =
-        found_then _ (found_both known (found_any {o = parts_equals s} (λ k is. (alike_first (equals_read part_alone text s from) k is).2.left)))
+        found_then _ (found_both known (found_any {o = parts_equals s} (λ k is. (alike_first (equals_read text s from) k is).2.left)))
         (λ k both. found_map _ (reads k.1 (rest_on from both.1)) (λ p value. (both.0, value.marked, rest_on both.1 value.left)))
 
     -- the members of an inline table
@@ -135,7 +134,7 @@ module _ (text : List ℕ) where
   with_rest : (depth : ℕ) → depth ≤ 80 → (s : List ℕ) → IsRest text s → Found (value_tree depth s) (λ p. HoldsBelow (KeyMarked text) p.0) → Found (value_tree depth s) (λ p. ReadsMarked s p.0 p.1)
   with_rest depth within s from marked =
       found_weaker
-      (found_both marked (found_any {Q = λ p. IsRest s p.1} (λ p is. (alike_first (value_read part_alone value_alone text depth within s from) p is).2.left)))
+      (found_both marked (found_any {Q = λ p. IsRest s p.1} (λ p is. (alike_first (value_read text depth within s from) p is).2.left)))
       (λ p both. record { marked = both.0; left = both.1 })
 
   -- a scalar

@@ -11,7 +11,7 @@ use Rattle.toml_parser.specs.Strings.{simple_key}
 -- from this walk and this rest the end is reached in so many statements, with that walk
 abbrev pub Ends : ℕ → Walk → List ℕ → Walk → Type 0
 Ends zero walk rest last = (walk ≡ last) × (skip_blank rest ≡ [])
-Ends (suc n) walk rest last = (s : Statement) × (after : List ℕ) × (next : Walk) × (statement_line (skip_blank rest) ≡ Some (s, after)) × (walk_on walk (skip_blank rest) s ≡ Some next) × Ends n next after last
+Ends (suc n) walk rest last = (s : Statement) × (after : List ℕ) × (next : Walk) × (statement_line (skip_blank rest) ≡ Some (s, after)) × (walk_on walk s.0 s.1 ≡ Some next) × Ends n next after last
 
 -- it is reached from the beginning
 pub from_start : (text : List ℕ) (walk last : Walk) (rest : List ℕ) (n : ℕ) → Walks text walk rest → Ends n walk rest last → (m : ℕ) × Ends m no_walk (skip_bom text) last
@@ -34,7 +34,7 @@ one_end zero (suc n) walk one other rest first second = absurd (none_at_end rest
 one_end (suc m) zero walk one other rest first second = absurd (none_at_end rest first.1 first.0 second.1 first.3)
 one_end (suc m) (suc n) walk one other rest first second =
     let same = some_pair_parts second.0 first.0 second.1 first.1 (sym second.3 ∙ first.3) in
-    let on : walk_on walk (skip_blank rest) first.0 ≡ Some second.2 = ap (walk_on walk (skip_blank rest)) (sym same.0) ∙ second.4 in
+    let on : walk_on walk first.0.0 first.0.1 ≡ Some second.2 = ap (λ (s : Statement). walk_on walk s.0 s.1) (sym same.0) ∙ second.4 in
     let next : second.2 ≡ first.2 = same_Some second.2 first.2 (sym on ∙ first.4) in
     let moved : Ends n first.2 second.1 other = subst (λ (w : Walk). Ends n w second.1 other) next second.5 in
     one_end m n first.2 one other first.1 first.5 (subst (λ (r : List ℕ). Ends n first.2 r other) same.1 moved)

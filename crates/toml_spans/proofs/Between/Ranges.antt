@@ -13,10 +13,9 @@ use Rattle.toml_spans.specs.Step.{index, PathStep}
 use Rattle.toml_spans.proofs.Between.Elements.{BeginsOther, ElementsSpaced, first_begins, Follows, follows, IsReached, IsSpaced, reached, spaced_kept, tables_none}
 use Rattle.toml_spans.proofs.Between.Values.{pair_value_spaced}
 use Rattle.toml_spans.proofs.Between.Walks.{walk_holds}
-use Rattle.toml_spans.proofs.Cuts.{front_of_front}
 use Rattle.toml_spans.proofs.Order.Holds.{holds_along, HoldsIn}
 use Rattle.toml_spans.proofs.Order.Ranges.{at_from, at_on}
-use Rattle.toml_spans.proofs.Trees.Rests.{rest_blank, rest_dropped, rest_element, rest_on}
+use Rattle.toml_spans.proofs.Trees.Rests.{rest_blank, rest_dropped, rest_element, rest_on, front_of_front}
 use Rattle.toml_spans.proofs.Trees.Stands.{IsRest}
 
 -- ---- places

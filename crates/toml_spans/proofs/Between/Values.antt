@@ -2,6 +2,7 @@
 use Rattle.std.proofs.Common.{◌≡◌, ℕ, zero, suc, ◌≤◌, Bool, true, false, cond, ◌==◌, List, [], ◌∷◌, length, drop, Option, Some, None, refl, sym, ap, subst, ◌∙◌, inl, inr, arith, eqb-true}
 use Rattle.std.proofs.lemmas.Bool.{cases_Bool, false≢true}
 use Rattle.std.proofs.lemmas.Option.{none-some}
+use Rattle.toml.specs.Tables.{dotted}
 use Rattle.toml_spans.proofs.Elements.{all_always}
 use Rattle.toml.specs.Data.{Data}
 use Rattle.toml.specs.Parse.{after_element, atom}
@@ -11,10 +12,9 @@ use Rattle.toml_spans.specs.Entry.{after_key, Branches, no_branches, no_trees, p
 use Rattle.toml_spans.specs.Key.{Parts}
 use Rattle.toml_spans.specs.Table.{at_part, pair, put}
 use Rattle.toml_spans.specs.Value.{element_trees, member_trees, pair_tree, parts_equals, placed, value_tree}
-use Rattle.toml_spans.proofs.Alone.{part_alone, value_alone}
 use Rattle.toml_spans.proofs.Between.Elements.{AreElements, elements_more, ElementsSpaced, spaced_after, spaced_kept}
-use Rattle.toml_spans.proofs.Growth.Found.{Found, found_any, found_both, found_map, found_none, found_some, found_then, found_weaker}
-use Rattle.toml_spans.proofs.Order.Changes.{at_part_keeps, dots_keep}
+use Rattle.toml_spans.proofs.Found.{Found, found_any, found_both, found_map, found_none, found_some, found_then, found_weaker}
+use Rattle.toml_spans.proofs.Order.Changes.{at_part_keeps, along_keeps}
 use Rattle.toml_spans.proofs.Order.Holds.{holds_array, holds_inline, holds_nowhere, holds_of_none, holds_pushed, holds_scalar, HoldsAmong, HoldsBelow, HoldsIn}
 use Rattle.toml_spans.proofs.Order.Values.{of_pair}
 use Rattle.toml_spans.proofs.Trees.Alike.{alike_first}
@@ -48,7 +48,7 @@ no_square s r is = elim (cases_Bool (first s == 91)) [
 put_spaced : (text : List ℕ) (k : Parts) (t : Tree) (bs : Branches) → HoldsIn (ElementsSpaced text) bs → HoldsBelow (ElementsSpaced text) t → Found (put k t bs) (HoldsIn (ElementsSpaced text))
 put_spaced text k t bs holds value =
     let kept = spaced_kept text in
-    (dots_keep _ _ _ _ kept k.0 (at_part k.1 (pair t)) (all_always (λ part. tt) k.0) (at_part_keeps _ _ _ _ kept k.1 (pair t) tt tt
+    (along_keeps _ _ _ _ kept dotted k.0 (at_part k.1 (pair t)) (all_always (λ part. tt) k.0) (at_part_keeps _ _ _ _ kept k.1 (pair t) tt tt
     (λ u is. of_pair (λ z. HoldsBelow (ElementsSpaced text) (after_key k.1.1 z)) t u is (spaced_after text k.1.1 t value)))).each bs holds
 
 module _ (text : List ℕ) where
@@ -76,7 +76,7 @@ module _ (text : List ℕ) where
     -- a key and its value
     pair_spaced : (s : List ℕ) → IsRest text s → Found (pair_tree read s) (λ p. ReadsPair s p.0.1 p.1)
     pair_spaced s from =
-        found_then _ (found_any {o = parts_equals s} (λ k is. (alike_first (equals_read part_alone text s from) k is).2.left))
+        found_then _ (found_any {o = parts_equals s} (λ k is. (alike_first (equals_read text s from) k is).2.left))
         (λ k left. found_map _ (reads k.1 (rest_on from left)) (λ p value. record { spaced = value.spaced; left = rest_on left value.left }))
 
     -- the elements of an array
@@ -111,7 +111,7 @@ module _ (text : List ℕ) where
   with_place depth within s from spaced =
       found_weaker
       (found_both spaced (found_any {Q = λ p. ((pieces_of p.0).of_value ≡ Some (piece s p.1)) × IsRest s p.1}
-      (λ p is. let read = (alike_first (value_read part_alone value_alone text depth within s from) p is).2 in (read.at, read.left))))
+      (λ p is. let read = (alike_first (value_read text depth within s from) p is).2 in (read.at, read.left))))
       (λ p both. record { spaced = both.0; value = both.1.0; left = both.1.1 })
 
   -- a scalar

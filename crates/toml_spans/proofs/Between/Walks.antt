@@ -4,8 +4,7 @@ use Rattle.toml_parser.specs.Lexical.{skip_blank}
 use Rattle.toml_spans.specs.Document.{begin, go_on, Walk, Walks}
 use Rattle.toml_spans.specs.Entry.{after_key, Tree}
 use Rattle.toml_spans.specs.Value.{pair_tree, value_tree}
-use Rattle.toml_spans.proofs.Alone.{part_alone, value_alone}
-use Rattle.toml_spans.proofs.Growth.Found.{Found}
+use Rattle.toml_spans.proofs.Found.{Found}
 use Rattle.toml_spans.proofs.Order.Changes.{IsKept}
 use Rattle.toml_spans.proofs.Order.Holds.{holds_nowhere, HoldsBelow, HoldsIn}
 use Rattle.toml_spans.proofs.Order.Walks.{line_pair, walk_on_keeps}
@@ -19,6 +18,6 @@ module _ (P : Tree → Type 0) (kept : IsKept P P (λ k. Unit {0}) (λ k. Unit {
   walk_holds walk rest begin = holds_nowhere
   walk_holds walk rest (go_on before next behind after s walks read on) =
       let start = skip_blank behind in
-      let from : IsRest text start = rest_on (simulated part_alone value_alone text before behind walks).from (rest_blank behind) in
+      let from : IsRest text start = rest_on (simulated text before behind walks).from (rest_blank behind) in
       let value = (line_pair (λ k left t. HoldsBelow P (after_key k.1.1 t)) start (reads start from)).each (s, after) read in
-      (walk_on_keeps P P _ _ kept (λ k. tt) before start s tt value (walk_holds before behind walks)).each next on
+      (walk_on_keeps P P _ _ kept (λ k. tt) before s.0 s.1 tt value (walk_holds before behind walks)).each next on

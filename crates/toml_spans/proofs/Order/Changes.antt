@@ -1,11 +1,11 @@
 -- What holds of each tree of a document still holds after a statement.
 use Rattle.std.proofs.Common.{◌≡◌, List, [], ◌∷◌, Option, Some, None, refl}
 use Rattle.std.specs.List.{AllByRecursion}
-use Rattle.toml.specs.Tables.{dotted, header, implicit, Origin}
+use Rattle.toml.specs.Tables.{header, implicit, Origin}
 use Rattle.toml_spans.specs.Entry.{array, after_key, Branches, get_branch, inline, no_branches, no_trees, Piece, push_tree, scalar, table, tables, Tree, Trees}
 use Rattle.toml_spans.specs.Key.{Part}
-use Rattle.toml_spans.specs.Table.{along_dots, along_header, array_table, at_found, at_part, by_dot, by_header, Definition, Growth, new_tree, pair, redefined, std_table, through_dot, through_header}
-use Rattle.toml_spans.proofs.Growth.Found.{Found, found_map, found_none, found_some}
+use Rattle.toml_spans.specs.Table.{along, array_table, at_found, at_part, by_part, Definition, Growth, new_tree, pair, redefined, std_table, through}
+use Rattle.toml_spans.proofs.Found.{Found, found_any, found_map, found_none, found_some, found_then}
 use Rattle.toml_spans.proofs.Order.Holds.{holds_before, holds_here, holds_inserted, holds_inside, holds_last, holds_nowhere, holds_of_elements, holds_of_none, holds_pushed, holds_replaced, holds_table, holds_tables, holds_weaker_in, holds_weaker_among, HoldsBelow, HoldsIn}
 
 -- what held of each tree, and holds once tables whose keys stand at such pieces are passed through, and one at such a piece defines something
@@ -23,58 +23,34 @@ module _ (P Q : Tree → Type 0) (N F : Piece → Type 0) (kept : IsKept P Q N F
   pub record Keeps (grow : Growth) : Type 0 where
     pub each : (bs : Branches) → HoldsIn P bs → Found (grow bs) (HoldsIn Q)
 
-  -- so it does in a table that a header passes through
-  through_header_keeps : (grow : Growth) → Keeps grow → (t : Tree) → HoldsBelow P t → Found (through_header grow t) (HoldsBelow Q)
-  through_header_keeps grow keeps (scalar k v) holds = found_none
-  through_header_keeps grow keeps (array k v ts) holds = found_none
-  through_header_keeps grow keeps (inline k v bs) holds = found_none
-  through_header_keeps grow keeps (table k o bs) holds =
-      found_map (table k o) (keeps.each bs (holds_inside k o bs holds)) (λ new inside. holds_table k o new (kept.other_table k o o bs new (holds_here holds)) inside)
-  through_header_keeps grow keeps (tables k done last bs) holds =
+  -- so it does in a table that a key passes through
+  through_keeps : (by : Origin) (grow : Growth) → Keeps grow → (t : Tree) → HoldsBelow P t → Found (through by grow t) (HoldsBelow Q)
+  through_keeps by grow keeps (scalar k v) holds = found_none
+  through_keeps by grow keeps (array k v ts) holds = found_none
+  through_keeps by grow keeps (inline k v bs) holds = found_none
+  through_keeps by grow keeps (table k o bs) holds =
+      found_then {P = λ p. Unit {0}} _ (found_any (λ p is. tt)) (λ p any. found_map (table k p) (keeps.each bs (holds_inside k o bs holds)) (λ new inside. holds_table k p new (kept.other_table k o p bs new (holds_here holds)) inside))
+  through_keeps by grow keeps (tables k done last bs) holds =
       let among = holds_of_elements k done last bs holds in
       let at_last : HoldsBelow P (table last header bs) = holds_last done (table last header bs) among in
-      found_map (tables k done last) (keeps.each bs (holds_inside last header bs at_last)) (λ new inside. holds_tables k done last new (kept.other_tables k done last bs new (holds_here holds))
+      found_then {P = λ p. Unit {0}} _ (found_any (λ p is. tt)) (λ p any. found_map (tables k done last) (keeps.each bs (holds_inside last header bs at_last))
+      (λ new inside. holds_tables k done last new (kept.other_tables k done last bs new (holds_here holds))
       (holds_pushed done (table last header new) (holds_weaker_among kept.weaker (holds_before done (table last header bs) among))
-      (holds_table last header new (kept.other_table last header header bs new (holds_here at_last)) inside)))
-
-  -- and in one that a dotted key passes through
-  through_dot_keeps : (grow : Growth) → Keeps grow → (t : Tree) → HoldsBelow P t → Found (through_dot grow t) (HoldsBelow Q)
-  through_dot_keeps grow keeps (scalar k v) holds = found_none
-  through_dot_keeps grow keeps (array k v ts) holds = found_none
-  through_dot_keeps grow keeps (inline k v bs) holds = found_none
-  through_dot_keeps grow keeps (table k header bs) holds = found_none
-  through_dot_keeps grow keeps (table k implicit bs) holds =
-      found_map (table k dotted) (keeps.each bs (holds_inside k implicit bs holds)) (λ new inside. holds_table k dotted new (kept.other_table k implicit dotted bs new (holds_here holds)) inside)
-  through_dot_keeps grow keeps (table k dotted bs) holds =
-      found_map (table k dotted) (keeps.each bs (holds_inside k dotted bs holds)) (λ new inside. holds_table k dotted new (kept.other_table k dotted dotted bs new (holds_here holds)) inside)
-  through_dot_keeps grow keeps (tables k done last bs) holds = found_none
+      (holds_table last header new (kept.other_table last header header bs new (holds_here at_last)) inside))))
 
   -- the table of a part keeps it
-  by_header_keeps : (part : Part) (grow : Growth) → N part.1 → Keeps grow → (bs : Branches) → HoldsIn P bs → (o : Option Tree) → get_branch part.0 bs ≡ o → Found (by_header part grow bs o) (HoldsIn Q)
-  by_header_keeps part grow fresh keeps bs holds None is =
-      found_map _ (keeps.each no_branches holds_nowhere) (λ new inside. holds_inserted part.0 (table part.1 implicit new) bs (holds_weaker_in kept.weaker holds)
-      (holds_table part.1 implicit new (kept.new_table part.1 implicit new fresh) inside))
-  by_header_keeps part grow fresh keeps bs holds (Some t) is =
-      found_map _ (through_header_keeps grow keeps t (holds.each part.0 t is)) (λ new inside. holds_replaced part.0 new bs (holds_weaker_in kept.weaker holds) inside)
+  by_part_keeps : (by : Origin) (part : Part) (grow : Growth) → N part.1 → Keeps grow → (bs : Branches) → HoldsIn P bs → (o : Option Tree) → get_branch part.0 bs ≡ o → Found (by_part by part grow bs o) (HoldsIn Q)
+  by_part_keeps by part grow fresh keeps bs holds None is =
+      found_map _ (keeps.each no_branches holds_nowhere) (λ new inside. holds_inserted part.0 (table part.1 by new) bs (holds_weaker_in kept.weaker holds)
+      (holds_table part.1 by new (kept.new_table part.1 by new fresh) inside))
+  by_part_keeps by part grow fresh keeps bs holds (Some t) is =
+      found_map _ (through_keeps by grow keeps t (holds.each part.0 t is)) (λ new inside. holds_replaced part.0 new bs (holds_weaker_in kept.weaker holds) inside)
 
-  by_dot_keeps : (part : Part) (grow : Growth) → N part.1 → Keeps grow → (bs : Branches) → HoldsIn P bs → (o : Option Tree) → get_branch part.0 bs ≡ o → Found (by_dot part grow bs o) (HoldsIn Q)
-  by_dot_keeps part grow fresh keeps bs holds None is =
-      found_map _ (keeps.each no_branches holds_nowhere) (λ new inside. holds_inserted part.0 (table part.1 dotted new) bs (holds_weaker_in kept.weaker holds)
-      (holds_table part.1 dotted new (kept.new_table part.1 dotted new fresh) inside))
-  by_dot_keeps part grow fresh keeps bs holds (Some t) is =
-      found_map _ (through_dot_keeps grow keeps t (holds.each part.0 t is)) (λ new inside. holds_replaced part.0 new bs (holds_weaker_in kept.weaker holds) inside)
-
-  -- so does the table at the end of a header
-  pub header_keeps : (path : List Part) (grow : Growth) → AllByRecursion (λ part. N part.1) path → Keeps grow → Keeps (along_header path grow)
-  unfolding along_header
-  header_keeps [] grow fresh keeps = keeps
-  header_keeps (part ∷ path) grow fresh keeps = record { each = λ bs holds. by_header_keeps part (along_header path grow) fresh.0 (header_keeps path grow fresh.1 keeps) bs holds _ refl }
-
-  -- and at the end of a dotted key
-  pub dots_keep : (path : List Part) (grow : Growth) → AllByRecursion (λ part. N part.1) path → Keeps grow → Keeps (along_dots path grow)
-  unfolding along_dots
-  dots_keep [] grow fresh keeps = keeps
-  dots_keep (part ∷ path) grow fresh keeps = record { each = λ bs holds. by_dot_keeps part (along_dots path grow) fresh.0 (dots_keep path grow fresh.1 keeps) bs holds _ refl }
+  -- so does the table at the end of a path
+  pub along_keeps : (by : Origin) (path : List Part) (grow : Growth) → AllByRecursion (λ part. N part.1) path → Keeps grow → Keeps (along by path grow)
+  unfolding along
+  along_keeps by [] grow fresh keeps = keeps
+  along_keeps by (part ∷ path) grow fresh keeps = record { each = λ bs holds. by_part_keeps by part (along by path grow) fresh.0 (along_keeps by path grow fresh.1 keeps) bs holds _ refl }
 
   -- what is defined holds it, where a value does
   new_holds : (k : Piece) (what : Definition) → N k → F k → ((t : Tree) → what ≡ pair t → HoldsBelow Q (after_key k t)) → HoldsBelow Q (new_tree k what)

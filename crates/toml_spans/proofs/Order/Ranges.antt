@@ -6,7 +6,7 @@ use Rattle.toml_spans.specs.Document.{Walk, Walks}
 use Rattle.toml_spans.specs.Entry.{array, Branches, elements, get_branch, get_tree, inline, Piece, Pieces, pieces_of, scalar, table, tables, Tree, tree_at, tree_below, tree_from, Trees}
 use Rattle.toml_spans.specs.Ranges.{AreApartOrNested, LiesWithin, LieWithinValues, Precedes, Range, range_of, ranges_of, StandInTurn}
 use Rattle.toml_spans.specs.Step.{index, key, PathStep}
-use Rattle.toml_spans.proofs.Growth.Bounds.{PiecesWithin, Within}
+use Rattle.toml_spans.proofs.Order.Bounds.{PiecesWithin, Within}
 use Rattle.toml_spans.proofs.Order.Holds.{get_pushed, holds_along}
 use Rattle.toml_spans.proofs.Order.Settled.{Apart, in_order_more, InOrder, IsSound, KeyEndsBefore, TablesInTurn, ValueIn}
 use Rattle.toml_spans.proofs.Order.Walks.{RootSettled, walks_settled}

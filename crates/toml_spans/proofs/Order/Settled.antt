@@ -3,7 +3,7 @@ use Rattle.std.proofs.Common.{◌≡◌, ◌⊎◌, ℕ, zero, suc, ◌<◌, ◌
 use Rattle.std.proofs.lemmas.Option.{none-some, option_and_then_some, same_Some}
 use Rattle.toml_spans.specs.Entry.{array, Branches, get_branch, get_tree, inline, no_trees, Piece, pieces_of, push_tree, scalar, table, tables, Tree, tree, tree_at, tree_below, tree_from, Trees}
 use Rattle.toml_spans.specs.Step.{key, PathStep}
-use Rattle.toml_spans.proofs.Growth.Bounds.{pieces_wider, PiecesWithin, Within}
+use Rattle.toml_spans.proofs.Order.Bounds.{pieces_wider, PiecesWithin, Within}
 use Rattle.toml_spans.proofs.Order.Holds.{get_pushed, holds_weaker, HoldsBelow, HoldsIn}
 
 -- ---- pieces

@@ -3,19 +3,18 @@ use Rattle.std.proofs.Common.{◌≡◌, ◌⊎◌, ℕ, zero, suc, ◌<◌, ◌
 use Rattle.std.proofs.lemmas.Bool.{cases_order}
 use Rattle.std.proofs.lemmas.Option.{none-some, same_Some}
 use Rattle.toml_spans.proofs.Elements.{all_always}
-use Rattle.toml.specs.Tables.{header, Origin}
+use Rattle.toml.specs.Tables.{dotted, header, Origin}
 use Rattle.toml_parser.specs.Lexical.{Read, skip_blank}
 use Rattle.toml_spans.specs.Entry.{array, after_key, Branches, get_tree, inline, no_branches, no_trees, Piece, pieces_of, push_tree, scalar, table, tables, Tree, tree_at, tree_from, Trees}
 use Rattle.toml_spans.specs.Key.{Parts}
 use Rattle.toml_spans.specs.Step.{index, key, PathStep}
 use Rattle.toml_spans.specs.Table.{at_part, pair, put}
 use Rattle.toml_spans.specs.Value.{element_trees, member_trees, pair_tree, value_tree}
-use Rattle.toml_spans.proofs.Growth.Bounds.{key_within, parts_wider, PartsWithin, pieces_wider, PiecesWithin, Within, within_wider}
-use Rattle.toml_spans.proofs.Growth.Reads.{key_equals_read}
-use Rattle.toml_spans.proofs.Growth.Found.{Found, found_if, found_map, found_none, found_some, found_then, found_weaker}
-use Rattle.toml_spans.proofs.Growth.Rests.{after_element_leaves, atom_leaves, drop_within}
+use Rattle.toml_spans.proofs.Order.Bounds.{key_equals_read, key_within, parts_wider, PartsWithin, pieces_wider, PiecesWithin, Within, within_wider}
+use Rattle.toml_spans.proofs.Found.{Found, found_if, found_map, found_none, found_some, found_then, found_weaker}
+use Rattle.toml_spans.proofs.Order.Rests.{after_element_leaves, atom_leaves, drop_within}
 use Rattle.toml.proofs.Blanks.{skip_within}
-use Rattle.toml_spans.proofs.Order.Changes.{at_part_keeps, dots_keep, IsKept}
+use Rattle.toml_spans.proofs.Order.Changes.{along_keeps, at_part_keeps, IsKept}
 use Rattle.toml_spans.proofs.Order.Keys.{behind_from, after_is_key, after_value, holds_after_key}
 use Rattle.toml_spans.proofs.Order.Holds.{get_pushed, holds_along, holds_array, holds_from, holds_here, holds_inline, holds_nowhere, holds_scalar, holds_weaker, holds_weaker_in, HoldsBelow, HoldsIn}
 use Rattle.toml_spans.proofs.Order.Settled.{Apart, AreSettled, EndsBefore, in_order_more, in_order_none, in_turn_later, InTurn, IsSettled, IsSound, KeyEndsBefore, MembersSettled, settled_wider, sound_later, TablesInTurn, value_in, value_lies, value_own_or_from, ValueBelow, ValueFrom, ValueIn}
@@ -230,15 +229,15 @@ put_settled a n x y k t bs settled lies value within later runs =
     let pieces = pieces_kept a n y earlier in
     let wider : PartsWithin a y k = parts_wider x y a y wide (omega arith) k lies in
     let lie : Found (put k t bs) (HoldsIn (PiecesWithin a y)) =
-    (dots_keep _ _ _ _ pieces k.0 grow wider.0 (at_part_keeps _ _ _ _ pieces k.1 (pair t) wider.1 wider.1
+    (along_keeps _ _ _ _ pieces dotted k.0 grow wider.0 (at_part_keeps _ _ _ _ pieces k.1 (pair t) wider.1 wider.1
     (λ u is. of_pair (λ z. HoldsBelow (PiecesWithin a y) (after_key k.1.1 z)) t u is (pieces_after a y k.1.1 t wider.1 (holds_weaker (pieces_wider x y a y wide (omega arith)) value.lie))))).each bs settled.lie in
     let sounds = sound_kept n y earlier in
     let sound : Found (put k t bs) (HoldsIn (IsSound y)) =
-    (dots_keep _ _ _ _ sounds k.0 grow (all_always (λ part. tt) k.0) (at_part_keeps _ _ _ _ sounds k.1 (pair t) tt (within_wider x y n y later (omega arith) k.1.1 lies.1)
+    (along_keeps _ _ _ _ sounds dotted k.0 grow (all_always (λ part. tt) k.0) (at_part_keeps _ _ _ _ sounds k.1 (pair t) tt (within_wider x y n y later (omega arith) k.1.1 lies.1)
     (λ u is. of_pair (λ z. HoldsBelow (IsSound y) (after_key k.1.1 z)) t u is (sound_after y k.1.1 t value.sound)))).each bs settled.sound in
     let values = values_kept (ValueIn bs) (ValueBelow t) in
     let of_either : Found (put k t bs) (HoldsIn (IsOf (ValueIn bs) (ValueBelow t))) =
-    (dots_keep _ _ _ _ values k.0 grow (all_always (λ part. tt) k.0) (at_part_keeps _ _ _ _ values k.1 (pair t) tt tt
+    (along_keeps _ _ _ _ values dotted k.0 grow (all_always (λ part. tt) k.0) (at_part_keeps _ _ _ _ values k.1 (pair t) tt tt
     (λ u is. of_pair (λ z. HoldsBelow (IsOf (ValueIn bs) (ValueBelow t)) (after_key k.1.1 z)) t u is (values_new (ValueIn bs) (ValueBelow t) k.1.1 t (λ v below. below))))).each bs (values_old (ValueBelow t) bs) in
     record {
       each = λ new is. record {

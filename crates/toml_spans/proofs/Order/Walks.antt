@@ -2,17 +2,18 @@
 use Rattle.std.proofs.Common.{◌≡◌, ℕ, ◌≤◌, List, length, drop, Option, Some, sym, ◌∙◌, inl, inr, arith}
 use Rattle.toml_spans.proofs.Elements.{all_always}
 use Rattle.toml.proofs.Blanks.{skip_within}
-use Rattle.toml.specs.Parse.{after_byte}
-use Rattle.toml_parser.specs.Lexical.{skip_blank}
-use Rattle.toml_spans.specs.Document.{begin, go_on, grown, header_parts, Statement, statement, statement_line, Walk, walk_on, Walks}
+use Rattle.toml.specs.Parse.{after_byte, ends_line}
+use Rattle.toml_parser.specs.Lexical.{skip_blank, skip_ws}
+use Rattle.toml.specs.Tables.{dotted, implicit}
+use Rattle.toml_spans.specs.Document.{begin, go_on, header_parts, Statement, statement, statement_line, Walk, walk_on, Walks}
 use Rattle.toml_spans.specs.Entry.{after_key, Branches, Piece, Tree}
 use Rattle.toml_spans.specs.Key.{Parts}
 use Rattle.toml_spans.specs.Table.{array_table, at_part, Definition, pair, put, std_table}
 use Rattle.toml_spans.specs.Value.{pair_tree, value_tree}
-use Rattle.toml_spans.proofs.Growth.Bounds.{Within, within_wider}
-use Rattle.toml_spans.proofs.Growth.Reads.{statement_line_reads}
-use Rattle.toml_spans.proofs.Growth.Found.{Found, found_any, found_if, found_map, found_none, found_some, found_then, found_weaker}
-use Rattle.toml_spans.proofs.Order.Changes.{at_part_keeps, dots_keep, header_keeps, IsKept}
+use Rattle.toml_spans.proofs.Order.Bounds.{header_read, Within, within_wider}
+use Rattle.toml_spans.proofs.Order.Rests.{after_byte_leaves, drop_within}
+use Rattle.toml_spans.proofs.Found.{Found, found_any, found_if, found_map, found_none, found_some, found_then}
+use Rattle.toml_spans.proofs.Order.Changes.{along_keeps, at_part_keeps, IsKept}
 use Rattle.toml_spans.proofs.Order.Holds.{holds_nowhere, HoldsBelow, HoldsIn}
 use Rattle.toml_spans.proofs.Order.Settled.{Apart, IsSettled, IsSound, value_lies, ValueBelow, ValueIn}
 use Rattle.toml_spans.proofs.Order.Values.{apart_grown, IsOf, nowhere, of_pair, pair_settled, sound_after, sound_kept, value_of_either, value_settled, values_kept, values_new, values_old}
@@ -46,38 +47,49 @@ module _ (Q : Parts → List ℕ → Tree → Type 0) (s : List ℕ) (reads : Fo
   unfolding statement_line
   line_pair = found_then _ statement_pair (λ e value. found_if _ (found_some _ value) found_none)
 
--- the value of a statement, if it has one, was read between its beginning and its end
-line_value : (s : List ℕ) → Found (statement_line s) (λ r. (t : Tree) → r.0.1 ≡ pair t → IsSettled (length s) (length r.1) t)
-line_value s = line_pair (λ k rest t. IsSettled (length s) (length rest) t) s (found_weaker (pair_settled (value_tree 80) (value_settled 80) s) (λ p reads. reads.settled))
-
 -- the last part of a statement's key, and its value, lie where it was read
 pub record ReadsStatement (s : List ℕ) (e : Statement) (rest : List ℕ) : Type 0 where
   pub last : Within (length s) (length rest) e.0.1.1
   pub value : (t : Tree) → e.1 ≡ pair t → IsSettled (length s) (length rest) t
   pub left : length rest ≤ length s
 
+statement_settled : (s : List ℕ) → Found (statement s) (λ r. ReadsStatement s r.0 r.1)
+unfolding statement
+statement_settled s =
+    found_if _
+    (found_then _ (header_read (drop 2 s)) (λ k read. found_map _ (after_byte_leaves 93 k.1) (λ rest less. record {
+      last = within_wider (length (drop 2 s)) (length k.1) (length s) (length rest) (drop_within 2 s) less k.0.1.1 read.0;
+      value = λ t is. absurd (brackets_no_pair t is);
+      left = omega (arith, less, read.1, drop_within 2 s);
+    })))
+    (found_if _
+    (found_map _ (header_read (drop 1 s)) (λ k read. record {
+      last = within_wider (length (drop 1 s)) (length k.1) (length s) (length k.1) (drop_within 1 s) (omega arith) k.0.1.1 read.0;
+      value = λ t is. absurd (header_no_pair t is);
+      left = omega (arith, read.1, drop_within 1 s);
+    }))
+    (found_map _ (pair_settled (value_tree 80) (value_settled 80) s) (λ p reads. record {
+      last = reads.within.1;
+      value = λ t is. of_pair (IsSettled (length s) (length p.1)) p.0.1 t is reads.settled;
+      left = reads.left;
+    })))
+
 line_settled : (s : List ℕ) (e : Statement) (rest : List ℕ) → statement_line s ≡ Some (e, rest) → ReadsStatement s e rest
-line_settled s e rest is =
-    let reads = (statement_line_reads s).each (e, rest) is in
-    record { last = reads.0.0.1; value = (line_value s).each (e, rest) is; left = reads.1 }
+unfolding statement_line
+line_settled s e rest is = (found_then _ (statement_settled s) (λ r reads. found_if (ends_line (skip_ws r.1)) (found_some r reads) found_none)).each (e, rest) is
 
 -- ---- walks
 
 module _ (P Q : Tree → Type 0) (N F : Piece → Type 0) (kept : IsKept P Q N F) (always : (k : Piece) → N k) where
   -- what holds of a walk's trees holds after a statement
-  grown_keeps : (walk : Walk) (k : Parts) (what : Definition) → F k.1.1 → ((t : Tree) → what ≡ pair t → HoldsBelow Q (after_key k.1.1 t)) → HoldsIn P walk.root
-      → Found (grown walk k what) (λ new. HoldsIn Q new.0)
-  grown_keeps walk k (pair t) fresh value holds = found_map _ ((header_keeps P Q N F kept walk.section (put k t) (all_always (λ part. always part.1) walk.section)
-      (dots_keep P Q N F kept k.0 (at_part k.1 (pair t)) (all_always (λ part. always part.1) k.0) (at_part_keeps P Q N F kept k.1 (pair t) (always k.1.1) fresh value))).each walk.root holds) (λ new on. on)
-  grown_keeps walk k std_table fresh value holds = found_map _ ((header_keeps P Q N F kept k.0 (at_part k.1 std_table) (all_always (λ part. always part.1) k.0)
+  pub walk_on_keeps : (walk : Walk) (k : Parts) (what : Definition) → F k.1.1 → ((t : Tree) → what ≡ pair t → HoldsBelow Q (after_key k.1.1 t)) → HoldsIn P walk.root
+      → Found (walk_on walk k what) (λ next. HoldsIn Q next.root)
+  walk_on_keeps walk k (pair t) fresh value holds = found_map _ ((along_keeps P Q N F kept implicit walk.section (put k t) (all_always (λ part. always part.1) walk.section)
+      (along_keeps P Q N F kept dotted k.0 (at_part k.1 (pair t)) (all_always (λ part. always part.1) k.0) (at_part_keeps P Q N F kept k.1 (pair t) (always k.1.1) fresh value))).each walk.root holds) (λ new on. on)
+  walk_on_keeps walk k std_table fresh value holds = found_map _ ((along_keeps P Q N F kept implicit k.0 (at_part k.1 std_table) (all_always (λ part. always part.1) k.0)
       (at_part_keeps P Q N F kept k.1 std_table (always k.1.1) fresh value)).each walk.root holds) (λ new on. on)
-  grown_keeps walk k array_table fresh value holds = found_map _ ((header_keeps P Q N F kept k.0 (at_part k.1 array_table) (all_always (λ part. always part.1) k.0)
+  walk_on_keeps walk k array_table fresh value holds = found_map _ ((along_keeps P Q N F kept implicit k.0 (at_part k.1 array_table) (all_always (λ part. always part.1) k.0)
       (at_part_keeps P Q N F kept k.1 array_table (always k.1.1) fresh value)).each walk.root holds) (λ new on. on)
-
-  pub walk_on_keeps : (walk : Walk) (start : List ℕ) (s : Statement) → F s.0.1.1 → ((t : Tree) → s.1 ≡ pair t → HoldsBelow Q (after_key s.0.1.1 t)) → HoldsIn P walk.root
-      → Found (walk_on walk start s) (λ next. HoldsIn Q next.root)
-  unfolding walk_on
-  walk_on_keeps walk start s fresh value holds = found_map _ (grown_keeps walk s.0 s.1 fresh value holds) (λ new on. on)
 
 -- all that a walk holds up to this place, counted from the text's end
 pub record RootSettled (n : ℕ) (root : Branches) : Type 0 where
@@ -98,16 +110,16 @@ values_of_one what v w apart one other =
     apart one.tree one.is v w one.below (of_pair (λ t. ValueBelow t w) other.tree one.tree same other.below)
 
 -- a statement that begins after all of a walk
-walk_settled : (walk next : Walk) (n : ℕ) (start rest : List ℕ) (s : Statement) → RootSettled n walk.root → ReadsStatement start s rest → length start ≤ n → walk_on walk start s ≡ Some next → RootSettled (length rest) next.root
+walk_settled : (walk next : Walk) (n : ℕ) (start rest : List ℕ) (s : Statement) → RootSettled n walk.root → ReadsStatement start s rest → length start ≤ n → walk_on walk s.0 s.1 ≡ Some next → RootSettled (length rest) next.root
 walk_settled walk next n start rest s root reads later on =
     let a = length start in
     let b = length rest in
     let earlier : b ≤ n = omega (arith, reads.left, later) in
     let New = ValueOf s.1 in
-    let sound : Found (walk_on walk start s) (λ more. HoldsIn (IsSound b) more.root) =
-    walk_on_keeps _ _ _ _ (sound_kept n b earlier) (λ k. tt) walk start s (within_wider (length start) b n b later (omega arith) s.0.1.1 reads.last) (λ t is. sound_after b s.0.1.1 t (reads.value t is).sound) root.sound in
-    let of_either : Found (walk_on walk start s) (λ more. HoldsIn (IsOf (ValueIn walk.root) New) more.root) =
-    walk_on_keeps _ _ _ _ (values_kept (ValueIn walk.root) New) (λ k. tt) walk start s tt
+    let sound : Found (walk_on walk s.0 s.1) (λ more. HoldsIn (IsSound b) more.root) =
+    walk_on_keeps _ _ _ _ (sound_kept n b earlier) (λ k. tt) walk s.0 s.1 (within_wider (length start) b n b later (omega arith) s.0.1.1 reads.last) (λ t is. sound_after b s.0.1.1 t (reads.value t is).sound) root.sound in
+    let of_either : Found (walk_on walk s.0 s.1) (λ more. HoldsIn (IsOf (ValueIn walk.root) New) more.root) =
+    walk_on_keeps _ _ _ _ (values_kept (ValueIn walk.root) New) (λ k. tt) walk s.0 s.1 tt
     (λ t is. values_new (ValueIn walk.root) New s.0.1.1 t (λ v below. record { tree = t; is = is; below = below })) (values_old New walk.root) in
     let either = value_of_either (ValueIn walk.root) New next.root (of_either.each next on) in
     record {

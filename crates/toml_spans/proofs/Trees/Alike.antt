@@ -30,15 +30,6 @@ module _ {A B : Type 0} {P : A → B → Type 0} {o : Option A} {p : Option B} w
   alike_none (neither none none_too) is = none_too
   alike_none (either x y is_x is_too holds) is = absurd (none-some x (sym is ∙ is_x))
 
-  -- and the other way round
-  pub alike_second : Alike P o p → (y : B) → p ≡ Some y → (x : A) × (o ≡ Some x) × P x y
-  alike_second (neither none none_too) y is = absurd (none-some y (sym none_too ∙ is))
-  alike_second (either x z is is_z holds) y is_too = (x, is, rw (same_Some z y (sym is_z ∙ is_too)) at holds)
-
-  pub alike_none_too : Alike P o p → p ≡ None → o ≡ None
-  alike_none_too (neither none none_too) is = none
-  alike_none_too (either x y is is_y holds) is_too = absurd (none-some y (sym is_too ∙ is_y))
-
 -- one of two on both sides, by one test
 pub alike_if : {A B : Type 0} {P : A → B → Type 0} (b : Bool) (o o' : Option A) (p p' : Option B)
     → (b ≡ true → Alike P o p) → (b ≡ false → Alike P o' p') → Alike P (cond b o o') (cond b p p')

@@ -12,13 +12,12 @@ use Rattle.toml_spans.specs.Document.{begin, go_on, header_parts, Statement, sta
 use Rattle.toml_spans.specs.Key.{key_of, Parts, texts_of}
 use Rattle.toml_spans.specs.Table.{array_table, Definition, pair, std_table}
 use Rattle.toml_spans.specs.Value.{value_tree}
-use Rattle.toml_spans.proofs.Alone.Documents.{begins, goes_on, Passes}
 use Rattle.toml_spans.proofs.Trees.Alike.{Alike, alike_first, alike_if, alike_map, alike_none, alike_same_map, alike_then, either, neither}
-use Rattle.toml_spans.proofs.Trees.Keys.{all_more, key_follows, key_read, PartAlone, texts_more}
+use Rattle.toml_spans.proofs.Trees.Keys.{all_more, key_follows, key_read, texts_more}
 use Rattle.toml_spans.proofs.Trees.Rests.{begins_byte, byte_shorter, drop_shorter, other_byte, rest_blank, rest_byte, rest_dropped, rest_itself, rest_on, rest_within, rest_ws}
 use Rattle.toml_spans.proofs.Trees.Stands.{AreBranches, IsRest}
 use Rattle.toml_spans.proofs.Trees.Tables.{defined_grows, Defines, pair_grows, PartStands}
-use Rattle.toml_spans.proofs.Trees.Values.{pair_read, value_read, ValueAlone}
+use Rattle.toml_spans.proofs.Trees.Values.{pair_read, value_read}
 
 -- ---- statements
 
@@ -54,155 +53,147 @@ pub record WalkStands (whole : List ℕ) (walk : Walk) (document : Document) : T
   pub parts : AllByRecursion (PartStands whole) walk.section
 
 -- one more statement
-pub walk_grows : (whole : List ℕ) (walk : Walk) (document : Document) (start : List ℕ) (parts : Parts) (what : Definition) (what_there : DefinitionThere) → WalkStands whole walk document
-    → AllByRecursion (PartStands whole) parts.0 → Defines whole parts.1 what what_there → Alike (WalkStands whole) (walk_on walk start (parts, what)) (define document (key_of parts, what_there))
-unfolding walk_on define
-walk_grows whole walk document start parts (pair t) (key_value d) stands before defines =
+pub walk_grows : (whole : List ℕ) (walk : Walk) (document : Document) (parts : Parts) (what : Definition) (what_there : DefinitionThere) → WalkStands whole walk document
+    → AllByRecursion (PartStands whole) parts.0 → Defines whole parts.1 what what_there → Alike (WalkStands whole) (walk_on walk parts what) (define document (key_of parts, what_there))
+unfolding define
+walk_grows whole walk document parts (pair t) (key_value d) stands before defines =
     rw (← stands.section) (elim (pair_grows whole walk.section parts t d stands.parts before defines walk.root document.0 stands.root) [
       | neither none none_too ↦ rw (none, none_too) (neither refl refl)
       | either x y is is_too are ↦ rw (is, is_too) (either _ _ refl refl (record { root = are; section = refl; parts = stands.parts }))
     ])
-walk_grows whole walk document start parts std_table std_table_there stands before defines =
+walk_grows whole walk document parts std_table std_table_there stands before defines =
     elim (defined_grows whole parts.0 parts.1 std_table std_table_there before defines walk.root document.0 stands.root) [
       | neither none none_too ↦ rw (none, none_too) (neither refl refl)
       | either x y is is_too are ↦ rw (is, is_too) (either _ _ refl refl (record { root = are; section = texts_more parts.0 parts.1; parts = all_more (PartStands whole) parts.0 parts.1 before defines }))
     ]
-walk_grows whole walk document start parts array_table array_table_there stands before defines =
+walk_grows whole walk document parts array_table array_table_there stands before defines =
     elim (defined_grows whole parts.0 parts.1 array_table array_table_there before defines walk.root document.0 stands.root) [
       | neither none none_too ↦ rw (none, none_too) (neither refl refl)
       | either x y is is_too are ↦ rw (is, is_too) (either _ _ refl refl (record { root = are; section = texts_more parts.0 parts.1; parts = all_more (PartStands whole) parts.0 parts.1 before defines }))
     ]
-walk_grows whole walk document start parts what what_there stands before defines = absurd defines
+walk_grows whole walk document parts what what_there stands before defines = absurd defines
 
-module _ (part_alone : PartAlone) (value_alone : ValueAlone) where
-  module _ (whole : List ℕ) where
-    -- the key of a header
-    header_read : (text : List ℕ) → IsRest whole text → Alike (ReadHeader whole text) (header_parts text) (header_key text)
-    unfolding header_parts header_key
-    header_read text from =
-        alike_then _ _ (key_read part_alone whole (skip_ws text) (rest_on from (rest_ws text))) (λ x y _ _ read. rw read.rest_same (alike_same_map (after_byte 93 x.1) _ _ (λ rest is. record {
-          key_same = read.key_same;
-          rest_same = refl;
-          before = read.before;
-          last = key_follows read.last (λ behind same. rw same (other_byte (first x.1) 93 61 (begins_byte 93 x.1 rest is) refl));
-          left = rest_on (rest_on (rest_ws text) read.left) (rest_byte 93 x.1 rest is);
-        })))
+module _ (whole : List ℕ) where
+  -- the key of a header
+  header_read : (text : List ℕ) → IsRest whole text → Alike (ReadHeader whole text) (header_parts text) (header_key text)
+  unfolding header_parts header_key
+  header_read text from =
+      alike_then _ _ (key_read whole (skip_ws text) (rest_on from (rest_ws text))) (λ x y _ _ read. rw read.rest_same (alike_same_map (after_byte 93 x.1) _ _ (λ rest is. record {
+        key_same = read.key_same;
+        rest_same = refl;
+        before = read.before;
+        last = key_follows read.last (λ behind same. rw same (other_byte (first x.1) 93 61 (begins_byte 93 x.1 rest is) refl));
+        left = rest_on (rest_on (rest_ws text) read.left) (rest_byte 93 x.1 rest is);
+      })))
 
-    -- a statement
-    statement_read : (text : List ℕ) → IsRest whole text → Alike (ReadStatement whole text) (statement text) (expression text)
-    unfolding statement expression
-    statement_read text from =
-        alike_if (first text == 91 && slice_index text 1 == 91) _ _ _ _
-        (λ _. alike_then _ _ (header_read (drop 2 text) (rest_on from (rest_dropped 2 text))) (λ x y _ _ read. rw read.rest_same (alike_same_map (after_byte 93 x.1) _ _ (λ rest is. record {
-          key_same = read.key_same;
-          rest_same = refl;
-          before = read.before;
-          defines = read.last;
-          left = rest_on (rest_on (rest_dropped 2 text) read.left) (rest_byte 93 x.1 rest is);
-          shorter = omega (arith, byte_shorter 93 x.1 rest refl is, rest_within read.left, rest_within (rest_dropped 2 text));
-        }))))
-        (λ _. alike_if (first text == 91) _ _ _ _
-        (λ opens. alike_map _ _ (header_read (drop 1 text) (rest_on from (rest_dropped 1 text))) (λ x y _ _ read. record {
-          key_same = read.key_same;
-          rest_same = read.rest_same;
-          before = read.before;
-          defines = read.last;
-          left = rest_on (rest_dropped 1 text) read.left;
-          shorter = omega (arith, drop_shorter 91 text refl opens, rest_within read.left);
-        }))
-        (λ _. alike_map _ _ (pair_read part_alone value_alone whole (value_tree 80) (val 80) (value_read part_alone value_alone whole 80 (omega arith)) text from) (λ x y _ _ read. record {
-          key_same = read.key_same;
-          rest_same = read.rest_same;
-          before = read.before;
-          defines = read.defines;
-          left = read.left;
-          shorter = read.shorter;
-        })))
+  -- a statement
+  statement_read : (text : List ℕ) → IsRest whole text → Alike (ReadStatement whole text) (statement text) (expression text)
+  unfolding statement expression
+  statement_read text from =
+      alike_if (first text == 91 && slice_index text 1 == 91) _ _ _ _
+      (λ _. alike_then _ _ (header_read (drop 2 text) (rest_on from (rest_dropped 2 text))) (λ x y _ _ read. rw read.rest_same (alike_same_map (after_byte 93 x.1) _ _ (λ rest is. record {
+        key_same = read.key_same;
+        rest_same = refl;
+        before = read.before;
+        defines = read.last;
+        left = rest_on (rest_on (rest_dropped 2 text) read.left) (rest_byte 93 x.1 rest is);
+        shorter = omega (arith, byte_shorter 93 x.1 rest refl is, rest_within read.left, rest_within (rest_dropped 2 text));
+      }))))
+      (λ _. alike_if (first text == 91) _ _ _ _
+      (λ opens. alike_map _ _ (header_read (drop 1 text) (rest_on from (rest_dropped 1 text))) (λ x y _ _ read. record {
+        key_same = read.key_same;
+        rest_same = read.rest_same;
+        before = read.before;
+        defines = read.last;
+        left = rest_on (rest_dropped 1 text) read.left;
+        shorter = omega (arith, drop_shorter 91 text refl opens, rest_within read.left);
+      }))
+      (λ _. alike_map _ _ (pair_read whole (value_tree 80) (val 80) (value_read whole 80 (omega arith)) text from) (λ x y _ _ read. record {
+        key_same = read.key_same;
+        rest_same = read.rest_same;
+        before = read.before;
+        defines = read.defines;
+        left = read.left;
+        shorter = read.shorter;
+      })))
 
-    -- one that has its line to itself
-    pub line_read : (text : List ℕ) → IsRest whole text → Alike (ReadStatement whole text) (statement_line text) (line text)
-    unfolding statement_line line
-    line_read text from = alike_then _ _ (statement_read text from) (λ x y _ _ read. rw read.rest_same (alike_if (ends_line (skip_ws x.1)) _ _ _ _ (λ _. either x (y.0, x.1) refl refl (record {
-      key_same = read.key_same;
-      rest_same = refl;
-      before = read.before;
-      defines = read.defines;
-      left = read.left;
-      shorter = read.shorter;
-    })) (λ _. neither refl refl)))
+  -- one that has its line to itself
+  pub line_read : (text : List ℕ) → IsRest whole text → Alike (ReadStatement whole text) (statement_line text) (line text)
+  unfolding statement_line line
+  line_read text from = alike_then _ _ (statement_read text from) (λ x y _ _ read. rw read.rest_same (alike_if (ends_line (skip_ws x.1)) _ _ _ _ (λ _. either x (y.0, x.1) refl refl (record {
+    key_same = read.key_same;
+    rest_same = refl;
+    before = read.before;
+    defines = read.defines;
+    left = read.left;
+    shorter = read.shorter;
+  })) (λ _. neither refl refl)))
 
-  -- ---- documents
+-- ---- documents
 
-  module _ (text : List ℕ) where
-    -- how `toml` came as far as a walk
-    pub record Simulated (walk : Walk) (rest : List ℕ) : Type 0 where
-      pub document : Document
-      pub passes : Passes text document rest
-      pub stands : WalkStands text walk document
-      pub from : IsRest text rest
-      pub fuel : ℕ
-      pub enough : length rest < fuel
-      pub same : lines (suc (length text)) (no_nodes, []) (skip_bom text) ≡ lines fuel document rest
+module _ (text : List ℕ) where
+  -- how `toml` came as far as a walk
+  pub record Simulated (walk : Walk) (rest : List ℕ) : Type 0 where
+    pub document : Document
+    pub stands : WalkStands text walk document
+    pub from : IsRest text rest
+    pub fuel : ℕ
+    pub enough : length rest < fuel
+    pub same : lines (suc (length text)) (no_nodes, []) (skip_bom text) ≡ lines fuel document rest
 
-    -- it came as far
-    pub simulated : (walk : Walk) (rest : List ℕ) → Walks text walk rest → Simulated walk rest
-    simulated walk rest begin = record {
-      document = (no_nodes, []);
-      passes = begins;
-      stands = record { root = tt; section = refl; parts = tt };
-      from = rest_mark text;
-      fuel = suc (length text);
-      enough = omega (arith, rest_within (rest_mark text));
-      same = refl;
-    }
-    simulated walk rest (go_on earlier next before after s walks reads grows) =
-        let sim = simulated earlier before walks in
-        let start = skip_blank before in
-        let (e, is, read) = alike_first (line_read text start (rest_on sim.from (rest_blank before))) (s, rest) reads in
-        let (later, grows_there, stands) = alike_first (walk_grows text earlier sim.document start s.0 s.1 e.0.1 sim.stands read.before read.defines) walk grows in
-        let read_there : line start ≡ Some (e.0, rest) = is ∙ ap (λ (u : List ℕ). Some (e.0, u)) read.rest_same in
-        let defined : define sim.document e.0 ≡ Some later = ap (λ (k : Key). define sim.document (k, e.0.1)) read.key_same ∙ grows_there in
-        let blank : length start ≤ length before = rest_within (rest_blank before) in
-        let shorter : length rest < length start = read.shorter in
-        let enough : length before < sim.fuel = sim.enough in
-        record {
-          document = later;
-          passes = goes_on sim.document later before rest e.0 sim.passes read_there defined;
-          stands = stands;
-          from = rest_on (rest_on sim.from (rest_blank before)) read.left;
-          fuel = sim.fuel - 1;
-          enough = omega (arith, blank, shorter, enough);
-          same = sim.same ∙ lines_more sim.fuel sim.document later before e.0 rest (omega (arith, enough)) (ne_eqb (length start) 0 (λ none. omega (arith, none, shorter))) read_there defined;
-        }
+  -- it came as far
+  pub simulated : (walk : Walk) (rest : List ℕ) → Walks text walk rest → Simulated walk rest
+  simulated walk rest begin = record {
+    document = (no_nodes, []);
+    stands = record { root = tt; section = refl; parts = tt };
+    from = rest_mark text;
+    fuel = suc (length text);
+    enough = omega (arith, rest_within (rest_mark text));
+    same = refl;
+  }
+  simulated walk rest (go_on earlier next before after s walks reads grows) =
+      let sim = simulated earlier before walks in
+      let start = skip_blank before in
+      let (e, is, read) = alike_first (line_read text start (rest_on sim.from (rest_blank before))) (s, rest) reads in
+      let (later, grows_there, stands) = alike_first (walk_grows text earlier sim.document s.0 s.1 e.0.1 sim.stands read.before read.defines) walk grows in
+      let read_there : line start ≡ Some (e.0, rest) = is ∙ ap (λ (u : List ℕ). Some (e.0, u)) read.rest_same in
+      let defined : define sim.document e.0 ≡ Some later = ap (λ (k : Key). define sim.document (k, e.0.1)) read.key_same ∙ grows_there in
+      let blank : length start ≤ length before = rest_within (rest_blank before) in
+      let shorter : length rest < length start = read.shorter in
+      let enough : length before < sim.fuel = sim.enough in
+      record {
+        document = later;
+        stands = stands;
+        from = rest_on (rest_on sim.from (rest_blank before)) read.left;
+        fuel = sim.fuel - 1;
+        enough = omega (arith, blank, shorter, enough);
+        same = sim.same ∙ lines_more sim.fuel sim.document later before e.0 rest (omega (arith, enough)) (ne_eqb (length start) 0 (λ none. omega (arith, none, shorter))) read_there defined;
+      }
 
-    -- a walk passes the documents that `toml` passes
-    pub walk_passes : (walk : Walk) (rest : List ℕ) → Walks text walk rest → (document : Document) × Passes text document rest × AreBranches text walk.root document.0 × (texts_of walk.section ≡ document.1)
-    walk_passes walk rest walks = let sim = simulated walk rest walks in (sim.document, sim.passes, sim.stands.root, sim.stands.section)
+  -- a walk up to the end of the text reads the document
+  pub walk_reads : (walk : Walk) (rest : List ℕ) → Walks text walk rest → skip_blank rest ≡ [] → (nodes : Nodes) × (parse_document text ≡ Some (close nodes)) × AreBranches text walk.root nodes
+  walk_reads walk rest walks over =
+      let sim = simulated walk rest walks in
+      let some : 0 < sim.fuel = omega (arith, sim.enough) in
+      (sim.document.0, document_some text sim.document (sim.same ∙ lines_end sim.fuel sim.document rest some (ap length over)), sim.stands.root)
 
-    -- a walk up to the end of the text reads the document
-    pub walk_reads : (walk : Walk) (rest : List ℕ) → Walks text walk rest → skip_blank rest ≡ [] → (nodes : Nodes) × (parse_document text ≡ Some (close nodes)) × AreBranches text walk.root nodes
-    walk_reads walk rest walks over =
-        let sim = simulated walk rest walks in
-        let some : 0 < sim.fuel = omega (arith, sim.enough) in
-        (sim.document.0, document_some text sim.document (sim.same ∙ lines_end sim.fuel sim.document rest some (ap length over)), sim.stands.root)
+  -- what a walk can't go on from
+  abbrev pub GoesNoFurther : Walk → List ℕ → Type 0
+  GoesNoFurther walk rest = (statement_line (skip_blank rest) ≡ None)
+      ⊎ ((s : Statement) × (after : List ℕ) × (statement_line (skip_blank rest) ≡ Some (s, after)) × (walk_on walk s.0 s.1 ≡ None))
 
-    -- what a walk can't go on from
-    abbrev pub GoesNoFurther : Walk → List ℕ → Type 0
-    GoesNoFurther walk rest = (statement_line (skip_blank rest) ≡ None)
-        ⊎ ((s : Statement) × (after : List ℕ) × (statement_line (skip_blank rest) ≡ Some (s, after)) × (walk_on walk (skip_blank rest) s ≡ None))
-
-    -- where a walk can't go on before the end of the text, the text is no document
-    pub walk_refused : (walk : Walk) (rest : List ℕ) → Walks text walk rest → (length (skip_blank rest) == 0) ≡ false → GoesNoFurther walk rest → parse_document text ≡ None
-    walk_refused walk rest walks more stops =
-        let sim = simulated walk rest walks in
-        let start = skip_blank rest in
-        let some : 0 < sim.fuel = omega (arith, sim.enough) in
-        let reads = line_read text start (rest_on sim.from (rest_blank rest)) in
-        document_none text (sim.same ∙ elim stops [
-          | inl none ↦ lines_bad sim.fuel sim.document rest some more (alike_none reads none)
-          | inr refused ↦
-              let (s, after, is, none) = refused in
-              let (e, is_there, read) = alike_first reads (s, after) is in
-              let bad = alike_none (walk_grows text walk sim.document start s.0 s.1 e.0.1 sim.stands read.before read.defines) none in
-              lines_refused sim.fuel sim.document rest e.0 e.1 some more is_there (ap (λ (k : Key). define sim.document (k, e.0.1)) read.key_same ∙ bad)
-        ])
+  -- where a walk can't go on before the end of the text, the text is no document
+  pub walk_refused : (walk : Walk) (rest : List ℕ) → Walks text walk rest → (length (skip_blank rest) == 0) ≡ false → GoesNoFurther walk rest → parse_document text ≡ None
+  walk_refused walk rest walks more stops =
+      let sim = simulated walk rest walks in
+      let start = skip_blank rest in
+      let some : 0 < sim.fuel = omega (arith, sim.enough) in
+      let reads = line_read text start (rest_on sim.from (rest_blank rest)) in
+      document_none text (sim.same ∙ elim stops [
+        | inl none ↦ lines_bad sim.fuel sim.document rest some more (alike_none reads none)
+        | inr refused ↦
+            let (s, after, is, none) = refused in
+            let (e, is_there, read) = alike_first reads (s, after) is in
+            let bad = alike_none (walk_grows text walk sim.document s.0 s.1 e.0.1 sim.stands read.before read.defines) none in
+            lines_refused sim.fuel sim.document rest e.0 e.1 some more is_there (ap (λ (k : Key). define sim.document (k, e.0.1)) read.key_same ∙ bad)
+      ])

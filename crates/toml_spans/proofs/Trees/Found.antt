@@ -1,10 +1,9 @@
 -- A path leads to a tree where it leads to a value, and to the tree of that value.
-use Rattle.std.proofs.Common.{◌≡◌, ℕ, zero, suc, true, cond, List, [], ◌∷◌, Option, Some, None, IsSome, Ordering, Less, Equal, Greater, is_eq, nat_cmp, option_map, refl, inl, inr}
+use Rattle.std.proofs.Common.{◌≡◌, ℕ, zero, suc, true, cond, List, [], ◌∷◌, Option, Some, None, Ordering, Less, Equal, Greater, is_eq, nat_cmp, option_map, refl, inl, inr}
 use Rattle.std.proofs.lemmas.Bool.{cases_Bool, false≢true}
 use Rattle.std.proofs.lemmas.Map.Lookups.{exact_bytes}
 use Rattle.std.specs.Cmp.Lexicographic.{slice_cmp}
 use Rattle.std.specs.Ordering.{match_ordering}
-use Rattle.std.specs.Prelude.{◌↔◌}
 use Rattle.toml.specs.Data.{array as array_data, Data, get_item, get_member, item, Items, no_items, push_item, same_key, table as table_data}
 use Rattle.toml.specs.Tables.{close, close_node, get_node, header, no_nodes, Node, node, Nodes, open_array, open_table, value}
 use Rattle.toml_spans.specs.Entry.{array, branch, Branches, elements, get_branch, get_tree, inline, no_branches, no_trees, push_tree, scalar, table, tables, Tree, tree, tree_at, tree_below, tree_from, Trees}
@@ -117,12 +116,3 @@ path_found text bs ns are [] = neither refl refl
 path_found text bs ns are (key l ∷ path) =
     alike_then (tree_below path) (found_below path) (member_found text l bs ns are) (λ t d _ _ holds. below_found text l t d holds path)
 path_found text bs ns are (index i ∷ path) = neither refl refl
-
--- both or neither lead somewhere
-some_alike : {A B : Type 0} {P : A → B → Type 0} {o : Option A} {p : Option B} → Alike P o p → IsSome o ↔ IsSome p
-some_alike (neither none none_too) = rw (none, none_too) (λ some. some, λ some. some)
-some_alike (either x y is is_too holds) = rw (is, is_too) (λ some. some, λ some. some)
-
--- a path leads to a tree exactly where it leads to a value
-pub found_with : (text : List ℕ) (bs : Branches) (ns : Nodes) → AreBranches text bs ns → (path : List PathStep) → IsSome (tree_at bs path) ↔ IsSome (found_in (close ns) path)
-found_with text bs ns are path = some_alike (path_found text bs ns are path)

@@ -4,23 +4,17 @@ use Rattle.std.proofs.lemmas.Bool.{false≢true}
 use Rattle.std.proofs.lemmas.List.{nil_from_length}
 use Rattle.std.proofs.lemmas.Option.{none-some, option_and_then_some, same_Some}
 use Rattle.std.proofs.NetLemmas.Options.{map_some}
-use Rattle.toml_parser.specs.Lexical.{equals, first, skip_blank, skip_ws}
-use Rattle.toml.specs.Data.{array as array_data, Data, Members, table as table_data}
-use Rattle.toml.specs.Parse.{parse_document}
+use Rattle.toml_parser.specs.Lexical.{equals, first, skip_ws}
+use Rattle.toml.specs.Data.{array as array_data, Data, table as table_data}
 use Rattle.toml.specs.Tables.{close, close_node, Node, Nodes, open_array, open_table, value}
-use Rattle.toml_spans.specs.Document.{Walk, Walks}
 use Rattle.toml_spans.specs.Entry.{array, Branches, get_branch, inline, Piece, pieces_of, scalar, table, tables, Tree, tree_at, tree_below, tree_from}
 use Rattle.toml_spans.specs.Line.{found_in}
 use Rattle.toml_spans.specs.Ranges.{AreWritten, HasEntry, HaveEntries, HaveKeys, IsAt, IsFrom, last_key_from, KeysComeFirst, KeysRead, Range, range_of, Ranges, ranges_of, ValuesRead}
 use Rattle.toml_spans.specs.Step.{index, key, PathStep}
-use Rattle.toml_spans.proofs.Cuts.{front_of_front}
 use Rattle.toml_spans.proofs.Trees.Alike.{alike_first, either, neither}
-use Rattle.toml_spans.proofs.Trees.Documents.{walk_reads}
 use Rattle.toml_spans.proofs.Trees.Found.{branch_found, member_found, path_found, step_found}
-use Rattle.toml_spans.proofs.Trees.Keys.{PartAlone}
-use Rattle.toml_spans.proofs.Trees.Rests.{begins_byte, rest_byte, rest_on, rest_within, rest_ws}
+use Rattle.toml_spans.proofs.Trees.Rests.{begins_byte, rest_byte, rest_on, rest_within, rest_ws, front_of_front}
 use Rattle.toml_spans.proofs.Trees.Stands.{AreBranches, IsCutOut, IsKeyed, IsTree, IsTreeOf, KeyBefore, KeyStands, LeadsTo, NoEquals, ValueStands}
-use Rattle.toml_spans.proofs.Trees.Values.{ValueAlone}
 
 -- ---- trees
 
@@ -139,7 +133,7 @@ module _ (text : List ℕ) (bs : Branches) (ns : Nodes) (are : AreBranches text 
   tree_entry path t leads = rw leads (has_piece (length text) t)
 
   -- a path that leads to a value has an entry, and no other one has
-  entries : HaveEntries (close ns) ranges
+  pub entries : HaveEntries (close ns) ranges
   entries path = elim (path_found text bs ns are path) [
     | neither none none_too ↦ (λ entry. let (t, leads) = entry_leads path entry in absurd (none-some t (sym none ∙ leads)), λ some. absurd (false≢true (rw none_too at some)))
     | either t d leads found holds ↦ (λ _. rw found refl, λ _. tree_entry path t leads)
@@ -182,7 +176,7 @@ module _ (text : List ℕ) (bs : Branches) (ns : Nodes) (are : AreBranches text 
       record { t = t; leads = leads; v = v; has = has; same = same; d = d; found = found; holds = holds }))
 
   -- keys read
-  keys : KeysRead text ranges
+  pub keys : KeysRead text ranges
   keys path range is =
       let it = of_key path range is in
       elim (key_of_tree text (last_key_from [] path) it.t it.holds.0 it.p it.holds.2 it.has) [
@@ -191,20 +185,20 @@ module _ (text : List ℕ) (bs : Branches) (ns : Nodes) (are : AreBranches text 
       ]
 
   -- values read
-  values : ValuesRead text (close ns) ranges
+  pub values : ValuesRead text (close ns) ranges
   values path range is =
       let it = of_value path range is in
       let stands = value_of_tree text (last_key_from [] path) it.t it.holds.0 it.v it.holds.2 it.has in
       (stands.front, it.d, (rw it.same at (cut_at text it.v stands.front stands.behind stands.at)), stands.reads ∙ ap Some (sym it.holds.1), it.found)
 
   -- a path that ends in a key has the range of that
-  ends_in_keys : HaveKeys ranges
+  pub ends_in_keys : HaveKeys ranges
   ends_in_keys path l entry =
       let (u, leads) = entry_leads (path ++ (key l ∷ [])) entry in
       rw leads (mapped_some (range_of (length text)) (pieces_of u).of_key (path_keyed text bs ns are path l u leads))
 
   -- keys come first
-  first_keys : KeysComeFirst ranges
+  pub first_keys : KeysComeFirst ranges
   first_keys path of_k of_v is_key is_value =
       let it = of_key path of_k is_key in
       let that = of_value path of_v is_value in
@@ -220,7 +214,7 @@ module _ (text : List ℕ) (bs : Branches) (ns : Nodes) (are : AreBranches text 
       ])
 
   -- keys and values are written so
-  written : AreWritten text ranges
+  pub written : AreWritten text ranges
   written path of_k behind is_key is_after =
       let it = of_key path of_k is_key in
       let behind_piece : IsFrom text (range_of (length text) it.p).1 behind = record { before = is_after.before; whole = is_after.whole; begins = ap (λ (r : Range). r.1) it.same ∙ is_after.begins } in
@@ -249,41 +243,3 @@ module _ (text : List ℕ) (bs : Branches) (ns : Nodes) (are : AreBranches text 
               λ of_v is_value. absurd (none-some of_v (rw (it.leads, none) at is_value)),
             )
       ]
-
--- ---- finished walks
-
-module _ (part_alone : PartAlone) (value_alone : ValueAlone) (text rest : List ℕ) (walk : Walk) (members : Members) (walks : Walks text walk rest) (over : skip_blank rest ≡ []) (reads : parse_document text ≡ Some members) where
-  -- the members are those of the walk
-  record Finished : Type 0 where
-    nodes : Nodes
-    closed : close nodes ≡ members
-    are : AreBranches text walk.root nodes
-
-  -- they are
-  finished : Finished
-  finished = let (nodes, is, are) = walk_reads part_alone value_alone text walk rest walks over in
-      record { nodes = nodes; closed = same_Some (close nodes) members (sym is ∙ reads); are = are }
-
-  -- each path that leads to a value has an entry, and no other one
-  pub have_entries : HaveEntries members (ranges_of (length text) walk.root)
-  have_entries = rw finished.closed at (entries text walk.root finished.nodes finished.are)
-
-  -- keys are read from their ranges
-  pub keys_read : KeysRead text (ranges_of (length text) walk.root)
-  keys_read = keys text walk.root finished.nodes finished.are
-
-  -- a path that ends in a key has a range of it
-  pub have_keys : HaveKeys (ranges_of (length text) walk.root)
-  have_keys = ends_in_keys text walk.root finished.nodes finished.are
-
-  -- values are read from their ranges alone
-  pub values_read : ValuesRead text members (ranges_of (length text) walk.root)
-  values_read = rw finished.closed at (values text walk.root finished.nodes finished.are)
-
-  -- values are written after their keys
-  pub are_written : AreWritten text (ranges_of (length text) walk.root)
-  are_written = written text walk.root finished.nodes finished.are
-
-  -- keys end before their values begin
-  pub keys_come_first : KeysComeFirst (ranges_of (length text) walk.root)
-  keys_come_first = first_keys text walk.root finished.nodes finished.are

@@ -91,3 +91,13 @@ rest_element closing text rest is =
 -- a byte is another one than the one that it is
 pub other_byte : (n a b : ℕ) → (n == a) ≡ true → (a == b) ≡ false → (n == b) ≡ false
 other_byte n a b is other = rw (eqb-true n a is) other
+
+-- of two fronts of one list, the shorter is a front of the longer
+pub front_of_front : {A : Type 0} (xs ys us vs : List A) → xs ++ ys ≡ us ++ vs → length xs ≤ length us → (between : List A) × (us ≡ xs ++ between) × (ys ≡ between ++ vs)
+front_of_front [] ys us vs same l = (us, refl, same)
+front_of_front (x ∷ xs) ys [] vs same l = absurd (omega (arith, l))
+front_of_front (x ∷ xs) ys (u ∷ us) vs same l =
+    let first : x ≡ u = cc same in
+    let rest : xs ++ ys ≡ us ++ vs = cc same in
+    let (between, whole, behind) = front_of_front xs ys us vs rest (omega (arith, l)) in
+    (between, cc (first, whole), behind)

@@ -9,7 +9,7 @@ use Rattle.toml.specs.Data.{Data, push_item, same_key, table as table_data}
 use Rattle.toml.specs.Tables.{at_key, close, dot_node, dotted, Edit, get_node, header, header_node, implicit, insert, new_node, no_nodes, Node, node, Nodes, open_array, open_table, Origin, redefine, replace, value, along_dots as along_dots_there, along_header as along_header_there, array_table as array_table_there, at_found as at_found_there, by_dot as by_dot_there, by_header as by_header_there, Definition as DefinitionThere, key_value, put as put_there, std_table as std_table_there}
 use Rattle.toml_spans.specs.Entry.{array, after_key, branch, Branches, get_branch, inline, insert_branch, no_branches, push_tree, replace_branch, scalar, table, tables, Tree}
 use Rattle.toml_spans.specs.Key.{key_of, Part, Parts, texts_of}
-use Rattle.toml_spans.specs.Table.{along_dots, along_header, array_table, at_found, at_part, by_dot, by_header, Definition, Growth, new_tree, pair, put, redefined, std_table, through_dot, through_header}
+use Rattle.toml_spans.specs.Table.{along, array_table, at_found, at_part, by_part, Definition, Growth, new_tree, pair, put, redefined, std_table, through}
 use Rattle.toml_spans.proofs.Trees.Alike.{Alike, alike_map, either, neither}
 use Rattle.toml_spans.proofs.Trees.Found.{branch_found, one_key, trees_pushed}
 use Rattle.toml_spans.proofs.Trees.Stands.{AreBranches, IsBranch, KeyStands, NoEquals}
@@ -52,7 +52,7 @@ module _ (text : List ℕ) where
   GrowsAt k change edit = (t : Tree) (x : Node) → IsBranch text k t x → Alike (IsBranch text k) (change t) (edit x)
 
   -- a header on its way through what it finds
-  through_headers : (k : List ℕ) (grow : Growth) (edit : Edit) → Grows grow edit → GrowsAt k (through_header grow) (header_node edit)
+  through_headers : (k : List ℕ) (grow : Growth) (edit : Edit) → Grows grow edit → GrowsAt k (through implicit grow) (header_node edit)
   through_headers k grow edit grows (scalar p v) (value d) is = neither refl refl
   through_headers k grow edit grows (array p v ts) (value d) is = neither refl refl
   through_headers k grow edit grows (inline p v bs) (value d) is = neither refl refl
@@ -63,7 +63,7 @@ module _ (text : List ℕ) where
   through_headers k grow edit grows t x is = absurd is.0
 
   -- a dotted key on its way
-  through_dots : (k : List ℕ) (grow : Growth) (edit : Edit) → Grows grow edit → GrowsAt k (through_dot grow) (dot_node edit)
+  through_dots : (k : List ℕ) (grow : Growth) (edit : Edit) → Grows grow edit → GrowsAt k (through dotted grow) (dot_node edit)
   through_dots k grow edit grows (scalar p v) (value d) is = neither refl refl
   through_dots k grow edit grows (array p v ts) (value d) is = neither refl refl
   through_dots k grow edit grows (inline p v bs) (value d) is = neither refl refl
@@ -74,7 +74,7 @@ module _ (text : List ℕ) where
       new_table = alike_map (table p dotted) (open_table dotted) (grows bs ns is.0.2) (λ new more _ _ are. ((is.0.0, refl, are), refl))
 
       -- by what made it
-      by_origin : (o : Origin) → Alike (IsBranch text k) (through_dot grow (table p o bs)) (dot_node edit (open_table o ns))
+      by_origin : (o : Origin) → Alike (IsBranch text k) (through dotted grow (table p o bs)) (dot_node edit (open_table o ns))
       by_origin implicit = new_table
       by_origin dotted = new_table
       by_origin header = neither refl refl
@@ -103,27 +103,27 @@ module _ (text : List ℕ) where
   PartStands part = KeyStands text part.0 part.1 NoEquals
 
   -- the end of a header
-  headers_grow : (path : List Part) (grow : Growth) (edit : Edit) → AllByRecursion PartStands path → Grows grow edit → Grows (along_header path grow) (along_header_there (texts_of path) edit)
-  unfolding along_header along_header_there
+  headers_grow : (path : List Part) (grow : Growth) (edit : Edit) → AllByRecursion PartStands path → Grows grow edit → Grows (along implicit path grow) (along_header_there (texts_of path) edit)
+  unfolding along along_header_there
   headers_grow [] grow edit stand grows bs ns are = grows bs ns are
   headers_grow (part ∷ path) grow edit stand grows bs ns are =
-      let next = along_header path grow in
+      let next = along implicit path grow in
       let next_there = along_header_there (texts_of path) edit in
       let more : Grows next next_there = headers_grow path grow edit stand.1 grows in
-      at_key_grows part.0 (table part.1 implicit) (open_table implicit) (next no_branches) (next_there no_nodes) (through_header next) (header_node next_there) bs ns
-      (by_header part next bs) (by_header_there part.0 next_there ns) (more no_branches no_nodes tt) (λ a b both. ((stand.0, refl, both), refl)) (through_headers part.0 next next_there more) are
+      at_key_grows part.0 (table part.1 implicit) (open_table implicit) (next no_branches) (next_there no_nodes) (through implicit next) (header_node next_there) bs ns
+      (by_part implicit part next bs) (by_header_there part.0 next_there ns) (more no_branches no_nodes tt) (λ a b both. ((stand.0, refl, both), refl)) (through_headers part.0 next next_there more) are
       refl refl (λ t. refl) (λ x. refl)
 
   -- the end of a dotted key
-  dots_grow : (path : List Part) (grow : Growth) (edit : Edit) → AllByRecursion PartStands path → Grows grow edit → Grows (along_dots path grow) (along_dots_there (texts_of path) edit)
-  unfolding along_dots along_dots_there
+  dots_grow : (path : List Part) (grow : Growth) (edit : Edit) → AllByRecursion PartStands path → Grows grow edit → Grows (along dotted path grow) (along_dots_there (texts_of path) edit)
+  unfolding along along_dots_there
   dots_grow [] grow edit stand grows bs ns are = grows bs ns are
   dots_grow (part ∷ path) grow edit stand grows bs ns are =
-      let next = along_dots path grow in
+      let next = along dotted path grow in
       let next_there = along_dots_there (texts_of path) edit in
       let more : Grows next next_there = dots_grow path grow edit stand.1 grows in
-      at_key_grows part.0 (table part.1 dotted) (open_table dotted) (next no_branches) (next_there no_nodes) (through_dot next) (dot_node next_there) bs ns
-      (by_dot part next bs) (by_dot_there part.0 next_there ns) (more no_branches no_nodes tt) (λ a b both. ((stand.0, refl, both), refl)) (through_dots part.0 next next_there more) are
+      at_key_grows part.0 (table part.1 dotted) (open_table dotted) (next no_branches) (next_there no_nodes) (through dotted next) (dot_node next_there) bs ns
+      (by_part dotted part next bs) (by_dot_there part.0 next_there ns) (more no_branches no_nodes tt) (λ a b both. ((stand.0, refl, both), refl)) (through_dots part.0 next next_there more) are
       refl refl (λ t. refl) (λ x. refl)
 
   -- ---- definitions
@@ -181,10 +181,10 @@ module _ (text : List ℕ) where
 
   -- what a header or a pair defines, along a header
   pub defined_grows : (path : List Part) (part : Part) (what : Definition) (what_there : DefinitionThere) → AllByRecursion PartStands path → Defines part what what_there
-      → Grows (along_header path (at_part part what)) (along_header_there (texts_of path) (at_key part.0 what_there))
+      → Grows (along implicit path (at_part part what)) (along_header_there (texts_of path) (at_key part.0 what_there))
   defined_grows path part what what_there stand is = headers_grow path (at_part part what) (at_key part.0 what_there) stand (part_grows part what what_there is)
 
   -- a pair after a header
   pub pair_grows : (section : List Part) (parts : Parts) (t : Tree) (d : Data) → AllByRecursion PartStands section → AllByRecursion PartStands parts.0 → Defines parts.1 (pair t) (key_value d)
-      → Grows (along_header section (put parts t)) (along_header_there (texts_of section) (put_there (key_of parts) d))
+      → Grows (along implicit section (put parts t)) (along_header_there (texts_of section) (put_there (key_of parts) d))
   pair_grows section parts t d section_stands stand is = headers_grow section (put parts t) (put_there (key_of parts) d) section_stands (put_grows parts t d stand is)

@@ -1,10 +1,9 @@
 -- Values are read into trees as `toml` reads them, and each tree stands where its pieces are.
-use Rattle.std.proofs.Common.{◌≡◌, [], ℕ, zero, suc, ◌<◌, ◌≤◌, true, false, ◌==◌, List, ◌++◌, length, drop, Option, Some, None, refl, ap, ◌∙◌, inl, inr, ◌⊎◌, arith}
+use Rattle.std.proofs.Common.{◌≡◌, ℕ, zero, suc, ◌<◌, ◌≤◌, true, false, ◌==◌, List, length, drop, Option, Some, None, refl, ap, ◌∙◌, inl, inr, ◌⊎◌, arith}
 use Rattle.std.proofs.lemmas.Bool.{cases_Bool}
 use Rattle.std.proofs.lemmas.Option.{same_Some}
 use Rattle.std.proofs.NetLemmas.Options.{map_some}
 use Rattle.std.specs.List.{AllByRecursion}
-use Rattle.std.specs.Prelude.{◌↔◌}
 use Rattle.toml_parser.specs.Lexical.{first, Read, skip_blank}
 use Rattle.toml_parser.specs.Numbers.{unquoted}
 use Rattle.toml_parser.specs.Strings.{Key, quoted, starts_string}
@@ -12,22 +11,19 @@ use Rattle.toml_parser.specs.declared.scalar.Scalar.{Scalar}
 use Rattle.toml_parser.specs.declared.scalar.Scalar.TheVariants.{Boolean, Datetime, Float, Integer}
 use Rattle.toml.proofs.Turns.{val_array, val_atom, val_table}
 use Rattle.toml.specs.Data.{array as array_data, Data, Items, Members, no_items, push_item, table as table_data}
-use Rattle.toml.specs.Parse.{after_element, atom, items, keyval, members, parse_value, read_map, scalar_data, val}
+use Rattle.toml.specs.Parse.{after_element, atom, items, keyval, members, read_map, scalar_data, val}
 use Rattle.toml.specs.Tables.{close, key_value, no_nodes, Nodes, value}
 use Rattle.toml_spans.specs.Entry.{array, after_key, Branches, inline, no_branches, no_trees, Piece, piece, pieces_of, push_tree, scalar, Tree, Trees}
 use Rattle.toml_spans.specs.Key.{key_of, Parts}
 use Rattle.toml_spans.specs.Table.{pair}
 use Rattle.toml_spans.specs.Value.{element_trees, member_trees, pair_tree, placed, value_tree}
-use Rattle.toml_spans.proofs.Trees.Alike.{Alike, alike_first, alike_if, alike_none, alike_none_too, alike_map, alike_same, alike_then, either, neither}
+use Rattle.toml_spans.proofs.Alone.{value_alone}
+use Rattle.toml_spans.proofs.Trees.Alike.{Alike, alike_if, alike_map, alike_same, alike_then, either, neither}
 use Rattle.toml_spans.proofs.Trees.Found.{trees_pushed}
-use Rattle.toml_spans.proofs.Trees.Keys.{equals_read, key_follows, PartAlone}
-use Rattle.toml_spans.proofs.Trees.Rests.{rest_blank, rest_dropped, rest_element, rest_itself, rest_on, rest_within}
+use Rattle.toml_spans.proofs.Trees.Keys.{equals_read, key_follows}
+use Rattle.toml_spans.proofs.Trees.Rests.{rest_blank, rest_dropped, rest_element, rest_on, rest_within}
 use Rattle.toml_spans.proofs.Trees.Stands.{AreBranches, AreTrees, IsBranch, IsPlain, IsRest, IsTree, KeyStands, LeadsTo, ValueStands}
 use Rattle.toml_spans.proofs.Trees.Tables.{Defines, PartStands, put_grows}
-
--- what is read of a value is read of its front alone
-abbrev pub ValueAlone : Type 0
-ValueAlone = (depth : ℕ) (text rest : List ℕ) (d : Data) → depth ≤ 80 → val depth text ≡ Some (d, rest) → (front : List ℕ) × (text ≡ front ++ rest) × (parse_value front ≡ Some d)
 
 -- a scalar is neither an array nor a table
 scalar_plain : (s : Scalar) → IsPlain (scalar_data s)
@@ -86,7 +82,7 @@ record ReadMembers (whole start : List ℕ) (r : Branches × List ℕ) (s : Memb
   closed : s.0 ≡ close nodes
   are : AreBranches whole r.0 nodes
 
-module _ (part_alone : PartAlone) (value_alone : ValueAlone) (whole : List ℕ) where
+module _ (whole : List ℕ) where
   -- what is read here is what is read there
   abbrev pub Reads : (List ℕ → Read Tree) → (List ℕ → Read Data) → Type 0
   Reads tree_of data_of = (text : List ℕ) → IsRest whole text → Alike (ReadTree whole text) (tree_of text) (data_of text)
@@ -95,7 +91,7 @@ module _ (part_alone : PartAlone) (value_alone : ValueAlone) (whole : List ℕ) 
     -- a key and its value
     pub pair_read : (text : List ℕ) → IsRest whole text → Alike (ReadPair whole text) (pair_tree tree_of text) (keyval data_of text)
     pair_read text from =
-        alike_then _ _ (equals_read part_alone whole text from) (λ x y _ _ key. rw key.rest_same (alike_map _ _ (reads x.1 (rest_on from key.left)) (λ u v _ _ read. record {
+        alike_then _ _ (equals_read whole text from) (λ x y _ _ key. rw key.rest_same (alike_map _ _ (reads x.1 (rest_on from key.left)) (λ u v _ _ read. record {
           key_same = key.key_same;
           rest_same = read.rest_same;
           before = key.before;
@@ -187,14 +183,3 @@ module _ (part_alone : PartAlone) (value_alone : ValueAlone) (whole : List ℕ) 
           | inr plain ↦ rw (tree_atom (suc depth) text other plain, val_atom (suc depth) text other plain) (atom_read (suc depth) text within from (val_atom (suc depth) text other plain))
         ]
       ]
-
-  -- a tree that is read is that of the value, and stands where it is read
-  pub tree_some : (depth : ℕ) (text rest : List ℕ) (t : Tree) → depth ≤ 80 → IsRest whole text → value_tree depth text ≡ Some (t, rest) → (d : Data) × (val depth text ≡ Some (d, rest)) × IsTree whole [] t (value d)
-  tree_some depth text rest t within from is =
-      let (there, is_there, same) = alike_first (value_read depth within text from) (t, rest) is in
-      (there.0, is_there ∙ ap (λ (u : List ℕ). Some (there.0, u)) same.rest_same, same.stands [])
-
--- no tree is read where no value is
-pub tree_none : PartAlone → ValueAlone → (depth : ℕ) (text : List ℕ) → depth ≤ 80 → (value_tree depth text ≡ None) ↔ (val depth text ≡ None)
-tree_none part_alone value_alone depth text within =
-    let both = value_read part_alone value_alone text depth within text (rest_itself text) in (alike_none both, alike_none_too both)

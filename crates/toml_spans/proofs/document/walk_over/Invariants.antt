@@ -7,7 +7,7 @@ use Rattle.toml_spans.proofs.document.walk_over.Given as goal
 
 abbrev pub invariant-statements : goal.invariant-statements
 invariant-statements l =
-    shadow (Utf8 l.rest) × Walks l.text (walk_from l.root l.section.items l.begins.items) l.rest
+    shadow (Utf8 l.rest) × Walks l.text (walk_from l.root l.section.items) l.rest
 
 abbrev pub decreases-statements : goal.decreases-statements
 decreases-statements l = length l.rest

@@ -1,8 +1,7 @@
-use Rattle.std.proofs.Common.{◌≡◌, ◌∷◌, ◌∙◌, ap, MatchOption, subst, sym}
-use Rattle.nextest_config_profiles.specs.Chain.{IsWrong}
+use Rattle.std.proofs.Common.{◌≡◌, ◌∷◌, ◌∙◌, ap, subst}
 use Rattle.nextest_config_profiles.specs.Defaults.{default_values}
 use Rattle.nextest_config_profiles.specs.Layer.{all_layers, profiles_at}
-use Rattle.nextest_config_profiles.specs.Profile.{owned_wrong}
+use Rattle.nextest_config_profiles.specs.Profile.{IsProfileFault}
 use Rattle.nextest_config_profiles.specs.Reach.{layers_of, lent_files}
 use Rattle.nextest_config_profiles.proofs.Placed.{has_place}
 use Rattle.nextest_config_profiles.proofs.profile.EffectiveProfile.of.Goals as goal
@@ -13,6 +12,4 @@ returns-clause-in_a_file c =
     let layers : layers_of c.lent_layers.result ≡ all_layers files =
     c.lent_layers.ensures ∙ ap (λ defaults. profiles_at defaults ∷ lent_files c.as_slice.result.now) c.in_ok-defaults.ensures
     ∙ ap (λ files. profiles_at default_values ∷ files) (ap lent_files c.as_slice.ensures.value ∙ c.in_ok-profiles.ensures) in
-    let told = subst (λ layers. MatchOption (owned_wrong c.in-Err.fault) (Unit {0}) (IsWrong layers c.args.name.now)) layers c.in-Err.ensures.fault in
-    let wrong = subst (λ wrong. MatchOption wrong (Unit {0}) (IsWrong (all_layers files) c.args.name.now)) (sym c.in_ok-placed-in-Err.ensures.fault) told in
-    has_place files c.args.name.now c.in_ok-placed-in-Err.field-0 wrong c.in_ok-placed-in-Err.ensures.place
+    has_place files c.args.name.now c.in-Err.fault (subst (λ layers. IsProfileFault layers c.args.name.now c.in-Err.fault) layers c.in-Err.ensures.fault) c.in-Err.ensures.place

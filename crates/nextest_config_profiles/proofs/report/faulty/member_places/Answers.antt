@@ -7,9 +7,8 @@ use Rattle.nextest_config_profiles.proofs.report.faulty.member_places.Goals as g
 
 pub loop-member-preserved : goal.loop-member-preserved
 loop-member-preserved c =
-    let (source, is_source, pushed) = c.in_ok-push_place.ensures in
     let keys = (rule_of c.args.setting).keys in
-    let here = subst (λ path. IsPlaceOf c.args.effective.now c.args.profile.now path source) c.in_ok-keys.ensures is_source in
-    rw (pushed, map-map (keys_of_member keys) member_of _)
-    (some_more (IsPlaceOf c.args.effective.now c.args.profile.now) (λ member. keys_of_member keys (member_of member)) c.args.members.now c.loop-member.member-index _ _ source c.loop-member-test.true
+    let here = subst (λ path. IsPlaceOf c.args.effective.now c.args.profile.now path c.in_ok-place.place) c.in_ok-keys.ensures c.in_ok-place.ensures in
+    rw (c.in_ok-push_some.ensures, map-map (keys_of_member keys) member_of _)
+    (some_more (IsPlaceOf c.args.effective.now c.args.profile.now) (λ member. keys_of_member keys (member_of member)) c.args.members.now c.loop-member.member-index _ _ c.in_ok-place.place c.loop-member-test.true
     (rw (map-map (keys_of_member keys) member_of _) at c.loop-member.invariant) here)

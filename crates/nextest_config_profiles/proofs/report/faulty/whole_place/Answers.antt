@@ -6,7 +6,6 @@ use Rattle.nextest_config_profiles.proofs.report.faulty.whole_place.Goals as goa
 
 pub returns : goal.returns
 returns c =
-    let (source, is_source, pushed) = c.in_ok-push_place.ensures in
-    let here = subst (λ path. IsPlaceOf c.args.effective.now c.args.profile.now path source) c.in_ok-keys.ensures is_source in
-    rw (pushed, c.new-sources.ensures.items)
-    (one_more (IsPlaceOf c.args.effective.now c.args.profile.now) [] (words_of c.args.keys.now) [] source (record { each = []; are_each = tt; whole = refl }) here)
+    let here = subst (λ path. IsPlaceOf c.args.effective.now c.args.profile.now path c.in_ok-place.place) c.in_ok-keys.ensures c.in_ok-place.ensures in
+    rw (c.in_ok-push_some.ensures, c.new-sources.ensures.items)
+    (one_more (IsPlaceOf c.args.effective.now c.args.profile.now) [] (words_of c.args.keys.now) [] c.in_ok-place.place (record { each = []; are_each = tt; whole = refl }) here)

@@ -1,5 +1,5 @@
+use Rattle.nextest_config_profiles.specs.Profile.{layers_in}
 use Rattle.nextest_config_profiles.proofs.report.given.given_by.Goals as goal
 
-pub returns-in_ok-setting_of-in-Some : goal.returns-in_ok-setting_of-in-Some
-returns-in_ok-setting_of-in-Some g c =
-    rw c.in-Some.is (c.in_ok-setting_of-in-Some.field-0, c.in_ok-setting_of-in-Some.ensures, c.given_of.ensures)
+pub returns : goal.returns
+returns g c = (c.in_ok-given.given, c.in_ok-given.ensures (layers_in c.args.effective.now) c.requires, c.given_of.ensures)

@@ -5,6 +5,5 @@ use Rattle.nextest_config_profiles.proofs.report.overrides.settings.Goals as goa
 
 pub loop-key-preserved : goal.loop-key-preserved
 loop-key-preserved c =
-    let (setting, is_set, pushed) = c.in_ok-push_setting.ensures in
-    rw pushed
-    (some_more (IsSet (view c.args.value.now)) (λ word. word.now) _ c.loop-key.key-index _ _ setting c.loop-key-test.true c.loop-key.invariant is_set)
+    rw c.in_ok-push_some.ensures
+    (some_more (IsSet (view c.args.value.now)) (λ word. word.now) _ c.loop-key.key-index _ _ c.in_ok-setting.setting c.loop-key-test.true c.loop-key.invariant c.in_ok-setting.ensures)

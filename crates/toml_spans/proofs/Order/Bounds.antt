@@ -1,0 +1,88 @@
+-- The pieces of a key that is read of a text lie between its beginning and the rest.
+use Rattle.std.proofs.Common.{◌≡◌, ℕ, zero, suc, ◌≤◌, ◌==◌, List, [], ◌∷◌, ◌++◌, length, drop, Some, None, ap, arith}
+use Rattle.std.specs.List.{AllByRecursion}
+use Rattle.toml_parser.specs.Lexical.{first, skip_ws}
+use Rattle.toml_spans.proofs.Elements.{all_joined, all_weaker}
+use Rattle.toml_spans.specs.Document.{header_parts}
+use Rattle.toml_spans.specs.Entry.{Piece, piece, pieces_of, Tree}
+use Rattle.toml_spans.specs.Key.{Part, Parts, parts, parts_after}
+use Rattle.toml_spans.specs.Value.{parts_equals}
+use Rattle.toml_spans.proofs.Found.{Found, found_if, found_map, found_none, found_some, found_then, found_weaker}
+use Rattle.toml_spans.proofs.Order.Rests.{after_byte_leaves, drop_within, simple_key_leaves, skip_ws_within}
+
+-- ---- within
+
+-- a piece lies between two places, which are counted from the end
+pub record Within (high low : ℕ) (p : Piece) : Type 0 where
+  pub begins : p.0 ≤ high
+  pub turns : p.1 ≤ p.0
+  pub ends : low ≤ p.1
+
+-- the pieces of a tree do
+pub record PiecesWithin (high low : ℕ) (t : Tree) : Type 0 where
+  pub of_key : Found (pieces_of t).of_key (Within high low)
+  pub of_value : Found (pieces_of t).of_value (Within high low)
+
+-- and so do those of a key
+abbrev pub PartsWithin : ℕ → ℕ → Parts → Type 0
+PartsWithin high low ps = AllByRecursion (λ part. Within high low part.1) ps.0 × Within high low ps.1.1
+
+-- between places that are further apart
+pub within_wider : (high low higher lower : ℕ) → high ≤ higher → lower ≤ low → (p : Piece) → Within high low p → Within higher lower p
+within_wider high low higher lower up down p within = record { begins = omega (arith, up, within.begins); turns = within.turns; ends = omega (arith, down, within.ends) }
+
+-- the pieces of a tree do
+pub pieces_wider : (high low higher lower : ℕ) → high ≤ higher → lower ≤ low → (t : Tree) → PiecesWithin high low t → PiecesWithin higher lower t
+pieces_wider high low higher lower up down t within = record {
+  of_key = found_weaker within.of_key (within_wider high low higher lower up down);
+  of_value = found_weaker within.of_value (within_wider high low higher lower up down);
+}
+
+-- and those of a key
+pub parts_wider : (high low higher lower : ℕ) → high ≤ higher → lower ≤ low → (ps : Parts) → PartsWithin high low ps → PartsWithin higher lower ps
+parts_wider high low higher lower up down ps within = (all_weaker _ _ (λ part. within_wider high low higher lower up down part.1) ps.0 within.0, within_wider high low higher lower up down ps.1.1 within.1)
+
+-- what stands where a key's piece alone is written
+pub key_within : (high low : ℕ) (k : Piece) → Within high low k → (t : Tree) → pieces_of t ≡ record { of_key = Some k; of_value = None } → PiecesWithin high low t
+key_within high low k within t is = record { of_key = rw (ap (λ p. p.of_key) is) (found_some k within); of_value = rw (ap (λ p. p.of_value) is) found_none }
+
+-- ---- keys
+
+-- the rest of a key
+parts_read : (n high : ℕ) (path : List Part) (text : List ℕ) → length text ≤ high → AllByRecursion (λ part. Within high (length text) part.1) path
+    → Found (parts_after n path text) (λ r. PartsWithin high (length r.1) r.0 × (length r.1 ≤ length text))
+unfolding parts_after
+parts_read zero high path text within before = found_none
+parts_read (suc n) high path text within before =
+    found_then _ (simple_key_leaves text) (λ read shorter.
+    let part : Part = (read.0, piece text read.1) in
+    let rest = skip_ws read.1 in
+    let less : length rest ≤ length read.1 = skip_ws_within read.1 in
+    let next = skip_ws (drop 1 rest) in
+    let still_less : length next ≤ length rest = omega (arith, skip_ws_within (drop 1 rest), drop_within 1 rest) in
+    let here : (low : ℕ) → low ≤ length read.1 → Within high low part.1 = λ low down. record { begins = within; turns = shorter; ends = down } in
+    let earlier : (low : ℕ) → low ≤ length text → AllByRecursion (λ part. Within high low part.1) path = λ low down. all_weaker _ _ (λ part. within_wider high (length text) high low (omega arith) down part.1) path before in
+    found_if (first rest == 46)
+    (found_weaker (parts_read n high (path ++ part ∷ []) next (omega (arith, within, shorter, less, still_less))
+    (all_joined _ path (part ∷ []) (earlier (length next) (omega (arith, shorter, less, still_less))) (here (length next) (omega (arith, less, still_less)), tt)))
+    (λ r more. (more.0, omega (arith, more.1, shorter, less, still_less))))
+    (found_some ((path, part), rest) ((earlier (length rest) (omega (arith, shorter, less)), here (length rest) less), omega (arith, shorter, less))))
+
+-- a key
+pub key_read : (text : List ℕ) → Found (parts text) (λ r. PartsWithin (length text) (length r.1) r.0 × (length r.1 ≤ length text))
+key_read text = parts_read 80 (length text) [] text (omega arith) tt
+
+-- a key and `=`
+pub key_equals_read : (text : List ℕ) → Found (parts_equals text) (λ r. PartsWithin (length text) (length r.1) r.0 × (length r.1 ≤ length text))
+unfolding parts_equals
+key_equals_read text =
+    found_then _ (key_read text) (λ k read. found_map _ (after_byte_leaves 61 k.1) (λ rest shorter.
+    let less : length (skip_ws rest) ≤ length k.1 = omega (arith, shorter, skip_ws_within rest) in
+    (parts_wider (length text) (length k.1) (length text) (length (skip_ws rest)) (omega arith) less k.0 read.0, omega (arith, less, read.1))))
+
+-- the last part of a header's key
+pub header_read : (text : List ℕ) → Found (header_parts text) (λ r. Within (length text) (length r.1) r.0.1.1 × (length r.1 ≤ length text))
+unfolding header_parts
+header_read text =
+    found_then _ (key_read (skip_ws text)) (λ k read. found_map _ (after_byte_leaves 93 k.1) (λ rest shorter.
+    (within_wider (length (skip_ws text)) (length k.1) (length text) (length rest) (skip_ws_within text) shorter k.0.1.1 read.0.1, omega (arith, shorter, read.1, skip_ws_within text))))

@@ -1,5 +1,0 @@
-use Rattle.std.proofs.Common.{length}
-use Rattle.toml_spans.proofs.line.+find_below.Given as goal
-
-abbrev pub decreases-find_below : goal.decreases-find_below
-decreases-find_below l = length l.steps.now
