@@ -18,21 +18,10 @@ module _ {X Y : Type 0} (seen : X → Y) (reading : Reading Data (Option Y)) (la
   given_result None none = inr (value, merged, none)
   given_result (Some given) read = record { value = value; merged = merged; read = read.0; of_profile = read.1 }
 
--- what the first of profiles gives that counts, with one profile more in front
+-- what the first of profiles gives that counts, where that is the profile in front
 module _ {X Y : Type 0} (seen : X → Y) (reading : Reading Data (Option Y)) (layers : Layers) (keys : Path) (name : List ℕ) (names : List (List ℕ)) (given : Effective X) where
   pub given_here : IsGiven seen reading layers keys name given → IsEffective seen reading layers keys (name ∷ names) given
   given_here here = inl (record { before = []; profile = name; after = names; whole = refl; passed = tt; given = here })
-
-  pub given_later : Passes seen reading layers keys name → IsEffective seen reading layers keys names given → IsEffective seen reading layers keys (name ∷ names) given
-  given_later passes (inl first) = inl (record {
-    before = name ∷ first.before;
-    profile = first.profile;
-    after = first.after;
-    whole = ap (λ rest. name ∷ rest) first.whole;
-    passed = (passes, first.passed);
-    given = first.given;
-  })
-  given_later passes (inr none) = inr ((passes, none.0), none.1)
 
 -- ---- without the value
 

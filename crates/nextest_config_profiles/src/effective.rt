@@ -39,16 +39,12 @@ pub(crate) fn first_given<'p, T: ProfileSetting>(
     ensures { IfOk result (λ given. (layers : Layers) → AreLookedUp layers profiles.now
         → IsEffective T.seen T.reading layers (words_of keys.now) (names_of profiles.now) given) }
 {
-    let [profile, rest @ ..] = profiles else {
-        return Ok(Effective::Nothing);
-    };
-    match given_by(alloc, profile.name, profile.layers.as_slice(), keys)? {
-        Some(given) => Ok(given),
-        None => {
-            let later = first_given(alloc, rest, keys)?;
-            Ok(later)
+    for profile in profiles {
+        if let Some(given) = given_by(alloc, profile.name, profile.layers.as_slice(), keys)? {
+            return Ok(given);
         }
     }
+    Ok(Effective::Nothing)
 }
 
 /// What a profile gives the setting, if it counts, where its name leads there in the layers.

@@ -1,22 +1,16 @@
-use Rattle.std.proofs.Common.{◌≡◌, ◌∙◌, ◌<◌, ℕ, zero, suc, List, [], ◌∷◌, arith, get_or, length, option_map, refl, subst, sym}
+use Rattle.std.proofs.Common.{◌∙◌, option_map, subst, sym}
 use Rattle.std.proofs.lemmas.List.{take_all}
-use Rattle.std.specs.List.{AllByRecursion}
-use Rattle.nextest_config_profiles.specs.Profile.{IsLookedUp, layers_in}
+use Rattle.nextest_config_profiles.specs.Profile.{layers_in}
 use Rattle.nextest_config_profiles.specs.Report.OtherProfiles.{IsFaultOf}
 use Rattle.nextest_config_profiles.specs.Report.Setting.{rule_of}
 use Rattle.nextest_config_profiles.specs.declared.profile_alone.ProfileAlone.{ProfileAlone}
+use Rattle.nextest_config_profiles.proofs.Alone.{looked_up_at}
 use Rattle.nextest_config_profiles.proofs.Somes.{some_more}
 use Rattle.nextest_config_profiles.proofs.report.other_profiles.faults_of.Goals as goal
 
--- what holds of all holds of each
-all_at : {X : Type 0} (P : X → Type 0) (xs : List X) (i : ℕ) (x : X) → i < length xs → x ≡ get_or xs i x → AllByRecursion P xs → P x
-all_at P [] i x within here all = absurd (omega (arith, within))
-all_at P (y ∷ xs) zero x within here all = subst P (sym here) all.0
-all_at P (y ∷ xs) (suc i) x within here all = all_at P xs i x (omega (arith, within)) here all.1
-
 pub fault_of-requires : goal.fault_of-requires
 fault_of-requires c =
-    all_at (IsLookedUp (layers_in c.args.effective.now)) c.args.profiles.now c.loop-profile.profile-index c.profile-item.result c.loop-profile-test.true c.profile-item.is c.requires
+    looked_up_at (layers_in c.args.effective.now) c.args.profiles.now c.loop-profile.profile-index c.profile-item.result c.loop-profile-test.true c.profile-item.is c.requires
 
 pub loop-profile-preserved : goal.loop-profile-preserved
 loop-profile-preserved c =
