@@ -10,7 +10,14 @@ use Rattle.nextest_config_elements.specs.MaxFail.{fail_fast_fields}
 use Rattle.nextest_config_elements.specs.RetryPolicy.{retries_parts}
 use Rattle.nextest_config_elements.specs.SlowTimeout.{slow_timeout_fields}
 use Rattle.nextest_config_elements.specs.declared.field.FaultSeverity.TheVariants.{Error, ErrorUnlessConverted, Warning}
-use Rattle.nextest_config_elements.specs.declared.field.Shape.TheVariants.{Any, Array, Boolean, Command, CommandLine, Depth, Duration, Experimental, FailFast, FlakyFailStatus, FlakyResult, LeakTimeout, NextestVersion, Platform, Priority, RelativePath, Retries, Scalar, SlowTimeout, Table, Text, TextOrTexts, Texts, Threads, ThreadsRequired, VersionText, Word}
+use Rattle.nextest_config_elements.specs.declared.field.Referent.{Referent}
+use Rattle.nextest_config_elements.specs.declared.field.Referent.TheVariants.{Definition, Parent}
+use Rattle.nextest_config_elements.specs.declared.field.Shape.{Shape}
+use Rattle.nextest_config_elements.specs.declared.field.Shape.TheVariants.{Any, Array, Boolean, Command, CommandLine, Depth, Duration, Experimental, FailFast, FlakyFailStatus, FlakyResult, LeakTimeout, NextestVersion, Platform, Priority, Reference, References, RelativePath, Retries, RuledTable, Scalar, SlowTimeout, Table, Text, Texts, Threads, ThreadsRequired, VersionText, Word}
+use Rattle.nextest_config_elements.specs.declared.field.TableRule.TheVariants as rules
+use Rattle.nextest_config_elements.specs.declared.named.NamedKind.{NamedKind}
+use Rattle.nextest_config_elements.specs.declared.named.NamedKind.TheVariants.{Group, Script}
+use Rattle.nextest_config_elements.specs.declared.named.ScriptKind.TheVariants.{Setup, Wrapper}
 use Rattle.nextest_config_elements.specs.declared.word_list.WordList.TheVariants.{ArchiveOnMissing, ArchiveRelativeTo, FinalStatusLevel, StatusLevel, TargetRunner, TestOutputDisplay}
 
 -- keys that are known, and of whose values nothing is said
@@ -21,6 +28,17 @@ unread (key ∷ keys) = field (allowed key Any Warning) nothing (unread keys)
 -- what stands in an array of texts
 abbrev pub each_text : Parts
 each_text = elements Text nothing
+
+-- a table that defines what it stands for by its name
+abbrev pub definition : NamedKind → Shape
+definition kind = RuledTable (rules.Definition kind)
+
+-- a setup script's name, and a wrapper script's
+abbrev pub setup_script : Referent
+setup_script = Definition (Script Setup)
+
+abbrev pub wrapper_script : Referent
+wrapper_script = Definition (Script Wrapper)
 
 -- the fields of the table `bench` of a profile
 abbrev pub bench_fields : Fields
@@ -62,7 +80,8 @@ override_fields =
     (field (allowed (codes "filter") Text Warning) nothing
     (field (allowed (codes "platform") Platform Warning) (fields platform_fields)
     (field (allowed_or (codes "default-filter") Text Warning of_profile) nothing
-    (field (allowed_or (codes "test-group") Text Warning (text_taken (codes "@global"))) nothing
+    (field (allowed_or (codes "test-group") (Reference (Definition Group)) Warning
+    (text_taken (codes "@global"))) nothing
     (field (allowed_or (codes "run-extra-args") Texts Warning of_profile) each_text
     (field (allowed_or (codes "success-output") (Word TestOutputDisplay) Warning of_profile) nothing
     (field (allowed_or (codes "failure-output") (Word TestOutputDisplay) Warning of_profile) nothing
@@ -73,10 +92,11 @@ abbrev pub script_rule_fields : Fields
 script_rule_fields =
     field (allowed (codes "filter") Text Warning) nothing
     (field (allowed (codes "platform") Platform Warning) (fields platform_fields)
-    (field (allowed_or (codes "setup") TextOrTexts Warning
-    (taken (Some (array no_items)))) each_text
-    (field (allowed (codes "list-wrapper") Text Warning) nothing
-    (field (allowed (codes "run-wrapper") Text Warning) nothing no_fields))))
+    (field (allowed_or (codes "setup") (References setup_script) Warning
+    (taken (Some (array no_items)))) (elements (Reference setup_script) nothing)
+    (field (allowed (codes "list-wrapper") (Reference wrapper_script) Warning) nothing
+    (field (allowed (codes "run-wrapper") (Reference wrapper_script) Warning) nothing
+    no_fields))))
 
 -- the fields of what names files that an archive has, too
 abbrev pub archive_include_fields : Fields
@@ -114,8 +134,9 @@ profile_fields =
     (field (allowed_or (codes "junit") Table Error (inherited None)) (fields junit_fields)
     (field (allowed_or (codes "bench") Table Error (inherited None)) (fields bench_fields)
     (field (allowed_or (codes "overrides") Array Error
-    (inherited None)) (elements Table (fields override_fields))
-    (field (allowed_or (codes "inherits") Text Warning (text_taken (codes "default"))) nothing
+    (inherited None)) (elements (RuledTable rules.Override) (fields override_fields))
+    (field (allowed_or (codes "inherits") (Reference Parent) Warning
+    (text_taken (codes "default"))) nothing
     (field (allowed_or (codes "default-filter") Text Warning
     (text_inherited (codes "all()"))) nothing
     (field (allowed_or (codes "test-threads") Threads Warning
@@ -131,7 +152,7 @@ profile_fields =
     (field (allowed_or (codes "failure-output") (Word TestOutputDisplay) Warning
     (text_inherited (codes "immediate"))) nothing
     (field (allowed_or (codes "scripts") Array Warning
-    (inherited None)) (elements Table (fields script_rule_fields))
+    (inherited None)) (elements (RuledTable rules.ScriptRule) (fields script_rule_fields))
     (field (allowed_or (codes "archive") Table Warning (inherited None)) (fields archive_fields)
     no_fields)))))))))))))))))))
 
@@ -193,6 +214,10 @@ setup_script_fields =
     (taken (Some (boolean false)))) nothing
     (field (allowed (codes "junit") Table Warning) (fields script_junit_fields) no_fields)))))
 
+-- scripts that set up tests, by their names
+abbrev pub setup_scripts : Parts
+setup_scripts = names (definition (Script Setup)) (fields setup_script_fields)
+
 -- the fields of a script that wraps tests
 abbrev pub wrapper_script_fields : Fields
 wrapper_script_fields =
@@ -203,20 +228,22 @@ wrapper_script_fields =
 -- the fields of the table `scripts`
 abbrev pub scripts_fields : Fields
 scripts_fields =
-    field (allowed (codes "setup") Table Warning) (names Table (fields setup_script_fields))
-    (field (allowed (codes "wrapper") Table Warning) (names Table (fields wrapper_script_fields))
-    no_fields)
+    field (allowed (codes "setup") (RuledTable (rules.Scripts Setup)) Warning) setup_scripts
+    (field (allowed (codes "wrapper") (RuledTable (rules.Scripts Wrapper)) Warning)
+    (names (definition (Script Wrapper)) (fields wrapper_script_fields)) no_fields)
 
 -- the fields of a file
 abbrev pub file_fields : Fields
 file_fields =
     field (allowed (codes "nextest-version") NextestVersion Error) (versions version_fields)
     (field (allowed (codes "experimental") Experimental Error) (features feature_fields)
-    (field (allowed (codes "profile") Table Error) (names Table (fields profile_fields))
+    (field (allowed (codes "profile") Table Error)
+    (names (RuledTable rules.Profile) (fields profile_fields))
     (field (allowed (codes "store") Table Warning) (fields store_fields)
-    (field (allowed (codes "test-groups") Table Warning) (names Table (fields group_fields))
+    (field (allowed (codes "test-groups") Table Warning)
+    (names (definition Group) (fields group_fields))
     (field (allowed (codes "scripts") Table Warning) (fields scripts_fields)
-    (field (allowed (codes "script") Table Warning) (names Table (fields setup_script_fields))
+    (field (allowed (codes "script") (RuledTable (rules.Scripts Setup)) Warning) setup_scripts
     no_fields))))))
 
 -- what stands in a file

@@ -7,6 +7,7 @@ pub mod Junit
 pub mod Keys
 pub mod LeakTimeout
 pub mod MaxFail
+pub mod Named
 pub mod Priority
 pub mod ReadingDecisions
 pub mod ReportSkipPolicy

@@ -3,6 +3,7 @@
 ghost use Rattle.std.specs.Prelude.{◌≡◌};
 ghost use Rattle.nextest_config_elements.specs.Fields.{within};
 
+use crate::named::{NamedKind, ScriptKind};
 use crate::purpose::Purpose;
 use crate::word_list::WordList;
 
@@ -86,6 +87,8 @@ pub enum Shape {
     Any,
     /// A table.
     Table,
+    /// A table for which there is a rule beyond those of its keys.
+    RuledTable(TableRule),
     /// An array.
     Array,
     /// The value of `nextest-version`: a version text, or a table.
@@ -136,6 +139,8 @@ pub enum Shape {
     FlakyFailStatus,
     /// A text.
     Text,
+    /// A text that names something else of the file.
+    Reference(Referent),
     /// An array of texts.
     Texts,
     /// A number of threads: an integer, or a word.
@@ -146,8 +151,8 @@ pub enum Shape {
     Word(WordList),
     /// A text, boolean, integer or float, of which a text is made.
     Scalar,
-    /// A text, or an array of texts.
-    TextOrTexts,
+    /// A text that names something else of the file, or an array of such texts.
+    References(Referent),
     /// A command: a command line, or a table that has one.
     Command,
     /// A command line: a text, or an array.
@@ -156,6 +161,30 @@ pub enum Shape {
     RelativePath,
     /// How deep a folder is gone into: an integer, or a word.
     Depth,
+}
+
+/// A rule for a table, beyond those of its keys.
+#[derive(Clone, Copy)]
+pub enum TableRule {
+    /// Of a profile, at its name.
+    Profile,
+    /// Of an override.
+    Override,
+    /// Of what a profile says of scripts.
+    ScriptRule,
+    /// Of what the file defines by a name, at that.
+    Definition(NamedKind),
+    /// Of the scripts of a kind that the file defines, by their names.
+    Scripts(ScriptKind),
+}
+
+/// What a text names.
+#[derive(Clone, Copy)]
+pub enum Referent {
+    /// The profile that another one inherits from.
+    Parent,
+    /// What the file defines by a name.
+    Definition(NamedKind),
 }
 
 /// What stands in a value, where it is judged by itself.

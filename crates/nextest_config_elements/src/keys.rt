@@ -6,10 +6,11 @@ ghost use Rattle.nextest_config_elements.specs.Fields.{fields_view};
 ghost use Rattle.nextest_config_elements.specs.Keys.{file_fields, override_fields, override_junit_fields, profile_fields};
 
 use crate::field::FaultSeverity::ErrorUnlessConverted;
-use crate::field::{Absent, Field, Literal, Parts, Shape};
+use crate::field::{Absent, Field, Literal, Parts, Referent, Shape, TableRule};
 use crate::junit::JunitImpl;
 use crate::leak_timeout::LeakTimeout;
 use crate::max_fail::MaxFail;
+use crate::named::{NamedKind, ScriptKind};
 use crate::purpose::Purpose;
 use crate::retry_policy::RetryPolicy;
 use crate::slow_timeout::SlowTimeout;
@@ -34,7 +35,10 @@ const FILE: &[Field] = &[
     Field {
         key: "profile",
         shape: Shape::Table,
-        parts: Parts::Names(Shape::Table, &Parts::Fields(PROFILE)),
+        parts: Parts::Names(
+            Shape::RuledTable(TableRule::Profile),
+            &Parts::Fields(PROFILE),
+        ),
         purpose: Purpose::Profile,
         ..Field::READ
     },
@@ -48,7 +52,10 @@ const FILE: &[Field] = &[
     Field {
         key: "test-groups",
         shape: Shape::Table,
-        parts: Parts::Names(Shape::Table, &Parts::Fields(GROUP)),
+        parts: Parts::Names(
+            Shape::RuledTable(TableRule::Definition(NamedKind::Group)),
+            &Parts::Fields(GROUP),
+        ),
         purpose: Purpose::TestGroups,
         ..Field::DOCUMENTED
     },
@@ -61,8 +68,8 @@ const FILE: &[Field] = &[
     },
     Field {
         key: "script",
-        shape: Shape::Table,
-        parts: Parts::Names(Shape::Table, &Parts::Fields(SETUP_SCRIPT)),
+        shape: Shape::RuledTable(TableRule::Scripts(ScriptKind::Setup)),
+        parts: SETUP_SCRIPTS,
         purpose: Purpose::Script,
         ..Field::DOCUMENTED
     },
@@ -252,14 +259,17 @@ const PROFILE: &[Field] = &[
     Field {
         key: "overrides",
         shape: Shape::Array,
-        parts: Parts::Elements(Shape::Table, &Parts::Fields(OVERRIDE)),
+        parts: Parts::Elements(
+            Shape::RuledTable(TableRule::Override),
+            &Parts::Fields(OVERRIDE),
+        ),
         absent: Absent::Inherited(Literal::Nothing),
         purpose: Purpose::ProfileOverrides,
         ..Field::READ
     },
     Field {
         key: "inherits",
-        shape: Shape::Text,
+        shape: Shape::Reference(Referent::Parent),
         absent: Absent::Taken(Literal::Text("default")),
         purpose: Purpose::ProfileInherits,
         ..Field::DOCUMENTED
@@ -292,7 +302,10 @@ const PROFILE: &[Field] = &[
     Field {
         key: "scripts",
         shape: Shape::Array,
-        parts: Parts::Elements(Shape::Table, &Parts::Fields(SCRIPT_RULE)),
+        parts: Parts::Elements(
+            Shape::RuledTable(TableRule::ScriptRule),
+            &Parts::Fields(SCRIPT_RULE),
+        ),
         absent: Absent::Inherited(Literal::Nothing),
         purpose: Purpose::ProfileScripts,
         ..Field::DOCUMENTED
@@ -383,7 +396,7 @@ const OVERRIDE: &[Field] = &[
     },
     Field {
         key: "test-group",
-        shape: Shape::Text,
+        shape: Shape::Reference(Referent::Definition(NamedKind::Group)),
         absent: Absent::Taken(Literal::Text("@global")),
         purpose: Purpose::OverrideTestGroup,
         ..Field::DOCUMENTED
@@ -473,15 +486,18 @@ const PLATFORM_FIELDS: &[Field] = &[
 const SCRIPTS: &[Field] = &[
     Field {
         key: "setup",
-        shape: Shape::Table,
-        parts: Parts::Names(Shape::Table, &Parts::Fields(SETUP_SCRIPT)),
+        shape: Shape::RuledTable(TableRule::Scripts(ScriptKind::Setup)),
+        parts: SETUP_SCRIPTS,
         purpose: Purpose::ScriptsSetup,
         ..Field::DOCUMENTED
     },
     Field {
         key: "wrapper",
-        shape: Shape::Table,
-        parts: Parts::Names(Shape::Table, &Parts::Fields(WRAPPER_SCRIPT)),
+        shape: Shape::RuledTable(TableRule::Scripts(ScriptKind::Wrapper)),
+        parts: Parts::Names(
+            Shape::RuledTable(TableRule::Definition(NamedKind::WRAPPER_SCRIPT)),
+            &Parts::Fields(WRAPPER_SCRIPT),
+        ),
         purpose: Purpose::ScriptsWrapper,
         ..Field::DOCUMENTED
     },
@@ -531,6 +547,11 @@ const SETUP_SCRIPT: &[Field] = &[
         ..Field::DOCUMENTED
     },
 ];
+
+const SETUP_SCRIPTS: Parts = Parts::Names(
+    Shape::RuledTable(TableRule::Definition(NamedKind::SETUP_SCRIPT)),
+    &Parts::Fields(SETUP_SCRIPT),
+);
 
 // The table `junit` of a script.
 const SCRIPT_JUNIT: &[Field] = &[
@@ -594,21 +615,24 @@ const SCRIPT_RULE: &[Field] = &[
     PLATFORM,
     Field {
         key: "setup",
-        shape: Shape::TextOrTexts,
-        parts: Parts::Elements(Shape::Text, &Parts::Nothing),
+        shape: Shape::References(Referent::Definition(NamedKind::SETUP_SCRIPT)),
+        parts: Parts::Elements(
+            Shape::Reference(Referent::Definition(NamedKind::SETUP_SCRIPT)),
+            &Parts::Nothing,
+        ),
         absent: Absent::Taken(Literal::EmptyArray),
         purpose: Purpose::ScriptRuleSetup,
         ..Field::DOCUMENTED
     },
     Field {
         key: "list-wrapper",
-        shape: Shape::Text,
+        shape: Shape::Reference(Referent::Definition(NamedKind::WRAPPER_SCRIPT)),
         purpose: Purpose::ScriptRuleListWrapper,
         ..Field::DOCUMENTED
     },
     Field {
         key: "run-wrapper",
-        shape: Shape::Text,
+        shape: Shape::Reference(Referent::Definition(NamedKind::WRAPPER_SCRIPT)),
         purpose: Purpose::ScriptRuleRunWrapper,
         ..Field::DOCUMENTED
     },

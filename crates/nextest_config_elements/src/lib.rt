@@ -9,6 +9,7 @@ pub mod keys;
 pub mod laws;
 pub mod leak_timeout;
 pub mod max_fail;
+pub mod named;
 pub mod priority;
 pub mod profile_setting;
 pub mod purpose;

@@ -26,7 +26,7 @@ use Rattle.nextest_config_lint.specs.Defined.{AddsNames, AreDocuments, AreNamesO
 use Rattle.nextest_config_lint.specs.References.{IsUndefined}
 use Rattle.nextest_config_lint.specs.Settings.{names_of}
 use Rattle.nextest_config_lint.specs.declared.defined.ListedFile.{ListedFile}
-use Rattle.nextest_config_lint.specs.declared.named.NamedKind.{NamedKind}
+use Rattle.nextest_config_elements.specs.declared.named.NamedKind.{NamedKind}
 
 pub some_left : {A : Type 0} (P : A → Type 0) (xs ys : List A) → SomeOf P xs → SomeOf P (xs ++ ys)
 some_left P [] ys none = absurd none

@@ -461,7 +461,7 @@ steps_lead top (index place ∷ rest) steps value is = absurd (none-some value i
 -- what is told of a value stands at something in it
 told_there : (at : FileInList) (top : Members) (path : List PathStep) (subject : Subject) (told : FoundKind) → IsSubjectTold at path subject (Some told) → IsPlacedAt top path subject
     → IsSome (found_in top (path ++ steps_to told))
-told_there at top path (a_value shape parts value) told is placed = rw (steps_lead top path (steps_to told) value placed) (told_leads at path value told is)
+told_there at top path (a_value shape parts value) told is placed = rw (steps_lead top path (steps_to told) value placed) (told_leads at path shape value told is)
 told_there at top path subject told is placed = absurd (cc is)
 
 references_lead : (at : FileInList) (top : Members) (setting : SettingView) (here : Option Found) → IsPlaced top setting → IsReferenceFound at setting here

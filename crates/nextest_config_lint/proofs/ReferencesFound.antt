@@ -16,14 +16,19 @@ use Rattle.nextest_config_lint.specs.Defined.{AreNamesOf, DefinesNamed, ListFile
 use Rattle.nextest_config_lint.specs.File.{key_in, path_after, whole_path}
 use Rattle.nextest_config_lint.specs.FindingsLaws.{is_reference}
 use Rattle.nextest_config_lint.specs.Found.{default_filter_alone, default_filter_beside, feature_not_enabled, Found, FoundKind, found_severity, IsNearestMeant, Meant, name_of_tool, no_name, other_script, outside_tool, override_of_all, reserved_profile, script_of_all, setup_script_too, the_word, undefined_name, undefined_profile}
-use Rattle.nextest_config_lint.specs.Named.{other_kind}
+use Rattle.nextest_config_elements.specs.Named.{other_kind}
 use Rattle.nextest_config_values.specs.NearestWord.{nearest_once}
-use Rattle.nextest_config_lint.specs.References.{default_filter_key, FileInList, HasKey, IsBesideFilter, IsDefaultFilterTold, IsDefinitionTold, IsFirstTold, IsGroupTextTold, IsKeptTold, IsMarkTold, IsMissingTold, IsNameTold, IsNearestTold, IsOfAll, IsOtherProfile, IsOverrideTold, IsParentNameTold, IsParentTold, IsPlaceTold, IsReferenceFound, IsSetupToo, IsSought, IsSubjectTold, IsTextTold, IsToldIf, IsUndefinedTold, IsWithoutPlatform, steps_to, told_below, tool_mark_of}
-use Rattle.nextest_config_lint.specs.RulePlaces.{another, an_override, a_group_of, a_name, a_parent, a_profile, a_script_of, a_script_rule, RulePlace, place_of, the_scripts}
+use Rattle.nextest_config_lint.specs.References.{default_filter_key, FileInList, HasKey, IsBesideFilter, IsDefaultFilterTold, IsDefinitionTold, IsFirstTold, IsGroupTextTold, IsKeptTold, IsMarkTold, IsMissingTold, IsNameTold, IsNearestTold, IsOfAll, IsOtherProfile, IsOverrideTold, IsParentNameTold, IsParentTold, IsReferenceFound, IsReferenceTold, IsReserved, IsRuleTold, IsSetupToo, IsSought, IsSubjectTold, IsTextTold, IsToldIf, IsUndefinedTold, IsValueTold, IsWithoutPlatform, last_key, profile_of, steps_to, told_below, tool_mark_of}
 use Rattle.nextest_config_lint.specs.Settings.{a_value, SettingView, Subject}
 use Rattle.nextest_config_lint.specs.declared.finding.FindingSeverity.TheVariants.{Warning}
-use Rattle.nextest_config_lint.specs.declared.named.NamedKind.{NamedKind}
-use Rattle.nextest_config_lint.specs.declared.named.NamedKind.TheVariants.{Group, Script}
+use Rattle.nextest_config_elements.specs.declared.field.Referent.{Referent}
+use Rattle.nextest_config_elements.specs.declared.field.Referent.TheVariants.{Definition, Parent}
+use Rattle.nextest_config_elements.specs.declared.field.Shape.{Shape}
+use Rattle.nextest_config_elements.specs.declared.field.Shape.TheVariants.{Reference, References, RuledTable}
+use Rattle.nextest_config_elements.specs.declared.field.TableRule.{TableRule}
+use Rattle.nextest_config_elements.specs.declared.field.TableRule.TheVariants as rules
+use Rattle.nextest_config_elements.specs.declared.named.NamedKind.{NamedKind}
+use Rattle.nextest_config_elements.specs.declared.named.NamedKind.TheVariants.{Group, Script}
 
 -- ---- what is told of references
 
@@ -116,18 +121,28 @@ told_parent value files position profile parent told (inl (default, is)) = rw is
 told_parent value files position profile parent told (inr (other, inl (comes_back, is))) = rw is (refl, refl, refl, refl)
 told_parent value files position profile parent told (inr (other, inr (leads_on, named))) = told_parent_name value files profile parent told named
 
-told_place : (at : FileInList) (place : RulePlace) (value : Data) (told : Option FoundKind) → IsPlaceTold at place value told → IsOfReference value told
-told_place at (a_profile name) value told is = told_if value _ reserved_profile told (λ _. (refl, refl, refl, refl)) is
-told_place at (a_parent name) value told is = text_or_memory value (IsParentTold at.files at.position name) (as_str value) told (told_parent value at.files at.position name) is
-told_place at an_override value told is = told_override value told is
-told_place at a_group_of value told is = text_or_memory value (IsGroupTextTold at.files) (as_str value) told (told_group_text value at.files) is
-told_place at a_script_rule value told is = told_if value _ script_of_all told (λ _. (refl, refl, refl, refl)) is
-told_place at (a_script_of script) value told is =
-    text_or_memory value (IsNameTold (Script script) (IsKeptTold (Script script) at.files)) (as_str value) told
-    (λ text said h. told_name value (Script script) (IsKeptTold (Script script) at.files) text said (told_kept value (Script script) at.files) h) is
-told_place at (a_name kind name) value told is = told_name value kind (IsDefinitionTold at.file kind) name told (told_definition value at.file kind) is
-told_place at (the_scripts script) value told is = told_if value _ (feature_not_enabled script) told (λ _. (refl, refl, refl, refl)) is
-told_place at another value told is = rw is tt
+told_rule : (at : FileInList) (path : List PathStep) (rule : TableRule) (value : Data) (told : Option FoundKind) → IsRuleTold at path rule value told → IsOfReference value told
+told_rule at path rules.Profile value told is =
+    text_or_memory value (λ name. IsToldIf (IsReserved name) reserved_profile) (last_key path) told (λ name said h. told_if value _ reserved_profile said (λ _. (refl, refl, refl, refl)) h) is
+told_rule at path rules.Override value told is = told_override value told is
+told_rule at path rules.ScriptRule value told is = told_if value _ script_of_all told (λ _. (refl, refl, refl, refl)) is
+told_rule at path (rules.Definition kind) value told is =
+    text_or_memory value (IsNameTold kind (IsDefinitionTold at.file kind)) (last_key path) told
+    (λ name said h. told_name value kind (IsDefinitionTold at.file kind) name said (told_definition value at.file kind) h) is
+told_rule at path (rules.Scripts script) value told is = told_if value _ (feature_not_enabled script) told (λ _. (refl, refl, refl, refl)) is
+
+told_reference : (at : FileInList) (path : List PathStep) (referent : Referent) (value : Data) (text : List ℕ) (told : Option FoundKind) → IsReferenceTold at path referent text told → IsOfReference value told
+told_reference at path Parent value text told is =
+    text_or_memory value (λ name. IsParentTold at.files at.position name text) (profile_of path) told (λ name. told_parent value at.files at.position name text) is
+told_reference at path (Definition Group) value text told is = told_group_text value at.files text told is
+told_reference at path (Definition (Script script)) value text told is =
+    told_name value (Script script) (IsKeptTold (Script script) at.files) text told (told_kept value (Script script) at.files) is
+
+told_value : (at : FileInList) (path : List PathStep) (shape : Shape) (value : Data) (told : Option FoundKind) → IsValueTold at path shape value told → IsOfReference value told
+told_value at path (RuledTable rule) value told is = told_rule at path rule value told is
+told_value at path (Reference referent) value told is = text_or_memory value (IsReferenceTold at path referent) (as_str value) told (told_reference at path referent value) is
+told_value at path (References referent) value told is = text_or_memory value (IsReferenceTold at path referent) (as_str value) told (told_reference at path referent value) is
+told_value at path shape value told is = rw is tt
 
 -- ---- where it is told
 
@@ -145,15 +160,15 @@ nothing_at : (path : List PathStep) (told : Option FoundKind) → told ≡ None 
 nothing_at path told none = rw none tt
 
 subject_at : (at : FileInList) (path : List PathStep) (subject : Subject) (told : Option FoundKind) → IsSubjectTold at path subject told → IsAtPath path (option_map (told_below path) told)
-subject_at at path (a_value shape parts value) told is = at_path value path told (told_place at (place_of path) value told is)
+subject_at at path (a_value shape parts value) told is = at_path value path told (told_value at path shape value told is)
 subject_at at path subject told is = nothing_at path told is
 
 pub reference_at : (at : FileInList) (setting : SettingView) (here : Option Found) → IsReferenceFound at setting here → IsAtPath setting.path here
 reference_at at setting here (told, is, found) = rw found (subject_at at setting.path setting.subject told is)
 
 -- in the value of which something is told, its steps lead to something
-pub told_leads : (at : FileInList) (path : List PathStep) (value : Data) (told : FoundKind) → IsPlaceTold at (place_of path) value (Some told) → IsSome (found_below (steps_to told) value)
-told_leads at path value told is = (told_place at (place_of path) value (Some told) is).3
+pub told_leads : (at : FileInList) (path : List PathStep) (shape : Shape) (value : Data) (told : FoundKind) → IsValueTold at path shape value (Some told) → IsSome (found_below (steps_to told) value)
+told_leads at path shape value told is = (told_value at path shape value (Some told) is).3
 
 -- ---- it is found once
 
@@ -259,21 +274,31 @@ parent_once files position profile parent a b (inr (other, inl h)) (inr (also, i
 parent_once files position profile parent a b (inr (other, inr h)) (inr (also, inl k)) = absurd (h.0 k.0)
 parent_once files position profile parent a b (inr (other, inr h)) (inr (also, inr k)) = parent_name_once files profile parent a b h.1 k.1
 
-place_once : (at : FileInList) (place : RulePlace) (value : Data) (a b : Option FoundKind) → IsPlaceTold at place value a → IsPlaceTold at place value b → a ≡ b
-place_once at (a_profile name) value a b h k = if_once _ _ a b h k
-place_once at (a_parent name) value a b h k = text_once (IsParentTold at.files at.position name) (as_str value) a b (parent_once at.files at.position name) h k
-place_once at an_override value a b h k = override_once value a b h k
-place_once at a_group_of value a b h k = text_once (IsGroupTextTold at.files) (as_str value) a b (group_text_once at.files) h k
-place_once at a_script_rule value a b h k = if_once _ _ a b h k
-place_once at (a_script_of script) value a b h k =
-    text_once (IsNameTold (Script script) (IsKeptTold (Script script) at.files)) (as_str value) a b
-    (λ text a b h k. name_once (Script script) (IsKeptTold (Script script) at.files) text a b (kept_once (Script script) at.files) h k) h k
-place_once at (a_name kind name) value a b h k = name_once kind (IsDefinitionTold at.file kind) name a b (definition_once at.file kind) h k
-place_once at (the_scripts script) value a b h k = if_once _ _ a b h k
-place_once at another value a b h k = h ∙ sym k
+rule_once : (at : FileInList) (path : List PathStep) (rule : TableRule) (value : Data) (a b : Option FoundKind) → IsRuleTold at path rule value a → IsRuleTold at path rule value b → a ≡ b
+rule_once at path rules.Profile value a b h k =
+    text_once (λ name. IsToldIf (IsReserved name) reserved_profile) (last_key path) a b (λ name a b h k. if_once _ _ a b h k) h k
+rule_once at path rules.Override value a b h k = override_once value a b h k
+rule_once at path rules.ScriptRule value a b h k = if_once _ _ a b h k
+rule_once at path (rules.Definition kind) value a b h k =
+    text_once (IsNameTold kind (IsDefinitionTold at.file kind)) (last_key path) a b
+    (λ name a b h k. name_once kind (IsDefinitionTold at.file kind) name a b (definition_once at.file kind) h k) h k
+rule_once at path (rules.Scripts script) value a b h k = if_once _ _ a b h k
+
+referent_once : (at : FileInList) (path : List PathStep) (referent : Referent) (text : List ℕ) (a b : Option FoundKind) → IsReferenceTold at path referent text a → IsReferenceTold at path referent text b → a ≡ b
+referent_once at path Parent text a b h k =
+    text_once (λ name. IsParentTold at.files at.position name text) (profile_of path) a b (λ name. parent_once at.files at.position name text) h k
+referent_once at path (Definition Group) text a b h k = group_text_once at.files text a b h k
+referent_once at path (Definition (Script script)) text a b h k =
+    name_once (Script script) (IsKeptTold (Script script) at.files) text a b (kept_once (Script script) at.files) h k
+
+value_once : (at : FileInList) (path : List PathStep) (shape : Shape) (value : Data) (a b : Option FoundKind) → IsValueTold at path shape value a → IsValueTold at path shape value b → a ≡ b
+value_once at path (RuledTable rule) value a b h k = rule_once at path rule value a b h k
+value_once at path (Reference referent) value a b h k = text_once (IsReferenceTold at path referent) (as_str value) a b (referent_once at path referent) h k
+value_once at path (References referent) value a b h k = text_once (IsReferenceTold at path referent) (as_str value) a b (referent_once at path referent) h k
+value_once at path shape value a b h k = h ∙ sym k
 
 subject_once : (at : FileInList) (path : List PathStep) (subject : Subject) (a b : Option FoundKind) → IsSubjectTold at path subject a → IsSubjectTold at path subject b → a ≡ b
-subject_once at path (a_value shape parts value) a b h k = place_once at (place_of path) value a b h k
+subject_once at path (a_value shape parts value) a b h k = value_once at path shape value a b h k
 subject_once at path subject a b h k = h ∙ sym k
 
 pub reference_once : (at : FileInList) (setting : SettingView) (a b : Option Found) → IsReferenceFound at setting a → IsReferenceFound at setting b → a ≡ b

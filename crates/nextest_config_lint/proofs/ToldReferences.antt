@@ -13,11 +13,11 @@ use Rattle.nextest_config_values.specs.declared.identifier.error.InvalidIdentifi
 use Rattle.nextest_config_values.specs.declared.identifier.error.InvalidIdentifier.TheVariants as errors
 use Rattle.nextest_config_lint.specs.Defined.{DefinesNamed, ListFile}
 use Rattle.nextest_config_lint.specs.Found.{FoundKind, no_name, other_script}
-use Rattle.nextest_config_lint.specs.Named.{other_kind}
+use Rattle.nextest_config_elements.specs.Named.{other_kind}
 use Rattle.nextest_config_lint.specs.References.{IsMissingTold, IsNearestTold}
-use Rattle.nextest_config_lint.specs.declared.named.NamedKind.{NamedKind}
-use Rattle.nextest_config_lint.specs.declared.named.NamedKind.TheVariants.{Script}
-use Rattle.nextest_config_lint.specs.declared.named.ScriptKind.{ScriptKind}
+use Rattle.nextest_config_elements.specs.declared.named.NamedKind.{NamedKind}
+use Rattle.nextest_config_elements.specs.declared.named.NamedKind.TheVariants.{Script}
+use Rattle.nextest_config_elements.specs.declared.named.ScriptKind.{ScriptKind}
 
 -- a refusal of anything but memory is told
 pub fault_told : (kind : NamedKind) (error : InvalidIdentifier) → (error ≡ errors.Memory → ⊥)

@@ -7,8 +7,8 @@ use Rattle.nextest_config_lint.specs.Found.{FoundKind}
 use Rattle.nextest_config_lint.specs.Found as found
 use Rattle.nextest_config_lint.specs.declared.code.FindingCode.{FindingCode}
 use Rattle.nextest_config_lint.specs.declared.code.FindingCode.TheVariants as code
-use Rattle.nextest_config_lint.specs.declared.named.NamedKind.{NamedKind}
-use Rattle.nextest_config_lint.specs.declared.named.NamedKind.TheVariants as kinds
+use Rattle.nextest_config_elements.specs.declared.named.NamedKind.{NamedKind}
+use Rattle.nextest_config_elements.specs.declared.named.NamedKind.TheVariants as kinds
 
 -- ---- their words
 

@@ -19,9 +19,10 @@ use Rattle.nextest_config_lint.specs.declared.defined.ListedFile.{ListedFile}
 use Rattle.nextest_config_lint.specs.declared.defined.NameKind.{NameKind}
 use Rattle.nextest_config_lint.specs.declared.defined.NameKind.TheVariants as kinds
 use Rattle.nextest_config_lint.specs.declared.list_features.ListFeatures.{ListFeatures}
-use Rattle.nextest_config_lint.specs.declared.named.NamedKind.{NamedKind}
-use Rattle.nextest_config_lint.specs.declared.named.NamedKind.TheVariants.{Group, Script}
-use Rattle.nextest_config_lint.specs.declared.named.ScriptKind.TheVariants.{Setup, Wrapper}
+use Rattle.nextest_config_elements.specs.declared.named.NamedKind.{NamedKind}
+use Rattle.nextest_config_elements.specs.declared.named.NamedKind.TheVariants.{Group, Script}
+use Rattle.nextest_config_elements.specs.declared.named.ScriptKind.{ScriptKind}
+use Rattle.nextest_config_elements.specs.declared.named.ScriptKind.TheVariants.{Setup, Wrapper}
 
 -- ---- the files of a list
 
@@ -154,6 +155,11 @@ abbrev pub IsNoTools : ConfigSourceKind → Type 0
 IsNoTools (Tool tool) = ⊥
 IsNoTools ExplicitRepository = Unit {0}
 IsNoTools DiscoveredRepository = Unit {0}
+
+-- the experimental feature that scripts of a kind need
+abbrev pub feature_of : ScriptKind → ConfigExperimental
+feature_of Setup = SetupScripts
+feature_of Wrapper = WrapperScripts
 
 -- the file is no tool's, and its value of `experimental` is this
 abbrev pub HasExperimental : ListFile → Data → Type 0

@@ -7,8 +7,9 @@ use Rattle.toml_spans.specs.Step.{PathStep, printed_path, step_of}
 use Rattle.nextest_config_values.specs.declared.read.fault.FaultKind.{FaultKind}
 use Rattle.nextest_config_lint.specs.Code.{reason_code}
 use Rattle.nextest_config.specs.NextestVersion.{word_of}
+use Rattle.nextest_config_lint.specs.Defined.{feature_of}
 use Rattle.nextest_config_lint.specs.Found.{FoundKind, found_severity, kind_view}
-use Rattle.nextest_config_lint.specs.Named.{feature_of, named_text, plural_text, script_text}
+use Rattle.nextest_config_elements.specs.Named.{named_text, plural_text, script_text}
 use Rattle.nextest_config_lint.specs.declared.code.FindingCode.{FindingCode}
 use Rattle.nextest_config_lint.specs.declared.code.FindingCode.TheVariants as code
 use Rattle.nextest_config_lint.specs.declared.finding.Finding.{Finding}

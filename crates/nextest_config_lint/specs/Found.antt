@@ -15,8 +15,8 @@ use Rattle.nextest_config_lint.specs.declared.finding.Mistake.{Mistake}
 use Rattle.nextest_config_lint.specs.declared.finding.Mistake.TheVariants as mistakes
 use Rattle.nextest_config_lint.specs.declared.finding.FindingSeverity.{FindingSeverity}
 use Rattle.nextest_config_lint.specs.declared.finding.FindingSeverity.TheVariants.{Error, Note, Warning}
-use Rattle.nextest_config_lint.specs.declared.named.NamedKind.{NamedKind}
-use Rattle.nextest_config_lint.specs.declared.named.ScriptKind.{ScriptKind}
+use Rattle.nextest_config_elements.specs.declared.named.NamedKind.{NamedKind}
+use Rattle.nextest_config_elements.specs.declared.named.ScriptKind.{ScriptKind}
 
 -- what may be meant: a word, something as TOML writes it, or the key of the same name elsewhere
 pub data Meant : Type 0 where

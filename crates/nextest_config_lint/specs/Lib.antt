@@ -12,10 +12,8 @@ pub mod RingProfiles
 pub mod Inheritance
 pub mod Hints
 pub mod Mistake
-pub mod Named
 pub mod References
 pub mod Right
-pub mod RulePlaces
 pub mod Rules
 pub mod Settings
 pub mod Severity

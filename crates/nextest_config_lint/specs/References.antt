@@ -3,22 +3,27 @@
 use Rattle.std.specs.Prelude.{◌≡◌, ◌≢◌, ◌<◌, ◌≤◌, ◌⊎◌, ℕ, length, Bool, List, [], ◌∷◌, ◌++◌, codes, map, nat_eq, not, IsSome, Option, Some, None, option_map, string_bytes}
 use Rattle.std.specs.Cmp.Lexicographic.{pointwise}
 use Rattle.toml.specs.Data.{as_str, as_table, Data, get, get_member, Members, no_members}
-use Rattle.toml_spans.specs.Step.{key, PathStep}
+use Rattle.toml_spans.specs.Step.{index, key, PathStep}
 use Rattle.nextest_config_values.specs.Identifier.{AreComponents, IdentifierFlaw, IsIdentifier, IsIdentifierFault, NameFault}
 use Rattle.nextest_config_values.specs.Read.Fault.{identifier}
+use Rattle.nextest_config_elements.specs.Named.{other_kind}
+use Rattle.nextest_config_elements.specs.declared.field.Referent.{Referent}
+use Rattle.nextest_config_elements.specs.declared.field.Referent.TheVariants.{Definition, Parent}
+use Rattle.nextest_config_elements.specs.declared.field.Shape.{Shape}
+use Rattle.nextest_config_elements.specs.declared.field.Shape.TheVariants.{Reference, References, RuledTable}
+use Rattle.nextest_config_elements.specs.declared.field.TableRule.{TableRule}
+use Rattle.nextest_config_elements.specs.declared.field.TableRule.TheVariants as rules
 use Rattle.nextest_config.specs.declared.nextest_version.edition.Edition.{Edition}
 use Rattle.nextest_config.specs.declared.nextest_version.source.ConfigSourceKind.{ConfigSourceKind}
 use Rattle.nextest_config.specs.declared.nextest_version.source.ConfigSourceKind.TheVariants.{DiscoveredRepository, ExplicitRepository, Tool}
-use Rattle.nextest_config_lint.specs.Defined.{AreDocuments, AreNamesOf, ComesBackAt, default_miri, default_profile, DefinesNamed, DefinesProfile, file_with, HasNamed, HasTool, IsDefinedBy, IsFeatureMissing, IsNoTools, ListFile}
+use Rattle.nextest_config_lint.specs.Defined.{AreDocuments, AreNamesOf, ComesBackAt, default_miri, default_profile, DefinesNamed, DefinesProfile, feature_of, file_with, HasNamed, HasTool, IsDefinedBy, IsFeatureMissing, IsNoTools, ListFile}
 use Rattle.nextest_config_lint.specs.Found.{default_filter_alone, default_filter_beside, default_inherits, feature_not_enabled, Found, found_at, FoundKind, inherits_itself, IsNearestMeant, kind_view, Meant, name_of_tool, no_name, other_script, outside_tool, override_of_all, reserved_profile, script_of_all, setup_script_too, undefined_name, undefined_profile}
-use Rattle.nextest_config_lint.specs.Named.{feature_of, other_kind}
-use Rattle.nextest_config_lint.specs.RulePlaces.{a_group_of, a_name, a_parent, a_profile, a_script_of, a_script_rule, an_override, another, place_of, RulePlace, the_scripts}
 use Rattle.nextest_config_lint.specs.Settings.{a_value, SettingView, Subject}
 use Rattle.nextest_config_lint.specs.declared.finding.FindingKind.{FindingKind}
-use Rattle.nextest_config_lint.specs.declared.named.NamedKind.{NamedKind}
-use Rattle.nextest_config_lint.specs.declared.named.NamedKind.TheVariants.{Group, Script}
-use Rattle.nextest_config_lint.specs.declared.named.ScriptKind.{ScriptKind}
-use Rattle.nextest_config_lint.specs.declared.named.ScriptKind.TheVariants.{Setup, Wrapper}
+use Rattle.nextest_config_elements.specs.declared.named.NamedKind.{NamedKind}
+use Rattle.nextest_config_elements.specs.declared.named.NamedKind.TheVariants.{Group, Script}
+use Rattle.nextest_config_elements.specs.declared.named.ScriptKind.{ScriptKind}
+use Rattle.nextest_config_elements.specs.declared.named.ScriptKind.TheVariants.{Setup, Wrapper}
 use Rattle.nextest_config_lint.specs.declared.references.JudgedFile.{JudgedFile}
 
 -- the key of an override for its default filter
@@ -222,34 +227,62 @@ IsParentTold files position profile parent told =
     × ((ComesBackAt files profile position × (told ≡ Some (inherits_itself profile)))
     ⊎ ((ComesBackAt files profile position → ⊥) × IsParentNameTold files profile parent told)))
 
--- ---- at a place
+-- ---- of values
 
--- what is told of a value, if it is a text
+-- the key that a step is
+abbrev pub key_of : PathStep → Option (List ℕ)
+key_of (key name) = Some name
+key_of (index number) = None
+
+-- the key that a path ends with
+abbrev pub last_key : List PathStep → Option (List ℕ)
+last_key [] = None
+last_key (step ∷ []) = key_of step
+last_key (first ∷ second ∷ rest) = last_key (second ∷ rest)
+
+-- the profile in which a value at a path stands
+abbrev pub profile_of : List PathStep → Option (List ℕ)
+profile_of (top ∷ key name ∷ rest) = Some name
+profile_of path = None
+
+-- what is told of a text, if there is one
 abbrev pub IsTextTold : (List ℕ → Option FoundKind → Type 0) → Option (List ℕ)
     → Option FoundKind → Type 0
 IsTextTold IsTold None told = told ≡ None
 IsTextTold IsTold (Some text) told = IsTold text told
 
--- what is found of the value at a place, in a file of a list
-abbrev pub IsPlaceTold : FileInList → RulePlace → Data → Option FoundKind → Type 0
-IsPlaceTold at (a_profile name) value told = IsToldIf (IsReserved name) reserved_profile told
-IsPlaceTold at (a_parent name) value told =
-    IsTextTold (IsParentTold at.files at.position name) (as_str value) told
-IsPlaceTold at an_override value told = IsOverrideTold value told
-IsPlaceTold at a_group_of value told = IsTextTold (IsGroupTextTold at.files) (as_str value) told
-IsPlaceTold at a_script_rule value told = IsToldIf (IsOfAll value) script_of_all told
-IsPlaceTold at (a_script_of script) value told =
-    IsTextTold (IsScriptTextTold script at.files) (as_str value) told
-IsPlaceTold at (a_name kind name) value told =
-    IsNameTold kind (IsDefinitionTold at.file kind) name told
-IsPlaceTold at (the_scripts script) value told =
+-- what is told of a table at a path, by a rule for it
+abbrev pub IsRuleTold : FileInList → List PathStep → TableRule → Data → Option FoundKind → Type 0
+IsRuleTold at path rules.Profile value told =
+    IsTextTold (λ name. IsToldIf (IsReserved name) reserved_profile) (last_key path) told
+IsRuleTold at path rules.Override value told = IsOverrideTold value told
+IsRuleTold at path rules.ScriptRule value told = IsToldIf (IsOfAll value) script_of_all told
+IsRuleTold at path (rules.Definition kind) value told =
+    IsTextTold (IsNameTold kind (IsDefinitionTold at.file kind)) (last_key path) told
+IsRuleTold at path (rules.Scripts script) value told =
     IsToldIf (LacksFeature at script value) (feature_not_enabled script) told
-IsPlaceTold at another value told = told ≡ None
+
+-- what is told of a text at a path, by what it names
+abbrev pub IsReferenceTold : FileInList → List PathStep → Referent → List ℕ → Option FoundKind
+    → Type 0
+IsReferenceTold at path Parent text told =
+    IsTextTold (λ name. IsParentTold at.files at.position name text) (profile_of path) told
+IsReferenceTold at path (Definition Group) text told = IsGroupTextTold at.files text told
+IsReferenceTold at path (Definition (Script script)) text told =
+    IsScriptTextTold script at.files text told
+
+-- what is told of a value at a path, by its shape
+abbrev pub IsValueTold : FileInList → List PathStep → Shape → Data → Option FoundKind → Type 0
+IsValueTold at path (RuledTable rule) value told = IsRuleTold at path rule value told
+IsValueTold at path (Reference referent) value told =
+    IsTextTold (IsReferenceTold at path referent) (as_str value) told
+IsValueTold at path (References referent) value told =
+    IsTextTold (IsReferenceTold at path referent) (as_str value) told
+IsValueTold at path shape value told = told ≡ None
 
 -- what is told of what is judged at a path, if it is a value
 abbrev pub IsSubjectTold : FileInList → List PathStep → Subject → Option FoundKind → Type 0
-IsSubjectTold at path (a_value shape parts value) told =
-    IsPlaceTold at (place_of path) value told
+IsSubjectTold at path (a_value shape parts value) told = IsValueTold at path shape value told
 IsSubjectTold at path subject told = told ≡ None
 
 -- the steps from what is judged to where something is told of it: of a default filter its key

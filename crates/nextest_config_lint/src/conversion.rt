@@ -34,15 +34,15 @@ fn field_along(keys: &[&str], fields: &'static [Field]) -> Option<&'static Field
 }
 
 /// The field with this key.
-pub(crate) fn field_named(name: &str, fields: &'static [Field]) -> Option<&'static Field>
+pub fn field_named(name: &str, fields: &'static [Field]) -> Option<&'static Field>
     ensures { option_map (λ field. seen_field field.now) result
         ≡ field_named name.now (fields_view fields.now) }
 {
     fields.iter().find(|field| field.key == name)
 }
 
-// The fields of a table; none of what isn't judged field by field.
-fn fields_in(parts: &Parts) -> &'static [Field]
+/// The fields of a table; none of what isn't judged field by field.
+pub fn fields_in(parts: &Parts) -> &'static [Field]
     ensures { fields_view result.now ≡ fields_in (parts_of parts.now) }
 {
     match parts {

@@ -4,15 +4,14 @@
 ghost use Rattle.std.specs.Prelude.{◌≡◌, ◌↔◌, ◌∷◌, [], ℕ, Contains, IfOk, IsSome, IsTrue, List, MatchOption, None, OnOk, map, option_map, string_bytes};
 ghost use Rattle.toml.specs.View.{table_view};
 ghost use Rattle.nextest_config_values.specs.Identifier.{IsIdentifier, identifier_fault};
-ghost use Rattle.nextest_config_lint.specs.Defined.{AddsNames, AreDocuments, AreNamesOf, ComesBackAt, DefinesNamed, DefinesProfile, HasName, HasNamed, HasProfile, IsDefinedBy, IsFeatureMissing, IsNameIn, IsOfTool, KeepsName, ListFile, SomeOf, file_of, file_with, table_below, table_of};
-ghost use Rattle.nextest_config_lint.specs.Named.{feature_of};
+ghost use Rattle.nextest_config_lint.specs.Defined.{AddsNames, AreDocuments, AreNamesOf, ComesBackAt, DefinesNamed, DefinesProfile, HasName, HasNamed, HasProfile, IsDefinedBy, IsFeatureMissing, IsNameIn, IsOfTool, KeepsName, ListFile, SomeOf, feature_of, file_of, file_with, table_below, table_of};
 ghost use Rattle.nextest_config_lint.specs.Settings.{names_of};
 ghost use Rattle.nextest_config_lint.specs.References.{IsUndefined, IsUndefinedProfile};
 
 use crate::list_features::ListFeatures;
-use crate::named::{NamedKind, ScriptKind};
 use crate::ring_profiles::find_ring_profiles;
 use nextest_config::nextest_version::{ConfigSourceKind, Edition};
+use nextest_config_elements::named::{NamedKind, ScriptKind};
 use nextest_config_values::identifier::{ConfigIdentifier, InvalidIdentifier};
 use nextest_config_values::read::value_at;
 use std::alloc::{AllocError, Global};
@@ -23,9 +22,9 @@ pub(crate) const GROUPS_KEY: &str = "test-groups";
 
 pub(crate) const SCRIPTS_KEY: &str = "scripts";
 
-pub(crate) const SETUP_KEY: &str = "setup";
+const SETUP_KEY: &str = "setup";
 
-pub(crate) const WRAPPER_KEY: &str = "wrapper";
+const WRAPPER_KEY: &str = "wrapper";
 
 pub(crate) const SCRIPT_KEY: &str = "script";
 
@@ -36,10 +35,6 @@ pub(crate) const INHERITS_KEY: &str = "inherits";
 pub(crate) const DEFAULT_PROFILE: &str = "default";
 
 pub(crate) const DEFAULT_MIRI: &str = "default-miri";
-
-pub(crate) const SETUP_SCRIPT: NamedKind = NamedKind::Script(ScriptKind::Setup);
-
-pub(crate) const WRAPPER_SCRIPT: NamedKind = NamedKind::Script(ScriptKind::Wrapper);
 
 /// A file of a list, with its document, if it is one.
 #[derive(Clone, Copy)]
@@ -88,8 +83,8 @@ impl Defined {
     {
         Ok(Defined {
             groups: names_in(alloc, NameKind::Named(NamedKind::Group), files)?,
-            setup_scripts: names_in(alloc, NameKind::Named(SETUP_SCRIPT), files)?,
-            wrapper_scripts: names_in(alloc, NameKind::Named(WRAPPER_SCRIPT), files)?,
+            setup_scripts: names_in(alloc, NameKind::Named(NamedKind::SETUP_SCRIPT), files)?,
+            wrapper_scripts: names_in(alloc, NameKind::Named(NamedKind::WRAPPER_SCRIPT), files)?,
             profiles: profile_names(alloc, files)?,
             tools: names_in(alloc, NameKind::Tool, files)?,
             all_read: are_documents(files),

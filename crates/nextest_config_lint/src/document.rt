@@ -6,7 +6,7 @@ ghost use Rattle.nextest_config_lint.specs.Defined.{IsDefinedBy, ListFile};
 ghost use Rattle.nextest_config_lint.specs.Document.{AreFindings, HasFound};
 ghost use Rattle.nextest_config_lint.specs.Found.{Found, Tells};
 
-use crate::defined::{Defined, ListedFile, SETUP_SCRIPT, names_of_file};
+use crate::defined::{Defined, ListedFile, names_of_file};
 use crate::finding::Finding;
 use crate::references::{JudgedFile, add_reference};
 use crate::settings::Setting;
@@ -15,6 +15,7 @@ use crate::unknown::{add_beside, add_keys_in};
 use crate::values::{ValueFindings, find_in_value};
 use nextest_config::nextest_version::{ConfigSourceKind, Edition};
 use nextest_config_elements::keys::file_fields;
+use nextest_config_elements::named::NamedKind;
 use std::alloc::{AllocError, Global};
 use toml::Table;
 
@@ -40,7 +41,7 @@ pub fn findings(
         source,
         document: Some(document),
     };
-    let setup_scripts = names_of_file(alloc, SETUP_SCRIPT, &listed)?;
+    let setup_scripts = names_of_file(alloc, NamedKind::SETUP_SCRIPT, &listed)?;
     let file = JudgedFile {
         source,
         edition,

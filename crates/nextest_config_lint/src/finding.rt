@@ -8,7 +8,8 @@ ghost use Rattle.nextest_config_lint.specs.Finding.{fault_code, finding_kind_tex
 ghost use Rattle.nextest_config_values.specs.Read.{broken_rule};
 
 use crate::code::FindingCode;
-use crate::named::{NamedKind, ScriptKind};
+use crate::list_features::feature_of;
+use nextest_config_elements::named::{NamedKind, ScriptKind};
 use nextest_config_values::identifier::InvalidIdentifier;
 use nextest_config_values::read::{FaultKind, QuotedText, QuotedTexts, Rule};
 use std::collections::BTreeSet;
@@ -403,7 +404,7 @@ impl FindingKind {
                 f,
                 "{}s need the experimental feature {}",
                 script.as_words(),
-                QuotedText(script.feature().as_word())
+                QuotedText(feature_of(*script).as_word())
             ),
             FindingKind::UnjudgedDuration => f.write_str(
                 "not judged here: a duration other than whole numbers, each with a unit",

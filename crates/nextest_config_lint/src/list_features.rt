@@ -4,14 +4,13 @@ ghost use Rattle.std.specs.Prelude.{◌≡◌, ◌++◌, ◌∷◌, [], ◌↔�
 ghost use Rattle.toml.specs.Data.{Data};
 ghost use Rattle.toml.specs.View.{view};
 ghost use Rattle.nextest_config_values.specs.Read.{fault_of};
-ghost use Rattle.nextest_config_lint.specs.Defined.{AreFeaturesOf, EnablesFeature, HasExperimental, HasRefusedFeatures, ListFile, SomeOf, features_refused, file_of};
-ghost use Rattle.nextest_config_lint.specs.Named.{feature_of};
+ghost use Rattle.nextest_config_lint.specs.Defined.{AreFeaturesOf, EnablesFeature, HasExperimental, HasRefusedFeatures, ListFile, SomeOf, feature_of, features_refused, file_of};
 
 use crate::defined::ListedFile;
-use crate::named::ScriptKind;
 use nextest_config::nextest_version::{
     ConfigExperimental, ConfigSourceKind, Edition, ExperimentalDeserialize,
 };
+use nextest_config_elements::named::ScriptKind;
 use nextest_config_values::read::{ValueFault, value_at};
 use std::alloc::{AllocError, Global};
 use toml::Value;
@@ -127,6 +126,16 @@ impl ListFeatures {
             refused: true,
             no_table: true,
         })
+    }
+}
+
+/// The experimental feature that scripts of a kind need.
+pub(crate) fn feature_of(script: ScriptKind) -> ConfigExperimental
+    ensures { result ≡ feature_of script }
+{
+    match script {
+        ScriptKind::Setup => ConfigExperimental::SetupScripts,
+        ScriptKind::Wrapper => ConfigExperimental::WrapperScripts,
     }
 }
 

@@ -10,19 +10,18 @@ ghost use Rattle.nextest_config_values.specs.Read.Fault.{identifier};
 ghost use Rattle.nextest_config_lint.specs.Defined.{AreNamesOf, HasNamed, IsDefinedBy, IsNoTools, ListFile, file_with};
 ghost use Rattle.nextest_config_lint.specs.Found.{AddsOne, AreFoundIn, FoundKind, TellsSome, default_filter_alone, default_filter_beside, feature_not_enabled, kind_view, meant_of, name_of_tool, no_name, outside_tool, override_of_all, reserved_profile, script_of_all, setup_script_too};
 ghost use Rattle.nextest_config_values.specs.Read.{words_of};
-ghost use Rattle.nextest_config_lint.specs.References.{AreFew, BeginsWith, HasKey, IsDefaultFilterTold, IsDefinitionTold, IsGroupTextTold, IsJudgedIn, IsKeptTold, IsMarkTold, IsMissingTold, IsNameTold, IsNearestTold, IsOfAll, IsOverrideTold, IsParentNameTold, IsParentTold, IsPlaceTold, IsReferenceFound, IsReserved, IsScriptTextTold, IsSetupToo, IsSought, IsSubjectTold, IsToldIf, LacksFeature, default_filter_key, file_judged, in_list, is_other, judged_in, steps_to, TellsIfAny, tool_mark_of};
-ghost use Rattle.nextest_config_lint.specs.RulePlaces.{place_of, place_view};
+ghost use Rattle.nextest_config_lint.specs.References.{AreFew, BeginsWith, HasKey, IsDefaultFilterTold, IsDefinitionTold, IsGroupTextTold, IsJudgedIn, IsKeptTold, IsMarkTold, IsMissingTold, IsNameTold, IsNearestTold, IsOfAll, IsOverrideTold, IsParentNameTold, IsParentTold, IsReferenceFound, IsReferenceTold, IsReserved, IsRuleTold, IsScriptTextTold, IsSetupToo, IsSought, IsSubjectTold, IsToldIf, IsValueTold, LacksFeature, default_filter_key, file_judged, in_list, is_other, judged_in, last_key, profile_of, steps_to, TellsIfAny, tool_mark_of};
 ghost use Rattle.nextest_config_lint.specs.Settings.{mark_step, setting_view};
-ghost use Rattle.nextest_config_lint.specs.declared.named.NamedKind.TheVariants.{Script};
-ghost use Rattle.nextest_config_lint.specs.declared.named.ScriptKind.TheVariants.{Setup};
+ghost use Rattle.nextest_config_elements.specs.declared.named.NamedKind.TheVariants.{Script};
+ghost use Rattle.nextest_config_elements.specs.declared.named.ScriptKind.TheVariants.{Setup};
 
-use crate::defined::{DEFAULT_MIRI, DEFAULT_PROFILE, Defined, SETUP_SCRIPT, has_name};
+use crate::defined::{DEFAULT_MIRI, DEFAULT_PROFILE, Defined, has_name};
 use crate::finding::{Finding, FindingKind, Hint};
 use crate::hints::nearest_hint;
-use crate::named::{NamedKind, ScriptKind};
-use crate::rule_places::{RulePlace, place_of};
-use crate::settings::{Setting, Subject, steps_of};
+use crate::settings::{Mark, Setting, Subject, steps_of};
 use nextest_config::nextest_version::{ConfigSourceKind, Edition};
+use nextest_config_elements::field::{Referent, Shape, TableRule};
+use nextest_config_elements::named::{NamedKind, ScriptKind};
 use nextest_config_values::identifier::{ConfigIdentifier, InvalidIdentifier, ToolName};
 use nextest_config_values::read::value_at;
 use std::alloc::{AllocError, Global};
@@ -105,46 +104,107 @@ fn find_of(
     ensures tells { IfOk result TellsIfAny }
 {
     match setting.subject {
-        Subject::Value { value, .. } => {
-            let place = place_of(setting.path);
-            find_at(alloc, file, place, value)
-        }
+        Subject::Value { shape, value, .. } => find_at(alloc, file, setting.path, shape, value),
         _ => Ok(None),
     }
 }
 
-// What is found of the value at a place.
+// What is found of a value of a shape at a path.
 fn find_at(
     alloc: Global,
     file: &JudgedFile,
-    place: RulePlace,
+    path: &[Mark],
+    shape: Shape,
     value: &Value,
 ) -> Result<Option<FindingKind>, AllocError>
     ensures told { IfOk result (λ told. (files : List ListFile) (members : Members)
         → IsJudgedIn files members file.now
-        → IsPlaceTold (judged_in files members file.now) (place_view place.entry) (view value.now)
-        (option_and_then kind_view told)) }
+        → IsValueTold (judged_in files members file.now) (map mark_step path.now) shape
+        (view value.now) (option_and_then kind_view told)) }
     ensures tells { IfOk result TellsIfAny }
 {
-    match place {
-        RulePlace::Profile(name) => Ok(of_profile(name)),
-        RulePlace::Parent(name) => match value.as_str() {
-            Some(parent) => of_parent(alloc, file.defined, file.position, name, parent),
+    match shape {
+        Shape::RuledTable(rule) => of_ruled(alloc, file, path, rule, value),
+        Shape::Reference(referent) | Shape::References(referent) => match value.as_str() {
+            Some(text) => of_reference(alloc, file, path, referent, text),
             None => Ok(None),
         },
-        RulePlace::Override => Ok(of_override(value)),
-        RulePlace::GroupOf => match value.as_str() {
-            Some(text) => of_group_text(alloc, file.defined, text),
+        _ => Ok(None),
+    }
+}
+
+// What is found of a table at a path for which there is a rule.
+fn of_ruled(
+    alloc: Global,
+    file: &JudgedFile,
+    path: &[Mark],
+    rule: TableRule,
+    value: &Value,
+) -> Result<Option<FindingKind>, AllocError>
+    ensures told { IfOk result (λ told. (files : List ListFile) (members : Members)
+        → IsJudgedIn files members file.now
+        → IsRuleTold (judged_in files members file.now) (map mark_step path.now) rule
+        (view value.now) (option_and_then kind_view told)) }
+    ensures tells { IfOk result TellsIfAny }
+{
+    match rule {
+        TableRule::Profile => match last_key(path) {
+            Some(name) => Ok(of_profile(name)),
             None => Ok(None),
         },
-        RulePlace::ScriptRule => Ok(of_script_rule(value)),
-        RulePlace::ScriptOf(script) => match value.as_str() {
-            Some(text) => of_text(alloc, file.defined, NamedKind::Script(script), text),
+        TableRule::Override => Ok(of_override(value)),
+        TableRule::ScriptRule => Ok(of_script_rule(value)),
+        TableRule::Definition(kind) => match last_key(path) {
+            Some(name) => of_definition(alloc, file, kind, name),
             None => Ok(None),
         },
-        RulePlace::Name(kind, name) => of_definition(alloc, file, kind, name),
-        RulePlace::Scripts(script) => Ok(of_scripts(file, script, value)),
-        RulePlace::Another => Ok(None),
+        TableRule::Scripts(script) => Ok(of_scripts(file, script, value)),
+    }
+}
+
+// What is found of a text at a path that names something.
+fn of_reference(
+    alloc: Global,
+    file: &JudgedFile,
+    path: &[Mark],
+    referent: Referent,
+    text: &str,
+) -> Result<Option<FindingKind>, AllocError>
+    ensures told { IfOk result (λ told. (files : List ListFile) (members : Members)
+        → IsJudgedIn files members file.now
+        → IsReferenceTold (judged_in files members file.now) (map mark_step path.now) referent
+        text.now (option_and_then kind_view told)) }
+    ensures tells { IfOk result TellsIfAny }
+{
+    match referent {
+        Referent::Parent => match profile_of(path) {
+            Some(name) => of_parent(alloc, file.defined, file.position, name, text),
+            None => Ok(None),
+        },
+        Referent::Definition(NamedKind::Group) => of_group_text(alloc, file.defined, text),
+        Referent::Definition(NamedKind::Script(script)) => {
+            of_text(alloc, file.defined, NamedKind::Script(script), text)
+        }
+    }
+}
+
+// The key that a path ends with.
+fn last_key<'a>(path: &[Mark<'a>]) -> Option<&'a str>
+    ensures { option_map (λ name. name.now) result ≡ last_key (map mark_step path.now) }
+{
+    match path.last()? {
+        Mark::Key(name) => Some(name),
+        Mark::Index(_) => None,
+    }
+}
+
+// The profile in which a value at a path stands.
+fn profile_of<'a>(path: &[Mark<'a>]) -> Option<&'a str>
+    ensures { option_map (λ name. name.now) result ≡ profile_of (map mark_step path.now) }
+{
+    match path {
+        [_, Mark::Key(name), ..] => Some(name),
+        _ => None,
     }
 }
 

@@ -1,13 +1,14 @@
 //! The settings that are told, as the table of keys has them.
 
 ghost use Rattle.std.specs.Prelude.{◌≡◌, ◌++◌, IfOk, map, OnOk};
-ghost use Rattle.nextest_config_elements.specs.Fields.{absent_of, fields_in, fields_view, parts_of};
+ghost use Rattle.nextest_config_elements.specs.Fields.{absent_of, fields_view, parts_of};
 ghost use Rattle.nextest_config_profiles.specs.Reach.{words_of};
 ghost use Rattle.nextest_config_profiles.specs.Report.Setting.{all_settings, fields_below, is_setting, member_of, parts_in, rule_of, rule_owned, settings_at, table_fields};
 
 use crate::report::keys::with_key;
 use nextest_config_elements::field::{Absent, Field, Literal, Parts, Shape};
 use nextest_config_elements::keys::profile_fields;
+use nextest_config_lint::fields_in;
 use std::alloc::{AllocError, Global};
 
 /// A setting: its path below a profile, its row in the table of keys, and the fields of its own
@@ -101,16 +102,6 @@ pub(crate) fn fields_below(parts: &Parts) -> &'static [Field]
         Parts::Fields(fields) => fields,
         Parts::Retries { open, .. } => open,
         Parts::Elements(_, each) => fields_in(each),
-        _ => &[],
-    }
-}
-
-// The fields of a table.
-fn fields_in(parts: &Parts) -> &'static [Field]
-    ensures { fields_view result.now ≡ fields_in (parts_of parts.now) }
-{
-    match parts {
-        Parts::Fields(fields) => fields,
         _ => &[],
     }
 }

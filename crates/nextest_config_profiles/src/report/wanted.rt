@@ -2,7 +2,6 @@
 
 ghost use Rattle.std.specs.Prelude.{◌≡◌, ◌++◌, flat_map, IfOk, map, OnOk, option_map, string_bytes};
 ghost use Rattle.nextest_config_elements.specs.Fields.{fields_view};
-ghost use Rattle.nextest_config_lint.specs.Conversion.{field_named};
 ghost use Rattle.nextest_config_lint.specs.Settings.{seen_field};
 ghost use Rattle.nextest_config_values.specs.NearestWord.{IsNearest};
 ghost use Rattle.nextest_config_profiles.specs.Reach.{words_of};
@@ -16,6 +15,7 @@ use crate::report::setting::{Setting, all_settings, fields_below};
 use crate::texts::{copies, lent};
 use nextest_config_elements::field::Field;
 use nextest_config_elements::keys::profile_fields;
+use nextest_config_lint::field_named;
 use nextest_config_values::nearest_word::nearest;
 use std::alloc::{AllocError, Global};
 
@@ -95,14 +95,6 @@ fn field_at(keys: &[&str], fields: &'static [Field]) -> Option<&'static Field>
         [key] => field_named(key, fields),
         [key, rest @ ..] => field_at(rest, fields_below(&field_named(key, fields)?.parts)),
     }
-}
-
-// The field with this key.
-fn field_named(key: &str, fields: &'static [Field]) -> Option<&'static Field>
-    ensures { option_map (λ field. seen_field field.now) result
-        ≡ field_named key.now (fields_view fields.now) }
-{
-    fields.iter().find(|field| field.key == key)
 }
 
 // The paths of all that is told, as texts.

@@ -3,7 +3,7 @@ use Rattle.std.proofs.lemmas.Result.{on_ok_weaker}
 use Rattle.nextest_config_lint.proofs.DefinedNames.{adds_then}
 use Rattle.nextest_config_lint.proofs.ToldReferences.{of_script}
 use Rattle.nextest_config_lint.specs.Defined.{AddsNames, file_of, HasNamed}
-use Rattle.nextest_config_lint.specs.declared.named.ScriptKind.TheVariants.{Setup, Wrapper}
+use Rattle.nextest_config_elements.specs.declared.named.ScriptKind.TheVariants.{Setup, Wrapper}
 use Rattle.nextest_config_lint.proofs.defined.add_named.Goals as goal
 
 pub returns-in-Group : goal.returns-in-Group

@@ -2,7 +2,7 @@ use Rattle.std.proofs.Common.{◌≡◌, false, inl, inr, None, refl, rules, Som
 use Rattle.nextest_config_lint.proofs.ToldReferences.{of_script}
 use Rattle.nextest_config_lint.specs.Found.{setup_script_too}
 use Rattle.nextest_config_lint.specs.References.{IsSetupToo, IsToldIf}
-use Rattle.nextest_config_lint.specs.declared.named.ScriptKind.TheVariants.{Wrapper}
+use Rattle.nextest_config_elements.specs.declared.named.ScriptKind.TheVariants.{Wrapper}
 use Rattle.nextest_config_lint.proofs.references.of_two_kinds.Goals as goal
 
 pub returns-then-not-has_name-clause-told : goal.returns-then-not-has_name-clause-told

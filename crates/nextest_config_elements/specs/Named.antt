@@ -1,11 +1,9 @@
 -- What has a name that others refer to.
 use Rattle.std.specs.Prelude.{ℕ, List, codes}
-use Rattle.nextest_config.specs.declared.nextest_version.experimental.ConfigExperimental.{ConfigExperimental}
-use Rattle.nextest_config.specs.declared.nextest_version.experimental.ConfigExperimental.TheVariants.{SetupScripts, WrapperScripts}
-use Rattle.nextest_config_lint.specs.declared.named.NamedKind.{NamedKind}
-use Rattle.nextest_config_lint.specs.declared.named.NamedKind.TheVariants.{Group, Script}
-use Rattle.nextest_config_lint.specs.declared.named.ScriptKind.{ScriptKind}
-use Rattle.nextest_config_lint.specs.declared.named.ScriptKind.TheVariants.{Setup, Wrapper}
+use Rattle.nextest_config_elements.specs.declared.named.NamedKind.{NamedKind}
+use Rattle.nextest_config_elements.specs.declared.named.NamedKind.TheVariants.{Group, Script}
+use Rattle.nextest_config_elements.specs.declared.named.ScriptKind.{ScriptKind}
+use Rattle.nextest_config_elements.specs.declared.named.ScriptKind.TheVariants.{Setup, Wrapper}
 
 -- a script of a kind, in words
 abbrev pub script_text : ScriptKind → List ℕ
@@ -26,8 +24,3 @@ plural_text (Script script) = codes "scripts"
 abbrev pub other_kind : ScriptKind → ScriptKind
 other_kind Setup = Wrapper
 other_kind Wrapper = Setup
-
--- the experimental feature that scripts of a kind need
-abbrev pub feature_of : ScriptKind → ConfigExperimental
-feature_of Setup = SetupScripts
-feature_of Wrapper = WrapperScripts

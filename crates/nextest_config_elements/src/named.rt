@@ -1,9 +1,7 @@
 //! What has a name that others refer to.
 
 ghost use Rattle.std.specs.Prelude.{◌≡◌};
-ghost use Rattle.nextest_config_lint.specs.Named.{feature_of, named_text, other_kind, plural_text, script_text};
-
-use nextest_config::nextest_version::ConfigExperimental;
+ghost use Rattle.nextest_config_elements.specs.Named.{named_text, other_kind, plural_text, script_text};
 
 /// A kind of script that tests are run with.
 #[derive(Clone, Copy, Debug, PartialEq, Eq)]
@@ -25,7 +23,7 @@ pub enum NamedKind {
 
 impl ScriptKind {
     /// A script of the kind, in words.
-    pub(crate) fn as_words(self) -> &'static str
+    pub fn as_words(self) -> &'static str
         ensures { result.now ≡ script_text self }
     {
         match self {
@@ -35,7 +33,7 @@ impl ScriptKind {
     }
 
     /// The kind that this one isn't.
-    pub(crate) fn other(self) -> ScriptKind
+    pub fn other(self) -> ScriptKind
         ensures { result ≡ other_kind self }
     {
         match self {
@@ -43,21 +41,15 @@ impl ScriptKind {
             ScriptKind::Wrapper => ScriptKind::Setup,
         }
     }
-
-    /// The experimental feature that scripts of the kind need.
-    pub(crate) fn feature(self) -> ConfigExperimental
-        ensures { result ≡ feature_of self }
-    {
-        match self {
-            ScriptKind::Setup => ConfigExperimental::SetupScripts,
-            ScriptKind::Wrapper => ConfigExperimental::WrapperScripts,
-        }
-    }
 }
 
 impl NamedKind {
+    pub const SETUP_SCRIPT: NamedKind = NamedKind::Script(ScriptKind::Setup);
+
+    pub const WRAPPER_SCRIPT: NamedKind = NamedKind::Script(ScriptKind::Wrapper);
+
     /// What has a name of the kind, in words.
-    pub(crate) fn as_words(self) -> &'static str
+    pub fn as_words(self) -> &'static str
         ensures { result.now ≡ named_text self }
     {
         match self {
@@ -67,7 +59,7 @@ impl NamedKind {
     }
 
     /// All that has names of the kind, or that scripts have, in words.
-    pub(crate) fn as_plural(self) -> &'static str
+    pub fn as_plural(self) -> &'static str
         ensures { result.now ≡ plural_text self }
     {
         match self {
