@@ -14,6 +14,7 @@ pub mod FilesOfLayers
 pub mod Given
 pub mod LeafLaws
 pub mod Alike
+pub mod Alone
 pub mod TakesAlike
 pub mod TakenSettings
 pub mod EffectiveOnce
