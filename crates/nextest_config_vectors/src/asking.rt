@@ -8,7 +8,7 @@ use crate::runner::Runner;
 use crate::settings;
 use crate::sizes::{Range, USUAL, grown, grows, ranges_of};
 use crate::table::{Mark, Row, is_blank, row_of};
-use crate::wrong_kinds::{Reader, VALUES, Value};
+use crate::wrong_kinds::{Reader, VALUES};
 use std::alloc::Global;
 use std::collections::BTreeSet;
 use std::fs;
@@ -184,16 +184,22 @@ impl<'r> Asking<'r> {
 
     // Asks for values of each kind.
     fn ask_of_kinds(&mut self, reader: &Reader<'_>) -> Result<(), Failure> {
-        for value in VALUES {
-            self.ask_of_kind(reader, value)?;
+        for [kind, value, found] in VALUES {
+            self.ask_of_kind(reader, kind, value, found)?;
         }
         Ok(())
     }
 
-    fn ask_of_kind(&mut self, reader: &Reader<'_>, value: &Value) -> Result<(), Failure> {
+    fn ask_of_kind(
+        &mut self,
+        reader: &Reader<'_>,
+        kind: &str,
+        value: &str,
+        found: &str,
+    ) -> Result<(), Failure> {
         let alloc = self.runner.alloc();
-        let input = reader.input.replace(alloc, "@", value.text)?;
-        match reader.fault(alloc, value)? {
+        let input = reader.input.replace(alloc, "@", value)?;
+        match reader.fault(alloc, kind, found)? {
             Some(fault) => self.ask(&Asked {
                 mark: Mark::Nothing,
                 name: reader.name,

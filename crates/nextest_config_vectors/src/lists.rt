@@ -2,20 +2,16 @@
 
 pub mod asked;
 pub mod board;
-pub mod compared;
 pub mod configurations;
 pub mod cuts;
 pub mod documents;
 pub mod features;
-pub mod halves;
 pub mod joins;
 pub mod lent;
 pub mod library;
 pub mod merge;
-pub mod orders;
 pub mod parts;
 pub mod pieces;
-pub mod printed;
 pub mod sources;
 pub mod told;
 pub mod tree;
@@ -36,13 +32,12 @@ pub fn answer(rt: &Runner, subject: &str, call: &str, input: &str) -> Result<Str
         "documents" => documents::documents(rt, call, input),
         "features" => features::features(rt, call, input),
         "files" => asked::files(rt, call, input),
-        "halves" => halves::halves(rt, call, input),
         "joins" => joins::joins(rt, call, input),
         "library" => library::library(rt, call, input),
         "lists" => asked::lists(rt, call, input),
         "parts" => parts::parts(rt, call, input),
         "pieces" => merge::pieces(rt, call, input),
-        "refused-joins" => merge::refused(rt, call, input),
+        "refusals" => board::commands::refusals(rt, call, input),
         "tree" => tree::tree(rt, call, input),
         "verdicts" => asked::verdicts(rt, call, input),
         "versions" => version_values::version_values(rt, call, input),

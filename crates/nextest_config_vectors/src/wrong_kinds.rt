@@ -6,112 +6,31 @@ use crate::failure::Failure;
 use crate::runner::Runner;
 use std::alloc::{AllocError, Global};
 
-/// A TOML value of a kind.
-#[derive(Clone, Copy)]
-pub struct Value {
-    pub kind: &'static str,
-    pub text: &'static str,
-    /// What a refusal says that it found.
-    pub found: &'static str,
-}
-
-/// Values of each kind.
-pub const VALUES: &[Value] = &[
-    Value {
-        kind: "boolean",
-        text: "true",
-        found: "boolean `true`",
-    },
-    Value {
-        kind: "boolean",
-        text: "false",
-        found: "boolean `false`",
-    },
-    Value {
-        kind: "integer",
-        text: "7",
-        found: "integer `7`",
-    },
-    Value {
-        kind: "integer",
-        text: "-9223372036854775808",
-        found: "integer `-9223372036854775808`",
-    },
-    Value {
-        kind: "integer",
-        text: "9223372036854775807",
-        found: "integer `9223372036854775807`",
-    },
-    Value {
-        kind: "string",
-        text: "'x'",
-        found: "string \"x\"",
-    },
-    Value {
-        kind: "string",
-        text: "''",
-        found: "string \"\"",
-    },
-    Value {
-        kind: "string",
-        text: "\"\\\"\\\\\\n\\u0085é\"",
-        found: "string \"\\\"\\\\\\n\\u{85}é\"",
-    },
-    Value {
-        kind: "sequence",
-        text: "[1]",
-        found: "sequence",
-    },
-    Value {
-        kind: "sequence",
-        text: "[]",
-        found: "sequence",
-    },
-    Value {
-        kind: "map",
-        text: "{ k = 1 }",
-        found: "map",
-    },
-    Value {
-        kind: "map",
-        text: "{}",
-        found: "map",
-    },
-    Value {
-        kind: "floating point",
-        text: "1.5",
-        found: "floating point",
-    },
-    Value {
-        kind: "floating point",
-        text: "-inf",
-        found: "floating point",
-    },
-    Value {
-        kind: "floating point",
-        text: "nan",
-        found: "floating point",
-    },
-    Value {
-        kind: "datetime",
-        text: "1979-05-27",
-        found: "datetime",
-    },
-    Value {
-        kind: "datetime",
-        text: "07:32:00",
-        found: "datetime",
-    },
-    Value {
-        kind: "datetime",
-        text: "1979-05-27T07:32:00",
-        found: "datetime",
-    },
-    Value {
-        kind: "datetime",
-        text: "1979-05-27T07:32:00.5-07:00",
-        found: "datetime",
-    },
+/// TOML values of each kind: the kind, the value, and what a refusal says of it besides.
+pub const VALUES: &[[&str; 3]] = &[
+    ["boolean", "true", " `true`"],
+    ["boolean", "false", " `false`"],
+    ["integer", "7", " `7`"],
+    ["integer", "-9223372036854775808", " `-9223372036854775808`"],
+    ["integer", "9223372036854775807", " `9223372036854775807`"],
+    ["string", "'x'", " \"x\""],
+    ["string", "''", " \"\""],
+    [
+        "string",
+        "\"\\\"\\\\\\n\\u0085é\"",
+        " \"\\\"\\\\\\n\\u{85}é\"",
+    ],
+    ["sequence", "[1]", ""],
+    ["sequence", "[]", ""],
+    ["map", "{ k = 1 }", ""],
+    ["map", "{}", ""],
+    ["floating point", "1.5", ""],
+    ["floating point", "-inf", ""],
+    ["floating point", "nan", ""],
+    ["datetime", "1979-05-27", ""],
+    ["datetime", "07:32:00", ""],
+    ["datetime", "1979-05-27T07:32:00", ""],
+    ["datetime", "1979-05-27T07:32:00.5-07:00", ""],
 ];
 
 /// A row of a reader: where a value stands in place of the `@` of the input, the call takes these
@@ -128,12 +47,17 @@ pub struct Reader<'t> {
 
 impl Reader<'_> {
     /// What is said of a value, unless its kind is taken.
-    pub fn fault(&self, alloc: Global, value: &Value) -> Result<Option<String>, AllocError> {
-        if self.kinds.split(", ").any(|kind| kind == value.kind) {
+    pub fn fault(
+        &self,
+        alloc: Global,
+        kind: &str,
+        found: &str,
+    ) -> Result<Option<String>, AllocError> {
+        if self.kinds.split(", ").any(|taken| taken == kind) {
             return Ok(None);
         }
-        let (path, found, expected) = (self.path, value.found, self.expected);
-        let fault = format!(in alloc; "{path}: invalid type: {found}, expected {expected}")?;
+        let (path, expected) = (self.path, self.expected);
+        let fault = format!(in alloc; "{path}: invalid type: {kind}{found}, expected {expected}")?;
         Ok(Some(fault))
     }
 

@@ -4,15 +4,12 @@ use crate::answers::{done, unknown};
 use crate::failure::Failure;
 use crate::lists::sources::listed;
 use crate::runner::Runner;
-use crate::values::{FromRow, both, names, part, word};
+use crate::values::{FromRow, both, part, word};
 use nextest_config::board::BoardRefusal;
-use nextest_config::merge::PieceRefusal;
 use nextest_config::nextest_version::{
-    ConfigParseError, ConfigParseErrorKind, Edition, ExperimentalConfig, ListRefusal,
-    NextestVersionConfig, NextestVersionEval, NextestVersionReq, Severity, SourceText,
-    VersionOnlyConfig,
+    ConfigParseError, ExperimentalConfig, ListRefusal, NextestVersionConfig, NextestVersionEval,
+    NextestVersionReq, SourceText, VersionOnlyConfig,
 };
-use nextest_config_values::read::ReadFault;
 use semver::Version;
 use std::alloc::AllocError;
 
@@ -78,48 +75,6 @@ fn config_for(name: &str, asked: NextestVersionReq) -> NextestVersionConfig {
     }
 }
 
-impl FromRow for Severity {
-    fn from_row(rt: &Runner, text: &str) -> Result<Self, Failure> {
-        match text {
-            "Satisfied" => Ok(Severity::Satisfied),
-            "Warn" => Ok(Severity::Warn),
-            "Error" => Ok(Severity::Error),
-            _ => unknown(rt, text),
-        }
-    }
-}
-
-impl FromRow for Edition {
-    fn from_row(rt: &Runner, text: &str) -> Result<Self, Failure> {
-        match text {
-            "ArrayAllowed" => Ok(Edition::ArrayAllowed),
-            "TableOnly" => Ok(Edition::TableOnly),
-            _ => unknown(rt, text),
-        }
-    }
-}
-
-impl FromRow for ConfigParseErrorKind {
-    fn from_row(rt: &Runner, text: &str) -> Result<Self, Failure> {
-        let (name, rest) = word(text);
-        match name {
-            "TomlParseError" => Ok(ConfigParseErrorKind::TomlParseError),
-            "VersionOnlyDeserializeError" => {
-                Ok(ConfigParseErrorKind::VersionOnlyDeserializeError(ReadFault::from_row(
-                    rt, rest,
-                )?))
-            }
-            "ExperimentalFeaturesInToolConfig" => {
-                Ok(ConfigParseErrorKind::ExperimentalFeaturesInToolConfig {
-                    features: names(rt, rest)?,
-                })
-            }
-            "Memory" => Ok(ConfigParseErrorKind::Memory),
-            _ => unknown(rt, name),
-        }
-    }
-}
-
 /// Writes a list of sources that is refused, or `Memory`.
 impl FromRow for ConfigParseError {
     fn from_row(rt: &Runner, text: &str) -> Result<Self, Failure> {
@@ -156,16 +111,5 @@ impl FromRow for BoardRefusal {
             "Memory" => Ok(BoardRefusal::Memory),
             _ => unknown(rt, name),
         }
-    }
-}
-
-/// Writes a position and a number that is refused there, or `Memory`.
-impl FromRow for PieceRefusal<usize> {
-    fn from_row(rt: &Runner, text: &str) -> Result<Self, Failure> {
-        if text == "Memory" {
-            return Ok(PieceRefusal::Memory);
-        }
-        let (position, error) = both(rt, text, " ")?;
-        Ok(PieceRefusal::Refused { position, error })
     }
 }

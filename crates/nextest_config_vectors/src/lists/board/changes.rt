@@ -1,7 +1,5 @@
 //! A board that is changed by a rule, beside the list of the sources that it holds.
 
-ghost use Rattle.std.specs.Prelude.{◌<◌};
-
 use super::commands::{board_of, run};
 use crate::answers::{compare, copied, done, push, unknown, written};
 use crate::failure::Failure;
@@ -13,9 +11,6 @@ use nextest_config::board::ConfigBoard;
 const CHANGES: usize = 200;
 
 const SLOTS: usize = 5;
-
-// How many choices a change of each slot takes.
-const HALVINGS: [usize; SLOTS] = [2, 2, 2, 3, 3];
 
 // What a slot is to hold, `@` being the number that the rule gives. An empty text is a withdrawal,
 // and the last text is refused.
@@ -43,12 +38,11 @@ pub fn changes(rt: &Runner, _call: &str, versions: &str) -> Result<String, Failu
     copied(rt, "as its list")
 }
 
-// A board, what each of its slots holds, and how many choices the last change took.
+// A board, and what each of its slots holds.
 #[derive(Drop)]
 struct Followed {
     board: ConfigBoard,
     sources: Vec<String>,
-    selections: usize,
 }
 
 fn new_board(rt: &Runner) -> Result<Followed, Failure> {
@@ -59,7 +53,6 @@ fn new_board(rt: &Runner) -> Result<Followed, Failure> {
     Ok(Followed {
         board: board_of(rt, SLOTS)?,
         sources,
-        selections: 0,
     })
 }
 
@@ -84,12 +77,10 @@ fn change(rt: &Runner, followed: &mut Followed, number: usize) -> Result<(), Fai
     let answer = run(rt, &mut followed.board, call, rest)?;
     if source.ends_with("x =") {
         let refusal = refusal_of(rt, number)?;
-        compare(rt, answer.as_str(), refusal.as_str())?;
-        Ok(())
+        compare(rt, answer.as_str(), refusal.as_str())
     } else {
         compare(rt, answer.as_str(), "done")?;
-        hold(rt, followed, slot, source)?;
-        Ok(())
+        hold(rt, followed, slot, source)
     }
 }
 
@@ -106,10 +97,7 @@ fn refusal_of(rt: &Runner, number: usize) -> Result<String, Failure> {
     done(rt, refusal)
 }
 
-fn hold(rt: &Runner, followed: &mut Followed, slot: usize, source: String) -> Result<(), Failure>
-    requires { slot < 5 }
-{
-    followed.selections = HALVINGS[slot];
+fn hold(rt: &Runner, followed: &mut Followed, slot: usize, source: String) -> Result<(), Failure> {
     if slot >= followed.sources.len() {
         return unknown(rt, source.as_str());
     }
@@ -117,13 +105,9 @@ fn hold(rt: &Runner, followed: &mut Followed, slot: usize, source: String) -> Re
     Ok(())
 }
 
-// Fails where the board tells another verdict than the list of its sources, or other
-// choices than its last change took.
+// Fails where the board tells another verdict than the list of its sources.
 fn compare_all(rt: &Runner, followed: &mut Followed, versions: &str) -> Result<(), Failure> {
     let list = listed(rt, &followed.sources)?;
-    let answer = run(rt, &mut followed.board, "selections", "")?;
-    let wanted = written(rt, followed.selections)?;
-    compare(rt, answer.as_str(), wanted.as_str())?;
     for version in versions.split(" && ") {
         compare_verdict(rt, &mut followed.board, list.as_str(), version)?;
     }
@@ -138,8 +122,7 @@ fn compare_verdict(
 ) -> Result<(), Failure> {
     let answer = run(rt, board, "eval", version)?;
     let wanted = lists(rt, version, list)?;
-    compare(rt, answer.as_str(), wanted.as_str())?;
-    Ok(())
+    compare(rt, answer.as_str(), wanted.as_str())
 }
 
 // The sources as a row writes them, which leaves out empty ones.

@@ -1,11 +1,11 @@
 //! Boards that are given commands in turn, and what each command answers.
 
-use crate::answers::{done, push, unknown, written};
+use crate::answers::{done, made_or_error, push, unknown, written};
 use crate::failure::Failure;
 use crate::runner::Runner;
 use crate::told::answered;
 use crate::values::{FromRow, both, word};
-use nextest_config::board::ConfigBoard;
+use nextest_config::board::{BoardRefusal, ConfigBoard};
 use nextest_config::nextest_version::SourceText;
 use semver::Version;
 
@@ -21,6 +21,12 @@ pub fn boards(rt: &Runner, call: &str, input: &str) -> Result<String, Failure> {
         push(&mut answers, run(rt, &mut board, call, rest)?.as_str())?;
     }
     Ok(answers)
+}
+
+/// A refusal as it prints.
+pub fn refusals(rt: &Runner, _call: &str, input: &str) -> Result<String, Failure> {
+    let refusal = BoardRefusal::from_row(rt, input)?;
+    made_or_error::<(), BoardRefusal>(rt, Err(refusal))
 }
 
 /// A new board with so many slots.
