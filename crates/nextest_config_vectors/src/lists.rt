@@ -4,18 +4,15 @@ pub mod asked;
 pub mod board;
 pub mod configurations;
 pub mod cuts;
-pub mod documents;
 pub mod features;
 pub mod joins;
 pub mod lent;
 pub mod library;
 pub mod merge;
-pub mod parts;
 pub mod pieces;
 pub mod sources;
 pub mod told;
 pub mod tree;
-pub mod version_values;
 
 use crate::failure::Failure;
 use crate::files;
@@ -29,18 +26,16 @@ pub fn answer(rt: &Runner, subject: &str, call: &str, input: &str) -> Result<Str
         "board" => board::calls::calls(rt, call, input),
         "board-changes" => board::changes::changes(rt, call, input),
         "cuts" => cuts::pieces(rt, call, input),
-        "documents" => documents::documents(rt, call, input),
         "features" => features::features(rt, call, input),
         "files" => asked::files(rt, call, input),
         "joins" => joins::joins(rt, call, input),
         "library" => library::library(rt, call, input),
         "lists" => asked::lists(rt, call, input),
-        "parts" => parts::parts(rt, call, input),
         "pieces" => merge::pieces(rt, call, input),
         "refusals" => board::commands::refusals(rt, call, input),
         "tree" => tree::tree(rt, call, input),
         "verdicts" => asked::verdicts(rt, call, input),
-        "versions" => version_values::version_values(rt, call, input),
+        "versions" => asked::versions(rt, call, input),
         _ => files::answer(rt, subject, call, input),
     }
 }

@@ -1,13 +1,12 @@
-//! Values of each kind, at each reader: a kind that it doesn't take is refused with what it
+//! Values of each kind, at each reader, which refuses those that it doesn't take with what it
 //! expects.
 
-use crate::answers::copied;
 use crate::failure::Failure;
-use crate::runner::Runner;
-use std::alloc::{AllocError, Global};
+use crate::table::{Mark, Row};
+use std::alloc::Global;
 
-/// TOML values of each kind: the kind, the value, and what a refusal says of it besides.
-pub const VALUES: &[[&str; 3]] = &[
+// TOML values of each kind: the kind, the value, and what a refusal says of it besides.
+const VALUES: &[[&str; 3]] = &[
     ["boolean", "true", " `true`"],
     ["boolean", "false", " `false`"],
     ["integer", "7", " `7`"],
@@ -33,8 +32,8 @@ pub const VALUES: &[[&str; 3]] = &[
     ["datetime", "1979-05-27T07:32:00.5-07:00", ""],
 ];
 
-/// A row of a reader: where a value stands in place of the `@` of the input, the call takes these
-/// kinds at this path.
+/// A reader: where a value stands in place of the `@` of the input, the call takes these kinds at
+/// this path.
 #[derive(Clone, Copy)]
 pub struct Reader<'t> {
     pub name: &'t str,
@@ -46,29 +45,24 @@ pub struct Reader<'t> {
 }
 
 impl Reader<'_> {
-    /// What is said of a value, unless its kind is taken.
-    pub fn fault(
-        &self,
-        alloc: Global,
-        kind: &str,
-        found: &str,
-    ) -> Result<Option<String>, AllocError> {
-        if self.kinds.split(", ").any(|taken| taken == kind) {
-            return Ok(None);
+    /// Adds a row for each value of a kind that the call doesn't take.
+    pub fn push_rows(&self, alloc: Global, rows: &mut Vec<Row>) -> Result<(), Failure> {
+        for [kind, value, found] in VALUES {
+            if !self.kinds.split(", ").any(|taken| taken == *kind) {
+                rows.push(self.row(alloc, kind, value, found)?)?;
+            }
         }
-        let (path, expected) = (self.path, self.expected);
-        let fault = format!(in alloc; "{path}: invalid type: {kind}{found}, expected {expected}")?;
-        Ok(Some(fault))
+        Ok(())
     }
 
-    /// Fails where an answer says that a value at the path is of the wrong kind.
-    pub fn takes(&self, rt: &Runner, answer: &str) -> Result<(), Failure> {
-        match answer.split_once(": invalid type: ") {
-            Some((at, _)) if at == self.path => Err(Failure::Mismatch {
-                answer: copied(rt, answer)?,
-                wanted: copied(rt, "any answer but a wrong kind")?,
-            }),
-            _ => Ok(()),
-        }
+    fn row(&self, alloc: Global, kind: &str, value: &str, found: &str) -> Result<Row, Failure> {
+        let (path, expected) = (self.path, self.expected);
+        Ok(Row {
+            mark: Mark::Nothing,
+            name: String::from_str(alloc, self.name)?,
+            call: String::from_str(alloc, self.call)?,
+            input: self.input.replace(alloc, "@", value)?,
+            wanted: format!(in alloc; "{path}: invalid type: {kind}{found}, expected {expected}")?,
+        })
     }
 }

@@ -6,14 +6,10 @@
 //! of which file and line it is said:
 //!
 //! - `chain`: the profile and those whose settings it falls back on;
-//! - `value KEYS`: what the layers come to there, as TOML, or `nothing`; without keys in the
-//!   profile itself;
-//! - `leaves KEYS`: the leaves of that, each by the keys that lead to it from there, with the layer
-//!   that it comes from, or `nothing`;
 //! - `junit FOLDER`: the report that is written below the folder;
 //! - the keys of a setting: its value and the profile of which it is, or `nothing`.
 
-use crate::answers::{copied, cut, done, push, shown, unknown, written};
+use crate::answers::{copied, cut, done, push, unknown, written};
 use crate::failure::Failure;
 use crate::files::documents::{document, kind};
 use crate::runner::Runner;
@@ -29,10 +25,8 @@ use nextest_config_elements::report_skip_policy::ReportSkipPolicy;
 use nextest_config_elements::retry_policy::{FlakyResult, RetryPolicy};
 use nextest_config_elements::slow_timeout::SlowTimeout;
 use nextest_config_elements::threads_required::ThreadsRequired;
-use nextest_config_profiles::{
-    Effective, EffectiveProfile, InheritsPlace, Layer, Leaf, ProfileFault,
-};
-use std::fmt::{Debug, Display};
+use nextest_config_profiles::{Effective, EffectiveProfile, InheritsPlace, Layer, ProfileFault};
+use std::fmt::Debug;
 use toml::Table;
 use toml_spans::Index;
 
@@ -152,72 +146,17 @@ fn placed(
 
 impl Told for EffectiveProfile<'_> {
     fn told(&self, rt: &Runner, call: &str) -> Result<String, Failure> {
-        let (name, asked) = word(call);
+        let (_, asked) = word(call);
         match word(asked) {
             ("chain", _) => done(rt, self.chain().join(rt.alloc(), ", ")),
-            ("value", path) => value(rt, self, name, path),
-            ("leaves", path) => leaves(rt, self, name, path),
             ("junit", folder) => report(rt, self, folder),
             _ => setting(rt, self, asked),
         }
     }
 }
 
-// What the layers come to at the path of a profile, or at one within it.
-fn value(
-    rt: &Runner,
-    profile: &EffectiveProfile<'_>,
-    name: &str,
-    path: &str,
-) -> Result<String, Failure> {
-    let path = done(rt, format!(in rt.alloc(); "{name}.{path}"))?;
-    let keys = keys(rt, path.as_str().trim_end_matches('.'))?;
-    let value = profile.value(rt.alloc(), keys.as_slice());
-    shown_or_nothing(rt, done(rt, value)?)
-}
-
-// The leaves of that, with their layers.
-fn leaves(
-    rt: &Runner,
-    profile: &EffectiveProfile<'_>,
-    name: &str,
-    path: &str,
-) -> Result<String, Failure> {
-    let path = done(rt, format!(in rt.alloc(); "{name}.{path}"))?;
-    let keys = keys(rt, path.as_str().trim_end_matches('.'))?;
-    let leaves = done(rt, profile.leaves(rt.alloc(), keys.as_slice()))?;
-    let mut told = String::new(rt.alloc());
-    for leaf in &leaves {
-        if !told.is_empty() {
-            push(&mut told, ", ")?;
-        }
-        push(&mut told, leaf_text(rt, leaf)?.as_str())?;
-    }
-    or_nothing(rt, told)
-}
-
-fn leaf_text(rt: &Runner, leaf: &Leaf) -> Result<String, Failure> {
-    let keys = done(rt, leaf.keys.join(rt.alloc(), "."))?;
-    let text = format!(in rt.alloc(); "{keys} = {} ({})", leaf.value, leaf.layer);
-    copied(rt, done(rt, text)?.as_str().trim_start_matches(" = "))
-}
-
-fn or_nothing(rt: &Runner, told: String) -> Result<String, Failure> {
-    if told.is_empty() {
-        return copied(rt, "nothing");
-    }
-    Ok(told)
-}
-
 fn keys<'t>(rt: &Runner, path: &'t str) -> Result<Vec<&'t str>, Failure> {
     done(rt, path.split('.').collect(rt.alloc()))
-}
-
-fn shown_or_nothing<T: Display + Drop>(rt: &Runner, value: Option<T>) -> Result<String, Failure> {
-    match value {
-        Some(value) => shown(rt, &value),
-        None => copied(rt, "nothing"),
-    }
 }
 
 // The report below a folder, or why it isn't known.

@@ -12,8 +12,10 @@ use nextest_config::nextest_version::{
     ConfigParseError, ConfigSource, Edition, ListRefusal, NextestVersionConfig,
     NextestVersionDeserialize, RepositoryText, SourceText, ToolText, VersionOnlyConfig,
 };
+use nextest_config_values::read::FromToml;
 use semver::Version;
 use std::alloc::Global;
+use toml::Value;
 
 /// What a list of sources asks, or why it is refused.
 pub fn lists(rt: &Runner, call: &str, input: &str) -> Result<String, Failure> {
@@ -24,13 +26,13 @@ pub fn lists(rt: &Runner, call: &str, input: &str) -> Result<String, Failure> {
     answered(rt, call, answer)
 }
 
-/// The reader that a call names in front of a colon, if it does, and what stands after it.
-pub fn reader_of(call: &str) -> (&str, &str) {
+// The reader that a call names in front of a colon, if it does, and what stands after it.
+fn reader_of(call: &str) -> (&str, &str) {
     call.split_once(": ").unwrap_or(("", call))
 }
 
-/// The edition that a reader names last.
-pub fn edition_of(reader: &str) -> Edition {
+// The edition that a reader names last.
+fn edition_of(reader: &str) -> Edition {
     if reader.ends_with("TableOnly") {
         Edition::TableOnly
     } else {
@@ -107,6 +109,14 @@ fn read_files(
     } else {
         Ok(VersionOnlyConfig::from_sources_with(rt.call(), edition, repository, tools))
     }
+}
+
+/// What the reader of versions answers, at the path that is the call.
+pub fn versions(rt: &Runner, at: &str, input: &str) -> Result<String, Failure> {
+    let value = Value::from_row(rt, input)?;
+    let answer = NextestVersionDeserialize::read(rt.call(), &value, at);
+    rt.end();
+    answered(rt, at, answer)
 }
 
 /// What versions that are taken in one by one ask. The call is the last one.
