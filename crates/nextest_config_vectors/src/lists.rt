@@ -3,12 +3,9 @@
 pub mod asked;
 pub mod board;
 pub mod configurations;
-pub mod cuts;
 pub mod features;
 pub mod joins;
-pub mod lent;
 pub mod library;
-pub mod merge;
 pub mod pieces;
 pub mod sources;
 pub mod told;
@@ -23,15 +20,14 @@ pub fn answer(rt: &Runner, subject: &str, call: &str, input: &str) -> Result<Str
     match subject {
         "asks" => asked::asks(rt, call, input),
         "boards" => board::commands::boards(rt, call, input),
-        "board" => board::calls::calls(rt, call, input),
         "board-changes" => board::changes::changes(rt, call, input),
-        "cuts" => cuts::pieces(rt, call, input),
+        "cuts" => joins::cuts(rt, call, input),
         "features" => features::features(rt, call, input),
         "files" => asked::files(rt, call, input),
         "joins" => joins::joins(rt, call, input),
         "library" => library::library(rt, call, input),
         "lists" => asked::lists(rt, call, input),
-        "pieces" => merge::pieces(rt, call, input),
+        "pieces" => joins::pieces(rt, call, input),
         "refusals" => board::commands::refusals(rt, call, input),
         "tree" => tree::tree(rt, call, input),
         "verdicts" => asked::verdicts(rt, call, input),

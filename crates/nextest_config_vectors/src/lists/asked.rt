@@ -2,7 +2,7 @@
 
 use crate::answers::{done, unknown, written};
 use crate::failure::Failure;
-use crate::lists::lent::{as_it_was, changed};
+use crate::lists::joins::{as_it_was, changed};
 use crate::lists::sources::listed;
 use crate::runner::Runner;
 use crate::told::answered;

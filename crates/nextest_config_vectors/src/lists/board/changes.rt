@@ -1,11 +1,10 @@
 //! A board that is changed by a rule, beside the list of the sources that it holds.
 
-use super::commands::{board_of, run};
+use super::commands::run;
 use crate::answers::{compare, copied, done, push, unknown, written};
 use crate::failure::Failure;
 use crate::lists::asked::lists;
 use crate::runner::Runner;
-use crate::values::word;
 use nextest_config::board::ConfigBoard;
 
 const CHANGES: usize = 200;
@@ -51,7 +50,7 @@ fn new_board(rt: &Runner) -> Result<Followed, Failure> {
         done(rt, sources.push(copied(rt, "")?))?;
     }
     Ok(Followed {
-        board: board_of(rt, SLOTS)?,
+        board: done(rt, ConfigBoard::new(rt.alloc(), SLOTS))?,
         sources,
     })
 }
@@ -73,8 +72,7 @@ fn change(rt: &Runner, followed: &mut Followed, number: usize) -> Result<(), Fai
     let slot = number % SLOTS;
     let source = source_of(rt, number)?;
     let command = command_of(rt, slot, source.as_str())?;
-    let (call, rest) = word(command.as_str());
-    let answer = run(rt, &mut followed.board, call, rest)?;
+    let answer = run(rt, &mut followed.board, command.as_str())?;
     if source.ends_with("x =") {
         let refusal = refusal_of(rt, number)?;
         compare(rt, answer.as_str(), refusal.as_str())
@@ -120,7 +118,8 @@ fn compare_verdict(
     list: &str,
     version: &str,
 ) -> Result<(), Failure> {
-    let answer = run(rt, board, "eval", version)?;
+    let command = format!(in rt.alloc(); "eval {version}");
+    let answer = run(rt, board, done(rt, command)?.as_str())?;
     let wanted = lists(rt, version, list)?;
     compare(rt, answer.as_str(), wanted.as_str())
 }
