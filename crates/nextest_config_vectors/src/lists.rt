@@ -28,7 +28,6 @@ pub fn answer(rt: &Runner, subject: &str, call: &str, input: &str) -> Result<Str
         "library" => library::library(rt, call, input),
         "lists" => asked::lists(rt, call, input),
         "pieces" => joins::pieces(rt, call, input),
-        "refusals" => board::commands::refusals(rt, call, input),
         "tree" => tree::tree(rt, call, input),
         "verdicts" => asked::verdicts(rt, call, input),
         "versions" => asked::versions(rt, call, input),

@@ -2,8 +2,7 @@
 //! `> PROFILE ASKED: ANSWER` for each answer. Its call is `list`.
 //!
 //! A file is a line `--- SOURCE` and its lines. SOURCE is `repository`, `explicit` or `tool NAME`.
-//! What is asked is one of these, all of which tell why the profile has none, where that is so, and
-//! of which file and line it is said:
+//! What is asked is one of these, all of which tell why the profile has none, where that is so:
 //!
 //! - `chain`: the profile and those whose settings it falls back on;
 //! - `junit FOLDER`: the report that is written below the folder;
@@ -107,41 +106,29 @@ impl Told for ProfileFault<'_> {
     fn told(&self, rt: &Runner, _call: &str) -> Result<String, Failure> {
         match self {
             ProfileFault::NoProfile => copied(rt, "NoProfile"),
-            ProfileFault::Ring { profile, place } => {
-                let fault = format!(in rt.alloc(); "Ring {{ profile: {profile:?} }}");
-                placed(rt, done(rt, fault)?, place)
+            ProfileFault::Ring { profile, .. } => {
+                done(
+                    rt,
+                    format!(in rt.alloc(); "Ring {{ profile: {profile:?} }}"),
+                )
             }
             ProfileFault::NotDefined {
                 profile,
                 parent,
-                place,
-            } => {
-                let fault = format!(in rt.alloc();
-                    "NotDefined {{ profile: {profile:?}, parent: {parent:?} }}"
-                );
-                placed(rt, done(rt, fault)?, place)
-            }
-            ProfileFault::NotText { profile, place } => {
-                let fault = format!(in rt.alloc(); "NotText {{ profile: {profile:?} }}");
-                placed(rt, done(rt, fault)?, place)
+                ..
+            } => done(
+                rt,
+                format!(in rt.alloc(); "NotDefined {{ profile: {profile:?}, parent: {parent:?} }}"),
+            ),
+            ProfileFault::NotText { profile, .. } => {
+                done(
+                    rt,
+                    format!(in rt.alloc(); "NotText {{ profile: {profile:?} }}"),
+                )
             }
             ProfileFault::Memory => copied(rt, "Memory"),
         }
     }
-}
-
-// The text of a fault, with the file and the line where it is said.
-fn placed(
-    rt: &Runner,
-    fault: String,
-    place: &Option<InheritsPlace<'_>>,
-) -> Result<String, Failure> {
-    let Some(place) = place else {
-        return Ok(fault);
-    };
-    let path = &place.file.source.path;
-    let line = place.span.map_or(0, |span| span.begin.line);
-    done(rt, format!(in rt.alloc(); "{fault} ({path}:{line})"))
 }
 
 impl Told for EffectiveProfile<'_> {

@@ -7,14 +7,12 @@ use crate::lists::sources::listed;
 use crate::runner::Runner;
 use crate::told::answered;
 use crate::values::{FromRow, both, word};
-use nextest_config::merge::{ReadPiece, read_halves};
 use nextest_config::nextest_version::{
     ConfigParseError, ConfigSource, Edition, ListRefusal, NextestVersionConfig,
     NextestVersionDeserialize, RepositoryText, SourceText, ToolText, VersionOnlyConfig,
 };
 use nextest_config_values::read::FromToml;
 use semver::Version;
-use std::alloc::Global;
 use toml::Value;
 
 /// What a list of sources asks, or why it is refused.
@@ -45,30 +43,11 @@ fn read_list(
     reader: &str,
     sources: &[SourceText],
 ) -> Result<Result<VersionOnlyConfig, ListRefusal>, Failure> {
-    let edition = edition_of(reader);
-    match (word(reader).0, sources.first()) {
-        ("", _) => Ok(VersionOnlyConfig::from_list(rt.call(), sources)),
-        ("read_halves", _) => Ok(in_halves(rt.call(), edition, sources)),
-        ("read_one", Some(source)) => Ok(one(rt.call(), edition, source)),
-        ("read_one", None) => unknown(rt, reader),
-        _ => Ok(VersionOnlyConfig::from_list_with(rt.call(), edition, sources)),
+    if reader.is_empty() {
+        Ok(VersionOnlyConfig::from_list(rt.call(), sources))
+    } else {
+        Ok(VersionOnlyConfig::from_list_with(rt.call(), edition_of(reader), sources))
     }
-}
-
-fn in_halves(
-    alloc: Global,
-    edition: Edition,
-    sources: &[SourceText],
-) -> Result<VersionOnlyConfig, ListRefusal> {
-    Ok(read_halves::<VersionOnlyConfig>(alloc, &edition, sources)?)
-}
-
-fn one(
-    alloc: Global,
-    edition: Edition,
-    source: &SourceText,
-) -> Result<VersionOnlyConfig, ListRefusal> {
-    Ok(VersionOnlyConfig::read_one(alloc, &edition, source)?)
 }
 
 /// What a list of sources tells a current version.

@@ -59,16 +59,7 @@ impl Told for ConfigParseError {
 
 impl Told for BoardRefusal {
     fn told(&self, rt: &Runner, _call: &str) -> Result<String, Failure> {
-        match self {
-            BoardRefusal::NoSuchSlot { slots } => {
-                done(rt, format!(in rt.alloc(); "NoSuchSlot {slots}"))
-            }
-            BoardRefusal::Refused(error) => {
-                let error = shown(rt, error)?;
-                done(rt, format!(in rt.alloc(); "Refused: {error}"))
-            }
-            BoardRefusal::Memory => shown(rt, self),
-        }
+        shown(rt, self)
     }
 }
 

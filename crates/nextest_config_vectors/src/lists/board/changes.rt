@@ -91,7 +91,7 @@ fn command_of(rt: &Runner, slot: usize, source: &str) -> Result<String, Failure>
 }
 
 fn refusal_of(rt: &Runner, number: usize) -> Result<String, Failure> {
-    let refusal = format!(in rt.alloc(); "Refused: repository {number}.toml: not a TOML document");
+    let refusal = format!(in rt.alloc(); "repository {number}.toml: not a TOML document");
     done(rt, refusal)
 }
 

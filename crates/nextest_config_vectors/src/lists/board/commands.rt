@@ -1,12 +1,12 @@
 //! Boards that are given commands in turn, and what each command answers.
 
-use crate::answers::{done, made_or_error, push, shown, unknown, written};
+use crate::answers::{push, shown, unknown, written};
 use crate::failure::Failure;
 use crate::lists::joins::{as_it_was, is_refusal};
 use crate::runner::Runner;
 use crate::told::answered;
 use crate::values::{FromRow, both, word};
-use nextest_config::board::{BoardRefusal, ConfigBoard};
+use nextest_config::board::ConfigBoard;
 use nextest_config::nextest_version::SourceText;
 use semver::Version;
 
@@ -52,12 +52,6 @@ fn called(rt: &Runner, board: &mut ConfigBoard, command: &str) -> Result<String,
     let answer = run(rt, board, command)?;
     let now = written(rt, &*board)?;
     as_it_was(rt, answer, before.as_str(), now.as_str())
-}
-
-/// A refusal as it prints.
-pub fn refusals(rt: &Runner, _call: &str, input: &str) -> Result<String, Failure> {
-    let refusal = BoardRefusal::from_row(rt, input)?;
-    made_or_error::<(), BoardRefusal>(rt, Err(refusal))
 }
 
 /// What the board answers to a command.
