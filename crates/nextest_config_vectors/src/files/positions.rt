@@ -5,22 +5,27 @@ use crate::failure::Failure;
 use crate::runner::Runner;
 use toml_spans::{Index, Span, Step};
 
-/// Where the key and the value of a path stand, `KEY = VALUE`.
+/// Where the key and the value of each of some paths stand, `KEY = VALUE`.
 pub fn places(rt: &Runner, call: &str, input: &str) -> Result<String, Failure> {
-    let path = steps(rt, call)?;
     let index = Index::of(rt.call(), input);
     rt.end();
     match index {
-        Ok(Some(index)) => spans(rt, &index, path.as_slice()),
-        Ok(None) => copied(rt, "none = none"),
+        Ok(Some(index)) => spans(rt, &index, call),
+        Ok(None) => copied(rt, "no document"),
         Err(error) => shown(rt, &error),
     }
 }
 
-fn spans(rt: &Runner, index: &Index, path: &[Step]) -> Result<String, Failure> {
-    let key = span_text(rt, index.key(path))?;
-    let value = span_text(rt, index.value(path))?;
-    done(rt, format!(in rt.alloc(); "{key} = {value}"))
+fn spans(rt: &Runner, index: &Index, paths: &str) -> Result<String, Failure> {
+    let mut told = String::new(rt.alloc());
+    for path in paths.split(", ") {
+        let path = steps(rt, path)?;
+        let key = span_text(rt, index.key(path.as_slice()))?;
+        let value = span_text(rt, index.value(path.as_slice()))?;
+        let mark = if told.is_empty() { "" } else { " && " };
+        done(rt, write!(told, "{mark}{key} = {value}"))?;
+    }
+    Ok(told)
 }
 
 // The line and the column of the beginning and of the place after the end.
