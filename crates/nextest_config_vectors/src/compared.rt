@@ -127,8 +127,10 @@ fn copy<T: FromRow + Debug, F: FnOnce(&T, Global) -> Result<T, AllocError>>(
     let copy = clone(&value, rt.call());
     rt.end();
     match copy {
-        Ok(copy) if written(rt, &copy)? == written(rt, &value)? => copied(rt, "same"),
-        Ok(copy) => written(rt, copy),
+        Ok(copy) => {
+            let same = written(rt, copy)? == written(rt, value)?;
+            copied(rt, if same { "same" } else { "differ" })
+        }
         Err(error) => shown(rt, &error),
     }
 }

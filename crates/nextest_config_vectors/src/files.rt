@@ -11,6 +11,7 @@ use crate::runner::Runner;
 /// What a call of a subject answers.
 pub fn answer(rt: &Runner, subject: &str, call: &str, input: &str) -> Result<String, Failure> {
     match subject {
+        "explained" => documents::explained(rt, call, input),
         "found" => documents::found(rt, call, input),
         "place" => positions::places(rt, call, input),
         "profiles" => lists::lists(rt, call, input),

@@ -1,19 +1,19 @@
 //! Documents, and what is found in them, in the order in which it is found.
 
-use crate::answers::{done, push, shown, unknown};
+use crate::answers::{done, push, shown};
 use crate::failure::Failure;
 use crate::runner::Runner;
 use crate::values::FromRow;
 use nextest_config::nextest_version::{ConfigSourceKind, Edition};
+use nextest_config_lint::explain::{Explanation, Topic};
 use nextest_config_lint::{Defined, Finding, FindingSeverity, findings};
-use nextest_config_values::identifier::ToolName;
 use std::alloc::{AllocError, Global};
 use toml::Table;
 
-/// What is found in the document, which is its whole list, each as `SEVERITY: FINDING`. The call says
-/// whose file it is.
+/// What is found in the document, which is its whole list, each as `SEVERITY: FINDING`. The call is
+/// the kind of its source.
 pub fn found(rt: &Runner, call: &str, input: &str) -> Result<String, Failure> {
-    let source = kind(rt, call, "my-tool")?;
+    let source = ConfigSourceKind::from_row(rt, call)?;
     let document = document(rt, input)?;
     let found = found_in(rt.call(), &source, &document);
     rt.end();
@@ -48,14 +48,10 @@ fn told_each(rt: &Runner, found: &[Finding]) -> Result<String, Failure> {
     Ok(told)
 }
 
-/// The kind of a source: its word, with the name that a tool has.
-pub fn kind(rt: &Runner, word: &str, tool: &str) -> Result<ConfigSourceKind, Failure> {
-    match word {
-        "repository" => Ok(ConfigSourceKind::DiscoveredRepository),
-        "explicit" => Ok(ConfigSourceKind::ExplicitRepository),
-        "tool" => Ok(ConfigSourceKind::Tool(ToolName::from_row(rt, tool)?)),
-        _ => unknown(rt, word),
-    }
+/// The explanation of a code.
+pub fn explained(rt: &Runner, _call: &str, input: &str) -> Result<String, Failure> {
+    let topic = Topic::from_word(input).ok_or(Failure::Unreadable("no code has this word"))?;
+    shown(rt, Explanation::of(topic))
 }
 
 /// The document that a text is.

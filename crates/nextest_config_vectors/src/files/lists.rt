@@ -10,11 +10,11 @@
 
 use crate::answers::{copied, cut, done, push, unknown, written};
 use crate::failure::Failure;
-use crate::files::documents::{document, kind};
+use crate::files::documents::document;
 use crate::runner::Runner;
 use crate::told::{self, Told, answered};
-use crate::values::word;
-use nextest_config::nextest_version::ConfigSource;
+use crate::values::{FromRow, word};
+use nextest_config::nextest_version::{ConfigSource, ConfigSourceKind};
 use nextest_config_elements::global_timeout::GlobalTimeout;
 use nextest_config_elements::junit::JunitFlakyFailStatus;
 use nextest_config_elements::leak_timeout::LeakTimeout;
@@ -63,14 +63,13 @@ fn read_files(rt: &Runner, block: &str) -> Result<Vec<File>, Failure> {
 }
 
 fn read_file(rt: &Runner, source: &str, text: &str) -> Result<File, Failure> {
-    let (word, name) = word(source);
     let document = document(rt, text)?;
     let Some(index) = done(rt, Index::of(rt.alloc(), text))? else {
         return Err(Failure::Unreadable("a document has no index"));
     };
     Ok(File {
         source: ConfigSource {
-            kind: kind(rt, word, name)?,
+            kind: ConfigSourceKind::from_row(rt, source)?,
             path: copied(rt, source)?,
         },
         document,
