@@ -1,8 +1,6 @@
-//! The tables of runs, how a run is done, and what runs find in the examples of explanations.
+//! The table of runs, and how a run is done.
 
 mod blocks;
-mod explanations;
-mod formats;
 mod rows;
 mod runner;
 mod runs;

@@ -7,8 +7,7 @@ use crate::failure::Failure;
 use crate::runner::Runner;
 use crate::settings;
 use crate::sizes::{Range, USUAL, grown, grows, ranges_of};
-use crate::table::{Mark, Row, is_blank, row_of};
-use crate::wrong_kinds::{Reader, VALUES, Value};
+use crate::table::{Mark, Row, is_blank, rows_of};
 use std::alloc::Global;
 use std::collections::BTreeSet;
 use std::fs;
@@ -41,16 +40,6 @@ pub struct Asking<'r> {
 struct Table {
     sizes: Vec<Range>,
     names: BTreeSet<String>,
-}
-
-// What a row asks.
-#[derive(Clone, Copy)]
-struct Asked<'t> {
-    mark: Mark,
-    name: &'t str,
-    call: &'t str,
-    input: &'t str,
-    wanted: &'t str,
 }
 
 impl<'r> Asking<'r> {
@@ -114,41 +103,21 @@ impl<'r> Asking<'r> {
             return Ok(());
         }
         self.rows = self.rows.saturating_add(1);
-        let row = row_of(self.runner.alloc(), line)?;
-        self.row(table, &row)
-    }
-
-    fn row(&mut self, table: &mut Table, row: &Row) -> Result<(), Failure> {
-        match row.fields.as_slice() {
-            [name, call, input, wanted] => {
-                table.name(self.runner.alloc(), name.as_str())?;
-                let asked = Asked {
-                    mark: row.mark,
-                    name: name.as_str(),
-                    call: call.as_str(),
-                    input: input.as_str(),
-                    wanted: wanted.as_str(),
-                };
-                self.ask_at_sizes(&asked, &table.sizes)
-            }
-            [name, call, input, kinds, path, expected] => {
-                table.name(self.runner.alloc(), name.as_str())?;
-                self.ask_of_kinds(&Reader {
-                    name: name.as_str(),
-                    call: call.as_str(),
-                    input: input.as_str(),
-                    kinds: kinds.as_str(),
-                    path: path.as_str(),
-                    expected: expected.as_str(),
-                })
-            }
-            _ => Err(Failure::Unreadable("a row has four fields, or six")),
+        let rows = rows_of(self.runner.alloc(), line)?;
+        if let Some(row) = rows.first() {
+            table.name(self.runner.alloc(), row.name.as_str())?;
         }
+        for row in &rows {
+            self.ask_at_sizes(row, &table.sizes)?;
+        }
+        Ok(())
     }
 
     // Asks a row, at each of its sizes if it grows.
-    fn ask_at_sizes(&mut self, row: &Asked<'_>, sizes: &[Range]) -> Result<(), Failure> {
-        let grows = grows(row.call) || grows(row.input) || grows(row.wanted);
+    fn ask_at_sizes(&mut self, row: &Row, sizes: &[Range]) -> Result<(), Failure> {
+        let grows = grows(row.call.as_str())
+            || grows(row.input.as_str())
+            || grows(row.wanted.as_str());
         match self.task {
             _ if !grows => self.ask(row),
             Task::Compare { upto } => self.compare_ranges(row, sizes, upto),
@@ -156,14 +125,14 @@ impl<'r> Asking<'r> {
         }
     }
 
-    fn compare_ranges(&self, row: &Asked<'_>, sizes: &[Range], upto: usize) -> Result<(), Failure> {
+    fn compare_ranges(&self, row: &Row, sizes: &[Range], upto: usize) -> Result<(), Failure> {
         for range in sizes {
             self.compare_range(row, range.first, range.last.min(upto))?;
         }
         Ok(())
     }
 
-    fn compare_range(&self, row: &Asked<'_>, first: usize, last: usize) -> Result<(), Failure> {
+    fn compare_range(&self, row: &Row, first: usize, last: usize) -> Result<(), Failure> {
         for size in first..=last {
             if let Err(failure) = self.compare_at(row, size) {
                 let why = format!(in self.runner.alloc(); "{failure}")?;
@@ -173,48 +142,21 @@ impl<'r> Asking<'r> {
         Ok(())
     }
 
-    fn compare_at(&self, row: &Asked<'_>, size: usize) -> Result<(), Failure> {
+    fn compare_at(&self, row: &Row, size: usize) -> Result<(), Failure> {
         let alloc = self.runner.alloc();
-        let call = grown(alloc, row.call, size)?;
-        let input = grown(alloc, row.input, size)?;
-        let wanted = grown(alloc, row.wanted, size)?;
+        let call = grown(alloc, row.call.as_str(), size)?;
+        let input = grown(alloc, row.input.as_str(), size)?;
+        let wanted = grown(alloc, row.wanted.as_str(), size)?;
         let answer = answer(&self.runner, call.as_str(), input.as_str())?;
         compare(&self.runner, answer.as_str(), wanted.as_str())
     }
 
-    // Asks for values of each kind.
-    fn ask_of_kinds(&mut self, reader: &Reader<'_>) -> Result<(), Failure> {
-        for value in VALUES {
-            self.ask_of_kind(reader, value)?;
-        }
-        Ok(())
-    }
-
-    fn ask_of_kind(&mut self, reader: &Reader<'_>, value: &Value) -> Result<(), Failure> {
-        let alloc = self.runner.alloc();
-        let input = reader.input.replace(alloc, "@", value.text)?;
-        match reader.fault(alloc, value)? {
-            Some(fault) => self.ask(&Asked {
-                mark: Mark::Nothing,
-                name: reader.name,
-                call: reader.call,
-                input: input.as_str(),
-                wanted: fault.as_str(),
-            }),
-            None if matches!(self.task, Task::Compare { .. }) => {
-                let answer = answer(&self.runner, reader.call, input.as_str())?;
-                reader.takes(&self.runner, answer.as_str())
-            }
-            None => Ok(()),
-        }
-    }
-
     // Does the task with a row.
-    fn ask(&mut self, row: &Asked<'_>) -> Result<(), Failure> {
+    fn ask(&mut self, row: &Row) -> Result<(), Failure> {
         match self.task {
             Task::Compare { .. } => {
-                let answer = answer(&self.runner, row.call, row.input)?;
-                compare(&self.runner, answer.as_str(), row.wanted)
+                let answer = answer(&self.runner, row.call.as_str(), row.input.as_str())?;
+                compare(&self.runner, answer.as_str(), row.wanted.as_str())
             }
             _ if row.mark == Mark::Held => Ok(()),
             task => {
@@ -229,22 +171,22 @@ impl<'r> Asking<'r> {
         }
     }
 
-    fn list(&self, row: &Asked<'_>) -> Result<(), Failure> {
+    fn list(&self, row: &Row) -> Result<(), Failure> {
         let mark = if row.mark == Mark::Idle { "- " } else { "" };
-        let (name, call, input) = (row.name, row.call, row.input);
+        let (name, call, input) = (&row.name, &row.call, &row.input);
         Ok(println!(self.rt; "{mark}{name} | {call} | {input:?}")?)
     }
 
-    fn tell_twice(&self, row: &Asked<'_>) -> Result<(), Failure> {
+    fn tell_twice(&self, row: &Row) -> Result<(), Failure> {
         self.tell(row)?;
         self.tell(row)
     }
 
     // Asks, and tells what was answered.
-    fn tell(&self, row: &Asked<'_>) -> Result<(), Failure> {
-        let answer = answer(&self.runner, row.call, row.input)?;
+    fn tell(&self, row: &Row) -> Result<(), Failure> {
+        let answer = answer(&self.runner, row.call.as_str(), row.input.as_str())?;
         let told = match answer.as_str() {
-            answer if answer == row.wanted => "as the row says",
+            answer if answer == row.wanted.as_str() => "as the row says",
             "out of memory" | "memory allocation failed" => "memory was refused",
             answer => answer,
         };

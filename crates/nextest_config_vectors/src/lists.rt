@@ -2,24 +2,14 @@
 
 pub mod asked;
 pub mod board;
-pub mod compared;
 pub mod configurations;
-pub mod cuts;
-pub mod documents;
 pub mod features;
-pub mod halves;
 pub mod joins;
-pub mod lent;
 pub mod library;
-pub mod merge;
-pub mod orders;
-pub mod parts;
 pub mod pieces;
-pub mod printed;
 pub mod sources;
 pub mod told;
 pub mod tree;
-pub mod version_values;
 
 use crate::failure::Failure;
 use crate::files;
@@ -30,22 +20,17 @@ pub fn answer(rt: &Runner, subject: &str, call: &str, input: &str) -> Result<Str
     match subject {
         "asks" => asked::asks(rt, call, input),
         "boards" => board::commands::boards(rt, call, input),
-        "board" => board::calls::calls(rt, call, input),
         "board-changes" => board::changes::changes(rt, call, input),
-        "cuts" => cuts::pieces(rt, call, input),
-        "documents" => documents::documents(rt, call, input),
+        "cuts" => joins::cuts(rt, call, input),
         "features" => features::features(rt, call, input),
         "files" => asked::files(rt, call, input),
-        "halves" => halves::halves(rt, call, input),
         "joins" => joins::joins(rt, call, input),
         "library" => library::library(rt, call, input),
         "lists" => asked::lists(rt, call, input),
-        "parts" => parts::parts(rt, call, input),
-        "pieces" => merge::pieces(rt, call, input),
-        "refused-joins" => merge::refused(rt, call, input),
+        "pieces" => joins::pieces(rt, call, input),
         "tree" => tree::tree(rt, call, input),
         "verdicts" => asked::verdicts(rt, call, input),
-        "versions" => version_values::version_values(rt, call, input),
+        "versions" => asked::versions(rt, call, input),
         _ => files::answer(rt, subject, call, input),
     }
 }

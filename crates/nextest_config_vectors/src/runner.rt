@@ -17,6 +17,14 @@ impl<'r> Runner<'r> {
         Runner { rt, is_marked }
     }
 
+    /// A runner that marks nothing.
+    pub fn unmarked(&self) -> Self {
+        Runner {
+            rt: self.rt,
+            is_marked: false,
+        }
+    }
+
     /// The memory of what stands around a call.
     pub fn alloc(&self) -> Global {
         self.rt.alloc()

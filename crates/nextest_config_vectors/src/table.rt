@@ -1,6 +1,7 @@
 //! Rows of tables.
 
 use crate::failure::Failure;
+use crate::wrong_kinds::Reader;
 use serde_json::Value;
 use std::alloc::Global;
 
@@ -15,11 +16,14 @@ pub enum Mark {
     Held,
 }
 
-/// A row: its fields, between which ` | ` stands.
+/// A row.
 #[derive(Drop)]
 pub struct Row {
     pub mark: Mark,
-    pub fields: Vec<String>,
+    pub name: String,
+    pub call: String,
+    pub input: String,
+    pub wanted: String,
 }
 
 /// Whether a line of a table is no row: it is blank or a comment.
@@ -27,15 +31,39 @@ pub fn is_blank(line: &str) -> bool {
     line.is_empty() || line.starts_with('#')
 }
 
-/// The row that a line writes: behind `- ` one whose call takes no memory, behind `+ ` one that is
-/// asked with memory alone.
-pub fn row_of(alloc: Global, line: &str) -> Result<Row, Failure> {
+/// The rows that a line writes: behind `- ` one whose call takes no memory, behind `+ ` one that is
+/// asked with memory alone. A line of six fields has one for each value of a wrong kind.
+pub fn rows_of(alloc: Global, line: &str) -> Result<Vec<Row>, Failure> {
     let (mark, line) = marked(line);
     let mut fields = Vec::new(alloc);
     for field in line.split(" | ") {
         fields.push(field_of(alloc, field)?)?;
     }
-    Ok(Row { mark, fields })
+    let mut rows = Vec::new(alloc);
+    match fields.as_slice() {
+        [name, call, input, wanted] => {
+            rows.push(Row {
+                mark,
+                name: String::from_str(alloc, name.as_str())?,
+                call: String::from_str(alloc, call.as_str())?,
+                input: String::from_str(alloc, input.as_str())?,
+                wanted: String::from_str(alloc, wanted.as_str())?,
+            })?;
+        }
+        [name, call, input, kinds, path, expected] => {
+            let reader = Reader {
+                name: name.as_str(),
+                call: call.as_str(),
+                input: input.as_str(),
+                kinds: kinds.as_str(),
+                path: path.as_str(),
+                expected: expected.as_str(),
+            };
+            reader.push_rows(alloc, &mut rows)?;
+        }
+        _ => return Err(Failure::Unreadable("a row has four fields, or six")),
+    }
+    Ok(rows)
 }
 
 fn marked(line: &str) -> (Mark, &str) {

@@ -67,8 +67,8 @@ fn contents(rt: &impl Runner, lines: &str) -> Vec<u8> {
     latin_1(rt, text.as_str())
 }
 
-/// A text in Latin-1.
-pub(crate) fn latin_1(rt: &impl Runner, text: &str) -> Vec<u8> {
+// A text in Latin-1.
+fn latin_1(rt: &impl Runner, text: &str) -> Vec<u8> {
     let mut bytes = Vec::new(rt.alloc());
     for character in text.chars() {
         let byte = u8::try_from(u32::from(character));

@@ -2,24 +2,19 @@
 //! `> PROFILE ASKED: ANSWER` for each answer. Its call is `list`.
 //!
 //! A file is a line `--- SOURCE` and its lines. SOURCE is `repository`, `explicit` or `tool NAME`.
-//! What is asked is one of these, all of which tell why the profile has none, where that is so, and
-//! of which file and line it is said:
+//! What is asked is one of these, all of which tell why the profile has none, where that is so:
 //!
 //! - `chain`: the profile and those whose settings it falls back on;
-//! - `value KEYS`: what the layers come to there, as TOML, or `nothing`; without keys in the
-//!   profile itself;
-//! - `leaves KEYS`: the leaves of that, each by the keys that lead to it from there, with the layer
-//!   that it comes from, or `nothing`;
 //! - `junit FOLDER`: the report that is written below the folder;
 //! - the keys of a setting: its value and the profile of which it is, or `nothing`.
 
-use crate::answers::{copied, cut, done, push, shown, unknown, written};
+use crate::answers::{copied, cut, done, push, unknown, written};
 use crate::failure::Failure;
-use crate::files::documents::{document, kind};
+use crate::files::documents::document;
 use crate::runner::Runner;
 use crate::told::{self, Told, answered};
-use crate::values::word;
-use nextest_config::nextest_version::ConfigSource;
+use crate::values::{FromRow, word};
+use nextest_config::nextest_version::{ConfigSource, ConfigSourceKind};
 use nextest_config_elements::global_timeout::GlobalTimeout;
 use nextest_config_elements::junit::JunitFlakyFailStatus;
 use nextest_config_elements::leak_timeout::LeakTimeout;
@@ -29,10 +24,8 @@ use nextest_config_elements::report_skip_policy::ReportSkipPolicy;
 use nextest_config_elements::retry_policy::{FlakyResult, RetryPolicy};
 use nextest_config_elements::slow_timeout::SlowTimeout;
 use nextest_config_elements::threads_required::ThreadsRequired;
-use nextest_config_profiles::{
-    Effective, EffectiveProfile, InheritsPlace, Layer, Leaf, ProfileFault,
-};
-use std::fmt::{Debug, Display};
+use nextest_config_profiles::{Effective, EffectiveProfile, InheritsPlace, Layer, ProfileFault};
+use std::fmt::Debug;
 use toml::Table;
 use toml_spans::Index;
 
@@ -70,14 +63,13 @@ fn read_files(rt: &Runner, block: &str) -> Result<Vec<File>, Failure> {
 }
 
 fn read_file(rt: &Runner, source: &str, text: &str) -> Result<File, Failure> {
-    let (word, name) = word(source);
     let document = document(rt, text)?;
     let Some(index) = done(rt, Index::of(rt.alloc(), text))? else {
         return Err(Failure::Unreadable("a document has no index"));
     };
     Ok(File {
         source: ConfigSource {
-            kind: kind(rt, word, name)?,
+            kind: ConfigSourceKind::from_row(rt, source)?,
             path: copied(rt, source)?,
         },
         document,
@@ -113,111 +105,44 @@ impl Told for ProfileFault<'_> {
     fn told(&self, rt: &Runner, _call: &str) -> Result<String, Failure> {
         match self {
             ProfileFault::NoProfile => copied(rt, "NoProfile"),
-            ProfileFault::Ring { profile, place } => {
-                let fault = format!(in rt.alloc(); "Ring {{ profile: {profile:?} }}");
-                placed(rt, done(rt, fault)?, place)
+            ProfileFault::Ring { profile, .. } => {
+                done(
+                    rt,
+                    format!(in rt.alloc(); "Ring {{ profile: {profile:?} }}"),
+                )
             }
             ProfileFault::NotDefined {
                 profile,
                 parent,
-                place,
-            } => {
-                let fault = format!(in rt.alloc();
-                    "NotDefined {{ profile: {profile:?}, parent: {parent:?} }}"
-                );
-                placed(rt, done(rt, fault)?, place)
-            }
-            ProfileFault::NotText { profile, place } => {
-                let fault = format!(in rt.alloc(); "NotText {{ profile: {profile:?} }}");
-                placed(rt, done(rt, fault)?, place)
+                ..
+            } => done(
+                rt,
+                format!(in rt.alloc(); "NotDefined {{ profile: {profile:?}, parent: {parent:?} }}"),
+            ),
+            ProfileFault::NotText { profile, .. } => {
+                done(
+                    rt,
+                    format!(in rt.alloc(); "NotText {{ profile: {profile:?} }}"),
+                )
             }
             ProfileFault::Memory => copied(rt, "Memory"),
         }
     }
 }
 
-// The text of a fault, with the file and the line where it is said.
-fn placed(
-    rt: &Runner,
-    fault: String,
-    place: &Option<InheritsPlace<'_>>,
-) -> Result<String, Failure> {
-    let Some(place) = place else {
-        return Ok(fault);
-    };
-    let path = &place.file.source.path;
-    let line = place.span.map_or(0, |span| span.begin.line);
-    done(rt, format!(in rt.alloc(); "{fault} ({path}:{line})"))
-}
-
 impl Told for EffectiveProfile<'_> {
     fn told(&self, rt: &Runner, call: &str) -> Result<String, Failure> {
-        let (name, asked) = word(call);
+        let (_, asked) = word(call);
         match word(asked) {
             ("chain", _) => done(rt, self.chain().join(rt.alloc(), ", ")),
-            ("value", path) => value(rt, self, name, path),
-            ("leaves", path) => leaves(rt, self, name, path),
             ("junit", folder) => report(rt, self, folder),
             _ => setting(rt, self, asked),
         }
     }
 }
 
-// What the layers come to at the path of a profile, or at one within it.
-fn value(
-    rt: &Runner,
-    profile: &EffectiveProfile<'_>,
-    name: &str,
-    path: &str,
-) -> Result<String, Failure> {
-    let path = done(rt, format!(in rt.alloc(); "{name}.{path}"))?;
-    let keys = keys(rt, path.as_str().trim_end_matches('.'))?;
-    let value = profile.value(rt.alloc(), keys.as_slice());
-    shown_or_nothing(rt, done(rt, value)?)
-}
-
-// The leaves of that, with their layers.
-fn leaves(
-    rt: &Runner,
-    profile: &EffectiveProfile<'_>,
-    name: &str,
-    path: &str,
-) -> Result<String, Failure> {
-    let path = done(rt, format!(in rt.alloc(); "{name}.{path}"))?;
-    let keys = keys(rt, path.as_str().trim_end_matches('.'))?;
-    let leaves = done(rt, profile.leaves(rt.alloc(), keys.as_slice()))?;
-    let mut told = String::new(rt.alloc());
-    for leaf in &leaves {
-        if !told.is_empty() {
-            push(&mut told, ", ")?;
-        }
-        push(&mut told, leaf_text(rt, leaf)?.as_str())?;
-    }
-    or_nothing(rt, told)
-}
-
-fn leaf_text(rt: &Runner, leaf: &Leaf) -> Result<String, Failure> {
-    let keys = done(rt, leaf.keys.join(rt.alloc(), "."))?;
-    let text = format!(in rt.alloc(); "{keys} = {} ({})", leaf.value, leaf.layer);
-    copied(rt, done(rt, text)?.as_str().trim_start_matches(" = "))
-}
-
-fn or_nothing(rt: &Runner, told: String) -> Result<String, Failure> {
-    if told.is_empty() {
-        return copied(rt, "nothing");
-    }
-    Ok(told)
-}
-
 fn keys<'t>(rt: &Runner, path: &'t str) -> Result<Vec<&'t str>, Failure> {
     done(rt, path.split('.').collect(rt.alloc()))
-}
-
-fn shown_or_nothing<T: Display + Drop>(rt: &Runner, value: Option<T>) -> Result<String, Failure> {
-    match value {
-        Some(value) => shown(rt, &value),
-        None => copied(rt, "nothing"),
-    }
 }
 
 // The report below a folder, or why it isn't known.

@@ -1,51 +1,35 @@
 //! Places of keys and values in documents.
 
-use crate::answers::{copied, done, shown, unknown};
+use crate::answers::{copied, done, shown};
 use crate::failure::Failure;
 use crate::runner::Runner;
-use crate::values::word;
 use toml_spans::{Index, Span, Step};
 
-/// Where the key and the value of a path stand, `KEY = VALUE`.
+/// Where the key and the value of each of some paths stand, `KEY = VALUE`.
 pub fn places(rt: &Runner, call: &str, input: &str) -> Result<String, Failure> {
-    let path = steps(rt, call)?;
     let index = Index::of(rt.call(), input);
     rt.end();
     match index {
-        Ok(Some(index)) => spans(rt, &index, path.as_slice()),
-        Ok(None) => copied(rt, "none = none"),
+        Ok(Some(index)) => spans(rt, &index, call),
+        Ok(None) => copied(rt, "no document"),
         Err(error) => shown(rt, &error),
     }
 }
 
-fn spans(rt: &Runner, index: &Index, path: &[Step]) -> Result<String, Failure> {
-    let key = span_text(rt, index.key(path))?;
-    let value = span_text(rt, index.value(path))?;
-    done(rt, format!(in rt.alloc(); "{key} = {value}"))
-}
-
-/// What is looked up of a path in an index: its `key` or its `value`.
-pub fn looked(rt: &Runner, call: &str, input: &str) -> Result<String, Failure> {
-    let (name, path) = word(call);
-    let path = steps(rt, path)?;
-    match done(rt, Index::of(rt.alloc(), input))? {
-        Some(index) => look_up(rt, name, &index, path.as_slice()),
-        None => unknown(rt, input),
+fn spans(rt: &Runner, index: &Index, paths: &str) -> Result<String, Failure> {
+    let mut told = String::new(rt.alloc());
+    for path in paths.split(", ") {
+        let path = steps(rt, path)?;
+        let key = span_text(rt, index.key(path.as_slice()))?;
+        let value = span_text(rt, index.value(path.as_slice()))?;
+        let mark = if told.is_empty() { "" } else { " && " };
+        done(rt, write!(told, "{mark}{key} = {value}"))?;
     }
-}
-
-fn look_up(rt: &Runner, name: &str, index: &Index, path: &[Step]) -> Result<String, Failure> {
-    rt.begin();
-    match name {
-        "key" => span_text(rt, index.key(path)),
-        "value" => span_text(rt, index.value(path)),
-        _ => unknown(rt, name),
-    }
+    Ok(told)
 }
 
 // The line and the column of the beginning and of the place after the end.
 fn span_text(rt: &Runner, span: Option<Span>) -> Result<String, Failure> {
-    rt.end();
     let Some(Span { begin, end }) = span else {
         return copied(rt, "none");
     };
@@ -56,8 +40,8 @@ fn span_text(rt: &Runner, span: Option<Span>) -> Result<String, Failure> {
     done(rt, text)
 }
 
-/// The steps that are parted by ` / `: a number is an index.
-pub fn steps(rt: &Runner, path: &str) -> Result<Vec<Step>, Failure> {
+// The steps that are parted by ` / `: a number is an index.
+fn steps(rt: &Runner, path: &str) -> Result<Vec<Step>, Failure> {
     let mut steps = Vec::new(rt.alloc());
     if path == "whole" {
         return Ok(steps);

@@ -2,18 +2,18 @@
 
 use crate::answers::{done, unknown, written};
 use crate::failure::Failure;
-use crate::lists::lent::{as_it_was, changed};
+use crate::lists::joins::{as_it_was, changed};
 use crate::lists::sources::listed;
 use crate::runner::Runner;
 use crate::told::answered;
 use crate::values::{FromRow, both, word};
-use nextest_config::merge::{ReadPiece, read_halves};
 use nextest_config::nextest_version::{
     ConfigParseError, ConfigSource, Edition, ListRefusal, NextestVersionConfig,
     NextestVersionDeserialize, RepositoryText, SourceText, ToolText, VersionOnlyConfig,
 };
+use nextest_config_values::read::FromToml;
 use semver::Version;
-use std::alloc::Global;
+use toml::Value;
 
 /// What a list of sources asks, or why it is refused.
 pub fn lists(rt: &Runner, call: &str, input: &str) -> Result<String, Failure> {
@@ -24,13 +24,13 @@ pub fn lists(rt: &Runner, call: &str, input: &str) -> Result<String, Failure> {
     answered(rt, call, answer)
 }
 
-/// The reader that a call names in front of a colon, if it does, and what stands after it.
-pub fn reader_of(call: &str) -> (&str, &str) {
+// The reader that a call names in front of a colon, if it does, and what stands after it.
+fn reader_of(call: &str) -> (&str, &str) {
     call.split_once(": ").unwrap_or(("", call))
 }
 
-/// The edition that a reader names last.
-pub fn edition_of(reader: &str) -> Edition {
+// The edition that a reader names last.
+fn edition_of(reader: &str) -> Edition {
     if reader.ends_with("TableOnly") {
         Edition::TableOnly
     } else {
@@ -43,30 +43,11 @@ fn read_list(
     reader: &str,
     sources: &[SourceText],
 ) -> Result<Result<VersionOnlyConfig, ListRefusal>, Failure> {
-    let edition = edition_of(reader);
-    match (word(reader).0, sources.first()) {
-        ("", _) => Ok(VersionOnlyConfig::from_list(rt.call(), sources)),
-        ("read_halves", _) => Ok(in_halves(rt.call(), edition, sources)),
-        ("read_one", Some(source)) => Ok(one(rt.call(), edition, source)),
-        ("read_one", None) => unknown(rt, reader),
-        _ => Ok(VersionOnlyConfig::from_list_with(rt.call(), edition, sources)),
+    if reader.is_empty() {
+        Ok(VersionOnlyConfig::from_list(rt.call(), sources))
+    } else {
+        Ok(VersionOnlyConfig::from_list_with(rt.call(), edition_of(reader), sources))
     }
-}
-
-fn in_halves(
-    alloc: Global,
-    edition: Edition,
-    sources: &[SourceText],
-) -> Result<VersionOnlyConfig, ListRefusal> {
-    Ok(read_halves::<VersionOnlyConfig>(alloc, &edition, sources)?)
-}
-
-fn one(
-    alloc: Global,
-    edition: Edition,
-    source: &SourceText,
-) -> Result<VersionOnlyConfig, ListRefusal> {
-    Ok(VersionOnlyConfig::read_one(alloc, &edition, source)?)
 }
 
 /// What a list of sources tells a current version.
@@ -107,6 +88,14 @@ fn read_files(
     } else {
         Ok(VersionOnlyConfig::from_sources_with(rt.call(), edition, repository, tools))
     }
+}
+
+/// What the reader of versions answers, at the path that is the call.
+pub fn versions(rt: &Runner, at: &str, input: &str) -> Result<String, Failure> {
+    let value = Value::from_row(rt, input)?;
+    let answer = NextestVersionDeserialize::read(rt.call(), &value, at);
+    rt.end();
+    answered(rt, at, answer)
 }
 
 /// What versions that are taken in one by one ask. The call is the last one.

@@ -1,5 +1,4 @@
 //! Boards.
 
-pub mod calls;
 pub mod changes;
 pub mod commands;

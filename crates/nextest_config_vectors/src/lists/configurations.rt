@@ -1,18 +1,15 @@
 //! Values that rows write: configurations, verdicts and refusals of sources.
 
-use crate::answers::{done, unknown};
+use crate::answers::{cut, done, unknown};
 use crate::failure::Failure;
 use crate::lists::sources::listed;
 use crate::runner::Runner;
-use crate::values::{FromRow, both, names, part, word};
+use crate::values::{FromRow, both, part, word};
 use nextest_config::board::BoardRefusal;
-use nextest_config::merge::PieceRefusal;
 use nextest_config::nextest_version::{
-    ConfigParseError, ConfigParseErrorKind, Edition, ExperimentalConfig, ListRefusal,
-    NextestVersionConfig, NextestVersionEval, NextestVersionReq, Severity, SourceText,
+    ConfigParseError, ExperimentalConfig, ListRefusal, NextestVersionEval, SourceText,
     VersionOnlyConfig,
 };
-use nextest_config_values::read::ReadFault;
 use semver::Version;
 use std::alloc::AllocError;
 
@@ -40,83 +37,19 @@ impl FromRow for ExperimentalConfig {
     }
 }
 
-/// Writes `Satisfied`, or `NAME VERSION CURRENT SOURCE`, where the current version isn't enough.
+/// Writes `CURRENT: LIST`, or `CURRENT --override: LIST`: what the list of sources tells a version.
 impl FromRow for NextestVersionEval {
     fn from_row(rt: &Runner, text: &str) -> Result<Self, Failure> {
-        if text == "Satisfied" {
-            Ok(NextestVersionEval::Satisfied)
-        } else {
-            verdict(rt, text)
-        }
-    }
-}
-
-fn verdict(rt: &Runner, text: &str) -> Result<NextestVersionEval, Failure> {
-    let (name, rest) = word(text);
-    let (version, rest) = word(rest);
-    let (current, source): (Version, _) = both(rt, rest, " ")?;
-    let version = Version::from_row(rt, version)?;
-    let config = config_for(name, NextestVersionReq::Version { version, source });
-    let alloc = rt.alloc();
-    let overridden = name.ends_with("Override");
-    let verdict = part(config, |config| config.eval(alloc, &current, overridden));
-    done(rt, verdict)
-}
-
-// What asks for a version, so that a lower one is an error or a warning.
-fn config_for(name: &str, asked: NextestVersionReq) -> NextestVersionConfig {
-    if name.starts_with("Error") {
-        NextestVersionConfig {
-            required: asked,
-            recommended: NextestVersionReq::None,
-        }
-    } else {
-        NextestVersionConfig {
-            required: NextestVersionReq::None,
-            recommended: asked,
-        }
-    }
-}
-
-impl FromRow for Severity {
-    fn from_row(rt: &Runner, text: &str) -> Result<Self, Failure> {
-        match text {
-            "Satisfied" => Ok(Severity::Satisfied),
-            "Warn" => Ok(Severity::Warn),
-            "Error" => Ok(Severity::Error),
-            _ => unknown(rt, text),
-        }
-    }
-}
-
-impl FromRow for Edition {
-    fn from_row(rt: &Runner, text: &str) -> Result<Self, Failure> {
-        match text {
-            "ArrayAllowed" => Ok(Edition::ArrayAllowed),
-            "TableOnly" => Ok(Edition::TableOnly),
-            _ => unknown(rt, text),
-        }
-    }
-}
-
-impl FromRow for ConfigParseErrorKind {
-    fn from_row(rt: &Runner, text: &str) -> Result<Self, Failure> {
-        let (name, rest) = word(text);
-        match name {
-            "TomlParseError" => Ok(ConfigParseErrorKind::TomlParseError),
-            "VersionOnlyDeserializeError" => {
-                Ok(ConfigParseErrorKind::VersionOnlyDeserializeError(ReadFault::from_row(
-                    rt, rest,
-                )?))
-            }
-            "ExperimentalFeaturesInToolConfig" => {
-                Ok(ConfigParseErrorKind::ExperimentalFeaturesInToolConfig {
-                    features: names(rt, rest)?,
-                })
-            }
-            "Memory" => Ok(ConfigParseErrorKind::Memory),
-            _ => unknown(rt, name),
-        }
+        let (current, list) = cut(text, ": ")?;
+        let (current, flag) = word(current);
+        let current = Version::from_row(rt, current)?;
+        let alloc = rt.alloc();
+        let verdict = part(VersionOnlyConfig::from_row(rt, list)?, |config| {
+            config
+                .nextest_version()
+                .eval(alloc, &current, flag == "--override")
+        });
+        done(rt, verdict)
     }
 }
 
@@ -156,16 +89,5 @@ impl FromRow for BoardRefusal {
             "Memory" => Ok(BoardRefusal::Memory),
             _ => unknown(rt, name),
         }
-    }
-}
-
-/// Writes a position and a number that is refused there, or `Memory`.
-impl FromRow for PieceRefusal<usize> {
-    fn from_row(rt: &Runner, text: &str) -> Result<Self, Failure> {
-        if text == "Memory" {
-            return Ok(PieceRefusal::Memory);
-        }
-        let (position, error) = both(rt, text, " ")?;
-        Ok(PieceRefusal::Refused { position, error })
     }
 }

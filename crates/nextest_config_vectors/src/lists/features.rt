@@ -15,8 +15,6 @@ pub fn features(rt: &Runner, call: &str, input: &str) -> Result<String, Failure>
     match call {
         "all" => all(rt),
         "word" => word_of(rt, input),
-        "as_word" => as_word(rt, input),
-        "env_var" => variable_of(rt, input),
         "variables" => variables(rt, input),
         "setting" => setting(rt, input),
         _ => unknown(rt, call),
@@ -42,18 +40,6 @@ fn all(rt: &Runner) -> Result<String, Failure> {
 fn word_of(rt: &Runner, input: &str) -> Result<String, Failure> {
     rt.begin();
     written(rt, ConfigExperimental::from_str(input))
-}
-
-fn as_word(rt: &Runner, input: &str) -> Result<String, Failure> {
-    let feature = ConfigExperimental::from_row(rt, input)?;
-    rt.begin();
-    written(rt, feature.as_word())
-}
-
-fn variable_of(rt: &Runner, input: &str) -> Result<String, Failure> {
-    let feature = ConfigExperimental::from_row(rt, input)?;
-    rt.begin();
-    written(rt, feature.env_var())
 }
 
 fn variables(rt: &Runner, input: &str) -> Result<String, Failure> {

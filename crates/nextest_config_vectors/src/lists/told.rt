@@ -9,7 +9,8 @@ use crate::values::{FromRow, word};
 use nextest_config::board::BoardRefusal;
 use nextest_config::nextest_version::{
     ConfigParseError, ConfigSource, ExperimentalConfig, ListRefusal, NextestVersionConfig,
-    NextestVersionEval, NextestVersionReq, Severity, UnmetVersion, VersionOnlyConfig, VersionRole,
+    NextestVersionDeserialize, NextestVersionEval, NextestVersionReq, Severity, UnmetVersion,
+    VersionOnlyConfig, VersionRole,
 };
 use semver::Version;
 use std::collections::BTreeSet;
@@ -18,6 +19,21 @@ use std::collections::BTreeSet;
 impl Told for () {
     fn told(&self, rt: &Runner, _call: &str) -> Result<String, Failure> {
         copied(rt, "done")
+    }
+}
+
+impl Told for NextestVersionDeserialize {
+    fn told(&self, rt: &Runner, _call: &str) -> Result<String, Failure> {
+        let required = version(rt, self.required.as_ref())?;
+        let recommended = version(rt, self.recommended.as_ref())?;
+        done(rt, format!(in rt.alloc(); "{required} {recommended}"))
+    }
+}
+
+fn version(rt: &Runner, version: Option<&Version>) -> Result<String, Failure> {
+    match version {
+        Some(version) => done(rt, version.to_string(rt.alloc())),
+        None => copied(rt, "none"),
     }
 }
 
@@ -43,16 +59,7 @@ impl Told for ConfigParseError {
 
 impl Told for BoardRefusal {
     fn told(&self, rt: &Runner, _call: &str) -> Result<String, Failure> {
-        match self {
-            BoardRefusal::NoSuchSlot { slots } => {
-                done(rt, format!(in rt.alloc(); "NoSuchSlot {slots}"))
-            }
-            BoardRefusal::Refused(error) => {
-                let error = shown(rt, error)?;
-                done(rt, format!(in rt.alloc(); "Refused: {error}"))
-            }
-            BoardRefusal::Memory => shown(rt, self),
-        }
+        shown(rt, self)
     }
 }
 

@@ -50,19 +50,14 @@ impl Choose for Ends {
     ghost laws = { ends_join };
 }
 
-/// What a tree tells that is made, changed, or asked for its ends.
-pub fn tree(rt: &Runner, call: &str, input: &str) -> Result<String, Failure> {
+/// The ends of a tree, when it is made and after each of its changes.
+pub fn tree(rt: &Runner, _call: &str, input: &str) -> Result<String, Failure> {
     let (leaves, changes) = cut(input, ":")?;
     let leaves = usize::from_row(rt, leaves)?;
     if leaves > 9 {
         return unknown(rt, input);
     }
-    match call {
-        "tree" => after_each(rt, leaves, changes),
-        "set" => after_one(rt, leaves, changes.trim()),
-        "whole" => whole(rt, leaves),
-        _ => unknown(rt, call),
-    }
+    after_each(rt, leaves, changes)
 }
 
 fn after_each(rt: &Runner, leaves: usize, changes: &str) -> Result<String, Failure>
@@ -86,38 +81,6 @@ fn after_each(rt: &Runner, leaves: usize, changes: &str) -> Result<String, Failu
         tell_ends(rt, &mut text, tree.whole())?;
         done(rt, write!(text, "({choices})"))?;
     }
-    Ok(text)
-}
-
-fn after_one(rt: &Runner, leaves: usize, change: &str) -> Result<String, Failure>
-    requires { leaves ≤ 9 }
-{
-    let Ok(mut tree) = ChoiceTree::<Ends>::new(rt.alloc(), leaves) else {
-        return unknown(rt, change);
-    };
-    let (slot, leaf) = cut(change, "=")?;
-    let slot = usize::from_row(rt, slot)?;
-    let leaf = leaf_of(rt, leaf)?;
-    if slot >= leaves {
-        return unknown(rt, change);
-    }
-    rt.begin();
-    let choices = set(&mut tree, slot, leaf);
-    let ends = tree.whole();
-    rt.end();
-    let mut text = String::new(rt.alloc());
-    tell_ends(rt, &mut text, ends)?;
-    done(rt, write!(text, "({choices})"))?;
-    Ok(text)
-}
-
-fn whole(rt: &Runner, leaves: usize) -> Result<String, Failure> {
-    let tree = done(rt, ChoiceTree::<Ends>::new(rt.alloc(), leaves))?;
-    rt.begin();
-    let ends = tree.whole();
-    rt.end();
-    let mut text = String::new(rt.alloc());
-    tell_ends(rt, &mut text, ends)?;
     Ok(text)
 }
 

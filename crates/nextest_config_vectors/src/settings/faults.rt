@@ -1,11 +1,11 @@
 //! The texts of faults.
 
-use crate::answers::{cut, unknown};
+use crate::answers::{copied, cut, unknown};
 use crate::failure::Failure;
 use crate::runner::Runner;
 use crate::told::tell;
-use crate::values::{FromRow, expected, known, word};
-use nextest_config_values::read::{FaultKind, ReadFault, ValueFault};
+use crate::values::{FromRow, word};
+use nextest_config_values::read::{FaultKind, ReadFault, Rule, ValueFault};
 use toml::Value;
 
 /// The fault that a maker makes of what is given to it.
@@ -35,12 +35,42 @@ fn told(rt: &Runner, call: &str, given: &str, at: &str) -> Result<ReadFault, Fai
 fn fault(rt: &Runner, call: &str, given: &str) -> Result<ValueFault, Failure> {
     let (maker, wanted) = word(call);
     match maker {
-        "new" => new(rt, FaultKind::from_row(rt, given)?),
+        "new" => new(rt, kind(rt, given)?),
         "unknown_variant" => Ok(ValueFault::unknown_variant(rt.call(), given, known(wanted))),
         "missing_field" => Ok(ValueFault::missing_field(rt.call(), given)),
         "memory" => Ok(ValueFault::memory(rt.call())),
         "unknown_field" => Ok(ValueFault::unknown_field(rt.call(), given, known(wanted))),
         _ => mismatch(rt, maker, given, expected(wanted)),
+    }
+}
+
+fn kind(rt: &Runner, text: &str) -> Result<FaultKind, Failure> {
+    match word(text) {
+        ("PreRelease", _) => Ok(FaultKind::Custom(Rule::PreRelease)),
+        ("NotVersion", text) => Ok(FaultKind::Custom(Rule::NotVersion {
+            text: copied(rt, text)?,
+        })),
+        ("Memory", _) => Ok(FaultKind::Memory),
+        (name, _) => unknown(rt, name),
+    }
+}
+
+// The same text, for the program's whole life.
+fn expected(text: &str) -> &'static str {
+    match text {
+        "a boolean" => "a boolean",
+        "a string" => "a string",
+        _ => "?",
+    }
+}
+
+// The same words, for the program's whole life.
+fn known(words: &str) -> &'static [&'static str] {
+    match words {
+        "a" => &["a"],
+        "a b" => &["a", "b"],
+        "a b c" => &["a", "b", "c"],
+        _ => &[],
     }
 }
 

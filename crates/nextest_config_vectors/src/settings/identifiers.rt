@@ -16,7 +16,6 @@ pub fn identifiers(rt: &Runner, call: &str, input: &str) -> Result<String, Failu
         "identifier" | "printed" => { answered(rt, call, ConfigIdentifier::new(rt.call(), input)) }
         "tool name" => answered(rt, call, ToolName::new(rt.call(), input)),
         "plain" => plain(rt, input),
-        "text of tool name" => tell(rt, call, ToolName::from_row(rt, input)?),
         _ => tell(rt, call, ConfigIdentifier::from_row(rt, input)?),
     }
 }
@@ -35,7 +34,6 @@ impl Told for ConfigIdentifier {
         match call {
             "components" => components(rt, self.tool_components()),
             "bytes" => bytes(rt, self.as_str()),
-            "text" => written(rt, self.as_str()),
             "is a tool's" => written(rt, self.is_tool_identifier()),
             _ => unknown(rt, call),
         }
@@ -70,12 +68,8 @@ impl Told for InvalidIdentifier {
 }
 
 impl Told for ToolName {
-    fn told(&self, rt: &Runner, call: &str) -> Result<String, Failure> {
-        if call == "tool name" {
-            return shown(rt, self);
-        }
-        rt.begin();
-        written(rt, self.as_str())
+    fn told(&self, rt: &Runner, _call: &str) -> Result<String, Failure> {
+        shown(rt, self)
     }
 }
 

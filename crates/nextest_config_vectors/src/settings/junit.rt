@@ -1,10 +1,8 @@
 //! JUnit reports, reports of skipped tests, and what a report says of a flaky test.
 
 use crate::answers::{copied, cut, done, made, made_or_error, shown, text, unknown, written};
-use crate::compared::{Copied, alike};
 use crate::failure::Failure;
 use crate::runner::Runner;
-use crate::settings::readers::read;
 use crate::told::{Told, answered, tell};
 use crate::values::{FromRow, word};
 use nextest_config_elements::junit::{
@@ -14,7 +12,7 @@ use nextest_config_elements::report_skip_policy::{MismatchReason, ReportSkipPoli
 use nextest_config_elements::retry_policy::FlakyResult;
 use nextest_config_values::helpers::join_path;
 use nextest_config_values::read::{FromToml, Word};
-use std::alloc::{AllocError, Global};
+use std::alloc::AllocError;
 use toml::Value;
 
 /// What is read of a report, and the report of the settings.
@@ -22,10 +20,8 @@ pub fn reports(rt: &Runner, call: &str, input: &str) -> Result<String, Failure> 
     let (name, rest) = word(call);
     match name {
         "join" => text(rt, join_path(rt.call(), rest, input)),
-        "read" => read::<JunitImpl>(rt, input, rest),
         "default" => written(rt, default_of(rt, input)?),
         "printed" => made_or_error(rt, default_of(rt, input)?),
-        "copy" => copy(rt, rest, input),
         _ => tell(rt, call, DefaultJunitImpl::from_row(rt, input)?),
     }
 }
@@ -40,14 +36,6 @@ fn default_of(
     Ok(DefaultJunitImpl::for_default_profile(junit))
 }
 
-fn copy(rt: &Runner, rest: &str, input: &str) -> Result<String, Failure> {
-    if rest == "of a table" {
-        alike(rt, JunitImpl::from_row(rt, input)?)
-    } else {
-        alike(rt, DefaultJunitImpl::from_row(rt, input)?)
-    }
-}
-
 /// Writes the setting's TOML value.
 impl FromRow for JunitImpl {
     fn from_row(rt: &Runner, text: &str) -> Result<Self, Failure> {
@@ -56,23 +44,11 @@ impl FromRow for JunitImpl {
     }
 }
 
-impl Copied for JunitImpl {
-    fn copied(&self, alloc: Global) -> Result<Self, AllocError> {
-        self.clone(alloc)
-    }
-}
-
 /// Writes the default profile's TOML value.
 impl FromRow for DefaultJunitImpl {
     fn from_row(rt: &Runner, text: &str) -> Result<Self, Failure> {
         let junit = JunitImpl::from_row(rt, text)?;
         done(rt, DefaultJunitImpl::for_default_profile(junit))
-    }
-}
-
-impl Copied for DefaultJunitImpl {
-    fn copied(&self, alloc: Global) -> Result<Self, AllocError> {
-        self.clone(alloc)
     }
 }
 
@@ -124,10 +100,6 @@ impl Told for JunitConfig<'_> {
         match call {
             "report" => parts(rt, self),
             "copied-report" => copied_report(rt, self.clone(rt.call())),
-            "parts-of-report" => {
-                rt.begin();
-                parts(rt, self)
-            }
             _ => unknown(rt, call),
         }
     }

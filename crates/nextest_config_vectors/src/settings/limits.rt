@@ -1,18 +1,18 @@
-//! Fail limits and priorities, beside their settings.
+//! Fail limits, priorities, counts and marks, beside their settings.
 
-use crate::answers::{copied, done, made, shown, text, unknown, written};
+use crate::answers::{done, made, shown, text, unknown, written};
 use crate::failure::Failure;
-use crate::printed::default;
 use crate::runner::Runner;
 use crate::values::{FromRow, both, word};
-use nextest_config_elements::leak_timeout::LeakTimeout;
-use nextest_config_elements::max_fail::{CountFault, MaxFail, MaxFailParseError, TerminateMode};
-use nextest_config_elements::priority::{TestPriority, TestPriorityOutOfRange};
+use nextest_config_elements::max_fail::{MaxFail, MaxFailParseError, TerminateMode};
+use nextest_config_elements::priority::TestPriority;
 use nextest_config_elements::retry_policy::RetryPolicy;
 use nextest_config_elements::slow_timeout::SlowTimeout;
+use nextest_config_values::read::NonZeroCount;
+use nextest_config_values::track_default::TrackDefault;
 use std::fmt::Debug;
 
-/// Fail limits and priorities.
+/// Fail limits, priorities, counts and marks.
 pub fn limits(rt: &Runner, call: &str, input: &str) -> Result<String, Failure> {
     let (call, given) = word(call);
     match call {
@@ -22,6 +22,9 @@ pub fn limits(rt: &Runner, call: &str, input: &str) -> Result<String, Failure> {
         "text" => text_of(rt, MaxFail::from_row(rt, input)?),
         "reached" => reached(rt, given, MaxFail::from_row(rt, input)?),
         "priority" => priority(rt, i8::from_row(rt, input)?),
+        "sorted" => sorted(rt, input),
+        "count" => counted(rt, usize::from_row(rt, input)?),
+        "tracked" => tracked(rt, done(rt, input.parse())?),
         _ => plain(rt, call, input),
     }
 }
@@ -40,40 +43,9 @@ impl FromRow for MaxFail {
     }
 }
 
-/// Writes a refusal by its name.
-impl FromRow for MaxFailParseError {
+impl FromRow for TerminateMode {
     fn from_row(rt: &Runner, text: &str) -> Result<Self, Failure> {
-        let (name, text) = word(text);
-        match name {
-            "Mode" => Ok(MaxFailParseError::Mode {
-                text: copied(rt, text)?,
-            }),
-            "Count" => count(rt, text),
-            "NotPositive" => Ok(MaxFailParseError::NotPositive),
-            "Memory" => Ok(MaxFailParseError::Memory),
-            _ => unknown(rt, name),
-        }
-    }
-}
-
-// The refusal of a count, for a reason.
-fn count(rt: &Runner, text: &str) -> Result<MaxFailParseError, Failure> {
-    let (reason, text) = word(text);
-    Ok(MaxFailParseError::Count {
-        text: copied(rt, text)?,
-        reason: CountFault::from_row(rt, reason)?,
-    })
-}
-
-impl FromRow for CountFault {
-    fn from_row(rt: &Runner, text: &str) -> Result<Self, Failure> {
-        match text {
-            "Empty" => Ok(CountFault::Empty),
-            "InvalidDigit" => Ok(CountFault::InvalidDigit),
-            "TooLarge" => Ok(CountFault::TooLarge),
-            "TooSmall" => Ok(CountFault::TooSmall),
-            _ => unknown(rt, text),
-        }
+        done(rt, TerminateMode::from_str(rt.alloc(), text))
     }
 }
 
@@ -124,12 +96,25 @@ impl FromRow for TestPriority {
     }
 }
 
-impl FromRow for TestPriorityOutOfRange {
-    fn from_row(rt: &Runner, text: &str) -> Result<Self, Failure> {
-        Ok(TestPriorityOutOfRange {
-            priority: i8::from_row(rt, text)?,
-        })
+fn sorted(rt: &Runner, input: &str) -> Result<String, Failure> {
+    let mut priorities = Vec::new(rt.alloc());
+    for number in input.split_whitespace() {
+        done(rt, priorities.push(TestPriority::from_row(rt, number)?))?;
     }
+    done(rt, priorities.sort())?;
+    written(rt, priorities)
+}
+
+fn counted(rt: &Runner, count: usize) -> Result<String, Failure> {
+    rt.begin();
+    written(rt, NonZeroCount::new(count).map(NonZeroCount::get))
+}
+
+fn tracked(rt: &Runner, value: u32) -> Result<String, Failure> {
+    rt.begin();
+    let default = TrackDefault::with_default_value(value);
+    let read = TrackDefault::with_deserialized_value(value);
+    written(rt, [default, read])
 }
 
 // Values that no text writes.
@@ -137,10 +122,8 @@ fn plain(rt: &Runner, call: &str, name: &str) -> Result<String, Failure> {
     match name {
         "true" | "false" => fail_fast(rt, name == "true"),
         "SlowTimeout::very_large" => very_large(rt),
-        "LeakTimeout::default" => default::<LeakTimeout>(rt),
         "RetryPolicy::default" => default_policy(rt),
         "RetryPolicy::new_without_delay" => policy_without_delay(rt),
-        "TestPriority::default" => default::<TestPriority>(rt),
         _ => unknown(rt, call),
     }
 }

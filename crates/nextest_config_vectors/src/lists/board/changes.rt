@@ -1,21 +1,15 @@
 //! A board that is changed by a rule, beside the list of the sources that it holds.
 
-ghost use Rattle.std.specs.Prelude.{◌<◌};
-
-use super::commands::{board_of, run};
+use super::commands::run;
 use crate::answers::{compare, copied, done, push, unknown, written};
 use crate::failure::Failure;
 use crate::lists::asked::lists;
 use crate::runner::Runner;
-use crate::values::word;
 use nextest_config::board::ConfigBoard;
 
 const CHANGES: usize = 200;
 
 const SLOTS: usize = 5;
-
-// How many choices a change of each slot takes.
-const HALVINGS: [usize; SLOTS] = [2, 2, 2, 3, 3];
 
 // What a slot is to hold, `@` being the number that the rule gives. An empty text is a withdrawal,
 // and the last text is refused.
@@ -43,12 +37,11 @@ pub fn changes(rt: &Runner, _call: &str, versions: &str) -> Result<String, Failu
     copied(rt, "as its list")
 }
 
-// A board, what each of its slots holds, and how many choices the last change took.
+// A board, and what each of its slots holds.
 #[derive(Drop)]
 struct Followed {
     board: ConfigBoard,
     sources: Vec<String>,
-    selections: usize,
 }
 
 fn new_board(rt: &Runner) -> Result<Followed, Failure> {
@@ -57,9 +50,8 @@ fn new_board(rt: &Runner) -> Result<Followed, Failure> {
         done(rt, sources.push(copied(rt, "")?))?;
     }
     Ok(Followed {
-        board: board_of(rt, SLOTS)?,
+        board: done(rt, ConfigBoard::new(rt.alloc(), SLOTS))?,
         sources,
-        selections: 0,
     })
 }
 
@@ -80,16 +72,13 @@ fn change(rt: &Runner, followed: &mut Followed, number: usize) -> Result<(), Fai
     let slot = number % SLOTS;
     let source = source_of(rt, number)?;
     let command = command_of(rt, slot, source.as_str())?;
-    let (call, rest) = word(command.as_str());
-    let answer = run(rt, &mut followed.board, call, rest)?;
+    let answer = run(rt, &mut followed.board, command.as_str())?;
     if source.ends_with("x =") {
         let refusal = refusal_of(rt, number)?;
-        compare(rt, answer.as_str(), refusal.as_str())?;
-        Ok(())
+        compare(rt, answer.as_str(), refusal.as_str())
     } else {
         compare(rt, answer.as_str(), "done")?;
-        hold(rt, followed, slot, source)?;
-        Ok(())
+        hold(rt, followed, slot, source)
     }
 }
 
@@ -102,14 +91,11 @@ fn command_of(rt: &Runner, slot: usize, source: &str) -> Result<String, Failure>
 }
 
 fn refusal_of(rt: &Runner, number: usize) -> Result<String, Failure> {
-    let refusal = format!(in rt.alloc(); "Refused: repository {number}.toml: not a TOML document");
+    let refusal = format!(in rt.alloc(); "repository {number}.toml: not a TOML document");
     done(rt, refusal)
 }
 
-fn hold(rt: &Runner, followed: &mut Followed, slot: usize, source: String) -> Result<(), Failure>
-    requires { slot < 5 }
-{
-    followed.selections = HALVINGS[slot];
+fn hold(rt: &Runner, followed: &mut Followed, slot: usize, source: String) -> Result<(), Failure> {
     if slot >= followed.sources.len() {
         return unknown(rt, source.as_str());
     }
@@ -117,13 +103,9 @@ fn hold(rt: &Runner, followed: &mut Followed, slot: usize, source: String) -> Re
     Ok(())
 }
 
-// Fails where the board tells another verdict than the list of its sources, or other
-// choices than its last change took.
+// Fails where the board tells another verdict than the list of its sources.
 fn compare_all(rt: &Runner, followed: &mut Followed, versions: &str) -> Result<(), Failure> {
     let list = listed(rt, &followed.sources)?;
-    let answer = run(rt, &mut followed.board, "selections", "")?;
-    let wanted = written(rt, followed.selections)?;
-    compare(rt, answer.as_str(), wanted.as_str())?;
     for version in versions.split(" && ") {
         compare_verdict(rt, &mut followed.board, list.as_str(), version)?;
     }
@@ -136,10 +118,10 @@ fn compare_verdict(
     list: &str,
     version: &str,
 ) -> Result<(), Failure> {
-    let answer = run(rt, board, "eval", version)?;
+    let command = format!(in rt.alloc(); "eval {version}");
+    let answer = run(rt, board, done(rt, command)?.as_str())?;
     let wanted = lists(rt, version, list)?;
-    compare(rt, answer.as_str(), wanted.as_str())?;
-    Ok(())
+    compare(rt, answer.as_str(), wanted.as_str())
 }
 
 // The sources as a row writes them, which leaves out empty ones.
