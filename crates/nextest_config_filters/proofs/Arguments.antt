@@ -1,15 +1,15 @@
 -- Arguments of predicates.
-use Rattle.std.proofs.Common.{◌≡◌, ◌≢◌, ℕ, ◌+◌, ◌-◌, Bool, true, false, List, [], ◌∷◌, ◌++◌, length, take, drop, nat_eq, refl, sym, ap, ◌∙◌, inl, inr, arith, append_assoc, length-append}
-use Rattle.std.specs.Prelude.{◌==◌, ◌&&◌, ◌||◌, codes, encode_utf8_all}
+use Rattle.std.proofs.Common.{◌≡◌, ◌≢◌, ℕ, ◌+◌, ◌-◌, Bool, true, false, List, [], ◌∷◌, ◌++◌, length, take, drop, nat_eq, refl, sym, ap, subst, ◌∙◌, inl, inr, arith, append_assoc, length-append}
+use Rattle.std.specs.Prelude.{◌==◌, ◌&&◌, ◌||◌, ◌⊎◌, codes, encode_utf8_all}
 use Rattle.std.proofs.Math.Seq.{take-append_seam}
 use Rattle.std.proofs.lemmas.Bool.{cases_Bool}
 use Rattle.std.specs.Char.{is_whitespace}
 use Rattle.std.specs.Str.{chars, drop_trailing_whitespace as without_spaces_behind}
-use Rattle.toml_spans.specs.Characters.{backslash}
+use Rattle.toml_spans.specs.Characters.{backslash, slash}
 use Rattle.nextest_config_filters.specs.Argument.{closed_text, is_no_platform, read_nothing, text_front}
 use Rattle.nextest_config_filters.specs.Escape.{is_unknown_escape}
-use Rattle.nextest_config_filters.specs.Front.{closing, comma, IsFront, IsRest}
-use Rattle.nextest_config_filters.specs.Pieces.{has_before_end, is_opening, text_end}
+use Rattle.nextest_config_filters.specs.Front.{begins, closing, comma, IsFront, IsRest}
+use Rattle.nextest_config_filters.specs.Pieces.{has_before_end, is_opening, regex_end, text_end}
 use Rattle.nextest_config_filters.specs.Told.{goes_on, tells, told_at, unjudged}
 use Rattle.nextest_config_filters.specs.declared.fault.Expected.TheVariants as expect
 use Rattle.nextest_config_filters.specs.declared.told.Expects.TheVariants.{Operator}
@@ -114,3 +114,53 @@ module _ (predicate : Predicate) (cs rest argument : List ℕ) (is : argument �
   pub closed_rightly : is_no_platform predicate argument ≡ false → has_before_end is_opening cs ≡ false
       → closed_text predicate cs rest ≡ goes_on Operator rest
   closed_rightly fine none = rw (sym is, fine, none) refl
+
+pub regex_end_rest : (cs : List ℕ) → IsRest cs (regex_end cs)
+regex_end_rest [] = ([], refl)
+regex_end_rest (c ∷ []) = elim (cases_Bool (c == slash)) [
+  | inl ends ↦ rw ends ([], refl)
+  | inr other ↦ rw other (c ∷ [], refl)
+]
+regex_end_rest (c ∷ d ∷ cs) =
+    let behind_pair = regex_end_rest cs in
+    let behind_one = regex_end_rest (d ∷ cs) in
+    elim (cases_Bool (c == backslash)) [
+      | inl escapes ↦ elim (cases_Bool (d == backslash && begins slash cs)) [
+        | inl unclear ↦ rw (escapes, unclear) ([], refl)
+        | inr pair ↦ rw (escapes, pair) (c ∷ d ∷ behind_pair.0, ap (λ rest. c ∷ d ∷ rest) behind_pair.1)
+      ]
+      | inr plain ↦ elim (cases_Bool (c == slash)) [
+        | inl ends ↦ rw (plain, ends) ([], refl)
+        | inr other ↦ rw (plain, other) (c ∷ behind_one.0, ap (λ rest. c ∷ rest) behind_one.1)
+      ]
+    ]
+
+-- a text ends at a backslash, or at one of two characters
+abbrev pub IsEnding : ℕ → Type 0
+IsEnding c = ((c == backslash) ≡ true) ⊎ ((c == closing || c == comma) ≡ true)
+
+pub text_ends_at : (cs : List ℕ) (c : ℕ) (rest : List ℕ) → text_end cs ≡ c ∷ rest → IsEnding c
+text_ends_at [] c rest is = cc is
+text_ends_at (b ∷ []) c rest is = elim (cases_Bool (b == closing || b == comma)) [
+  | inl ends ↦ let first : b ∷ [] ≡ c ∷ rest = rw ends at is in
+      let same : b ≡ c = cc first in
+      inr (subst (λ e. (e == closing || e == comma) ≡ true) same ends)
+  | inr other ↦ let none : [] ≡ c ∷ rest = rw other at is in cc none
+]
+text_ends_at (b ∷ d ∷ cs) c rest is =
+    let behind_pair = text_ends_at cs c rest in
+    let behind_one = text_ends_at (d ∷ cs) c rest in
+    elim (cases_Bool (b == backslash)) [
+      | inl escapes ↦ elim (cases_Bool (is_unknown_escape d cs)) [
+        | inl unknown ↦ let first : b ∷ d ∷ cs ≡ c ∷ rest = rw (escapes, unknown) at is in
+            let same : b ≡ c = cc first in
+            inl (subst (λ e. (e == backslash) ≡ true) same escapes)
+        | inr known ↦ behind_pair (rw (escapes, known) at is)
+      ]
+      | inr plain ↦ elim (cases_Bool (b == closing || b == comma)) [
+        | inl ends ↦ let first : b ∷ d ∷ cs ≡ c ∷ rest = rw (plain, ends) at is in
+            let same : b ≡ c = cc first in
+            inr (subst (λ e. (e == closing || e == comma) ≡ true) same ends)
+        | inr other ↦ behind_one (rw (plain, other) at is)
+      ]
+    ]

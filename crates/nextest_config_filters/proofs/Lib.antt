@@ -5,3 +5,4 @@ pub mod Predicates
 pub mod Readings
 pub mod Steps
 pub mod TextEnds
+pub mod Walks

@@ -70,14 +70,18 @@ IsTold place cs told = IsToldBehind place (behind_spaces cs) cs told
 abbrev pub bytes_of : List ℕ → ℕ
 bytes_of cs = length (encode_utf8_all cs)
 
--- the text has this fault: its range are the bytes of what is told, with what may be meant
-pub record IsFilterFault (place : FilterPlace) (text : List ℕ) (fault : Fault) : Type 0 where
-  pub told : Told
+-- the fault is what is told: its range are the bytes of that, with what may be meant
+pub record IsFaultOf (text : List ℕ) (told : Told) (fault : Fault) : Type 0 where
   pub front : List ℕ
-  pub is_told : IsTold place (chars text) told
   pub whole : chars text ≡ front ++ (told.what ++ told.behind)
   pub begin : fault.begin ≡ bytes_of front
   pub end : fault.end ≡ bytes_of (front ++ told.what)
   pub flaw : fault.kind.flaw ≡ told.flaw
   pub found : fault.kind.found ≡ encode_utf8_all told.found
-  pub hint : IsHint text told.flaw fault.kind.found fault.kind.hint
+  pub hint : IsHint text told.flaw (encode_utf8_all told.found) fault.kind.hint
+
+-- the text has this fault: some front of it leads to a state in which that is told
+pub record IsFilterFault (place : FilterPlace) (text : List ℕ) (fault : Fault) : Type 0 where
+  pub told : Told
+  pub is_told : IsTold place (chars text) told
+  pub is_fault : IsFaultOf text told fault

@@ -1,8 +1,10 @@
 //! What is wrong with a filter.
 
-ghost use Rattle.std.specs.Prelude.{◌≡◌, IfOk, IsOk, MatchOption, chars};
+ghost use Rattle.std.specs.Prelude.{◌++◌, IfOk, IsOk, MatchOption, chars};
 ghost use Rattle.nextest_config_filters.specs.Fault.{Fault, fault_of};
-ghost use Rattle.nextest_config_filters.specs.Filter.{IsFilterFault, IsTold};
+ghost use Rattle.nextest_config_filters.specs.Filter.{IsFaultOf, IsFilterFault, IsTold};
+ghost use Rattle.nextest_config_filters.specs.Front.{IsRest};
+ghost use Rattle.nextest_config_filters.specs.Told.{Told as ToldOf, told_view};
 
 use crate::fault::{FilterFlaw, TextFault, TextFaultKind};
 use crate::front::behind_spaces;
@@ -25,7 +27,14 @@ pub fn filter_fault(
     alloc: Global,
     text: &str,
     place: FilterPlace,
-) -> Result<Option<TextFault>, AllocError> {
+) -> Result<Option<TextFault>, AllocError>
+    // The fault is told that the filter has, and none where it has none.
+    ensures found { IfOk result (λ found.
+        MatchOption found ((fault : Fault) → ¬ IsFilterFault place text.now fault)
+        (λ own. IsFilterFault place text.now (fault_of own))) }
+    // Where nothing is told, no memory is asked for.
+    ensures no_memory { ((told : ToldOf) → ¬ IsTold place (chars text.now) told) → IsOk result }
+{
     match told(place, text) {
         Some(told) => Ok(Some(hinted(alloc, text, &told)?)),
         None => Ok(None),
@@ -33,7 +42,10 @@ pub fn filter_fault(
 }
 
 // What is told of a text, before its hint.
-fn told(place: FilterPlace, text: &str) -> Option<Told<'_>> {
+fn told(place: FilterPlace, text: &str) -> Option<Told<'_>>
+    ensures { MatchOption result ((told : ToldOf) → ¬ IsTold place (chars text.now) told)
+        (λ own. IsTold place (chars text.now) (told_view own)) }
+{
     if behind_spaces(text).is_empty() {
         return Some(told_at(text, "", FilterFlaw::Empty));
     }
@@ -41,12 +53,16 @@ fn told(place: FilterPlace, text: &str) -> Option<Told<'_>> {
 }
 
 // What is told of a text, with what may be meant.
-fn hinted(alloc: Global, text: &str, told: &Told<'_>) -> Result<TextFault, AllocError> {
+fn hinted(alloc: Global, text: &str, told: &Told<'_>) -> Result<TextFault, AllocError>
+    requires { IsRest (chars text.now) (chars told.now.what.now ++ chars told.now.behind.now) }
+    ensures { IfOk result (λ own. IsFaultOf text.now (told_view told.now) (fault_of own)) }
+{
     let hint = hint_of(alloc, text, told.flaw, told.found)?;
     let found = String::from_str(alloc, told.found)?;
     let end = text.len() - told.behind.len();
+    let begin = end - told.what.len();
     Ok(TextFault {
-        begin: end - told.what.len(),
+        begin,
         end,
         kind: TextFaultKind::Filter {
             flaw: told.flaw,
