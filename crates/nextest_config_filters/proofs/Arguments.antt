@@ -42,7 +42,7 @@ plain_target = record { chars_same = target_chars; bytes_same = target_bytes }
 -- some argument of a predicate that takes none is told
 pub read_something : (predicate : Predicate) (argument cs rest : List ℕ) → argument ≢ []
     → read_nothing predicate argument cs rest
-        ≡ tells (told_at argument (drop (length argument) cs) (flaws.UnwantedArgument predicate))
+    ≡ tells (told_at argument (drop (length argument) cs) (flaws.UnwantedArgument predicate))
 read_something predicate [] cs rest some = absurd (some refl)
 read_something predicate (c ∷ argument) cs rest some = refl
 
@@ -104,7 +104,7 @@ front_without_spaces cs front rest whole =
 module _ (predicate : Predicate) (cs rest argument : List ℕ) (is : argument ≡ without_spaces_behind (text_front cs)) where
   pub closed_no_platform : is_no_platform predicate argument ≡ true
       → closed_text predicate cs rest
-          ≡ tells (told_at argument (drop (length argument) cs) (flaws.Unexpected expect.HostOrTarget))
+      ≡ tells (told_at argument (drop (length argument) cs) (flaws.Unexpected expect.HostOrTarget))
   closed_no_platform refused = rw (sym is, refused) refl
 
   pub closed_unjudged : is_no_platform predicate argument ≡ false → has_before_end is_opening cs ≡ true

@@ -2,6 +2,7 @@ pub mod Arguments
 pub mod Characters
 pub mod Fronts
 pub mod Predicates
+pub mod Ranges
 pub mod Readings
 pub mod Steps
 pub mod TextEnds

@@ -136,7 +136,7 @@ module _ (predicate : Predicate) (opened : List ℕ) where
       either (opening ∷ opened) (c == closing) (goes_on Operator cs) (unexpected expect.ClosingOfRegex (c ∷ cs))
       (past (opening ∷ opened) cs c (inside (c ∷ cs) is))
       (leaves_within (opening ∷ opened) (c ∷ cs) (unexpected expect.ClosingOfRegex (c ∷ cs)) (inside (c ∷ cs) is)
-        (leaves_unexpected expect.ClosingOfRegex (c ∷ cs)))
+      (leaves_unexpected expect.ClosingOfRegex (c ∷ cs)))
 
   leaves_regex : (cs end : List ℕ) → IsRest opened (slash ∷ cs) → IsRest cs end
       → Leaves (opening ∷ opened) (ended_regex opened cs end)
@@ -144,10 +144,10 @@ module _ (predicate : Predicate) (opened : List ℕ) where
   leaves_regex cs (c ∷ rest) is end_in =
       either (opening ∷ opened) (c == backslash) unjudged (behind_regex opened (behind_spaces rest)) tt
       (leaves_behind_regex (behind_spaces rest)
-        (rest_within opened (slash ∷ cs) (behind_spaces rest) is
-          (rest_within (slash ∷ cs) cs (behind_spaces rest) (one_in slash cs)
-            (rest_within cs (c ∷ rest) (behind_spaces rest) end_in
-              (rest_within (c ∷ rest) rest (behind_spaces rest) (one_in c rest) (spaces_in rest))))))
+      (rest_within opened (slash ∷ cs) (behind_spaces rest) is
+      (rest_within (slash ∷ cs) cs (behind_spaces rest) (one_in slash cs)
+      (rest_within cs (c ∷ rest) (behind_spaces rest) end_in
+      (rest_within (c ∷ rest) rest (behind_spaces rest) (one_in c rest) (spaces_in rest))))))
 
   -- a text
   leaves_escape : (cs : List ℕ) → IsRest opened (backslash ∷ cs) → Leaves (opening ∷ opened) (unknown_escape cs)
@@ -163,9 +163,9 @@ module _ (predicate : Predicate) (opened : List ℕ) where
       (tells (told_at argument (drop (length argument) cs) (flaws.Unexpected expect.HostOrTarget)))
       (if has_before_end is_opening cs then unjudged else goes_on Operator rest)
       (inside (argument ++ drop (length argument) cs)
-        (rest_within opened cs (argument ++ drop (length argument) cs) is ([], front_dropped argument cs front)))
+      (rest_within opened cs (argument ++ drop (length argument) cs) is ([], front_dropped argument cs front)))
       (either (opening ∷ opened) (has_before_end is_opening cs) unjudged (goes_on Operator rest) tt
-        (past (opening ∷ opened) rest c (inside (c ∷ rest) (rest_within opened cs (c ∷ rest) is end_in))))
+      (past (opening ∷ opened) rest c (inside (c ∷ rest) (rest_within opened cs (c ∷ rest) is end_in))))
 
   leaves_comma : (in_part : Bool) (rest : List ℕ) → IsRest opened (comma ∷ rest)
       → Leaves (opening ∷ opened) (second_argument predicate in_part rest)
@@ -186,10 +186,10 @@ module _ (predicate : Predicate) (opened : List ℕ) where
       (if c == closing then closed_text predicate cs rest else second_argument predicate in_part rest)
       (λ escapes. leaves_escape rest (subst (λ e. IsRest opened (e ∷ rest)) (eqb-true c backslash escapes) here))
       (λ no_backslash. by_test (opening ∷ opened) (c == closing) (closed_text predicate cs rest)
-        (second_argument predicate in_part rest)
-        (λ closes. leaves_closed cs rest c is end_in)
-        (λ no_closing. leaves_comma in_part rest
-          (subst (λ e. IsRest opened (e ∷ rest)) (at_comma c ending no_backslash no_closing) here)))
+      (second_argument predicate in_part rest)
+      (λ closes. leaves_closed cs rest c is end_in)
+      (λ no_closing. leaves_comma in_part rest
+      (subst (λ e. IsRest opened (e ∷ rest)) (at_comma c ending no_backslash no_closing) here)))
 
   leaves_ended : (cs end : List ℕ) → IsRest opened cs → text_end cs ≡ end
       → Leaves (opening ∷ opened) (ended_text predicate opened cs end)
@@ -203,8 +203,8 @@ module _ (predicate : Predicate) (opened : List ℕ) where
       by_test (opening ∷ opened) (begins slash cs && takes_regex predicate) (read_regex opened (without_first cs))
       (read_text predicate opened cs)
       (λ regex. leaves_regex (without_first cs) (regex_end (without_first cs))
-        (subst (IsRest opened) (begun slash cs (first_true (begins slash cs) (takes_regex predicate) regex)) is)
-        (regex_end_rest (without_first cs)))
+      (subst (IsRest opened) (begun slash cs (first_true (begins slash cs) (takes_regex predicate) regex)) is)
+      (regex_end_rest (without_first cs)))
       (λ text. leaves_ended cs (text_end cs) is refl)
 
   leaves_some : Leaves (opening ∷ opened) (read_some_argument predicate opened)
@@ -213,10 +213,10 @@ module _ (predicate : Predicate) (opened : List ℕ) where
       by_test (opening ∷ opened) (begins closing opened)
       (tells (told_at (opening ∷ closing ∷ []) (without_first opened) (flaws.NoArgument predicate)))
       (if not (only_blanks opened) && (begins slash cs || begins number_sign cs) then unjudged
-        else read_begun predicate opened cs)
+      else read_begun predicate opened cs)
       (λ closed. ([], ap (λ r. opening ∷ r) (begun closing opened closed)))
       (λ other. either (opening ∷ opened) (not (only_blanks opened) && (begins slash cs || begins number_sign cs)) unjudged
-        (read_begun predicate opened cs) tt (leaves_begun cs (spaces_in opened)))
+      (read_begun predicate opened cs) tt (leaves_begun cs (spaces_in opened)))
 
   pub leaves_argument : Leaves (opening ∷ opened) (read_argument predicate opened)
   unfolding read_argument
@@ -232,11 +232,11 @@ leaves_named place predicate name rest text is =
     by_test (name ++ rest) (begins opening text) (read_opened place predicate name rest (without_first text))
     (tells (record { what = name; behind = rest; flaw = flaws.Unexpected (expect.Opening predicate); found = standing text }))
     (λ opens. either (name ++ rest) (asks_for_itself place predicate) (tells (told_at name rest flaws.AsksForItself))
-      (read_argument predicate (without_first text)) ([], refl)
-      (leaves_within (name ++ rest) (opening ∷ without_first text) (read_argument predicate (without_first text))
-        (rest_within (name ++ rest) rest (opening ∷ without_first text) (name, refl)
-          (subst (IsRest rest) (begun opening text opens) is))
-        (leaves_argument predicate (without_first text))))
+    (read_argument predicate (without_first text)) ([], refl)
+    (leaves_within (name ++ rest) (opening ∷ without_first text) (read_argument predicate (without_first text))
+    (rest_within (name ++ rest) rest (opening ∷ without_first text) (name, refl)
+    (subst (IsRest rest) (begun opening text opens) is))
+    (leaves_argument predicate (without_first text))))
     (λ other. ([], refl))
 
 pub nots_in : (cs : List ℕ) → IsRest cs (behind_nots cs)
@@ -268,7 +268,7 @@ leaves_unnamed : (cs : List ℕ) (following : Option (List ℕ)) → joined_behi
 leaves_unnamed cs None is = ([], sym (run_whole in_word cs))
 leaves_unnamed cs (Some rest) is =
     let left : IsRest cs rest × (length rest < length cs) =
-        past cs rest 116 (110 ∷ 111 ∷ [], joined_in (codes "not") cs rest is) in
+    past cs rest 116 (110 ∷ 111 ∷ [], joined_in (codes "not") cs rest is) in
     let fits = rest_fits rest (behind_nots rest) (nots_in rest) in
     (rest_within cs rest (behind_nots rest) left.0 (nots_in rest), omega (arith, left.1))
 
@@ -288,16 +288,16 @@ leaves_operand place [] = ([], refl)
 leaves_operand place (c ∷ cs) =
     either (c ∷ cs) (begins_word c) (read_word place (c ∷ cs))
     (if c == exclamation_mark then goes_on Operand cs else if c == opening then opens cs
-      else if c == number_sign then unjudged else unexpected expect.Expression (c ∷ cs))
+    else if c == number_sign then unjudged else unexpected expect.Expression (c ∷ cs))
     (leaves_word_as place (predicate_named (run in_word (c ∷ cs))) (c ∷ cs))
     (either (c ∷ cs) (c == exclamation_mark) (goes_on Operand cs)
-      (if c == opening then opens cs else if c == number_sign then unjudged else unexpected expect.Expression (c ∷ cs))
-      (past (c ∷ cs) cs c ([], refl))
-      (by_test (c ∷ cs) (c == opening) (opens cs)
-        (if c == number_sign then unjudged else unexpected expect.Expression (c ∷ cs))
-        (λ is. ([], ap (λ d. d ∷ cs) (eqb-true c opening is)))
-        (λ other. either (c ∷ cs) (c == number_sign) unjudged (unexpected expect.Expression (c ∷ cs)) tt
-          (leaves_unexpected expect.Expression (c ∷ cs)))))
+    (if c == opening then opens cs else if c == number_sign then unjudged else unexpected expect.Expression (c ∷ cs))
+    (past (c ∷ cs) cs c ([], refl))
+    (by_test (c ∷ cs) (c == opening) (opens cs)
+    (if c == number_sign then unjudged else unexpected expect.Expression (c ∷ cs))
+    (λ is. ([], ap (λ d. d ∷ cs) (eqb-true c opening is)))
+    (λ other. either (c ∷ cs) (c == number_sign) unjudged (unexpected expect.Expression (c ∷ cs)) tt
+    (leaves_unexpected expect.Expression (c ∷ cs)))))
 
 leaves_joined : (cs : List ℕ) (behind_and behind_or : Option (List ℕ)) → joined_behind (codes "and") cs ≡ behind_and
     → joined_behind (codes "or") cs ≡ behind_or → Leaves cs (read_joined behind_and behind_or cs)
@@ -313,10 +313,10 @@ leaves_sign c cs =
     (if c == closing then closes cs else if c == number_sign then unjudged else unexpected expect.Operator (c ∷ cs))
     (past (c ∷ cs) cs c ([], refl))
     (by_test (c ∷ cs) (c == closing) (closes cs)
-      (if c == number_sign then unjudged else unexpected expect.Operator (c ∷ cs))
-      (λ is. ([], ap (λ d. d ∷ cs) (eqb-true c closing is)))
-      (λ other. either (c ∷ cs) (c == number_sign) unjudged (unexpected expect.Operator (c ∷ cs)) tt
-        (leaves_unexpected expect.Operator (c ∷ cs))))
+    (if c == number_sign then unjudged else unexpected expect.Operator (c ∷ cs))
+    (λ is. ([], ap (λ d. d ∷ cs) (eqb-true c closing is)))
+    (λ other. either (c ∷ cs) (c == number_sign) unjudged (unexpected expect.Operator (c ∷ cs)) tt
+    (leaves_unexpected expect.Operator (c ∷ cs))))
 
 leaves_operator : (cs : List ℕ) → Leaves cs (read_operator cs)
 leaves_operator [] = tt

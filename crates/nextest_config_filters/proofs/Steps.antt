@@ -1,12 +1,15 @@
 -- Steps of a walk.
 use Rattle.std.proofs.Common.{◌≡◌, ◌≢◌, ℕ, suc, ◌+◌, ◌<◌, ◌≤◌, Bool, true, false, List, [], ◌∷◌, ◌++◌, length, Option, Some, None, nat_eq, refl, sym, ap, ◌∙◌, subst, inl, inr, arith, append-nil}
-use Rattle.std.specs.Prelude.{◌==◌, ◌⊎◌}
+use Rattle.std.specs.Prelude.{MatchOption, option_map}
 use Rattle.nextest_config_filters.specs.Filter.{IsTold, IsToldBehind, IsToldFrom, Leads, next, next_of, start, State, stays, steps, told_in, told_of}
 use Rattle.std.specs.List.{AllByRecursion}
 use Rattle.std.specs.Str.{skip_leading_whitespace as behind_spaces}
 use Rattle.nextest_config_filters.specs.Front.{closing, IsRest, opening}
 use Rattle.nextest_config_filters.specs.Reading.{reading_at}
-use Rattle.nextest_config_filters.specs.Told.{closes, ends, goes_on, not_closed, not_open, opens, Reading, tells, Told, unjudged}
+use Rattle.nextest_config_filters.specs.Told.{closes, ends, goes_on, not_closed, not_open, opens, Reading, tells, Told, told_at, told_view, unjudged}
+use Rattle.nextest_config_filters.specs.Walk.{IsWalked}
+use Rattle.nextest_config_filters.specs.declared.fault.FilterFlaw.TheVariants as flaws
+use Rattle.nextest_config_filters.specs.declared.told.Told.{Told as OwnTold}
 use Rattle.nextest_config_filters.specs.declared.told.Expects.{Expects}
 use Rattle.nextest_config_filters.specs.declared.told.Expects.TheVariants.{Operand, Operator}
 use Rattle.nextest_config_filters.proofs.Readings.{Leaves, leaves_rest, past, rest_within}
@@ -56,28 +59,37 @@ module _ (cs : List ℕ) (expects : Expects) (rest : List ℕ) where
       → next_of reading open_ones ≡ Some over → IsWithin cs over × (length over.rest < length rest)
   after_reading (goes_on further left) open_ones over within leaves is =
       let same : over ≡ record { expects = further; open_ones = open_ones; rest = left } = cc is in
-      rw same (record {
-        rest = rest_within cs rest left within.rest leaves.0;
-        open_ones = within.open_ones;
-        room = omega (arith, within.room, leaves.1);
-      }, leaves.1)
+      rw same (
+        record {
+          rest = rest_within cs rest left within.rest leaves.0;
+          open_ones = within.open_ones;
+          room = omega (arith, within.room, leaves.1);
+        },
+        leaves.1,
+      )
   after_reading (opens left) open_ones over within leaves is =
       let same : over ≡ record { expects = Operand; open_ones = left ∷ open_ones; rest = left } = cc is in
       let behind = past rest left opening leaves in
-      rw same (record {
-        rest = rest_within cs rest left within.rest behind.0;
-        open_ones = (rest_within cs rest (opening ∷ left) within.rest leaves, within.open_ones);
-        room = omega (arith, within.room, behind.1);
-      }, behind.1)
+      rw same (
+        record {
+          rest = rest_within cs rest left within.rest behind.0;
+          open_ones = (rest_within cs rest (opening ∷ left) within.rest leaves, within.open_ones);
+          room = omega (arith, within.room, behind.1);
+        },
+        behind.1,
+      )
   after_reading (closes left) [] over within leaves is = cc is
   after_reading (closes left) (last ∷ others) over within leaves is =
       let same : over ≡ record { expects = Operator; open_ones = others; rest = left } = cc is in
       let behind = past rest left closing leaves in
-      rw same (record {
-        rest = rest_within cs rest left within.rest behind.0;
-        open_ones = within.open_ones.1;
-        room = omega (arith, within.room, behind.1);
-      }, behind.1)
+      rw same (
+        record {
+          rest = rest_within cs rest left within.rest behind.0;
+          open_ones = within.open_ones.1;
+          room = omega (arith, within.room, behind.1);
+        },
+        behind.1,
+      )
   after_reading ends open_ones over within leaves is = cc is
   after_reading unjudged open_ones over within leaves is = cc is
   after_reading (tells told) open_ones over within leaves is = cc is
@@ -148,3 +160,39 @@ told_once_by place (c ∷ behind) cs told other a b = told_once_from place (star
 pub told_once : (place : FilterPlace) (cs : List ℕ) (told other : Told) → IsTold place cs told → IsTold place cs other
     → told ≡ other
 told_once place cs told other a b = told_once_by place (behind_spaces cs) cs told other a b
+
+-- ---- what a walk tells
+
+from_behind : (place : FilterPlace) (spaceless cs : List ℕ) (told : Told) → spaceless ≢ []
+    → IsToldBehind place spaceless cs told → IsToldFrom place (start cs) told
+from_behind place [] cs told some is = absurd (some refl)
+from_behind place (c ∷ behind) cs told some is = is
+
+to_behind : (place : FilterPlace) (spaceless cs : List ℕ) (told : Told) → spaceless ≢ []
+    → IsToldFrom place (start cs) told → IsToldBehind place spaceless cs told
+to_behind place [] cs told some is = absurd (some refl)
+to_behind place (c ∷ behind) cs told some is = is
+
+-- a text of spaces is told as empty
+pub told_empty : (place : FilterPlace) (cs : List ℕ) (told : Told) → behind_spaces cs ≡ []
+    → told ≡ told_at cs [] flaws.Empty → IsTold place cs told
+told_empty place cs told none is = rw none is
+
+module _ (place : FilterPlace) (cs : List ℕ) (some : behind_spaces cs ≢ []) where
+  pub walked_told : (told : Told) → IsWalked place cs (Some told) → IsTold place cs told
+  walked_told told walked =
+      to_behind place (behind_spaces cs) cs told some
+      (record { state = walked.state; leads = walked.leads; tells = walked.tells })
+
+  pub walked_none : IsWalked place cs None → (told : Told) → ¬ IsTold place cs told
+  walked_none walked told is =
+      let from = from_behind place (behind_spaces cs) cs told some is in
+      let stops = told_stops (reading_at place from.state.expects from.state.rest) from.state.open_ones told from.tells in
+      let same = one_end place (start cs) walked.state from.state walked.leads walked.over from.leads stops in
+      let both : None ≡ Some told = sym walked.tells ∙ ap (told_in place) same ∙ from.tells in
+      cc both
+
+  pub walked_either : (own : Option OwnTold) → IsWalked place cs (option_map told_view own)
+      → MatchOption own ((told : Told) → ¬ IsTold place cs told) (λ told. IsTold place cs (told_view told))
+  walked_either None walked = walked_none walked
+  walked_either (Some own) walked = walked_told (told_view own) walked

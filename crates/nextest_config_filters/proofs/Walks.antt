@@ -48,7 +48,7 @@ pub closing_step : (level : ℕ) (own : OwnState) (open_ones : List (List ℕ)) 
     → ((opened : List ℕ) → at_level level open_ones ≡ Some opened → chars own.last.now ≡ opened)
     → (own.depth ≡ 0 → ⊥)
     → (over : State) × (next_of (closes (chars rest.now)) open_ones ≡ Some over)
-        × Shows level (record { expects = Operator; rest = rest; depth = own.depth - 1; last = own.last }) over
+    × Shows level (record { expects = Operator; rest = rest; depth = own.depth - 1; last = own.last }) over
 closing_step level own [] rest deep of_level some = absurd (some deep)
 closing_step level own (last ∷ others) rest deep of_level some = (
   record { expects = Operator; open_ones = others; rest = chars rest.now },
@@ -81,7 +81,7 @@ pub found_open : (place : FilterPlace) (cs behind : List ℕ) (many level : ℕ)
     → IsWalked place cs (Some (not_closed behind))
 found_open place cs behind many level first left of_level =
     let same = one_end place (start cs) first.state left.state first.leads (end_stops place first.state first.at_end)
-        left.leads (end_stops place left.state left.at_end) in
+    left.leads (end_stops place left.state left.at_end) in
     let deep : level ≡ length left.state.open_ones = first.open_many ∙ ap (λ (s : State). length s.open_ones) same in
     record {
       state = left.state;

@@ -1,6 +1,6 @@
 -- What is told of a filter.
-use Rattle.std.specs.Prelude.{◌≡◌, ℕ, ◌+◌, List, [], ◌∷◌, ◌++◌, chars, encode_utf8_all, length, Option, Some, None}
-use Rattle.std.specs.Str.{skip_leading_whitespace as behind_spaces}
+use Rattle.std.specs.Prelude.{◌≡◌, ℕ, ◌≤◌, List, [], ◌∷◌, ◌++◌, chars, encode_utf8_all, length, Option, Some, None}
+use Rattle.std.specs.Str.{IsCharBoundary, skip_leading_whitespace as behind_spaces}
 use Rattle.nextest_config_filters.specs.Fault.{Fault, Kind}
 use Rattle.nextest_config_filters.specs.Hint.{IsHint}
 use Rattle.nextest_config_filters.specs.Reading.{reading_at}
@@ -85,3 +85,10 @@ pub record IsFilterFault (place : FilterPlace) (text : List ℕ) (fault : Fault)
   pub told : Told
   pub is_told : IsTold place (chars text) told
   pub is_fault : IsFaultOf text told fault
+
+-- the range lies in the text, and its ends at borders of characters
+pub record IsRangeIn (text : List ℕ) (begin end : ℕ) : Type 0 where
+  pub in_order : begin ≤ end
+  pub fits : end ≤ length text
+  pub begins_character : IsCharBoundary text begin
+  pub ends_character : IsCharBoundary text end

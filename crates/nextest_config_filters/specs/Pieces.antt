@@ -63,7 +63,6 @@ regex_end (c ∷ d ∷ cs) =
     else if c == slash then c ∷ d ∷ cs
     else regex_end (d ∷ cs)
 
-
 -- the rest stands behind a piece of a regular expression
 pub record IsRegexPiece (cs rest : List ℕ) : Type 0 where
   pub shorter : length rest < length cs

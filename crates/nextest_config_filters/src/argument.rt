@@ -57,11 +57,7 @@ fn read_nothing<'a>(
         return Reading::GoesOn(Expects::Operator, rest);
     }
     let (argument, behind) = split_front(text, argument);
-    Reading::Tells(told_at(
-        argument,
-        behind,
-        FilterFlaw::UnwantedArgument(predicate),
-    ))
+    Reading::Tells(told_at(argument, behind, FilterFlaw::UnwantedArgument(predicate)))
 }
 
 // Reads a text or a regular expression.

@@ -1,8 +1,8 @@
 //! What is wrong with a filter.
 
-ghost use Rattle.std.specs.Prelude.{◌++◌, IfOk, IsOk, MatchOption, chars};
+ghost use Rattle.std.specs.Prelude.{◌≡◌, ◌++◌, IfOk, IsOk, MatchOption, chars, encode_utf8_all, string_bytes};
 ghost use Rattle.nextest_config_filters.specs.Fault.{Fault, fault_of};
-ghost use Rattle.nextest_config_filters.specs.Filter.{IsFaultOf, IsFilterFault, IsTold};
+ghost use Rattle.nextest_config_filters.specs.Filter.{bytes_of, IsFaultOf, IsFilterFault, IsTold};
 ghost use Rattle.nextest_config_filters.specs.Front.{IsRest};
 ghost use Rattle.nextest_config_filters.specs.Told.{Told as ToldOf, told_view};
 
@@ -57,10 +57,10 @@ fn hinted(alloc: Global, text: &str, told: &Told<'_>) -> Result<TextFault, Alloc
     requires { IsRest (chars text.now) (chars told.now.what.now ++ chars told.now.behind.now) }
     ensures { IfOk result (λ own. IsFaultOf text.now (told_view told.now) (fault_of own)) }
 {
-    let hint = hint_of(alloc, text, told.flaw, told.found)?;
-    let found = String::from_str(alloc, told.found)?;
-    let end = text.len() - told.behind.len();
-    let begin = end - told.what.len();
+    let found = owned(alloc, told.found)?;
+    let hint = hint_of(alloc, text, told.flaw, found.as_str())?;
+    let end = size(text) - size(told.behind);
+    let begin = end - size(told.what);
     Ok(TextFault {
         begin,
         end,
@@ -70,4 +70,21 @@ fn hinted(alloc: Global, text: &str, told: &Told<'_>) -> Result<TextFault, Alloc
             hint,
         },
     })
+}
+
+// The text as one of its own.
+#[tactic(auto, using(crate::proofs::Characters::utf8_of_chars))]
+fn owned(alloc: Global, text: &str) -> Result<String, AllocError>
+    ensures { IfOk result (λ owned. string_bytes owned ≡ encode_utf8_all (chars text.now)) }
+{
+    let owned = String::from_str(alloc, text)?;
+    Ok(owned)
+}
+
+// How many bytes a text takes.
+#[tactic(auto, using(crate::proofs::Characters::utf8_of_chars))]
+fn size(text: &str) -> usize
+    ensures { result ≡ bytes_of (chars text.now) }
+{
+    text.len()
 }

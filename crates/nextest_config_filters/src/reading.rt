@@ -10,8 +10,8 @@ use crate::argument::read_argument;
 use crate::fault::{Expected, FilterFlaw};
 use crate::filter::FilterPlace;
 use crate::front::{
-    Run, begins, begins_word, behind_spaces, is_doubled, split_first, split_run,
-    split_standing, without_first,
+    Run, begins, begins_word, behind_spaces, is_doubled, split_first, split_run, split_standing,
+    without_first,
 };
 use crate::predicate::{Predicate, behind_nots, joined_behind};
 use crate::told::{Expects, Reading, Told, told_at, unexpected};
@@ -98,7 +98,10 @@ fn read_opened<'a>(
 fn asks_for_itself(place: FilterPlace, predicate: Predicate) -> bool
     ensures { result ≡ asks_for_itself place predicate }
 {
-    matches!((place, predicate), (FilterPlace::DefaultFilter, Predicate::Default))
+    matches!(
+        (place, predicate),
+        (FilterPlace::DefaultFilter, Predicate::Default)
+    )
 }
 
 // A word in place of an expression that is no name, at the front of a text.

@@ -85,7 +85,11 @@ fn next_step<'a>(place: FilterPlace, level: usize, state: State<'a>) -> Step<'a>
         → IsStepBy level (reading_at place now.expects now.rest) now result }
 {
     match reading_at(place, state.expects, state.rest) {
-        Reading::GoesOn(expects, rest) => Step::To(State { expects, rest, ..state }),
+        Reading::GoesOn(expects, rest) => Step::To(State {
+            expects,
+            rest,
+            ..state
+        }),
         Reading::Opens(rest) => Step::To(opened(level, state, rest)),
         Reading::Closes(rest) => closed(state, rest),
         Reading::Ends if state.depth > 0 => Step::Open,

@@ -21,8 +21,12 @@ returns-then-is_no_platform c =
     let cs = chars c.args.text.now in
     let front = c.split_before.ensures.front (text_front cs) (rw c.requires.rest (text_front_whole cs)) in
     let is = c.without_spaces_behind-argument.ensures ∙ ap drop_trailing_whitespace front in
-    rw (closed_no_platform c.args.predicate cs (chars c.args.rest.now) _ is (sym c.is_no_platform.ensures ∙ c.if-is_no_platform.true),
-      c.told_at.ensures, c.split_front.ensures.front, c.split_front.ensures.rest) refl
+    rw (
+      closed_no_platform c.args.predicate cs (chars c.args.rest.now) _ is (sym c.is_no_platform.ensures ∙ c.if-is_no_platform.true),
+      c.told_at.ensures,
+      c.split_front.ensures.front,
+      c.split_front.ensures.rest,
+    ) refl
 
 pub returns-then-end : goal.returns-then-end
 returns-then-end c =

@@ -9,5 +9,5 @@ split_before-requires c =
 pub returns : goal.returns
 returns c =
     let escape = c.split_before.ensures.front (backslash ∷ c.in-Some.c ∷ [])
-        (c.requires ∙ ap (λ rest. backslash ∷ rest) c.in-Some.ensures) in
+    (c.requires ∙ ap (λ rest. backslash ∷ rest) c.in-Some.ensures) in
     rw (c.in-Some.ensures, c.told_at.ensures, escape, c.split_before.ensures.rest, c.escape_flaw.ensures) refl

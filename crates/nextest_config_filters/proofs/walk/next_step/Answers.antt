@@ -11,7 +11,7 @@ pub opened-requires : goal.opened-requires
 opened-requires c =
     let cs = chars c.args.state.rest.now in
     let left = past cs (chars c.in-Opens.rest.now) opening
-        (subst (Leaves cs) (sym c.in-Opens.ensures) (leaves_rest c.args.place c.args.state.expects cs)) in
+    (subst (Leaves cs) (sym c.in-Opens.ensures) (leaves_rest c.args.place c.args.state.expects cs)) in
     omega (arith, left.1, c.requires)
 
 pub returns-in-GoesOn : goal.returns-in-GoesOn
