@@ -1,5 +1,6 @@
 pub mod Arguments
 pub mod Characters
+pub mod Documented
 pub mod Fronts
 pub mod Predicates
 pub mod Ranges

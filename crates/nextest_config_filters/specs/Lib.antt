@@ -3,6 +3,7 @@ pub mod Escape
 pub mod Fault
 pub mod Filter
 pub mod Front
+pub mod Grammar
 pub mod Hint
 pub mod Pieces
 pub mod Predicate
