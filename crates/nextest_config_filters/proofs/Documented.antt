@@ -114,12 +114,12 @@ text_ends pieces tail (an_escape c cs escaped more) =
 text_ends pieces tail (a_code digits cs are more) =
     let rest = cs ++ (closing ∷ tail) in
     let code : (digits ++ (closing_brace ∷ cs)) ++ (closing ∷ tail) ≡ digits ++ (closing_brace ∷ rest) =
-        append_assoc digits (closing_brace ∷ cs) (closing ∷ tail) in
+    append_assoc digits (closing_brace ∷ cs) (closing ∷ tail) in
     rw (code, known_code digits rest are)
     (text_goes_on opening_brace (digits ++ (closing_brace ∷ rest)) brace_plain
-      ∙ digits_go_on digits (closing_brace ∷ rest) are.hexadecimal
-      ∙ text_goes_on closing_brace rest closing_brace_plain
-      ∙ text_ends cs tail more)
+    ∙ digits_go_on digits (closing_brace ∷ rest) are.hexadecimal
+    ∙ text_goes_on closing_brace rest closing_brace_plain
+    ∙ text_ends cs tail more)
 
 -- without spaces at the front they are pieces as well
 pub pieces_behind_spaces : (pieces tail : List ℕ) → ArePieces pieces
@@ -139,7 +139,7 @@ pieces_joined pieces others (a_character c cs plain rest) more = a_character c (
 pieces_joined pieces others (an_escape c cs escaped rest) more = an_escape c (cs ++ others) escaped (pieces_joined cs others rest more)
 pieces_joined pieces others (a_code digits cs are rest) more =
     let code : (digits ++ (closing_brace ∷ cs)) ++ others ≡ digits ++ (closing_brace ∷ (cs ++ others)) =
-        append_assoc digits (closing_brace ∷ cs) others in
+    append_assoc digits (closing_brace ∷ cs) others in
     subst (λ code. ArePieces (backslash ∷ 117 ∷ opening_brace ∷ code)) (sym code)
     (a_code digits (cs ++ others) are (pieces_joined cs others rest more))
 
@@ -211,16 +211,16 @@ some_passes : (predicate : Predicate) (opened tail : List ℕ) → TakesPattern 
 some_passes predicate opened tail takes some end no_regex =
     let cs = behind_spaces opened in
     rw some (either_passes tail (not (only_blanks opened) && (begins slash cs || begins number_sign cs)) unjudged
-      (read_begun predicate opened cs) (λ is. inl refl)
-      (λ judged. either_passes tail (begins slash cs && takes_regex predicate) (read_regex opened (without_first cs))
-        (read_text predicate opened cs)
-        (λ regex. absurd (never (only_blanks opened) (begins slash cs) (begins number_sign cs) (takes_regex predicate) judged regex no_regex))
-        (λ text. text_passes predicate opened cs tail end (takes.free (without_spaces_behind (text_front cs))))))
+    (read_begun predicate opened cs) (λ is. inl refl)
+    (λ judged. either_passes tail (begins slash cs && takes_regex predicate) (read_regex opened (without_first cs))
+    (read_text predicate opened cs)
+    (λ regex. absurd (never (only_blanks opened) (begins slash cs) (begins number_sign cs) (takes_regex predicate) judged regex no_regex))
+    (λ text. text_passes predicate opened cs tail end (takes.free (without_spaces_behind (text_front cs))))))
 
 -- what an unmarked text begins with
 unmarked_start : (c : ℕ) (cs last tail : List ℕ) → (c ≡ slash → ⊥) → is_blank c cs ≡ false → AreBlanks last
     → (only_blanks (c ∷ (cs ++ (last ++ (closing ∷ tail)))) ≡ false)
-        ⊎ (begins slash (behind_spaces (c ∷ (cs ++ (last ++ (closing ∷ tail))))) ≡ false)
+    ⊎ (begins slash (behind_spaces (c ∷ (cs ++ (last ++ (closing ∷ tail))))) ≡ false)
 unmarked_start c [] last tail no_slash unblank blank = elim (cases_Bool (is_whitespace c)) [
   | inl white ↦ inr (rw (white, spaces_behind_blanks last (closing ∷ tail) blank) refl)
   | inr other ↦ inr (rw other (differs slash c (λ same. no_slash (sym same))))
@@ -260,7 +260,7 @@ text_between first argument last first_blank are last_blank =
 
 text_start : (text last tail : List ℕ) → IsText text → AreBlanks last
     → (only_blanks (text ++ (last ++ (closing ∷ tail))) ≡ false)
-        ⊎ (begins slash (behind_spaces (text ++ (last ++ (closing ∷ tail)))) ≡ false)
+    ⊎ (begins slash (behind_spaces (text ++ (last ++ (closing ∷ tail)))) ≡ false)
 text_start text last tail (marked mark c cs (inl equal) are) blank = inr (rw equal refl)
 text_start text last tail (marked mark c cs (inr (inl tilde)) are) blank = inr (rw tilde refl)
 text_start text last tail (marked mark c cs (inr (inr sign)) are) blank = inr (rw sign refl)
@@ -284,15 +284,15 @@ text_argument : (predicate : Predicate) (first text last tail : List ℕ) → Ta
 text_argument predicate first text last tail takes first_blank is last_blank =
     let some = text_some text is in
     let nonempty : first ++ (text ++ last) ≡ [] → ⊥ =
-        λ none. in_middle first some.0 (some.1 ++ last) (sym (ap (λ t. first ++ (t ++ last)) some.2) ∙ none) in
+    λ none. in_middle first some.0 (some.1 ++ last) (sym (ap (λ t. first ++ (t ++ last)) some.2) ∙ none) in
     let whole = regrouped first text last tail in
     let start : (only_blanks (closed_by first text last tail) ≡ false) ⊎ (begins slash (behind_spaces (closed_by first text last tail)) ≡ false) =
-        rw (blanks_before first (text ++ (last ++ (closing ∷ tail))) first_blank, spaces_behind_blanks first (text ++ (last ++ (closing ∷ tail))) first_blank)
-        (text_start text last tail is last_blank) in
+    rw (blanks_before first (text ++ (last ++ (closing ∷ tail))) first_blank, spaces_behind_blanks first (text ++ (last ++ (closing ∷ tail))) first_blank)
+    (text_start text last tail is last_blank) in
     rw whole
     (pieces_pass predicate (first ++ (text ++ last)) tail takes
-      (text_between first text last first_blank (text_pieces text is) last_blank) nonempty
-      (subst (λ cs. (only_blanks cs ≡ false) ⊎ (begins slash (behind_spaces cs) ≡ false)) whole start))
+    (text_between first text last first_blank (text_pieces text is) last_blank) nonempty
+    (subst (λ cs. (only_blanks cs ≡ false) ⊎ (begins slash (behind_spaces cs) ≡ false)) whole start))
 
 -- ---- regular expressions
 
@@ -392,9 +392,9 @@ platform_text word last tail opened is blank =
     let cs = word ++ (last ++ (closing ∷ tail)) in
     let whole : cs ≡ (word ++ last) ++ (closing ∷ tail) = sym (append_assoc word last (closing ∷ tail)) in
     let end : text_end cs ≡ closing ∷ tail =
-        ap text_end whole ∙ text_ends (word ++ last) tail (pieces_joined word last is.pieces (blank_pieces last blank)) in
+    ap text_end whole ∙ text_ends (word ++ last) tail (pieces_joined word last is.pieces (blank_pieces last blank)) in
     let argument : without_spaces_behind (text_front cs) ≡ word =
-        ap without_spaces_behind (front_is cs (word ++ last) (closing ∷ tail) whole end) ∙ is.kept last blank in
+    ap without_spaces_behind (front_is cs (word ++ last) (closing ∷ tail) whole end) ∙ is.kept last blank in
     text_passes predicates.Platform opened cs tail end (ap is_other_word argument ∙ is.known)
 
 platform_argument : (first word last tail : List ℕ) → IsPlatformText word → AreBlanks first → AreBlanks last
@@ -406,7 +406,7 @@ platform_argument first word last tail is first_blank last_blank =
     let cs_is : behind_spaces opened ≡ inner = spaces_behind_blanks first inner first_blank ∙ is.begins_word behind in
     rw (not_closing first inner first_blank (is.before_closing behind), cs_is, is.no_slash behind, is.no_sign behind)
     (either_passes tail (not (only_blanks opened) && false) unjudged (read_text predicates.Platform opened inner)
-      (λ is_so. inl refl) (λ other. platform_text word last tail opened is last_blank))
+    (λ is_so. inl refl) (λ other. platform_text word last tail opened is last_blank))
 
 -- ---- any argument
 
@@ -414,7 +414,7 @@ none_argument : (predicate : Predicate) (first last tail : List ℕ) → AreBlan
     → Passes (read_no_argument predicate (closed_by first [] last tail)) tail
 none_argument predicate first last tail first_blank last_blank =
     let cs_is : behind_spaces (closed_by first [] last tail) ≡ closing ∷ tail =
-        spaces_behind_blanks first (last ++ (closing ∷ tail)) first_blank ∙ spaces_behind_blanks last (closing ∷ tail) last_blank in
+    spaces_behind_blanks first (last ++ (closing ∷ tail)) first_blank ∙ spaces_behind_blanks last (closing ∷ tail) last_blank in
     rw cs_is (inr refl)
 
 pattern_argument : (predicate : Predicate) (first argument last tail : List ℕ) → TakesPattern predicate → AreBlanks first

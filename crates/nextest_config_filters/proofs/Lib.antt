@@ -1,6 +1,7 @@
 pub mod Arguments
 pub mod Characters
 pub mod Documented
+pub mod DocumentedFilters
 pub mod Fronts
 pub mod Predicates
 pub mod Ranges

@@ -1,9 +1,10 @@
 //! Laws of the definitions, for every text. They call nothing.
 
-ghost use Rattle.std.specs.Prelude.{◌≡◌, ℕ, List};
+ghost use Rattle.std.specs.Prelude.{◌≡◌, ℕ, List, chars};
 ghost use Rattle.std.specs.Str.{IsUtf8};
 ghost use Rattle.nextest_config_filters.specs.Fault.{Fault};
 ghost use Rattle.nextest_config_filters.specs.Filter.{IsFilterFault, IsRangeIn};
+ghost use Rattle.nextest_config_filters.specs.Grammar.{IsDocumentedFilter};
 ghost use Rattle.nextest_config_filters.specs.declared.filter.FilterPlace.{FilterPlace};
 
 /// No filter has two faults.
@@ -16,4 +17,10 @@ pub fn law_filter_once()
 pub fn law_filter_range()
     ensures { (place : FilterPlace) (text : List ℕ) (fault : Fault)
         → IsUtf8 text → IsFilterFault place text fault → IsRangeIn text fault.begin fault.end }
+{}
+
+/// Nothing is told of a filter that nextest documents.
+pub fn law_documented_filter()
+    ensures { (place : FilterPlace) (text : List ℕ) (fault : Fault)
+        → IsDocumentedFilter place (chars text) → ¬ IsFilterFault place text fault }
 {}
