@@ -1,15 +1,15 @@
 -- Nothing is told of what nextest's documentation has.
-use Rattle.std.proofs.Common.{◌≡◌, ◌≢◌, ℕ, suc, ◌+◌, ◌-◌, ◌<◌, ◌≤◌, Bool, true, false, List, [], ◌∷◌, ◌++◌, length, take, drop, Option, Some, None, nat_eq, refl, sym, ap, ◌∙◌, subst, inl, inr, arith, append_assoc, append-nil, eq-eqb, eqb-true, rules, tests}
+use Rattle.std.proofs.Common.{◌≡◌, ℕ, Bool, true, false, List, [], ◌∷◌, ◌++◌, refl, sym, ap, ◌∙◌, subst, inl, inr, arith, append_assoc, eq-eqb, eqb-true}
 use Rattle.std.specs.Prelude.{◌==◌, ◌&&◌, ◌||◌, ◌⊎◌, not, codes, if◌then◌else◌}
 use Rattle.std.proofs.lemmas.Bool.{cases_Bool}
 use Rattle.std.proofs.lemmas.List.{append_cancel_right}
 use Rattle.std.specs.Char.{is_ascii_hexdigit, is_whitespace}
 use Rattle.std.specs.List.{AllByRecursion}
 use Rattle.std.specs.Str.{drop_trailing_whitespace as without_spaces_behind, skip_leading_whitespace as behind_spaces}
-use Rattle.toml_spans.specs.Characters.{backslash, carriage_return, hyphen, line_feed, plus_sign, slash}
-use Rattle.nextest_config_filters.specs.Front.{begins, begins_word, behind_run, closing, closing_brace, comma, in_code, in_word, is_blank, number_sign, only_blanks, opening, opening_brace, run, space, without_first}
+use Rattle.toml_spans.specs.Characters.{backslash, carriage_return, line_feed, slash}
+use Rattle.nextest_config_filters.specs.Front.{begins, behind_run, closing, closing_brace, comma, in_code, in_word, is_blank, number_sign, only_blanks, opening_brace, run, space, without_first}
 use Rattle.nextest_config_filters.specs.Grammar.{a_backslash, a_character, a_closing, a_code, a_comma, a_line_end, a_line_feed, a_regex, a_slash, a_space, a_text, an_escape, backspace, form_feed, new_line, return, tabulator, AreBlanks, AreCodeDigits, ArePieces, IsEscaped, IsArgument, IsPattern, IsPlain, IsRegexRest, IsText, another, a_pair, marked, no_blank, no_piece, the_end, unmarked}
-use Rattle.nextest_config_filters.specs.Escape.{is_character_code, is_code, is_unknown_escape}
+use Rattle.nextest_config_filters.specs.Escape.{is_code, is_unknown_escape}
 use Rattle.nextest_config_filters.specs.Argument.{closed_text, ended_text, is_no_platform, is_other_word, read_argument, read_begun, read_no_argument, read_regex, read_some_argument, read_text, text_front}
 use Rattle.nextest_config_filters.specs.Pieces.{has_before_end, is_opening, regex_end, text_end}
 use Rattle.nextest_config_filters.specs.Predicate.{takes_none, takes_regex}

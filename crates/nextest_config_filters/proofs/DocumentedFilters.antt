@@ -1,18 +1,18 @@
 -- Nothing is told of a filter that nextest's documentation has.
-use Rattle.std.proofs.Common.{◌≡◌, ℕ, Bool, true, false, List, [], ◌∷◌, ◌++◌, Option, Some, None, refl, sym, ap, ◌∙◌, subst, inl, inr, append_assoc, append-nil, eqb-true}
-use Rattle.std.specs.Prelude.{◌==◌, ◌&&◌, ◌⊎◌, codes}
+use Rattle.std.proofs.Common.{◌≡◌, ℕ, Bool, true, false, List, [], ◌∷◌, ◌++◌, Some, None, refl, sym, ap, ◌∙◌, subst, inl, inr, append_assoc, append-nil, eqb-true}
+use Rattle.std.specs.Prelude.{◌==◌, ◌&&◌, codes}
 use Rattle.std.specs.List.{list_all}
 use Rattle.std.proofs.lemmas.Bool.{cases_Bool}
 use Rattle.std.specs.Char.{is_whitespace}
 use Rattle.std.specs.Str.{chars, skip_leading_whitespace as behind_spaces}
 use Rattle.nextest_config_filters.specs.Fault.{Fault}
 use Rattle.nextest_config_filters.specs.Filter.{IsFilterFault, IsTold, IsToldBehind, IsToldFrom, Leads, next, next_of, start, State, stays, steps, told_in, told_of}
-use Rattle.nextest_config_filters.specs.Front.{begins, begins_word, behind, behind_run, closing, exclamation_mark, in_word, opening, run}
-use Rattle.nextest_config_filters.specs.Grammar.{a_group, a_line_end, a_line_feed, a_marked, a_negation, a_predicate, a_space, AreBlanks, by_sign, by_word, IsDocumentedFilter, IsExpression, IsPredicate, IsSign, IsWord, MayAsk, no_blank}
+use Rattle.nextest_config_filters.specs.Front.{begins, begins_word, behind_run, closing, exclamation_mark, in_word, opening, run}
+use Rattle.nextest_config_filters.specs.Grammar.{a_group, a_line_end, a_line_feed, a_marked, a_negation, a_predicate, a_space, AreBlanks, by_sign, by_word, IsDocumentedFilter, IsExpression, IsSign, IsWord, MayAsk, no_blank}
 use Rattle.nextest_config_filters.specs.Argument.{read_argument}
-use Rattle.nextest_config_filters.specs.Predicate.{all_predicates, behind_nots, is_joined, is_name_or_nothing, joined_behind, name_of, name_reads_back, predicate_named}
+use Rattle.nextest_config_filters.specs.Predicate.{behind_nots, is_joined, is_name_or_nothing, name_of, name_reads_back, predicate_named}
 use Rattle.nextest_config_filters.specs.Reading.{asks_for_itself, is_sign, read_operand, read_operator, read_word, reading_at}
-use Rattle.nextest_config_filters.specs.Told.{closes, ends, goes_on, opens, Reading, Told, unjudged}
+use Rattle.nextest_config_filters.specs.Told.{closes, ends, goes_on, opens, Told}
 use Rattle.nextest_config_filters.specs.declared.filter.FilterPlace.{FilterPlace}
 use Rattle.nextest_config_filters.specs.declared.filter.FilterPlace.TheVariants as places
 use Rattle.nextest_config_filters.specs.declared.predicate.Predicate.{Predicate}

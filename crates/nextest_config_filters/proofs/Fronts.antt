@@ -1,9 +1,7 @@
 -- Fronts of lists of characters, and what stands behind them.
-use Rattle.std.proofs.Common.{◌≡◌, ℕ, Bool, true, false, List, [], ◌∷◌, ◌++◌, length, take, drop, refl, sym, ap, ◌∙◌, inl, inr, rules, tests, eqb-true}
-use Rattle.std.specs.Prelude.{◌==◌, ◌&&◌}
+use Rattle.std.proofs.Common.{◌≡◌, ℕ, Bool, true, false, List, [], ◌∷◌, ◌++◌, refl, ap, inl, inr, eqb-true}
+use Rattle.std.specs.Prelude.{◌==◌}
 use Rattle.std.proofs.lemmas.Bool.{cases_Bool}
-use Rattle.std.specs.Char.{is_whitespace}
-use Rattle.std.specs.Str.{drop_trailing_whitespace, skip_leading_whitespace}
 use Rattle.nextest_config_filters.specs.Front.{begins_word, behind_run, behind_standing, in_word, is_doubled, run, standing, without_first}
 
 -- a run and what stands behind it are the whole

@@ -1,12 +1,12 @@
 -- One fault, and its range of bytes.
-use Rattle.std.proofs.Common.{◌≡◌, ℕ, ◌+◌, ◌≤◌, true, false, Bool, List, [], ◌∷◌, ◌++◌, length, Option, Some, None, refl, sym, ap, ◌∙◌, subst, arith, append_assoc, length-append}
+use Rattle.std.proofs.Common.{◌≡◌, ℕ, ◌+◌, true, false, Bool, List, [], ◌∷◌, ◌++◌, length, Option, refl, sym, ap, ◌∙◌, subst, arith, append_assoc, length-append}
 use Rattle.std.specs.Prelude.{◌&&◌, encode_utf8_all}
 use Rattle.std.proofs.lemmas.List.{append_cancel_right}
 use Rattle.std.proofs.lemmas.Str.{encodes-append, encodes-chars, IsCharBoundary-at_seam, scalars-chars}
 use lib.Utf8.{scalar}
 use Rattle.std.specs.Str.{all_scalars, chars, IsCharBoundary, IsUtf8}
 use Rattle.nextest_config_values.specs.NearestWord.{nearest_once}
-use Rattle.nextest_config_filters.specs.Fault.{Fault, Kind}
+use Rattle.nextest_config_filters.specs.Fault.{Fault}
 use Rattle.nextest_config_filters.specs.Filter.{bytes_of, IsFaultOf, IsFilterFault, IsRangeIn}
 use Rattle.nextest_config_filters.specs.Hint.{IsByNearest, IsHint, name_hint, predicate_hint}
 use Rattle.nextest_config_filters.specs.Predicate.{suggested}

@@ -1,18 +1,17 @@
 -- What is read is a front of a text, of one character at least.
-use Rattle.std.proofs.Common.{◌≡◌, ◌≢◌, ℕ, suc, ◌+◌, ◌-◌, ◌<◌, ◌≤◌, Bool, true, false, List, [], ◌∷◌, ◌++◌, length, take, drop, Option, Some, None, nat_eq, refl, sym, ap, ◌∙◌, subst, inl, inr, arith, append_assoc, length-append, eqb-true}
-use Rattle.std.specs.Prelude.{◌==◌, ◌&&◌, ◌||◌, ◌⊎◌, not, codes, if◌then◌else◌}
+use Rattle.std.proofs.Common.{◌≡◌, ℕ, ◌<◌, ◌≤◌, Bool, true, false, List, [], ◌∷◌, ◌++◌, length, drop, Option, Some, None, refl, sym, ap, ◌∙◌, subst, inl, inr, arith, append_assoc, length-append, eqb-true}
+use Rattle.std.specs.Prelude.{◌==◌, ◌&&◌, ◌||◌, not, codes, if◌then◌else◌}
 use Rattle.std.proofs.Math.Seq.{drop-append_seam}
 use Rattle.std.proofs.lemmas.Bool.{cases_Bool}
 use Rattle.std.specs.Char.{is_whitespace}
 use Rattle.std.specs.Str.{drop_trailing_whitespace as without_spaces_behind, skip_leading_whitespace as behind_spaces}
 use Rattle.toml_spans.specs.Characters.{backslash, slash}
-use Rattle.nextest_config_filters.specs.Argument.{behind_regex, closed_nothing, closed_text, ended_regex, ended_text, escape_flaw, is_no_platform, met_at_end, read_argument, read_begun, read_no_argument, read_nothing, read_regex, read_some_argument, read_text, second_argument, text_front, unknown_escape}
-use Rattle.nextest_config_filters.specs.Escape.{is_unknown_escape}
-use Rattle.nextest_config_filters.specs.Front.{begins, begins_word, behind, behind_run, behind_standing, closing, comma, exclamation_mark, in_word, is_doubled, IsFront, IsRest, number_sign, only_blanks, opening, run, standing, without_first}
+use Rattle.nextest_config_filters.specs.Argument.{behind_regex, closed_nothing, closed_text, ended_regex, ended_text, is_no_platform, met_at_end, read_argument, read_begun, read_no_argument, read_nothing, read_regex, read_some_argument, read_text, second_argument, text_front, unknown_escape}
+use Rattle.nextest_config_filters.specs.Front.{begins, begins_word, behind, behind_run, closing, comma, exclamation_mark, in_word, is_doubled, IsFront, IsRest, number_sign, only_blanks, opening, run, standing, without_first}
 use Rattle.nextest_config_filters.specs.Pieces.{has_before_end, is_brace, is_opening, regex_end, text_end}
 use Rattle.nextest_config_filters.specs.Predicate.{behind_nots, is_joined, joined_behind, joined_rest, predicate_named, takes_none, takes_regex}
-use Rattle.nextest_config_filters.specs.Reading.{asks_for_itself, flaw_of_word, is_sign, other_word, read_joined, read_named, read_opened, read_operand, read_operator, read_operator_word, read_sign, read_unnamed, read_word, read_word_as, reading_at}
-use Rattle.nextest_config_filters.specs.Told.{closes, ends, goes_on, not_closed, opens, Reading, tells, Told, told_at, unexpected, unjudged}
+use Rattle.nextest_config_filters.specs.Reading.{asks_for_itself, is_sign, read_joined, read_named, read_opened, read_operand, read_operator, read_operator_word, read_sign, read_unnamed, read_word, read_word_as, reading_at}
+use Rattle.nextest_config_filters.specs.Told.{closes, ends, goes_on, not_closed, opens, Reading, tells, told_at, unexpected, unjudged}
 use Rattle.nextest_config_filters.specs.declared.fault.Expected.{Expected}
 use Rattle.nextest_config_filters.specs.declared.fault.Expected.TheVariants as expect
 use Rattle.nextest_config_filters.specs.declared.fault.FilterFlaw.TheVariants as flaws
@@ -20,7 +19,7 @@ use Rattle.nextest_config_filters.specs.declared.filter.FilterPlace.{FilterPlace
 use Rattle.nextest_config_filters.specs.declared.predicate.Predicate.{Predicate}
 use Rattle.nextest_config_filters.specs.declared.told.Expects.{Expects}
 use Rattle.nextest_config_filters.specs.declared.told.Expects.TheVariants.{Operand, Operator}
-use Rattle.nextest_config_filters.proofs.Arguments.{front_without_spaces, IsEnding, regex_end_rest, text_end_rest, text_ends_at, text_front_whole, without_spaces_front}
+use Rattle.nextest_config_filters.proofs.Arguments.{front_without_spaces, IsEnding, regex_end_rest, text_end_rest, text_ends_at, text_front_whole}
 use Rattle.nextest_config_filters.proofs.Characters.{behind_whole}
 use Rattle.nextest_config_filters.proofs.Fronts.{run_whole, standing_whole}
 

@@ -1,5 +1,5 @@
 -- Steps of a walk.
-use Rattle.std.proofs.Common.{◌≡◌, ◌≢◌, ℕ, suc, ◌+◌, ◌<◌, ◌≤◌, Bool, true, false, List, [], ◌∷◌, ◌++◌, length, Option, Some, None, nat_eq, refl, sym, ap, ◌∙◌, subst, inl, inr, arith, append-nil}
+use Rattle.std.proofs.Common.{◌≡◌, ◌≢◌, ℕ, ◌+◌, ◌<◌, ◌≤◌, List, [], ◌∷◌, ◌++◌, length, Option, Some, None, refl, sym, ap, ◌∙◌, subst, arith, append-nil}
 use Rattle.std.specs.Prelude.{MatchOption, option_map}
 use Rattle.nextest_config_filters.specs.Filter.{IsTold, IsToldBehind, IsToldFrom, Leads, next, next_of, start, State, stays, steps, told_in, told_of}
 use Rattle.std.specs.List.{AllByRecursion}

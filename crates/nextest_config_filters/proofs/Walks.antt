@@ -1,12 +1,12 @@
 -- The walk, and what it keeps of each state.
-use Rattle.std.proofs.Common.{◌≡◌, ◌≢◌, ℕ, suc, ◌+◌, ◌-◌, ◌<◌, ◌≤◌, Bor, Bool, true, false, List, [], ◌∷◌, length, Option, Some, None, nat_eq, refl, sym, ap, ◌∙◌, subst, inl, inr, arith, eq-eqb, eqb-true}
+use Rattle.std.proofs.Common.{◌≡◌, ℕ, suc, ◌-◌, ◌<◌, ◌≤◌, Bor, List, [], ◌∷◌, length, Some, None, refl, sym, ap, ◌∙◌, inl, inr, arith, eq-eqb, eqb-true}
 use Rattle.std.specs.Prelude.{◌==◌}
 use Rattle.std.proofs.lemmas.Bool.{cases_Bool}
 use Rattle.std.proofs.lemmas.Str.{encodes-chars, length-le-encodes}
 use Rattle.std.specs.Str.{chars, IsUtf8}
-use Rattle.nextest_config_filters.specs.Filter.{next, next_of, start, State, told_in, told_of}
+use Rattle.nextest_config_filters.specs.Filter.{next, next_of, start, State, told_of}
 use Rattle.nextest_config_filters.specs.Reading.{reading_at}
-use Rattle.nextest_config_filters.specs.Told.{closes, ends, not_closed, Reading}
+use Rattle.nextest_config_filters.specs.Told.{closes, ends, not_closed}
 use Rattle.nextest_config_filters.specs.Walk.{at_level, IsLeftOpen, IsWalked, Shows}
 use Rattle.nextest_config_filters.specs.declared.filter.FilterPlace.{FilterPlace}
 use Rattle.nextest_config_filters.specs.declared.told.Expects.TheVariants.{Operator}

@@ -1,21 +1,21 @@
 -- The argument of a predicate, from behind its parenthesis on.
-use Rattle.std.specs.Prelude.{ℕ, ◌==◌, ◌-◌, ◌&&◌, ◌||◌, not, Bool, true, false, List, [], ◌∷◌, length, take, drop, codes, encode_utf8_all, Option, Some, None, nat_eq, if◌then◌else◌}
-use Rattle.std.specs.Char.{is_ascii_alphabetic, is_whitespace}
+use Rattle.std.specs.Prelude.{ℕ, ◌==◌, ◌-◌, ◌&&◌, ◌||◌, not, Bool, false, List, [], ◌∷◌, length, take, drop, codes, nat_eq, if◌then◌else◌}
+use Rattle.std.specs.Char.{is_ascii_alphabetic}
 use Rattle.std.specs.Cmp.Lexicographic.{pointwise}
 use Rattle.std.specs.List.{list_any}
 use Rattle.std.specs.Str.{drop_trailing_whitespace as without_spaces_behind, skip_leading_whitespace as behind_spaces}
 use Rattle.toml_spans.specs.Characters.{backslash, slash}
-use Rattle.nextest_config_filters.specs.Escape.{is_unknown_escape, letter_u}
-use Rattle.nextest_config_filters.specs.Front.{begins, behind_run, closing, comma, number_sign, only_blanks, opening, opening_brace, run, without_first}
+use Rattle.nextest_config_filters.specs.Escape.{letter_u}
+use Rattle.nextest_config_filters.specs.Front.{begins, behind_run, closing, comma, number_sign, only_blanks, opening, run, without_first}
 use Rattle.nextest_config_filters.specs.Pieces.{has_before_end, is_brace, is_opening, regex_end, text_end}
 use Rattle.nextest_config_filters.specs.Predicate.{takes_none, takes_regex}
-use Rattle.nextest_config_filters.specs.Told.{goes_on, not_closed, Reading, tells, Told, told_at, unexpected, unjudged}
+use Rattle.nextest_config_filters.specs.Told.{goes_on, not_closed, Reading, tells, told_at, unexpected, unjudged}
 use Rattle.nextest_config_filters.specs.declared.fault.Expected.TheVariants as expect
 use Rattle.nextest_config_filters.specs.declared.fault.FilterFlaw.{FilterFlaw}
 use Rattle.nextest_config_filters.specs.declared.fault.FilterFlaw.TheVariants as flaws
 use Rattle.nextest_config_filters.specs.declared.predicate.Predicate.{Predicate}
 use Rattle.nextest_config_filters.specs.declared.predicate.Predicate.TheVariants as predicates
-use Rattle.nextest_config_filters.specs.declared.told.Expects.TheVariants.{Operand, Operator}
+use Rattle.nextest_config_filters.specs.declared.told.Expects.TheVariants.{Operator}
 
 -- ---- no argument
 

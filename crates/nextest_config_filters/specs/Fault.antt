@@ -1,5 +1,5 @@
 -- What is wrong with a text, and how it prints.
-use Rattle.std.specs.Prelude.{ℕ, List, [], ◌∷◌, ◌++◌, codes, encode_utf8, string_bytes, Option, Some, None, option_map}
+use Rattle.std.specs.Prelude.{ℕ, List, [], ◌∷◌, ◌++◌, codes, string_bytes, Option, Some, None, option_map}
 use Rattle.toml_spans.specs.QuotedText.{quoted_text}
 use Rattle.nextest_config_filters.specs.Predicate.{name_of}
 use Rattle.nextest_config_filters.specs.declared.fault.Expected.{Expected}

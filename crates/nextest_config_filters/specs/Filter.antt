@@ -1,10 +1,10 @@
 -- What is told of a filter.
 use Rattle.std.specs.Prelude.{◌≡◌, ℕ, ◌≤◌, List, [], ◌∷◌, ◌++◌, chars, encode_utf8_all, length, Option, Some, None}
 use Rattle.std.specs.Str.{IsCharBoundary, skip_leading_whitespace as behind_spaces}
-use Rattle.nextest_config_filters.specs.Fault.{Fault, Kind}
+use Rattle.nextest_config_filters.specs.Fault.{Fault}
 use Rattle.nextest_config_filters.specs.Hint.{IsHint}
 use Rattle.nextest_config_filters.specs.Reading.{reading_at}
-use Rattle.nextest_config_filters.specs.Told.{closes, ends, goes_on, not_closed, not_open, opens, Reading, Told, told_at, tells, unjudged}
+use Rattle.nextest_config_filters.specs.Told.{closes, ends, goes_on, not_closed, not_open, opens, Reading, Told, told_at, tells}
 use Rattle.nextest_config_filters.specs.declared.fault.FilterFlaw.TheVariants as flaws
 use Rattle.nextest_config_filters.specs.declared.filter.FilterPlace.{FilterPlace}
 use Rattle.nextest_config_filters.specs.declared.told.Expects.{Expects}

@@ -1,5 +1,5 @@
 -- The pieces that texts and regular expressions are made of, up to where they end.
-use Rattle.std.specs.Prelude.{◌≡◌, ℕ, ◌==◌, ◌<◌, ◌&&◌, ◌||◌, Bool, true, false, List, [], ◌∷◌, chars, length, if◌then◌else◌}
+use Rattle.std.specs.Prelude.{◌≡◌, ℕ, ◌==◌, ◌<◌, ◌&&◌, ◌||◌, Bool, false, List, [], ◌∷◌, chars, length, if◌then◌else◌}
 use Rattle.toml_spans.specs.Characters.{backslash, slash}
 use Rattle.nextest_config_filters.specs.Escape.{is_unknown_escape}
 use Rattle.nextest_config_filters.specs.Front.{begins, closing, comma, opening, opening_brace}

@@ -1,5 +1,5 @@
 -- The predicates of filters, by their names.
-use Rattle.std.specs.Prelude.{◌≡◌, ℕ, ◌==◌, ◌&&◌, if◌then◌else◌, Bool, true, false, List, [], ◌∷◌, ◌++◌, codes, map, Option, Some, None, is_some, refl}
+use Rattle.std.specs.Prelude.{◌≡◌, ℕ, ◌==◌, ◌&&◌, if◌then◌else◌, Bool, true, false, List, [], ◌∷◌, codes, map, Option, Some, None, is_some, refl}
 use Rattle.nextest_config_values.specs.Read.{value_of}
 use Rattle.nextest_config_filters.specs.Front.{behind, in_word, run}
 use Rattle.nextest_config_filters.specs.declared.predicate.Predicate.{Predicate}

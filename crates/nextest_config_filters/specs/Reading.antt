@@ -6,7 +6,7 @@ use Rattle.nextest_config_values.specs.NearestWord.{is_same}
 use Rattle.nextest_config_filters.specs.Argument.{read_argument}
 use Rattle.nextest_config_filters.specs.Front.{ampersand, bar, begins, begins_word, behind_run, closing, exclamation_mark, in_word, is_doubled, number_sign, opening, run, standing, without_first}
 use Rattle.nextest_config_filters.specs.Predicate.{behind_nots, joined_behind, predicate_named}
-use Rattle.nextest_config_filters.specs.Told.{closes, ends, goes_on, opens, Reading, Told, told_at, tells, unexpected, unjudged}
+use Rattle.nextest_config_filters.specs.Told.{closes, ends, goes_on, opens, Reading, told_at, tells, unexpected, unjudged}
 use Rattle.nextest_config_filters.specs.declared.fault.Expected.TheVariants as expect
 use Rattle.nextest_config_filters.specs.declared.fault.FilterFlaw.{FilterFlaw}
 use Rattle.nextest_config_filters.specs.declared.fault.FilterFlaw.TheVariants as flaws

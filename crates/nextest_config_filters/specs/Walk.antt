@@ -1,5 +1,5 @@
 -- The walk through a filter, with a number in place of the parentheses that are open.
-use Rattle.std.specs.Prelude.{◌≡◌, ℕ, suc, ◌==◌, ◌<◌, ◌+◌, List, [], ◌∷◌, chars, length, Option, Some, None, option_map, if◌then◌else◌}
+use Rattle.std.specs.Prelude.{◌≡◌, ℕ, suc, ◌==◌, ◌<◌, List, [], ◌∷◌, chars, length, Option, Some, None, option_map, if◌then◌else◌}
 use Rattle.nextest_config_filters.specs.Filter.{Leads, next, next_of, start, State, told_in, told_of}
 use Rattle.nextest_config_filters.specs.Reading.{reading_at}
 use Rattle.nextest_config_filters.specs.Told.{ends, Reading, Told, told_view}

@@ -1,4 +1,4 @@
-use Rattle.std.proofs.Common.{◌≡◌, ◌∙◌, sym, ap, refl}
+use Rattle.std.proofs.Common.{◌∙◌, sym, ap, refl}
 use Rattle.std.specs.Str.{chars, drop_trailing_whitespace}
 use Rattle.nextest_config_filters.specs.Argument.{text_front}
 use Rattle.nextest_config_filters.specs.Pieces.{text_end}

@@ -1,6 +1,5 @@
-use Rattle.std.proofs.Common.{◌≡◌, ◌++◌, ◌∙◌, Ok, refl, sym, ap, subst, arith, rules, option_map, string_bytes}
+use Rattle.std.proofs.Common.{◌∙◌, refl, subst, arith, option_map, string_bytes}
 use Rattle.std.specs.Str.{chars}
-use Rattle.nextest_config_filters.specs.Filter.{bytes_of}
 use Rattle.nextest_config_filters.specs.Hint.{IsHint}
 use Rattle.nextest_config_filters.proofs.Ranges.{bytes_joined, bytes_of_parts}
 use Rattle.nextest_config_filters.proofs.filter.hinted.Goals as goal

@@ -1,4 +1,4 @@
-use Rattle.std.proofs.Common.{◌∙◌, sym, ap, ◌++◌}
+use Rattle.std.proofs.Common.{sym}
 use Rattle.nextest_config_filters.specs.Front.{in_run, run}
 use Rattle.std.specs.Prelude.{chars}
 use Rattle.nextest_config_filters.proofs.Fronts.{run_whole}

@@ -1,4 +1,4 @@
-use Rattle.std.proofs.Common.{◌∙◌, sym}
+use Rattle.std.proofs.Common.{sym}
 use Rattle.nextest_config_filters.specs.Front.{standing}
 use Rattle.std.specs.Prelude.{chars}
 use Rattle.nextest_config_filters.proofs.Fronts.{standing_whole}

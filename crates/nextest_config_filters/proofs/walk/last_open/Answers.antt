@@ -1,6 +1,4 @@
-use Rattle.std.proofs.Common.{◌∙◌, ap, sym, subst, Some}
 use Rattle.std.specs.Str.{chars}
-use Rattle.nextest_config_filters.specs.Walk.{IsWalked}
 use Rattle.nextest_config_filters.proofs.Walks.{found_open}
 use Rattle.nextest_config_filters.proofs.walk.last_open.Goals as goal
 

@@ -1,4 +1,4 @@
-use Rattle.std.proofs.Common.{◌∙◌, ◌<◌, length, sym, ap, refl, arith, rules}
+use Rattle.std.proofs.Common.{length, ap, refl, arith, rules}
 use Rattle.std.specs.Str.{chars}
 use Rattle.nextest_config_filters.specs.Filter.{start, stays}
 use Rattle.nextest_config_filters.proofs.Steps.{leads_on, next_within, within_at_start}

@@ -1,4 +1,4 @@
-use Rattle.std.proofs.Common.{◌≡◌, length}
+use Rattle.std.proofs.Common.{length}
 use Rattle.std.specs.Str.{chars, IsUtf8}
 use Rattle.nextest_config_filters.specs.Filter.{Leads, start, State}
 use Rattle.nextest_config_filters.specs.Walk.{Shows}
