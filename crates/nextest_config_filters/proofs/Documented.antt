@@ -8,7 +8,7 @@ use Rattle.std.specs.List.{AllByRecursion}
 use Rattle.std.specs.Str.{drop_trailing_whitespace as without_spaces_behind, skip_leading_whitespace as behind_spaces}
 use Rattle.toml_spans.specs.Characters.{backslash, carriage_return, line_feed, slash}
 use Rattle.nextest_config_filters.specs.Front.{begins, behind_run, closing, closing_brace, comma, in_code, in_word, is_blank, number_sign, only_blanks, opening_brace, run, space, without_first}
-use Rattle.nextest_config_filters.specs.Grammar.{a_backslash, a_character, a_closing, a_code, a_comma, a_line_end, a_line_feed, a_regex, a_slash, a_space, a_text, an_escape, backspace, form_feed, new_line, return, tabulator, AreBlanks, AreCodeDigits, ArePieces, IsEscaped, IsArgument, IsPattern, IsPlain, IsRegexRest, IsText, another, a_pair, marked, no_blank, no_piece, the_end, unmarked}
+use Rattle.nextest_config_filters.specs.Grammar.{a_backslash, a_character, a_closing, a_code, a_comma, a_line_end, a_line_feed, a_regex, a_slash, a_space, a_text, an_escape, backspace, form_feed, new_line, return, tabulator, AreBlanks, AreCodeDigits, BeginsWithBlank, ArePieces, IsEscaped, IsArgument, IsPattern, IsPlain, IsRegexRest, IsText, another, a_pair, marked, no_blank, no_piece, the_end, unmarked}
 use Rattle.nextest_config_filters.specs.Escape.{is_code, is_unknown_escape}
 use Rattle.nextest_config_filters.specs.Argument.{closed_text, ended_text, is_no_platform, is_other_word, read_argument, read_begun, read_no_argument, read_regex, read_some_argument, read_text, text_front}
 use Rattle.nextest_config_filters.specs.Pieces.{has_before_end, is_opening, regex_end, text_end}
@@ -51,6 +51,18 @@ differs a b other = elim (cases_Bool (a == b)) [
 -- of two characters that a test tells apart
 apart : (a b : ℕ) → (a == b) ≡ false → a ≡ b → ⊥
 apart a b other same = let both : true ≡ false = sym (eq-eqb a b same) ∙ other in cc both
+
+not_begun : (d : ℕ) (cs : List ℕ) → ((rest : List ℕ) → cs ≡ d ∷ rest → ⊥) → begins d cs ≡ false
+not_begun d [] none = refl
+not_begun d (c ∷ cs) none = differs d c (λ same. none cs (ap (λ e. e ∷ cs) (sym same)))
+
+no_blank_there : (c : ℕ) (cs : List ℕ) → (BeginsWithBlank (c ∷ cs) → ⊥) → is_blank c cs ≡ false
+no_blank_there c cs none =
+    rw (differs c space (λ same. none (inl same)), differs c line_feed (λ same. none (inr (inl same))))
+    (elim (cases_Bool (c == carriage_return)) [
+      | inl same ↦ rw same (not_begun line_feed cs (λ rest is. none (inr (inr (eqb-true c carriage_return same, rest, is)))))
+      | inr other ↦ rw other refl
+    ])
 
 -- a character more is passed, unless it ends the text or is a backslash
 text_goes_on : (c : ℕ) (cs : List ℕ) → IsPlain c → text_end (c ∷ cs) ≡ text_end cs
@@ -264,7 +276,7 @@ text_start : (text last tail : List ℕ) → IsText text → AreBlanks last
 text_start text last tail (marked mark c cs (inl equal) are) blank = inr (rw equal refl)
 text_start text last tail (marked mark c cs (inr (inl tilde)) are) blank = inr (rw tilde refl)
 text_start text last tail (marked mark c cs (inr (inr sign)) are) blank = inr (rw sign refl)
-text_start text last tail (unmarked c cs are no_slash unblank) blank = unmarked_start c cs last tail no_slash unblank blank
+text_start text last tail (unmarked c cs are no_slash unblank) blank = unmarked_start c cs last tail no_slash (no_blank_there c cs unblank) blank
 
 text_pieces : (text : List ℕ) → IsText text → ArePieces text
 text_pieces text (marked mark c cs (inl equal) are) =
@@ -309,10 +321,10 @@ rest_begins rest tail the_end = refl
 rest_begins rest tail (another c cs no_slash no_backslash more) = refl
 rest_begins rest tail (a_pair c cs clear more) = refl
 
-clear_pair : (c : ℕ) (cs tail : List ℕ) → (c ≡ backslash → begins slash cs ≡ false) → IsRegexRest cs
+clear_pair : (c : ℕ) (cs tail : List ℕ) → (c ≡ backslash → (rest : List ℕ) → cs ≡ slash ∷ rest → ⊥) → IsRegexRest cs
     → (c == backslash && begins slash (cs ++ tail)) ≡ false
 clear_pair c cs tail clear more = elim (cases_Bool (c == backslash)) [
-  | inl same ↦ rw (same, rest_begins cs tail more) (clear (eqb-true c backslash same))
+  | inl same ↦ rw (same, rest_begins cs tail more) (not_begun slash cs (clear (eqb-true c backslash same)))
   | inr other ↦ rw other refl
 ]
 

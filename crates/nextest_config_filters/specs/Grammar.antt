@@ -4,7 +4,7 @@ use Rattle.std.specs.Prelude.{◌≡◌, ℕ, ◌≤◌, ◌⊎◌, true, false,
 use Rattle.std.specs.Char.{is_ascii_hexdigit}
 use Rattle.std.specs.List.{AllByRecursion}
 use Rattle.toml_spans.specs.Characters.{backslash, carriage_return, hyphen, line_feed, plus_sign, slash}
-use Rattle.nextest_config_filters.specs.Front.{ampersand, bar, begins, closing, closing_brace, comma, exclamation_mark, is_blank, number_sign, opening, opening_brace, space}
+use Rattle.nextest_config_filters.specs.Front.{ampersand, bar, closing, closing_brace, comma, exclamation_mark, number_sign, opening, opening_brace, space}
 use Rattle.nextest_config_filters.specs.Predicate.{name_of}
 use Rattle.nextest_config_filters.specs.declared.filter.FilterPlace.{FilterPlace}
 use Rattle.nextest_config_filters.specs.declared.filter.FilterPlace.TheVariants as places
@@ -19,6 +19,12 @@ pub data AreBlanks : List ℕ → Type 0 where
   a_space : (cs : List ℕ) → AreBlanks cs → AreBlanks (space ∷ cs)
   a_line_feed : (cs : List ℕ) → AreBlanks cs → AreBlanks (line_feed ∷ cs)
   a_line_end : (cs : List ℕ) → AreBlanks cs → AreBlanks (carriage_return ∷ line_feed ∷ cs)
+
+-- the text begins with one
+abbrev pub BeginsWithBlank : List ℕ → Type 0
+BeginsWithBlank [] = ⊥
+BeginsWithBlank (c ∷ cs) =
+    (c ≡ space) ⊎ (c ≡ line_feed) ⊎ ((c ≡ carriage_return) × (rest : List ℕ) × (cs ≡ line_feed ∷ rest))
 
 -- ---- texts
 
@@ -58,7 +64,8 @@ pub data ArePieces : List ℕ → Type 0 where
 pub data IsText : List ℕ → Type 0 where
   marked : (mark : ℕ) (c : ℕ) (cs : List ℕ) → (mark ≡ 61) ⊎ (mark ≡ 126) ⊎ (mark ≡ number_sign)
       → ArePieces (c ∷ cs) → IsText (mark ∷ c ∷ cs)
-  unmarked : (c : ℕ) (cs : List ℕ) → ArePieces (c ∷ cs) → (c ≡ slash → ⊥) → is_blank c cs ≡ false
+  unmarked : (c : ℕ) (cs : List ℕ) → ArePieces (c ∷ cs) → (c ≡ slash → ⊥)
+      → (BeginsWithBlank (c ∷ cs) → ⊥)
       → IsText (c ∷ cs)
 
 -- ---- regular expressions
@@ -69,7 +76,7 @@ pub data IsRegexRest : List ℕ → Type 0 where
   the_end : IsRegexRest (slash ∷ [])
   another : (c : ℕ) (cs : List ℕ) → (c ≡ slash → ⊥) → (c ≡ backslash → ⊥) → IsRegexRest cs
       → IsRegexRest (c ∷ cs)
-  a_pair : (c : ℕ) (cs : List ℕ) → (c ≡ backslash → begins slash cs ≡ false) → IsRegexRest cs
+  a_pair : (c : ℕ) (cs : List ℕ) → (c ≡ backslash → (rest : List ℕ) → cs ≡ slash ∷ rest → ⊥) → IsRegexRest cs
       → IsRegexRest (backslash ∷ c ∷ cs)
 
 -- ---- predicates
