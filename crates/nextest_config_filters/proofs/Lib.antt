@@ -1,0 +1,11 @@
+pub mod Arguments
+pub mod Characters
+pub mod Documented
+pub mod DocumentedFilters
+pub mod Fronts
+pub mod Predicates
+pub mod Ranges
+pub mod Readings
+pub mod Steps
+pub mod TextEnds
+pub mod Walks

@@ -1,0 +1,46 @@
+use Rattle.std.proofs.Common.{length, ap, refl, arith, rules}
+use Rattle.std.specs.Str.{chars}
+use Rattle.nextest_config_filters.specs.Filter.{start, stays}
+use Rattle.nextest_config_filters.proofs.Steps.{leads_on, next_within, within_at_start}
+use Rattle.nextest_config_filters.proofs.Walks.{chars_fit}
+use Rattle.nextest_config_filters.proofs.walk.walk.Goals as goal
+
+pub loop-next-init : goal.loop-next-init
+loop-next-init c =
+    let cs = chars c.args.text.now in
+    record {
+      text = c.utf8.text;
+      last = c.utf8.text;
+      at = (start cs, stays (start cs), record { expects = refl; rest = refl; deep = refl; of_level = λ opened is. cc is }, within_at_start cs);
+    }
+
+pub next_step-requires : goal.next_step-requires
+next_step-requires c =
+    let at = c.loop-next.invariant.at in
+    omega (arith, at.2.deep, ap length at.2.rest, at.3.room, chars_fit c.args.text.now c.utf8.text)
+
+pub loop-next-smaller : goal.loop-next-smaller
+loop-next-smaller c =
+    let at = c.loop-next.invariant.at in
+    let step = c.in-To.ensures at.0 at.2 in
+    let kept = next_within c.args.place (chars c.args.text.now) at.0 step.0 at.3 step.1 in
+    omega (arith, kept.1, ap length at.2.rest, ap length step.2.rest)
+
+pub loop-next-preserved : goal.loop-next-preserved
+loop-next-preserved c =
+    let at = c.loop-next.invariant.at in
+    let step = c.in-To.ensures at.0 at.2 in
+    let kept = next_within c.args.place (chars c.args.text.now) at.0 step.0 at.3 step.1 in
+    record {
+      text = search rules;
+      last = search rules;
+      at = (step.0, leads_on c.args.place _ _ _ at.1 step.1, step.2, kept.0);
+    }
+
+pub returns-in-Open : goal.returns-in-Open
+returns-in-Open c =
+    let at = c.loop-next.invariant.at in
+    let step = c.in-Open.ensures at.0 at.2 in (
+      record { state = at.0; leads = at.1; at_end = step.0; open_many = at.2.deep; some = omega (arith, at.2.deep, step.1) },
+      at.2.of_level,
+    )

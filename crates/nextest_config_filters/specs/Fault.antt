@@ -1,0 +1,96 @@
+-- What is wrong with a text, and how it prints.
+use Rattle.std.specs.Prelude.{ℕ, List, [], ◌∷◌, ◌++◌, codes, string_bytes, Option, Some, None, option_map}
+use Rattle.toml_spans.specs.QuotedText.{quoted_text}
+use Rattle.nextest_config_filters.specs.Predicate.{name_of}
+use Rattle.nextest_config_filters.specs.declared.fault.Expected.{Expected}
+use Rattle.nextest_config_filters.specs.declared.fault.Expected.TheVariants as expect
+use Rattle.nextest_config_filters.specs.declared.fault.FilterFlaw.{FilterFlaw}
+use Rattle.nextest_config_filters.specs.declared.fault.FilterFlaw.TheVariants as flaws
+use Rattle.nextest_config_filters.specs.declared.fault.TextFault.{TextFault}
+use Rattle.nextest_config_filters.specs.declared.fault.TextFaultKind.{TextFaultKind}
+use Rattle.nextest_config_filters.specs.declared.fault.TextFaultKind.TheVariants as kinds
+
+-- a fault without where its texts lie in memory: what is found there, and what may be meant, in UTF-8
+pub record Kind : Type 0 where
+  pub flaw : FilterFlaw
+  pub found : List ℕ
+  pub hint : Option (List ℕ)
+
+-- the bytes from begin to end are at fault
+pub record Fault : Type 0 where
+  pub begin : ℕ
+  pub end : ℕ
+  pub kind : Kind
+
+abbrev pub kind_of : TextFaultKind → Kind
+kind_of (kinds.Filter flaw found hint) =
+    record { flaw = flaw; found = string_bytes found; hint = option_map string_bytes hint }
+
+abbrev pub fault_of : TextFault → Fault
+fault_of fault = record { begin = fault.begin; end = fault.end; kind = kind_of fault.kind }
+
+-- ---- codes
+
+abbrev pub code_of_expected : Expected → List ℕ
+code_of_expected expect.HostOrTarget = codes "filter-argument"
+code_of_expected expect.ClosingOfRegex = codes "filter-argument"
+code_of_expected expected = codes "filter-syntax"
+
+abbrev pub code_of_flaw : FilterFlaw → List ℕ
+code_of_flaw (flaws.Unexpected expected) = code_of_expected expected
+code_of_flaw flaws.Empty = codes "filter-syntax"
+code_of_flaw flaws.NotClosed = codes "filter-syntax"
+code_of_flaw flaws.NotOpen = codes "filter-syntax"
+code_of_flaw flaws.UnknownPredicate = codes "unknown-predicate"
+code_of_flaw flaws.AsksForItself = codes "banned-predicate"
+code_of_flaw flaw = codes "filter-argument"
+
+abbrev pub code_of : Kind → List ℕ
+code_of kind = code_of_flaw kind.flaw
+
+-- ---- texts
+
+-- what is found, or that it is the end
+abbrev pub found_text : List ℕ → List ℕ
+found_text [] = codes "the end"
+found_text (b ∷ bytes) = quoted_text (b ∷ bytes)
+
+abbrev pub expected_text : Expected → List ℕ
+expected_text expect.Expression = codes "an expression"
+expected_text expect.PredicateAndArgument = codes "a predicate with its argument"
+expected_text (expect.Opening predicate) =
+    codes "\"(\" behind " ++ quoted_text (name_of predicate)
+expected_text expect.Operator = codes "an operator or the end"
+expected_text expect.HostOrTarget = codes "\"host\" or \"target\""
+expected_text expect.ClosingOfRegex = codes "\")\" behind the regular expression"
+
+abbrev pub flaw_text : FilterFlaw → List ℕ → List ℕ
+flaw_text flaws.Empty found = codes "a filter expression is empty"
+flaw_text (flaws.Unexpected expected) found =
+    codes "expected " ++ (expected_text expected ++ (codes ", found " ++ found_text found))
+flaw_text flaws.NotClosed found = codes "this \"(\" isn't closed"
+flaw_text flaws.NotOpen found = codes "nothing is open that this \")\" closes"
+flaw_text flaws.UnknownPredicate found = codes "unknown predicate " ++ quoted_text found
+flaw_text flaws.AsksForItself found =
+    codes "a default-filter can't ask for \"default\", which is itself"
+flaw_text (flaws.UnwantedArgument predicate) found =
+    quoted_text (name_of predicate) ++ codes " takes no argument"
+flaw_text (flaws.NoArgument predicate) found =
+    quoted_text (name_of predicate) ++ codes " needs an argument"
+flaw_text (flaws.SecondArgument predicate) found =
+    quoted_text (name_of predicate) ++ codes " takes one argument, a comma in it is written \\,"
+flaw_text flaws.UnknownEscape found =
+    codes "unknown escape `" ++ (found ++ codes "`, a regular expression is written /../")
+flaw_text flaws.UnknownCode found = codes "unknown escape `\\u`, expected `\\u{..}`"
+flaw_text flaws.RegexNotClosed found =
+    codes "this \"/\" begins a regular expression that isn't closed"
+
+abbrev pub hint_text : Option (List ℕ) → List ℕ
+hint_text None = []
+hint_text (Some hint) = codes ", did you mean " ++ quoted_text hint
+
+abbrev pub kind_text : Kind → List ℕ
+kind_text kind = flaw_text kind.flaw kind.found ++ hint_text kind.hint
+
+abbrev pub fault_text : Fault → List ℕ
+fault_text fault = kind_text fault.kind

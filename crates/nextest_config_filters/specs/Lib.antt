@@ -1,0 +1,12 @@
+pub mod Argument
+pub mod Escape
+pub mod Fault
+pub mod Filter
+pub mod Front
+pub mod Grammar
+pub mod Hint
+pub mod Pieces
+pub mod Predicate
+pub mod Reading
+pub mod Told
+pub mod Walk

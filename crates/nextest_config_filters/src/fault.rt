@@ -1,0 +1,254 @@
+//! What is wrong with a text, and how it prints.
+
+ghost use Rattle.std.specs.Prelude.{◌≡◌, ◌++◌, Some, option_map, string_bytes};
+ghost use Rattle.std.specs.Fmt.{WritesOnOk};
+ghost use Rattle.toml_spans.specs.QuotedText.{quoted_text};
+ghost use Rattle.nextest_config_filters.specs.Fault.{code_of, code_of_expected, code_of_flaw, expected_text, fault_of, fault_text, flaw_text, found_text, hint_text, kind_of};
+ghost use Rattle.nextest_config_filters.specs.Predicate.{name_of};
+
+use crate::predicate::Predicate;
+use nextest_config_values::read::Word;
+use std::fmt;
+use toml_spans::write_quoted;
+
+/// A fault of a text, at a range of its bytes.
+#[derive(Debug, Drop)]
+pub struct TextFault {
+    pub begin: usize,
+    pub end: usize,
+    pub kind: TextFaultKind,
+}
+
+/// What is wrong with a text.
+#[derive(Debug, Drop)]
+pub enum TextFaultKind {
+    /// Of a filter.
+    Filter {
+        flaw: FilterFlaw,
+        /// What is found there, empty at the end of the text.
+        found: String,
+        /// What may be meant.
+        hint: Option<String>,
+    },
+}
+
+/// What is wrong with a filter.
+#[derive(Clone, Copy, Debug, PartialEq, Eq)]
+pub enum FilterFlaw {
+    /// It has nothing but spaces.
+    Empty,
+    /// Something else stands where this is expected.
+    Unexpected(Expected),
+    /// A parenthesis isn't closed.
+    NotClosed,
+    /// Nothing is open that a parenthesis closes.
+    NotOpen,
+    /// No predicate has this name.
+    UnknownPredicate,
+    /// A default filter asks for `default`.
+    AsksForItself,
+    /// The predicate takes no argument.
+    UnwantedArgument(Predicate),
+    /// The predicate needs an argument.
+    NoArgument(Predicate),
+    /// A comma stands in the one argument of the predicate.
+    SecondArgument(Predicate),
+    /// A backslash escapes nothing, unless in a regular expression.
+    UnknownEscape,
+    /// Behind `\u` stands no code between braces.
+    UnknownCode,
+    /// A regular expression has no second `/`.
+    RegexNotClosed,
+}
+
+/// What is expected in a filter.
+#[derive(Clone, Copy, Debug, PartialEq, Eq)]
+pub enum Expected {
+    Expression,
+    /// A predicate has no argument, and no predicate has its name.
+    PredicateAndArgument,
+    /// The parenthesis behind the name of the predicate.
+    Opening(Predicate),
+    /// An operator, or the end.
+    Operator,
+    /// One of the two words that the predicate `platform` takes.
+    HostOrTarget,
+    /// The parenthesis behind a regular expression.
+    ClosingOfRegex,
+}
+
+impl TextFault {
+    /// The code of the fault.
+    pub fn code(&self) -> &'static str
+        ensures { result.now ≡ code_of (kind_of self.now.kind) }
+    {
+        match &self.kind {
+            TextFaultKind::Filter { flaw, .. } => flaw.code(),
+        }
+    }
+}
+
+impl FilterFlaw {
+    fn code(self) -> &'static str
+        ensures { result.now ≡ code_of_flaw self }
+    {
+        match self {
+            FilterFlaw::Empty | FilterFlaw::NotClosed | FilterFlaw::NotOpen => "filter-syntax",
+            FilterFlaw::Unexpected(expected) => expected.code(),
+            FilterFlaw::UnknownPredicate => "unknown-predicate",
+            FilterFlaw::AsksForItself => "banned-predicate",
+            FilterFlaw::UnwantedArgument(_)
+            | FilterFlaw::NoArgument(_)
+            | FilterFlaw::SecondArgument(_)
+            | FilterFlaw::UnknownEscape
+            | FilterFlaw::UnknownCode
+            | FilterFlaw::RegexNotClosed => "filter-argument",
+        }
+    }
+}
+
+impl Expected {
+    fn code(self) -> &'static str
+        ensures { result.now ≡ code_of_expected self }
+    {
+        match self {
+            Expected::HostOrTarget | Expected::ClosingOfRegex => "filter-argument",
+            _ => "filter-syntax",
+        }
+    }
+}
+
+impl fmt::Display for TextFault {
+    ghost output = { λ fault. Some (fault_text (fault_of fault)) };
+
+    fn fmt<W: fmt::Write>(&self, f: &mut fmt::Formatter<W>) -> fmt::Result {
+        match &self.kind {
+            TextFaultKind::Filter { flaw, found, hint } => {
+                write_flaw(f, *flaw, found.as_str())?;
+                write_hint(f, hint)
+            }
+        }
+    }
+}
+
+fn write_flaw<W: fmt::Write>(
+    f: &mut fmt::Formatter<W>,
+    flaw: FilterFlaw,
+    found: &str,
+) -> fmt::Result
+    ensures { WritesOnOk W.write_str_gives f.old result (flaw_text flaw found.now) f.new }
+{
+    match flaw {
+        FilterFlaw::Empty => f.write_str("a filter expression is empty"),
+        FilterFlaw::Unexpected(expected) => write_unexpected(f, expected, found),
+        FilterFlaw::NotClosed => f.write_str("this \"(\" isn't closed"),
+        FilterFlaw::NotOpen => f.write_str("nothing is open that this \")\" closes"),
+        FilterFlaw::UnknownPredicate => write_unknown(f, found),
+        FilterFlaw::AsksForItself => {
+            f.write_str("a default-filter can't ask for \"default\", which is itself")
+        }
+        FilterFlaw::UnwantedArgument(predicate) => {
+            write_named(f, predicate, " takes no argument")
+        }
+        FilterFlaw::NoArgument(predicate) => write_named(f, predicate, " needs an argument"),
+        FilterFlaw::SecondArgument(predicate) => write_named(
+            f,
+            predicate,
+            " takes one argument, a comma in it is written \\,",
+        ),
+        FilterFlaw::UnknownEscape => write_escape(f, found),
+        FilterFlaw::UnknownCode => f.write_str("unknown escape `\\u`, expected `\\u{..}`"),
+        FilterFlaw::RegexNotClosed => {
+            f.write_str("this \"/\" begins a regular expression that isn't closed")
+        }
+    }
+}
+
+fn write_unexpected<W: fmt::Write>(
+    f: &mut fmt::Formatter<W>,
+    expected: Expected,
+    found: &str,
+) -> fmt::Result
+    ensures { WritesOnOk W.write_str_gives f.old result
+        (flaw_text (FilterFlaw.Unexpected expected) found.now) f.new }
+{
+    f.write_str("expected ")?;
+    write_expected(f, expected)?;
+    f.write_str(", found ")?;
+    write_found(f, found)
+}
+
+fn write_expected<W: fmt::Write>(f: &mut fmt::Formatter<W>, expected: Expected) -> fmt::Result
+    ensures { WritesOnOk W.write_str_gives f.old result (expected_text expected) f.new }
+{
+    match expected {
+        Expected::Expression => f.write_str("an expression"),
+        Expected::PredicateAndArgument => f.write_str("a predicate with its argument"),
+        Expected::Opening(predicate) => write_opening(f, predicate),
+        Expected::Operator => f.write_str("an operator or the end"),
+        Expected::HostOrTarget => f.write_str("\"host\" or \"target\""),
+        Expected::ClosingOfRegex => f.write_str("\")\" behind the regular expression"),
+    }
+}
+
+fn write_opening<W: fmt::Write>(f: &mut fmt::Formatter<W>, predicate: Predicate) -> fmt::Result
+    ensures { WritesOnOk W.write_str_gives f.old result
+        (expected_text (Expected.Opening predicate)) f.new }
+{
+    f.write_str("\"(\" behind ")?;
+    write_quoted(f, predicate.as_word())
+}
+
+// What is found, or that it is the end.
+fn write_found<W: fmt::Write>(f: &mut fmt::Formatter<W>, found: &str) -> fmt::Result
+    ensures { WritesOnOk W.write_str_gives f.old result (found_text found.now) f.new }
+{
+    if found.is_empty() {
+        f.write_str("the end")
+    } else {
+        write_quoted(f, found)
+    }
+}
+
+fn write_unknown<W: fmt::Write>(f: &mut fmt::Formatter<W>, found: &str) -> fmt::Result
+    ensures { WritesOnOk W.write_str_gives f.old result
+        (flaw_text FilterFlaw.UnknownPredicate found.now) f.new }
+{
+    f.write_str("unknown predicate ")?;
+    write_quoted(f, found)
+}
+
+fn write_escape<W: fmt::Write>(f: &mut fmt::Formatter<W>, found: &str) -> fmt::Result
+    ensures { WritesOnOk W.write_str_gives f.old result
+        (flaw_text FilterFlaw.UnknownEscape found.now) f.new }
+{
+    f.write_str("unknown escape `")?;
+    f.write_str(found)?;
+    f.write_str("`, a regular expression is written /../")
+}
+
+// The name of the predicate, and what is wrong with its argument.
+fn write_named<W: fmt::Write>(
+    f: &mut fmt::Formatter<W>,
+    predicate: Predicate,
+    wrong: &str,
+) -> fmt::Result
+    ensures { WritesOnOk W.write_str_gives f.old result
+        (quoted_text (name_of predicate) ++ wrong.now) f.new }
+{
+    write_quoted(f, predicate.as_word())?;
+    f.write_str(wrong)
+}
+
+fn write_hint<W: fmt::Write>(f: &mut fmt::Formatter<W>, hint: &Option<String>) -> fmt::Result
+    ensures { WritesOnOk W.write_str_gives f.old result
+        (hint_text (option_map string_bytes hint.now)) f.new }
+{
+    match hint {
+        Some(hint) => {
+            f.write_str(", did you mean ")?;
+            write_quoted(f, hint.as_str())
+        }
+        None => Ok(()),
+    }
+}

@@ -1,0 +1,19 @@
+//! What is wrong with texts of nextest's configuration that have a syntax of their own.
+#![tactic(auto)]
+
+mod argument;
+mod escape;
+mod fault;
+mod filter;
+mod front;
+mod hint;
+pub mod laws;
+mod pieces;
+mod predicate;
+mod reading;
+mod told;
+mod walk;
+
+pub use fault::{Expected, FilterFlaw, TextFault, TextFaultKind};
+pub use filter::{FilterPlace, filter_fault};
+pub use predicate::Predicate;

@@ -1,0 +1,100 @@
+//! The pieces that texts and regular expressions are made of, up to where they end.
+
+ghost use Rattle.std.specs.Prelude.{◌≡◌, ◌∷◌, MatchOption, chars};
+ghost use Rattle.toml_spans.specs.Characters.{backslash};
+ghost use Rattle.nextest_config_filters.specs.Pieces.{IsEnd, IsPiece, IsRegexPiece, IsTextEnd, regex_end};
+
+use crate::escape::is_unknown_escape;
+use crate::front::{begins, split_first};
+
+/// Where a text ends.
+#[derive(Clone, Copy, Debug)]
+pub(crate) struct TextEnd<'a> {
+    /// What stands from there on.
+    pub rest: &'a str,
+    /// Whether a parenthesis opened before that, and not behind a backslash.
+    pub has_parenthesis: bool,
+    /// Whether a brace did.
+    pub has_brace: bool,
+}
+
+/// Where a text ends: at a `)`, a `,`, or a backslash that escapes nothing.
+pub(crate) fn text_end(text: &str) -> TextEnd<'_>
+    ensures { IsTextEnd (chars text.now) result }
+{
+    let mut end = TextEnd {
+        rest: text,
+        has_parenthesis: false,
+        has_brace: false,
+    };
+    while let Some((c, following)) = text_piece(end.rest) {
+        end = TextEnd {
+            rest: following,
+            has_parenthesis: end.has_parenthesis | (c == '('),
+            has_brace: end.has_brace | (c == '{'),
+        };
+    }
+    end
+}
+
+// The first character of the next piece of a text, and what stands behind the piece: a backslash
+// and the character behind it are one.
+fn text_piece(text: &str) -> Option<(char, &str)>
+    ensures { MatchOption result (IsEnd (chars text.now))
+        (λ piece. IsPiece (chars text.now) piece.0 (chars piece.1.now)) }
+{
+    let (c, following) = split_first(text)?;
+    match c {
+        ')' | ',' => None,
+        '\\' => Some((c, behind_escape(following)?)),
+        _ => Some((c, following)),
+    }
+}
+
+// What stands behind the character that a backslash escapes; nothing where it escapes nothing.
+fn behind_escape(text: &str) -> Option<&str>
+    ensures { MatchOption result (IsEnd (backslash ∷ chars text.now))
+        (λ rest. IsPiece (backslash ∷ chars text.now) backslash (chars rest.now)) }
+{
+    match split_first(text) {
+        Some((c, following)) if is_unknown_escape(c, following) => None,
+        Some((_, following)) => Some(following),
+        None => Some(text),
+    }
+}
+
+/// Where a regular expression ends: at its second `/`, or at a pair of backslashes before a `/`.
+pub(crate) fn regex_end(text: &str) -> &str
+    ensures { chars result.now ≡ regex_end (chars text.now) }
+{
+    let mut rest = text;
+    while let Some(following) = behind_regex_piece(rest) {
+        rest = following;
+    }
+    rest
+}
+
+// What stands behind the next piece of a regular expression.
+fn behind_regex_piece(text: &str) -> Option<&str>
+    ensures { MatchOption result (regex_end (chars text.now) ≡ chars text.now)
+        (λ rest. IsRegexPiece (chars text.now) (chars rest.now)) }
+{
+    match split_first(text)? {
+        ('/', _) => None,
+        ('\\', following) => behind_pair(following),
+        (_, following) => Some(following),
+    }
+}
+
+// What stands behind the character behind a backslash; nothing where that is one, too, before a `/`.
+fn behind_pair(text: &str) -> Option<&str>
+    ensures { MatchOption result
+        (regex_end (backslash ∷ chars text.now) ≡ backslash ∷ chars text.now)
+        (λ rest. IsRegexPiece (backslash ∷ chars text.now) (chars rest.now)) }
+{
+    match split_first(text) {
+        Some((c, following)) if c == '\\' && begins(following, '/') => None,
+        Some((_, following)) => Some(following),
+        None => Some(text),
+    }
+}

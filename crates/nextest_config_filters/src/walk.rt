@@ -1,0 +1,130 @@
+//! The walk through a filter.
+
+ghost use Rattle.std.specs.Prelude.{◌≡◌, ◌+◌, ◌<◌, ◌^◌, ℕ, chars, length, option_map};
+ghost use Rattle.nextest_config_filters.specs.Filter.{State as StateOf};
+ghost use Rattle.nextest_config_filters.specs.Reading.{reading_at};
+ghost use Rattle.nextest_config_filters.specs.Told.{closes, told_view};
+ghost use Rattle.nextest_config_filters.specs.Walk.{IsLeftOpen, IsStepBy, IsWalk, IsWalked, Shows, state_opened};
+
+use crate::filter::FilterPlace;
+use crate::reading::reading_at;
+use crate::told::{Expects, Reading, Told, not_closed, not_open};
+
+// Where a walk is.
+#[derive(Clone, Copy, Debug)]
+struct State<'a> {
+    expects: Expects,
+    // What stands behind all that is read.
+    rest: &'a str,
+    // How many parentheses are open.
+    depth: usize,
+    // What stands behind the last one that opened as the one of a level.
+    last: &'a str,
+}
+
+// How a walk goes on, or ends.
+enum Step<'a> {
+    To(State<'a>),
+    // This is told, or nothing.
+    Over(Option<Told<'a>>),
+    // The text ends, and parentheses are open.
+    Open,
+}
+
+// How a walk ends, beside that this is told.
+enum End<'a> {
+    Over(Option<Told<'a>>),
+    // So many parentheses are open, and this stands behind the last one of the level.
+    Open(usize, &'a str),
+}
+
+/// What is told of a text that has more than spaces.
+pub(crate) fn told_in(place: FilterPlace, text: &str) -> Option<Told<'_>>
+    ensures { IsWalked place (chars text.now) (option_map told_view result) }
+{
+    match walk(place, text, 1) {
+        End::Over(told) => told,
+        End::Open(level, _) => last_open(place, text, level),
+    }
+}
+
+// The last of the parentheses that are open at the end, of which there are so many.
+fn last_open(place: FilterPlace, text: &str, level: usize) -> Option<Told<'_>>
+    requires { IsLeftOpen place (chars text.now) level }
+    ensures { IsWalked place (chars text.now) (option_map told_view result) }
+{
+    match walk(place, text, level) {
+        End::Over(told) => told,
+        End::Open(_, last) => Some(not_closed(last)),
+    }
+}
+
+// Walks through a text, and keeps the parentheses of a level in sight.
+fn walk(place: FilterPlace, text: &str, level: usize) -> End<'_>
+    ensures { IsWalk place level (chars text.now) result }
+{
+    let mut state = State {
+        expects: Expects::Operand,
+        rest: text,
+        depth: 0,
+        last: text,
+    };
+    loop {
+        match next_step(place, level, state) {
+            Step::To(next) => state = next,
+            Step::Over(told) => return End::Over(told),
+            Step::Open => return End::Open(state.depth, state.last),
+        }
+    }
+}
+
+// One step of a walk.
+fn next_step<'a>(place: FilterPlace, level: usize, state: State<'a>) -> Step<'a>
+    requires { state.depth + length (chars state.rest.now) < 2 ^ 64 }
+    ensures { (now : StateOf) → Shows level state.entry now
+        → IsStepBy level (reading_at place now.expects now.rest) now result }
+{
+    match reading_at(place, state.expects, state.rest) {
+        Reading::GoesOn(expects, rest) => Step::To(State {
+            expects,
+            rest,
+            ..state
+        }),
+        Reading::Opens(rest) => Step::To(opened(level, state, rest)),
+        Reading::Closes(rest) => closed(state, rest),
+        Reading::Ends if state.depth > 0 => Step::Open,
+        Reading::Ends | Reading::Unjudged => Step::Over(None),
+        Reading::Tells(told) => Step::Over(Some(told)),
+    }
+}
+
+// The state behind a parenthesis that opens.
+fn opened<'a>(level: usize, state: State<'a>, rest: &'a str) -> State<'a>
+    requires { state.depth + 1 < 2 ^ 64 }
+    ensures { (now : StateOf) → Shows level state.entry now
+        → Shows level result (state_opened now (chars rest.now)) }
+{
+    let depth = state.depth + 1;
+    State {
+        expects: Expects::Operand,
+        rest,
+        depth,
+        last: if depth == level { rest } else { state.last },
+    }
+}
+
+// The step over a parenthesis that closes.
+fn closed<'a>(state: State<'a>, rest: &'a str) -> Step<'a>
+    ensures { (level : ℕ) (now : StateOf) → Shows level state.entry now
+        → IsStepBy level (closes (chars rest.now)) now result }
+{
+    if state.depth == 0 {
+        return Step::Over(Some(not_open(rest)));
+    }
+    Step::To(State {
+        expects: Expects::Operator,
+        rest,
+        depth: state.depth - 1,
+        ..state
+    })
+}
