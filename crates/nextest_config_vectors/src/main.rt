@@ -21,6 +21,7 @@ mod asking;
 mod compared;
 mod failure;
 mod files;
+mod filters;
 mod lists;
 mod runner;
 mod settings;

@@ -12,7 +12,7 @@ pub mod texts;
 
 use crate::failure::Failure;
 use crate::runner::Runner;
-use crate::{compared, lists};
+use crate::{compared, filters, lists};
 
 /// What a call of a subject answers: of those here, or of those that lists have.
 pub fn answer(rt: &Runner, subject: &str, call: &str, input: &str) -> Result<String, Failure> {
@@ -24,6 +24,7 @@ pub fn answer(rt: &Runner, subject: &str, call: &str, input: &str) -> Result<Str
         "equality" => compared::equality(rt, call, input),
         "faults" => faults::faults(rt, call, input),
         "fields" => fields::fields(rt, call, input),
+        "filters" => filters::filters(rt, call, input),
         "identifiers" => identifiers::identifiers(rt, call, input),
         "limits" => limits::limits(rt, call, input),
         "readers" => readers::readers(rt, call, input),

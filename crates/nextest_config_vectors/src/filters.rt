@@ -1,0 +1,35 @@
+//! What is told of filters.
+
+use crate::answers::{copied, done, shown, unknown};
+use crate::failure::Failure;
+use crate::runner::Runner;
+use nextest_config_filters::{FilterPlace, TextFault, filter_fault};
+
+/// What is told of the filter: from which character to which, the code, and the words. The call is
+/// its place.
+pub fn filters(rt: &Runner, call: &str, input: &str) -> Result<String, Failure> {
+    let place = match call {
+        "filter" => FilterPlace::Filter,
+        "default-filter" => FilterPlace::DefaultFilter,
+        _ => return unknown(rt, call),
+    };
+    let fault = filter_fault(rt.call(), input, place);
+    rt.end();
+    match fault {
+        Ok(Some(fault)) => told(rt, input, &fault),
+        Ok(None) => copied(rt, "nothing"),
+        Err(error) => shown(rt, &error),
+    }
+}
+
+fn told(rt: &Runner, text: &str, fault: &TextFault) -> Result<String, Failure> {
+    let words = shown(rt, fault)?;
+    let begin = characters_before(text, fault.begin);
+    let end = characters_before(text, fault.end);
+    let code = fault.code();
+    done(rt, format!(in rt.alloc(); "{begin} {end} {code}: {words}"))
+}
+
+fn characters_before(text: &str, offset: usize) -> usize {
+    text.get(..offset).unwrap_or("").chars().count()
+}
