@@ -87,7 +87,7 @@ pub enum Shape {
     Any,
     /// A table.
     Table,
-    /// A table for which there is a rule beyond those of its keys.
+    /// A table (one for which there is a rule beyond those of its keys).
     RuledTable(TableRule),
     /// An array.
     Array,
@@ -139,7 +139,7 @@ pub enum Shape {
     FlakyFailStatus,
     /// A text.
     Text,
-    /// A text that names something else of the file.
+    /// A text (one that names something else of the file).
     Reference(Referent),
     /// An array of texts.
     Texts,
@@ -151,7 +151,7 @@ pub enum Shape {
     Word(WordList),
     /// A text, boolean, integer or float, of which a text is made.
     Scalar,
-    /// A text that names something else of the file, or an array of such texts.
+    /// A text, or an array of texts (each names something else of the file).
     References(Referent),
     /// A command: a command line, or a table that has one.
     Command,
