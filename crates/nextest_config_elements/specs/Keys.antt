@@ -13,7 +13,7 @@ use Rattle.nextest_config_elements.specs.declared.field.FaultSeverity.TheVariant
 use Rattle.nextest_config_elements.specs.declared.field.Referent.{Referent}
 use Rattle.nextest_config_elements.specs.declared.field.Referent.TheVariants.{Definition, Parent}
 use Rattle.nextest_config_elements.specs.declared.field.Shape.{Shape}
-use Rattle.nextest_config_elements.specs.declared.field.Shape.TheVariants.{Any, Array, Boolean, Command, CommandLine, Depth, Duration, Experimental, FailFast, FlakyFailStatus, FlakyResult, LeakTimeout, NextestVersion, Platform, Priority, Reference, References, RelativePath, Retries, RuledTable, Scalar, SlowTimeout, Table, Text, Texts, Threads, ThreadsRequired, VersionText, Word}
+use Rattle.nextest_config_elements.specs.declared.field.Shape.TheVariants.{Any, Array, Boolean, Command, CommandLine, DefaultFilter, Depth, Duration, Experimental, FailFast, Filter, FlakyFailStatus, FlakyResult, LeakTimeout, NextestVersion, Platform, PlatformText, Priority, Reference, References, RelativePath, Retries, RuledTable, Scalar, SlowTimeout, Table, Text, Texts, Threads, ThreadsRequired, VersionText, Word}
 use Rattle.nextest_config_elements.specs.declared.field.TableRule.TheVariants as rules
 use Rattle.nextest_config_elements.specs.declared.named.NamedKind.{NamedKind}
 use Rattle.nextest_config_elements.specs.declared.named.NamedKind.TheVariants.{Group, Script}
@@ -61,8 +61,8 @@ override_junit_fields =
 -- the fields of the table `platform` of an override, or of a rule for scripts
 abbrev pub platform_fields : Fields
 platform_fields =
-    field (allowed (codes "host") Text Warning) nothing
-    (field (allowed (codes "target") Text Warning) nothing no_fields)
+    field (allowed (codes "host") PlatformText Warning) nothing
+    (field (allowed (codes "target") PlatformText Warning) nothing no_fields)
 
 -- the fields of an override
 abbrev pub override_fields : Fields
@@ -77,9 +77,9 @@ override_fields =
     (field (allowed_or (codes "leak-timeout") LeakTimeout Error
     of_profile) (fields leak_timeout_fields)
     (field (allowed_or (codes "junit") Table Error of_profile) (fields override_junit_fields)
-    (field (allowed (codes "filter") Text Warning) nothing
+    (field (allowed (codes "filter") Filter Warning) nothing
     (field (allowed (codes "platform") Platform Warning) (fields platform_fields)
-    (field (allowed_or (codes "default-filter") Text Warning of_profile) nothing
+    (field (allowed_or (codes "default-filter") DefaultFilter Warning of_profile) nothing
     (field (allowed_or (codes "test-group") (Reference (Definition Group)) Warning
     (text_taken (codes "@global"))) nothing
     (field (allowed_or (codes "run-extra-args") Texts Warning of_profile) each_text
@@ -90,7 +90,7 @@ override_fields =
 -- the fields of a rule that says for which tests scripts run
 abbrev pub script_rule_fields : Fields
 script_rule_fields =
-    field (allowed (codes "filter") Text Warning) nothing
+    field (allowed (codes "filter") Filter Warning) nothing
     (field (allowed (codes "platform") Platform Warning) (fields platform_fields)
     (field (allowed_or (codes "setup") (References setup_script) Warning
     (taken (Some (array no_items)))) (elements (Reference setup_script) nothing)
@@ -137,7 +137,7 @@ profile_fields =
     (inherited None)) (elements (RuledTable rules.Override) (fields override_fields))
     (field (allowed_or (codes "inherits") (Reference Parent) Warning
     (text_taken (codes "default"))) nothing
-    (field (allowed_or (codes "default-filter") Text Warning
+    (field (allowed_or (codes "default-filter") DefaultFilter Warning
     (text_inherited (codes "all()"))) nothing
     (field (allowed_or (codes "test-threads") Threads Warning
     (text_inherited (codes "num-cpus"))) nothing

@@ -141,12 +141,18 @@ pub enum Shape {
     Text,
     /// A text (one that names something else of the file).
     Reference(Referent),
+    /// A filter.
+    Filter,
+    /// A filter, which may not ask for the default one.
+    DefaultFilter,
     /// An array of texts.
     Texts,
     /// A number of threads: an integer, or a word.
     Threads,
     /// A platform: a text, or a table of two.
     Platform,
+    /// The name of a target, or a `cfg(..)`.
+    PlatformText,
     /// One of these words.
     Word(WordList),
     /// A text, boolean, integer or float, of which a text is made.

@@ -193,7 +193,7 @@ const GLOBAL_TIMEOUT: Field = Field {
 
 const DEFAULT_FILTER: Field = Field {
     key: "default-filter",
-    shape: Shape::Text,
+    shape: Shape::DefaultFilter,
     absent: Absent::Inherited(Literal::Text("all()")),
     purpose: Purpose::DefaultFilter,
     ..Field::DOCUMENTED
@@ -337,7 +337,7 @@ const BENCH: &[Field] = &[
 
 const FILTER: Field = Field {
     key: "filter",
-    shape: Shape::Text,
+    shape: Shape::Filter,
     purpose: Purpose::Filter,
     ..Field::DOCUMENTED
 };
@@ -470,13 +470,13 @@ const OVERRIDE_JUNIT: &[Field] = &[
 const PLATFORM_FIELDS: &[Field] = &[
     Field {
         key: "host",
-        shape: Shape::Text,
+        shape: Shape::PlatformText,
         purpose: Purpose::PlatformHost,
         ..Field::DOCUMENTED
     },
     Field {
         key: "target",
-        shape: Shape::Text,
+        shape: Shape::PlatformText,
         purpose: Purpose::PlatformTarget,
         ..Field::DOCUMENTED
     },

@@ -7,6 +7,8 @@ use Rattle.nextest_config_filters.specs.declared.fault.Expected.TheVariants as e
 use Rattle.nextest_config_filters.specs.declared.fault.FilterFlaw.{FilterFlaw}
 use Rattle.nextest_config_filters.specs.declared.fault.FilterFlaw.TheVariants as flaws
 use Rattle.nextest_config_filters.specs.declared.fault.TextFault.{TextFault}
+use Rattle.nextest_config_filters.specs.declared.fault.TextFaultCode.{TextFaultCode}
+use Rattle.nextest_config_filters.specs.declared.fault.TextFaultCode.TheVariants as fault_codes
 use Rattle.nextest_config_filters.specs.declared.fault.TextFaultKind.{TextFaultKind}
 use Rattle.nextest_config_filters.specs.declared.fault.TextFaultKind.TheVariants as kinds
 
@@ -31,21 +33,21 @@ fault_of fault = record { begin = fault.begin; end = fault.end; kind = kind_of f
 
 -- ---- codes
 
-abbrev pub code_of_expected : Expected → List ℕ
-code_of_expected expect.HostOrTarget = codes "filter-argument"
-code_of_expected expect.ClosingOfRegex = codes "filter-argument"
-code_of_expected expected = codes "filter-syntax"
+abbrev pub code_of_expected : Expected → TextFaultCode
+code_of_expected expect.HostOrTarget = fault_codes.FilterArgument
+code_of_expected expect.ClosingOfRegex = fault_codes.FilterArgument
+code_of_expected expected = fault_codes.FilterSyntax
 
-abbrev pub code_of_flaw : FilterFlaw → List ℕ
+abbrev pub code_of_flaw : FilterFlaw → TextFaultCode
 code_of_flaw (flaws.Unexpected expected) = code_of_expected expected
-code_of_flaw flaws.Empty = codes "filter-syntax"
-code_of_flaw flaws.NotClosed = codes "filter-syntax"
-code_of_flaw flaws.NotOpen = codes "filter-syntax"
-code_of_flaw flaws.UnknownPredicate = codes "unknown-predicate"
-code_of_flaw flaws.AsksForItself = codes "banned-predicate"
-code_of_flaw flaw = codes "filter-argument"
+code_of_flaw flaws.Empty = fault_codes.FilterSyntax
+code_of_flaw flaws.NotClosed = fault_codes.FilterSyntax
+code_of_flaw flaws.NotOpen = fault_codes.FilterSyntax
+code_of_flaw flaws.UnknownPredicate = fault_codes.UnknownPredicate
+code_of_flaw flaws.AsksForItself = fault_codes.BannedPredicate
+code_of_flaw flaw = fault_codes.FilterArgument
 
-abbrev pub code_of : Kind → List ℕ
+abbrev pub code_of : Kind → TextFaultCode
 code_of kind = code_of_flaw kind.flaw
 
 -- ---- texts

@@ -12,7 +12,7 @@ use std::fmt;
 use toml_spans::write_quoted;
 
 /// A fault of a text, at a range of its bytes.
-#[derive(Debug, Drop)]
+#[derive(Debug, PartialEq, Eq, Drop)]
 pub struct TextFault {
     pub begin: usize,
     pub end: usize,
@@ -20,7 +20,7 @@ pub struct TextFault {
 }
 
 /// What is wrong with a text.
-#[derive(Debug, Drop)]
+#[derive(Debug, PartialEq, Eq, Drop)]
 pub enum TextFaultKind {
     /// Of a filter.
     Filter {
@@ -30,6 +30,23 @@ pub enum TextFaultKind {
         /// What may be meant.
         hint: Option<String>,
     },
+}
+
+/// What kind of fault it is.
+#[derive(Clone, Copy, Debug, PartialEq, Eq)]
+pub enum TextFaultCode {
+    /// A text is no filter.
+    FilterSyntax,
+    /// No predicate of filters has a name.
+    UnknownPredicate,
+    /// A default filter asks for the default filter.
+    BannedPredicate,
+    /// The argument of a predicate isn't one that it takes.
+    FilterArgument,
+    /// A text is no platform.
+    PlatformSyntax,
+    /// A platform is a word that is the name of no target.
+    PlatformWord,
 }
 
 /// What is wrong with a filter.
@@ -78,9 +95,9 @@ pub enum Expected {
 }
 
 impl TextFault {
-    /// The code of the fault.
-    pub fn code(&self) -> &'static str
-        ensures { result.now ≡ code_of (kind_of self.now.kind) }
+    /// What kind of fault it is.
+    pub fn code(&self) -> TextFaultCode
+        ensures { result ≡ code_of (kind_of self.now.kind) }
     {
         match &self.kind {
             TextFaultKind::Filter { flaw, .. } => flaw.code(),
@@ -89,31 +106,33 @@ impl TextFault {
 }
 
 impl FilterFlaw {
-    fn code(self) -> &'static str
-        ensures { result.now ≡ code_of_flaw self }
+    fn code(self) -> TextFaultCode
+        ensures { result ≡ code_of_flaw self }
     {
         match self {
-            FilterFlaw::Empty | FilterFlaw::NotClosed | FilterFlaw::NotOpen => "filter-syntax",
+            FilterFlaw::Empty | FilterFlaw::NotClosed | FilterFlaw::NotOpen => {
+                TextFaultCode::FilterSyntax
+            }
             FilterFlaw::Unexpected(expected) => expected.code(),
-            FilterFlaw::UnknownPredicate => "unknown-predicate",
-            FilterFlaw::AsksForItself => "banned-predicate",
+            FilterFlaw::UnknownPredicate => TextFaultCode::UnknownPredicate,
+            FilterFlaw::AsksForItself => TextFaultCode::BannedPredicate,
             FilterFlaw::UnwantedArgument(_)
             | FilterFlaw::NoArgument(_)
             | FilterFlaw::SecondArgument(_)
             | FilterFlaw::UnknownEscape
             | FilterFlaw::UnknownCode
-            | FilterFlaw::RegexNotClosed => "filter-argument",
+            | FilterFlaw::RegexNotClosed => TextFaultCode::FilterArgument,
         }
     }
 }
 
 impl Expected {
-    fn code(self) -> &'static str
-        ensures { result.now ≡ code_of_expected self }
+    fn code(self) -> TextFaultCode
+        ensures { result ≡ code_of_expected self }
     {
         match self {
-            Expected::HostOrTarget | Expected::ClosingOfRegex => "filter-argument",
-            _ => "filter-syntax",
+            Expected::HostOrTarget | Expected::ClosingOfRegex => TextFaultCode::FilterArgument,
+            _ => TextFaultCode::FilterSyntax,
         }
     }
 }

@@ -14,6 +14,6 @@ mod reading;
 mod told;
 mod walk;
 
-pub use fault::{Expected, FilterFlaw, TextFault, TextFaultKind};
+pub use fault::{Expected, FilterFlaw, TextFault, TextFaultCode, TextFaultKind};
 pub use filter::{FilterPlace, filter_fault};
 pub use predicate::Predicate;

@@ -23,7 +23,7 @@ use Rattle.nextest_config_lint.specs.Found.{AreFoundIn, AreFoundOf, Found, found
 use Rattle.nextest_config_lint.specs.References.{FileInList, in_list, IsReferenceFound}
 use Rattle.nextest_config_lint.specs.Settings.{a_value, absent_key, between, features_at, is_known, refused_key, settings_of, SettingView, Subject}
 use Rattle.nextest_config_lint.specs.Subjects.{IsLeftOpen, NamesFeatures}
-use Rattle.nextest_config_lint.proofs.Subjects.{named_not_right, named_not_wrong, never_wrong, one_wrong}
+use Rattle.nextest_config_lint.proofs.Subjects.{named_not_right, named_not_wrong, never_wrong, one_text_fault, one_wrong}
 use Rattle.nextest_config_elements.specs.declared.field.Shape.{Shape}
 use Rattle.nextest_config_elements.specs.declared.field.Shape.TheVariants as shapes
 use Rattle.nextest_config_lint.proofs.WrittenHints.{written_once}
@@ -32,7 +32,7 @@ use Rattle.nextest_config_lint.specs.Hints.Durations.{digits_of, IsDurationHint,
 use Rattle.nextest_config_lint.specs.Unknown.{IsHintFor, IsKeyFound, IsKeyFoundFor, meant_beside, TableKey}
 use Rattle.nextest_config_lint.specs.Severity.{IsSeverity}
 use Rattle.nextest_config_lint.specs.declared.finding.FindingSeverity.{FindingSeverity}
-use Rattle.nextest_config_lint.specs.Values.{accepted, AreFaults, AreFaultsFound, AreFeatures, AreFeaturesFound, AreFoundBy, AreNotes, AreNotesFound, faulty, IsOutcome, left_open, names_features, Outcome}
+use Rattle.nextest_config_lint.specs.Values.{accepted, AreFaults, AreFaultsFound, AreFeatures, AreFeaturesFound, AreFoundBy, AreNotes, AreNotesFound, faulty, IsOutcome, left_open, miswritten, names_features, Outcome}
 
 -- one thing is found in a list, where one is found of each element
 found_once : {A : Type 0} (IsFound : A → Option Found → Type 0) → ((x : A) (a b : Option Found) → IsFound x a → IsFound x b → a ≡ b)
@@ -60,19 +60,28 @@ named_once edition subject value other named others (is, means) (also, means_too
 
 pub one_outcome : (edition : Edition) (setting : SettingView) (a b : Outcome) → IsOutcome edition setting a → IsOutcome edition setting b → a ≡ b
 one_outcome edition setting accepted accepted h k = refl
-one_outcome edition setting accepted (names_features value named) h k = absurd (named_not_right edition setting.subject value named k h)
-one_outcome edition setting accepted (faulty fault) h k = absurd (never_wrong edition setting.subject fault h k.0)
-one_outcome edition setting accepted (left_open fault) h k = absurd (never_wrong edition setting.subject fault h k.0)
-one_outcome edition setting (names_features value named) accepted h k = absurd (named_not_right edition setting.subject value named h k)
+one_outcome edition setting accepted (miswritten fault) h k = absurd (h.1 fault k.1)
+one_outcome edition setting accepted (names_features value named) h k = absurd (named_not_right edition setting.subject value named k h.0)
+one_outcome edition setting accepted (faulty fault) h k = absurd (never_wrong edition setting.subject fault h.0 k.0)
+one_outcome edition setting accepted (left_open fault) h k = absurd (never_wrong edition setting.subject fault h.0 k.0)
+one_outcome edition setting (names_features value named) accepted h k = absurd (named_not_right edition setting.subject value named h k.0)
+one_outcome edition setting (names_features value named) (miswritten fault) h k = absurd (named_not_right edition setting.subject value named h k.0)
 one_outcome edition setting (names_features value named) (names_features other others) h k = named_once edition setting.subject value other named others h k
 one_outcome edition setting (names_features value named) (faulty fault) h k = absurd (named_not_wrong edition setting.subject value named fault h k.0)
 one_outcome edition setting (names_features value named) (left_open fault) h k = absurd (named_not_wrong edition setting.subject value named fault h k.0)
-one_outcome edition setting (faulty fault) accepted h k = absurd (never_wrong edition setting.subject fault k h.0)
+one_outcome edition setting (faulty fault) accepted h k = absurd (never_wrong edition setting.subject fault k.0 h.0)
+one_outcome edition setting (faulty fault) (miswritten other) h k = absurd (never_wrong edition setting.subject fault k.0 h.0)
 one_outcome edition setting (faulty fault) (names_features value named) h k = absurd (named_not_wrong edition setting.subject value named fault k h.0)
 one_outcome edition setting (faulty fault) (faulty other) h k = ap faulty (one_wrong edition setting.subject fault other h.0 k.0)
 one_outcome edition setting (faulty fault) (left_open other) h k =
     absurd (h.1 (subst (IsLeftOpen setting.subject) (one_wrong edition setting.subject other fault k.0 h.0) k.1))
-one_outcome edition setting (left_open fault) accepted h k = absurd (never_wrong edition setting.subject fault k h.0)
+one_outcome edition setting (miswritten fault) accepted h k = absurd (k.1 fault h.1)
+one_outcome edition setting (miswritten fault) (names_features value named) h k = absurd (named_not_right edition setting.subject value named k h.0)
+one_outcome edition setting (miswritten fault) (faulty other) h k = absurd (never_wrong edition setting.subject other h.0 k.0)
+one_outcome edition setting (miswritten fault) (miswritten other) h k = ap miswritten (one_text_fault setting.subject fault other h.1 k.1)
+one_outcome edition setting (miswritten fault) (left_open other) h k = absurd (never_wrong edition setting.subject other h.0 k.0)
+one_outcome edition setting (left_open fault) accepted h k = absurd (never_wrong edition setting.subject fault k.0 h.0)
+one_outcome edition setting (left_open fault) (miswritten other) h k = absurd (never_wrong edition setting.subject fault k.0 h.0)
 one_outcome edition setting (left_open fault) (names_features value named) h k = absurd (named_not_wrong edition setting.subject value named fault k h.0)
 one_outcome edition setting (left_open fault) (faulty other) h k =
     absurd (k.1 (subst (IsLeftOpen setting.subject) (one_wrong edition setting.subject fault other h.0 k.0) h.1))
@@ -151,6 +160,7 @@ faults_once : (setting : SettingView) (outcome : Outcome) (a b : List Found) →
 faults_once setting accepted a b h k = h ∙ sym k
 faults_once setting (names_features value named) a b h k = h ∙ sym k
 faults_once setting (faulty fault) a b (found, is, whole) (other, also, too) = whole ∙ ap (λ (it : Found). it ∷ []) (one_found setting fault found other is also) ∙ sym too
+faults_once setting (miswritten fault) a b h k = h ∙ sym k
 faults_once setting (left_open fault) a b h k = h ∙ sym k
 
 -- ---- of a key
@@ -199,6 +209,7 @@ features_once : (kind : ConfigSourceKind) (setting : SettingView) (outcome : Out
 features_once kind setting accepted a b h k = h ∙ sym k
 features_once kind setting (names_features value named) a b h k = all_named_once kind setting.path value named.features a b h k
 features_once kind setting (faulty fault) a b h k = h ∙ sym k
+features_once kind setting (miswritten fault) a b h k = h ∙ sym k
 features_once kind setting (left_open fault) a b h k = h ∙ sym k
 
 -- ---- of all

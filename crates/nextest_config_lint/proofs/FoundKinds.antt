@@ -7,15 +7,17 @@ use Rattle.nextest_config_values.specs.Read.Fault.{Always, Cause, Fault, fault_o
 use Rattle.nextest_config_values.specs.declared.read.value_fault.ValueFault.{ValueFault}
 use Rattle.nextest_config_values.specs.Read.{FaultOrMemory, fault_with, Reason, reason_at}
 use Rattle.toml_spans.specs.Step.{PathStep, printed_path}
+use Rattle.nextest_config_filters.specs.Fault.{Fault as TextFault}
 use Rattle.nextest_config.specs.declared.nextest_version.edition.Edition.{Edition}
 use Rattle.nextest_config.specs.declared.nextest_version.source.ConfigSourceKind.{ConfigSourceKind}
 use Rattle.nextest_config_lint.specs.Faults.{IsFoundOf}
-use Rattle.nextest_config_lint.specs.Found.{Found, found_at, FoundKind, found_of, Meant, refused, unjudged}
+use Rattle.nextest_config_lint.specs.Found.{Found, found_at, FoundKind, found_of, Meant, refused, unjudged, wrong_text}
 use Rattle.nextest_config_lint.specs.Hints.{IsFaultHint}
 use Rattle.nextest_config_lint.specs.Settings.{SettingView}
 use Rattle.nextest_config_lint.specs.Severity.{IsSeverity}
 use Rattle.nextest_config_lint.specs.Subjects.{IsLeftOpen, IsRight, IsWrong}
-use Rattle.nextest_config_lint.specs.Values.{accepted, faulty, IsEmpty, left_open, TellsFault, TellsValue}
+use Rattle.nextest_config_lint.specs.Texts.{HasNoTextFault, IsTextFault}
+use Rattle.nextest_config_lint.specs.Values.{accepted, faulty, IsEmpty, left_open, miswritten, TellsFault, TellsText, TellsValue}
 use Rattle.nextest_config_lint.specs.declared.finding.Finding.{Finding}
 use Rattle.nextest_config_lint.specs.declared.finding.FindingSeverity.{FindingSeverity}
 use Rattle.nextest_config_lint.specs.declared.values.ValueFindings.{ValueFindings}
@@ -92,11 +94,11 @@ of_fault edition kind setting (Some this) memory found refuses (fault, outcome, 
     (outcome, rw so (wrong, other), tells kind)
 
 -- where nothing is wrong, nothing is found
-pub of_nothing : (edition : Edition) (kind : ConfigSourceKind) (setting : SettingView) (found : ValueFindings) → IsRight edition setting.subject → IsEmpty found
-    → TellsValue edition kind setting found
-of_nothing edition kind setting found right empty = (
+pub of_nothing : (edition : Edition) (kind : ConfigSourceKind) (setting : SettingView) (found : ValueFindings) → IsRight edition setting.subject
+    → HasNoTextFault setting.subject → IsEmpty found → TellsValue edition kind setting found
+of_nothing edition kind setting found right sound empty = (
   accepted,
-  right,
+  (right, sound),
   record {
     faults = ([], refl, rw empty.faults refl);
     features = ([], refl, rw empty.features refl);
@@ -104,11 +106,45 @@ of_nothing edition kind setting found right empty = (
   },
 )
 
+-- ---- the findings of a text
+
+pub text_told : (setting : SettingView) (fault : TextFault) (finding : Finding) (found : ValueFindings) → IsTextFault setting.subject fault
+    → found_of finding ≡ Some (found_at setting.path (wrong_text fault))
+    → found.faults.items ≡ finding ∷ [] → found.features.items ≡ [] → found.notes.items ≡ [] → TellsText setting found
+text_told setting fault finding found wrong tells fault_item no_features no_notes = (
+  miswritten fault,
+  wrong,
+  λ kind. record {
+    faults = (found_at setting.path (wrong_text fault) ∷ [], refl, rw (fault_item, tells) refl);
+    features = ([], refl, rw no_features refl);
+    notes = rw no_notes refl;
+  },
+)
+
+pub no_text_told : (setting : SettingView) (found : ValueFindings) → HasNoTextFault setting.subject
+    → found.faults.items ≡ [] → found.features.items ≡ [] → found.notes.items ≡ [] → TellsText setting found
+no_text_told setting found sound no_faults no_features no_notes = (
+  accepted,
+  sound,
+  λ kind. record {
+    faults = ([], refl, rw no_faults refl);
+    features = ([], refl, rw no_features refl);
+    notes = rw no_notes refl;
+  },
+)
+
+-- what is found of a text that has its shape is what is found of what is judged
+pub of_text : (edition : Edition) (kind : ConfigSourceKind) (setting : SettingView) (found : ValueFindings) → IsRight edition setting.subject → TellsText setting found
+    → TellsValue edition kind setting found
+of_text edition kind setting found right (accepted, sound, tells) = (accepted, (right, sound), tells kind)
+of_text edition kind setting found right (miswritten fault, wrong, tells) = (miswritten fault, (right, wrong), tells kind)
+of_text edition kind setting found right (outcome, none, tells) = absurd none
+
 -- what is found of what is checked
 pub of_checked : (edition : Edition) (kind : ConfigSourceKind) (setting : SettingView) (checked : Result (Unit {0}) ValueFault) (told : Result ValueFindings AllocError)
     → OnOk checked (IsRight edition setting.subject) → IfErr checked (Refuses (IsWrong edition setting.subject) Always)
-    → MatchResult checked (λ it. IfOk told IsEmpty) (λ fault. IfOk told (TellsFault setting (fault_of fault))) → IfOk told (TellsValue edition kind setting)
-of_checked edition kind setting (Ok it) told right wrong empty = IfOk-weaker told _ _ (λ found. of_nothing edition kind setting found right) empty
+    → MatchResult checked (λ it. IfOk told (TellsText setting)) (λ fault. IfOk told (TellsFault setting (fault_of fault))) → IfOk told (TellsValue edition kind setting)
+of_checked edition kind setting (Ok it) told right wrong tells = IfOk-weaker told _ _ (λ found. of_text edition kind setting found right) tells
 of_checked edition kind setting (Err fault) told right wrong tells = IfOk-weaker told _ _ (λ found. of_fault edition kind setting (fault_of fault) _ found wrong) tells
 
 -- what is found of a fault that is made

@@ -10,6 +10,7 @@ use Rattle.nextest_config_values.specs.Read.{reason_at}
 use Rattle.toml.specs.Data.{array, as_str, Data, get, get_item, get_member, item, Items, Members, no_items, table}
 use Rattle.toml_spans.specs.Line.{found_below, found_in, step_from}
 use Rattle.toml_spans.specs.Step.{index, key, PathStep, printed_path}
+use Rattle.nextest_config_filters.specs.Fault.{Fault as TextFault}
 use Rattle.nextest_config.specs.NextestVersion.{feature_array, Features, FeatureSetting, features_of_table, feature_table, features_under, text_in}
 use Rattle.nextest_config.specs.declared.nextest_version.edition.Edition.{Edition}
 use Rattle.nextest_config.specs.declared.nextest_version.edition.Edition.TheVariants.{ArrayAllowed, TableOnly}
@@ -41,7 +42,8 @@ use Rattle.nextest_config_elements.specs.declared.retry_policy.Backoff.TheVarian
 use Rattle.nextest_config_lint.specs.declared.settings.Rules.{Rules}
 use Rattle.nextest_config_lint.specs.declared.settings.Rules.TheVariants as rules_of
 use Rattle.nextest_config_lint.specs.Unknown.{IsKeyFound, IsKeyFoundFor, TableKey, key_at, keys_among, keys_below, keys_of_subject, keys_in, known_words}
-use Rattle.nextest_config_lint.specs.Values.{accepted, AreFaultsFound, AreFeaturesFound, AreNotesFound, faulty, left_open, names_features}
+use Rattle.nextest_config_lint.specs.Texts.{IsTextFault}
+use Rattle.nextest_config_lint.specs.Values.{accepted, AreFaultsFound, AreFeaturesFound, AreNotesFound, faulty, left_open, miswritten, names_features}
 
 -- ---- lists
 
@@ -308,11 +310,17 @@ wrong_leads edition top path (between rules value) fault found placed wrong path
     at_key_leads top path name fault found (step_leads top path (key name) value placed there) at path_is key_is
 wrong_leads edition top path (features_at value) fault found placed wrong path_is key_is = absurd wrong
 
+text_leads : (top : Members) (path : List PathStep) (subject : Subject) (fault : TextFault) → IsPlacedAt top path subject → IsTextFault subject fault
+    → IsSome (found_in top path)
+text_leads top path (a_value shape parts value) fault placed wrong = some_is _ value placed
+text_leads top path subject fault placed wrong = absurd wrong
+
 faults_lead : (edition : Edition) (top : Members) (setting : SettingView) (here : List Found) → IsPlaced top setting → AreFaultsFound edition setting here
     → AllByRecursion (LeadsToValue top) here
 faults_lead edition top setting here is (accepted, so, are) = rw are tt
 faults_lead edition top setting here is (names_features value named, so, are) = rw are tt
 faults_lead edition top setting here is (left_open fault, so, are) = rw are tt
+faults_lead edition top setting here is (miswritten fault, so, are) = rw are (text_leads top setting.path setting.subject fault is so.1, tt)
 faults_lead edition top setting here is (faulty fault, so, (found, of_fault, are)) =
     rw are (wrong_leads edition top setting.path setting.subject fault found is so.0 of_fault.path_is (ap key_in of_fault.kind_is.4), tt)
 
@@ -376,6 +384,7 @@ features_lead : (edition : Edition) (kind : ConfigSourceKind) (top : Members) (s
 features_lead edition kind top setting here is (accepted, so, are) = rw are tt
 features_lead edition kind top setting here is (faulty fault, so, are) = rw are tt
 features_lead edition kind top setting here is (left_open fault, so, are) = rw are tt
+features_lead edition kind top setting here is (miswritten fault, so, are) = rw are tt
 features_lead edition (Tool name) top setting here is (names_features value named, so, are) =
     tools_lead top setting.path named.features here (some_is _ value (named_there edition top setting.path setting.subject value named is so)) are
 features_lead edition kind top setting here is (names_features value named, so, are) =
@@ -399,6 +408,7 @@ notes_lead : (edition : Edition) (kind : ConfigSourceKind) (top : Members) (sett
     → AreNotesFound edition kind setting here → AllByRecursion (LeadsToValue top) here
 notes_lead edition kind top setting here is (accepted, so, are) = rw are tt
 notes_lead edition kind top setting here is (faulty fault, so, are) = rw are tt
+notes_lead edition kind top setting here is (miswritten fault, so, are) = rw are tt
 notes_lead edition kind top setting here is (left_open fault, so, are) =
     rw are (open_leads edition top setting.path setting.subject fault is so.0 so.1, tt)
 notes_lead edition (Tool name) top setting here is (names_features value named, so, are) = rw are tt

@@ -25,6 +25,7 @@ pub mod RetriesRead
 pub mod RightValues
 pub mod SettingsRead
 pub mod Subjects
+pub mod TextRanges
 pub mod ToldReferences
 pub mod NoErrorFiles
 pub mod NoErrorReads

@@ -30,7 +30,7 @@ use Rattle.nextest_config_lint.specs.Settings.{a_value, at_items, at_key, featur
 use Rattle.nextest_config_lint.specs.Severity.{plain_severity}
 use Rattle.nextest_config_lint.specs.Shapes.{feature_name_check, features_check, or_table, shape_check}
 use Rattle.nextest_config_lint.specs.Subjects.{IsLeftOpen, IsWrong}
-use Rattle.nextest_config_lint.specs.Values.{accepted, faulty, left_open, names_features}
+use Rattle.nextest_config_lint.specs.Values.{accepted, faulty, left_open, miswritten, names_features}
 
 -- what a reading means by a value, or else the default
 abbrev MeansOr : {X : Type 0} → Reading Data X → X → Option Data → X → Type 0
@@ -43,7 +43,8 @@ NeverOpen edition setting = (fault : Fault) → IsWrong edition setting.subject 
 -- nothing is wrong where what is wrong would be an error
 well_right : (edition : Edition) (kind : ConfigSourceKind) (setting : SettingView) → setting.severity ≡ of_field.Error → NeverOpen edition setting → HasNoErrorAt edition kind setting
     → HasNoFault edition setting
-well_right edition kind setting grave never (accepted, is, none) fault wrong = never_wrong edition setting.subject fault is wrong
+well_right edition kind setting grave never (accepted, is, none) fault wrong = never_wrong edition setting.subject fault is.0 wrong
+well_right edition kind setting grave never (miswritten text, is, none) fault wrong = never_wrong edition setting.subject fault is.0 wrong
 well_right edition kind setting grave never (names_features value named, is, none) fault wrong = named_not_wrong edition setting.subject value named fault is wrong
 well_right edition kind setting grave never (faulty other, is, inl converted) fault wrong = cc (grave, converted.0)
 well_right edition kind setting grave never (faulty other, is, inr below) fault wrong = below (ap plain_severity grave)
@@ -158,11 +159,12 @@ module _ (edition : Edition) where
 
   names_well : (kind : ConfigSourceKind) (path : List PathStep) (value : Data) → ((named : FeatureSetting) × (features_under edition).means value named)
       → HasNoErrorAt edition kind (setting_at of_field.Error path (features_at value)) → AskedFeatures kind (Some value)
-  names_well kind path value (named, means) (accepted, (fault, wrong), none) = absurd ((features_under edition).law.never_both value named fault means wrong)
+  names_well kind path value (named, means) (accepted, ((fault, wrong), sound), none) = absurd ((features_under edition).law.never_both value named fault means wrong)
   names_well kind path value taken (names_features other named, (same, means), obeys) =
       let same_value : other ≡ value = cc same in
       record { named = named; of_features = subst (λ (it : Data). (features_under edition).means it named) same_value means; of_tool = obeys }
   names_well kind path value taken (faulty fault, is, none) = absurd is.0
+  names_well kind path value taken (miswritten fault, is, none) = absurd is.1
   names_well kind path value taken (left_open fault, is, none) = absurd is.0
 
   features_asked : (kind : ConfigSourceKind) (found : Option Data)

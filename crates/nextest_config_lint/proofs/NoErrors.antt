@@ -25,7 +25,7 @@ use Rattle.nextest_config_lint.specs.Unknown.{IsKeyFound, IsKeyFoundFor, TableKe
 use Rattle.nextest_config_lint.specs.Severity.{IsSeverity}
 use Rattle.nextest_config_lint.specs.declared.finding.FindingSeverity.{FindingSeverity}
 use Rattle.nextest_config_lint.specs.declared.finding.FindingSeverity.TheVariants.{Error}
-use Rattle.nextest_config_lint.specs.Values.{accepted, AreFaults, AreFaultsFound, AreFeatures, AreFeaturesFound, AreNotesFound, faulty, left_open, names_features, notes_of, Outcome}
+use Rattle.nextest_config_lint.specs.Values.{accepted, AreFaults, AreFaultsFound, AreFeatures, AreFeaturesFound, AreNotesFound, faulty, left_open, miswritten, names_features, notes_of, Outcome}
 
 -- none of these findings is an error
 abbrev pub AreNoErrors : List Found → Type 0
@@ -96,6 +96,8 @@ by_outcome_warned : (kind : ConfigSourceKind) (setting : SettingView) (outcome :
     → AreFaults setting outcome faults → AreFeatures kind setting outcome features → AreBothNoErrors faults features ↔ IsNoErrorBy kind setting outcome
 by_outcome_warned kind setting accepted faults features h k = (λ none. tt, λ none. both_empty faults features h k)
 by_outcome_warned kind setting (left_open fault) faults features h k = (λ none. tt, λ none. both_empty faults features h k)
+by_outcome_warned kind setting (miswritten fault) faults features h k =
+    (λ none. tt, λ none. (rw h ((λ same. cc same), tt), rw k tt))
 by_outcome_warned kind setting (names_features value named) faults features h k =
     let warned = named_warned kind setting.path value named.features features k in
     (λ none. warned.0 none.1, λ obeys. (rw h tt, warned.1 obeys))
@@ -135,6 +137,7 @@ array_warned path false named = tt
 notes_warned : (kind : ConfigSourceKind) (setting : SettingView) (outcome : Outcome) → AreNoErrors (notes_of kind setting outcome)
 notes_warned kind setting accepted = tt
 notes_warned kind setting (faulty fault) = tt
+notes_warned kind setting (miswritten fault) = tt
 notes_warned kind setting (left_open fault) = ((λ same. cc same), tt)
 notes_warned (Tool name) setting (names_features value named) = tt
 notes_warned kind setting (names_features value named) = array_warned setting.path named.array (features_text named.features.known)

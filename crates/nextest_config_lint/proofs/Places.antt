@@ -4,12 +4,12 @@ use Rattle.std.proofs.lemmas.Option.{none-some}
 use Rattle.std.specs.List.{AllByRecursion, AllZip}
 use Rattle.std.specs.Option.{option_or}
 use Rattle.toml.specs.Data.{Members}
-use Rattle.toml_spans.specs.Index.{IsIndexOf, IsSpanOf, ranges_in}
+use Rattle.toml_spans.specs.Index.{IsSpanOf, ranges_in}
 use Rattle.toml_spans.specs.Ranges.{HasEntry, HaveEntries, Range, Ranges}
 use Rattle.toml_spans.specs.Step.{PathStep}
 use Rattle.toml_spans.specs.declared.index.Index.{Index}
 use Rattle.toml_spans.specs.declared.place.Span.{Span}
-use Rattle.nextest_config_lint.specs.File.{HasRange, is_of_key, IsAtRange, IsIn, IsLocated, IsLocatedBy, range_at, range_of, whole_path}
+use Rattle.nextest_config_lint.specs.File.{HasRange, is_of_key, IsAtRange, IsIn, IsLocated, range_at, range_of, whole_path}
 use Rattle.nextest_config_lint.specs.FindingsLaws.{LeadsToValue}
 use Rattle.nextest_config_lint.specs.Found.{Found, Tells}
 use Rattle.nextest_config_lint.specs.declared.file.LocatedFinding.{LocatedFinding}
@@ -22,6 +22,12 @@ pub first_of_two : (text : List ℕ) (one other : Option Range) (answer : Option
     → IsSpanOf text (option_or one other) (Some span)
 first_of_two text (Some range) other answer span (places, is, stands) same = (places, sym same ∙ is, stands)
 first_of_two text None other answer span is same = absurd (none-some span (sym is ∙ same))
+
+-- of two ranges the other, where the first one is none
+pub last_of_two : (text : List ℕ) (one other : Option Range) (span : Span) → IsSpanOf text one None → IsSpanOf text other (Some span)
+    → IsSpanOf text (option_or one other) (Some span)
+last_of_two text None other span none stands = stands
+last_of_two text (Some range) other span (places, is, at) stands = absurd (none-some places is)
 
 -- what has a range has a span
 pub has_span : (text : List ℕ) (range : Option Range) → IsSome range → IsSpanOf text range None → ⊥
@@ -61,14 +67,6 @@ all_in_range top index entries (finding ∷ findings) ((found, told, leads), are
     ((found, told, in_range top (ranges_in index) entries found leads), all_in_range top index entries findings are)
 
 -- ---- findings at their ranges
-
--- what is at its range in each text of an index is so in this one
-pub all_located : (contents : List ℕ) (index : Index) → IsIndexOf contents index → (findings : List Finding) (located : List LocatedFinding)
-    → AllZip (IsLocatedBy index) findings located → AllZip (IsLocated contents) findings located
-all_located contents index of_text [] [] placed = tt
-all_located contents index of_text (finding ∷ findings) (one ∷ located) placed = (placed.0 contents of_text, all_located contents index of_text findings located placed.1)
-all_located contents index of_text [] (one ∷ located) placed = placed
-all_located contents index of_text (finding ∷ findings) [] placed = placed
 
 -- findings at the ranges of what they tell
 pub all_at_ranges : (contents : List ℕ) (findings : List Finding) (located : List LocatedFinding) → AllZip (IsLocated contents) findings located

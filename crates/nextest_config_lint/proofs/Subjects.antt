@@ -1,14 +1,20 @@
 -- Of what is judged one thing comes.
-use Rattle.std.specs.Prelude.{◌≡◌}
+use Rattle.std.specs.Prelude.{◌≡◌, ℕ, List}
 use Rattle.std.proofs.Common.{subst, sym, ◌∙◌}
-use Rattle.toml.specs.Data.{Data}
+use Rattle.toml.specs.Data.{Data, string}
 use Rattle.nextest_config_values.specs.Read.Fault.{Fault}
+use Rattle.nextest_config_elements.specs.declared.field.Shape.{Shape}
+use Rattle.nextest_config_elements.specs.declared.field.Shape.TheVariants as shapes
+use Rattle.nextest_config_filters.proofs.Ranges.{one_fault}
+use Rattle.nextest_config_filters.specs.Fault.{Fault as TextFault}
+use Rattle.nextest_config_filters.specs.declared.filter.FilterPlace.TheVariants as places
 use Rattle.nextest_config.specs.NextestVersion.{features_under, FeatureSetting}
 use Rattle.nextest_config.specs.declared.nextest_version.edition.Edition.{Edition}
 use Rattle.nextest_config_lint.specs.Rules.{rules_check}
 use Rattle.nextest_config_lint.specs.Settings.{a_value, absent_key, between, features_at, Subject, refused_key}
 use Rattle.nextest_config_lint.specs.Shapes.{shape_check}
 use Rattle.nextest_config_lint.specs.Subjects.{IsRight, IsWrong, NamesFeatures}
+use Rattle.nextest_config_lint.specs.Texts.{IsFaultIn, IsTextFault}
 
 pub one_wrong : (edition : Edition) (subject : Subject) (f g : Fault) → IsWrong edition subject f → IsWrong edition subject g → f ≡ g
 one_wrong edition (a_value shape parts value) f g h k = (shape_check edition shape).one_fault value f g h k
@@ -31,3 +37,14 @@ named_not_right edition subject value named (is, means) right =
 
 pub named_not_wrong : (edition : Edition) (subject : Subject) (value : Data) (named : FeatureSetting) (fault : Fault) → NamesFeatures edition subject value named → IsWrong edition subject fault → ⊥
 named_not_wrong edition subject value named fault (is, means) wrong = subst (λ (it : Subject). IsWrong edition it fault) is wrong
+
+-- ---- of a text
+
+one_fault_in : (shape : Shape) (text : List ℕ) (f g : TextFault) → IsFaultIn shape text f → IsFaultIn shape text g → f ≡ g
+one_fault_in shapes.Filter text f g h k = one_fault places.Filter text f g h k
+one_fault_in shapes.DefaultFilter text f g h k = one_fault places.DefaultFilter text f g h k
+one_fault_in shape text f g h k = absurd h
+
+pub one_text_fault : (subject : Subject) (f g : TextFault) → IsTextFault subject f → IsTextFault subject g → f ≡ g
+one_text_fault (a_value shape parts (string text)) f g h k = one_fault_in shape text f g h k
+one_text_fault subject f g h k = absurd h

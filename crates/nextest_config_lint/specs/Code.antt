@@ -3,6 +3,9 @@ use Rattle.std.specs.Prelude.{◌≡◌, ℕ, List, [], ◌∷◌, codes, Option
 use Rattle.std.proofs.Common.{rules}
 use Rattle.nextest_config_values.specs.Read.{BrokenRule, Reason, value_of}
 use Rattle.nextest_config_values.specs.Read.Fault as faults
+use Rattle.nextest_config_filters.specs.Fault.{code_of}
+use Rattle.nextest_config_filters.specs.declared.fault.TextFaultCode.{TextFaultCode}
+use Rattle.nextest_config_filters.specs.declared.fault.TextFaultCode.TheVariants as texts
 use Rattle.nextest_config_lint.specs.Found.{FoundKind}
 use Rattle.nextest_config_lint.specs.Found as found
 use Rattle.nextest_config_lint.specs.declared.code.FindingCode.{FindingCode}
@@ -47,6 +50,12 @@ codes_in_order =
     ∷ code.ScriptName
     ∷ code.FeatureNotEnabled
     ∷ code.OverrideDefaultFilter
+    ∷ code.FilterSyntax
+    ∷ code.UnknownPredicate
+    ∷ code.BannedPredicate
+    ∷ code.FilterArgument
+    ∷ code.PlatformSyntax
+    ∷ code.PlatformWord
     ∷ code.UnjudgedDuration
     ∷ code.DeprecatedArray
     ∷ []
@@ -85,6 +94,12 @@ code_word code.UndefinedScript = codes "undefined-script"
 code_word code.ScriptName = codes "script-name"
 code_word code.FeatureNotEnabled = codes "feature-not-enabled"
 code_word code.OverrideDefaultFilter = codes "override-default-filter"
+code_word code.FilterSyntax = codes "filter-syntax"
+code_word code.UnknownPredicate = codes "unknown-predicate"
+code_word code.BannedPredicate = codes "banned-predicate"
+code_word code.FilterArgument = codes "filter-argument"
+code_word code.PlatformSyntax = codes "platform-syntax"
+code_word code.PlatformWord = codes "platform-word"
 code_word code.UnjudgedDuration = codes "unjudged-duration"
 code_word code.DeprecatedArray = codes "deprecated-array"
 
@@ -119,6 +134,15 @@ reason_code (faults.custom rule) = rule_code rule
 reason_code (faults.identifier fault) = code.InvalidValue
 reason_code (faults.tool_name fault) = code.InvalidValue
 
+-- the code for what is wrong with a text
+abbrev pub text_code : TextFaultCode → FindingCode
+text_code texts.FilterSyntax = code.FilterSyntax
+text_code texts.UnknownPredicate = code.UnknownPredicate
+text_code texts.BannedPredicate = code.BannedPredicate
+text_code texts.FilterArgument = code.FilterArgument
+text_code texts.PlatformSyntax = code.PlatformSyntax
+text_code texts.PlatformWord = code.PlatformWord
+
 -- the code for an undefined name of a kind
 abbrev pub undefined_code : NamedKind → FindingCode
 undefined_code kinds.Group = code.UndefinedGroup
@@ -132,6 +156,7 @@ name_code (kinds.Script script) = code.ScriptName
 -- the code of what is found, which for a refused value is that of the refusal
 abbrev pub found_code : FoundKind → FindingCode
 found_code (found.refused reason severity hint) = reason_code reason
+found_code (found.wrong_text fault) = text_code (code_of fault.kind)
 found_code (found.tool_names names) = code.ToolFeatures
 found_code (found.unknown_name name hint) = code.UnknownFeature
 found_code (found.unknown_key name hint) = code.UnknownKey

@@ -25,8 +25,9 @@ use Rattle.toml_spans.specs.Ranges.{Range, Ranges}
 use Rattle.toml_spans.specs.Step.{key, PathStep}
 use Rattle.nextest_config_lint.specs.Defined.{groups_key, ListFile, script_key, scripts_key}
 use Rattle.nextest_config_lint.specs.Document.{AreFindings}
-use Rattle.nextest_config_lint.specs.Found.{feature_not_enabled, Found, found_at, FoundKind, found_of, Mistaken, name_of_tool, no_name, not_toml, not_utf8, outside_tool, refused, reserved_profile, setup_script_too, unknown_key, unknown_name}
+use Rattle.nextest_config_lint.specs.Found.{feature_not_enabled, Found, found_at, FoundKind, found_of, Mistaken, name_of_tool, no_name, not_toml, not_utf8, outside_tool, refused, reserved_profile, setup_script_too, unknown_key, unknown_name, wrong_text}
 use Rattle.nextest_config_lint.specs.Mistake.{IsMistake}
+use Rattle.nextest_config_lint.specs.TextRange.{plain_range}
 use Rattle.toml_spans.specs.declared.index.Index.{Index}
 use Rattle.toml_spans.specs.declared.place.Place.{Place}
 use Rattle.toml_spans.specs.declared.place.Span.{Span}
@@ -161,9 +162,20 @@ abbrev pub range_at : Bool → Ranges → List PathStep → Option Range
 range_at true ranges path = option_or (ranges.of_key path) (ranges.of_value path)
 range_at false ranges path = option_or (ranges.of_value path) (ranges.of_key path)
 
--- the range of a finding: by its path, that of the key where that is wrong, else that of the value
+-- the range of what a finding is of: by its path, that of the key where that is wrong, else that of
+-- the value
 abbrev pub range_of : Ranges → Found → Option Range
 range_of ranges found = range_at (is_of_key found) ranges (whole_path found)
+
+-- the range of the bytes of a text that a finding tells
+abbrev pub told_range : List ℕ → Ranges → List PathStep → FoundKind → Option Range
+told_range contents ranges path (wrong_text fault) = plain_range contents ranges path fault
+told_range contents ranges path kind = None
+
+-- the range of a finding: that of the bytes that it tells, or else that of what it is of
+abbrev pub range_for : List ℕ → Ranges → Found → Option Range
+range_for contents ranges found =
+    option_or (told_range contents ranges found.path found.kind) (range_of ranges found)
 
 -- ---- the findings of a document
 
@@ -172,7 +184,8 @@ pub record IsAtRange (contents : List ℕ) (found : Found) (located : LocatedFin
   pub told : found_of located.finding ≡ Some found
   pub index : Index
   pub of_text : IsIndexOf contents index
-  pub at_range : IsSpanOf contents (range_of (ranges_in index) found) (Some located.span)
+  pub at_range : IsSpanOf contents (range_for contents (ranges_in index) found)
+      (Some located.span)
 
 -- the order of places in a text: by their lines, and in one line by their columns
 abbrev pub place_cmp : Place → Place → Ordering
@@ -216,11 +229,6 @@ abbrev pub IsIn : Members → Finding → Type 0
 IsIn members finding = (found : Found) × (found_of finding ≡ Some found)
     × IsSome (found_in members (whole_path found))
 
--- the findings are of the document that the text is
-abbrev pub AreIn : List ℕ → List Finding → Type 0
-AreIn contents findings = (members : Members) × (parse_document contents ≡ Some members)
-    × AllByRecursion (IsIn members) findings
-
 -- what the finding tells has a range in this index
 abbrev pub HasRange : Index → Finding → Type 0
 HasRange index finding = (found : Found) × (found_of finding ≡ Some found)
@@ -230,8 +238,3 @@ HasRange index finding = (found : Found) × (found_of finding ≡ Some found)
 abbrev pub IsLocated : List ℕ → Finding → LocatedFinding → Type 0
 IsLocated contents finding located = (found : Found) → found_of finding ≡ Some found
     → IsAtRange contents found located
-
--- the finding is at the range of what it tells in each text of which this is the index
-abbrev pub IsLocatedBy : Index → Finding → LocatedFinding → Type 0
-IsLocatedBy index finding located = (text : List ℕ) → IsIndexOf text index
-    → IsLocated text finding located

@@ -19,7 +19,7 @@ use Rattle.nextest_config_lint.specs.Found.{default_filter_alone, default_filter
 use Rattle.nextest_config_lint.specs.Settings.{settings_in, settings_of, SettingView}
 use Rattle.nextest_config_lint.specs.Subjects.{IsWrong}
 use Rattle.nextest_config_lint.specs.Severity.{IsConverted, plain_severity}
-use Rattle.nextest_config_lint.specs.Values.{accepted, faulty, IsOutcome, left_open, names_features, Outcome}
+use Rattle.nextest_config_lint.specs.Values.{accepted, faulty, IsOutcome, left_open, miswritten, names_features, Outcome}
 use Rattle.nextest_config_lint.specs.declared.file.LocatedFinding.{LocatedFinding}
 use Rattle.nextest_config_lint.specs.declared.finding.FindingSeverity.TheVariants.{Error}
 
@@ -69,6 +69,7 @@ abbrev pub IsNoErrorBy : ConfigSourceKind → SettingView → Outcome → Type 0
 IsNoErrorBy kind setting accepted = Unit {0}
 IsNoErrorBy kind setting (names_features value named) = ObeysToolRule kind named.features
 IsNoErrorBy kind setting (faulty fault) = IsNoErrorOf setting fault
+IsNoErrorBy kind setting (miswritten fault) = Unit {0}
 IsNoErrorBy kind setting (left_open fault) = Unit {0}
 
 -- what comes of what is judged under this edition, in a file of this kind, is no error

@@ -4,6 +4,7 @@ use Rattle.std.specs.declared.alloc.Global.{Global}
 use Rattle.nextest_config_values.specs.Identifier.Error.{identifier_fault}
 use Rattle.nextest_config_values.specs.Read.{identifier, Reason, reason_of}
 use Rattle.nextest_config_values.specs.NearestWord.{IsNearest}
+use Rattle.nextest_config_filters.specs.Fault.{Fault as TextFault, fault_of as text_fault_of}
 use Rattle.toml_spans.specs.Step.{PathStep, step_of}
 use Rattle.nextest_config_lint.specs.declared.finding.Finding.{Finding}
 use Rattle.nextest_config_lint.specs.declared.finding.FindingKind.{FindingKind}
@@ -52,6 +53,7 @@ mistaken_of mistakes.Unquoted = unquoted
 -- what may be meant
 pub data FoundKind : Type 0 where
   refused : Reason → FindingSeverity → Option Meant → FoundKind
+  wrong_text : TextFault → FoundKind
   tool_names : List (List ℕ) → FoundKind
   unknown_name : List ℕ → Option Meant → FoundKind
   unknown_key : List ℕ → Option Meant → FoundKind
@@ -88,6 +90,7 @@ refused_with severity hint reason = refused reason severity (option_map meant_of
 abbrev pub kind_view : FindingKind → Option FoundKind
 kind_view (kinds.Fault fault severity hint) =
     option_map (refused_with severity hint) (reason_of fault)
+kind_view (kinds.Text fault) = Some (wrong_text (text_fault_of fault))
 kind_view (kinds.ToolFeatures features) = Some (tool_names (map string_bytes features.keys))
 kind_view (kinds.UnknownFeature name hint) =
     Some (unknown_name (string_bytes name) (option_map meant_of hint))
@@ -133,6 +136,7 @@ found_severity not_utf8 = Error
 found_severity (not_toml message mistake) = Error
 found_severity unjudged = Note
 found_severity (deprecated_array table) = Note
+found_severity (wrong_text fault) = Warning
 found_severity (unknown_name name hint) = Warning
 found_severity (unknown_key name hint) = Warning
 found_severity (undefined_name kind name hint) = Warning

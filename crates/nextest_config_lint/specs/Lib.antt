@@ -19,6 +19,8 @@ pub mod Settings
 pub mod Severity
 pub mod Shapes
 pub mod Subjects
+pub mod TextRange
+pub mod Texts
 pub mod Traversal
 pub mod Unknown
 pub mod Values

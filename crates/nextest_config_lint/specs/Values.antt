@@ -2,31 +2,37 @@
 use Rattle.std.specs.Prelude.{◌≡◌, ◌⊎◌, List, [], ◌∷◌, ◌++◌, Option, Some}
 use Rattle.toml.specs.Data.{Data}
 use Rattle.nextest_config_values.specs.Read.Fault.{Fault}
+use Rattle.nextest_config_filters.specs.Fault.{Fault as TextFault}
 use Rattle.nextest_config.specs.NextestVersion.{FeatureSetting}
 use Rattle.nextest_config.specs.declared.nextest_version.edition.Edition.{Edition}
 use Rattle.nextest_config.specs.declared.nextest_version.source.ConfigSourceKind.{ConfigSourceKind}
 use Rattle.nextest_config_lint.specs.Faults.{IsFoundOf}
 use Rattle.nextest_config_lint.specs.Features.{AreNamedFound, array_notes}
-use Rattle.nextest_config_lint.specs.Found.{AreFoundOf, Found, found_at, Tells, TellsSome, unjudged}
+use Rattle.nextest_config_lint.specs.Found.{AreFoundOf, Found, found_at, Tells, TellsSome, unjudged, wrong_text}
 use Rattle.nextest_config_lint.specs.Settings.{SettingView}
 use Rattle.nextest_config_lint.specs.Subjects.{IsLeftOpen, IsRight, IsWrong, NamesFeatures}
+use Rattle.nextest_config_lint.specs.Texts.{HasNoTextFault, IsTextFault}
 use Rattle.nextest_config_lint.specs.declared.values.ValueFindings.{ValueFindings}
 
--- what comes of what is judged: nothing is wrong; a value names features; something is wrong; or it
--- is a duration that isn't judged
+-- what comes of what is judged: nothing is wrong; a value names features; something is wrong, or with
+-- the syntax of a text; or it is a duration that isn't judged
 pub data Outcome : Type 0 where
   accepted : Outcome
   names_features : Data → FeatureSetting → Outcome
   faulty : Fault → Outcome
+  miswritten : TextFault → Outcome
   left_open : Fault → Outcome
 
 -- this comes of what is judged under an edition
 abbrev pub IsOutcome : Edition → SettingView → Outcome → Type 0
-IsOutcome edition setting accepted = IsRight edition setting.subject
+IsOutcome edition setting accepted =
+    IsRight edition setting.subject × HasNoTextFault setting.subject
 IsOutcome edition setting (names_features value named) =
     NamesFeatures edition setting.subject value named
 IsOutcome edition setting (faulty fault) =
     IsWrong edition setting.subject fault × (IsLeftOpen setting.subject fault → ⊥)
+IsOutcome edition setting (miswritten fault) =
+    IsRight edition setting.subject × IsTextFault setting.subject fault
 IsOutcome edition setting (left_open fault) =
     IsWrong edition setting.subject fault × IsLeftOpen setting.subject fault
 
@@ -36,6 +42,8 @@ IsOutcome edition setting (left_open fault) =
 abbrev pub AreFaults : SettingView → Outcome → List Found → Type 0
 AreFaults setting (faulty fault) all_found =
     (found : Found) × IsFoundOf setting fault found × (all_found ≡ found ∷ [])
+AreFaults setting (miswritten fault) all_found =
+    all_found ≡ found_at setting.path (wrong_text fault) ∷ []
 AreFaults setting outcome all_found = all_found ≡ []
 
 -- what is found of the features that a value names
@@ -102,6 +110,17 @@ IsFaultOutcome setting fault outcome =
 abbrev pub TellsFault : SettingView → Option Fault → ValueFindings → Type 0
 TellsFault setting told found = (fault : Fault) × (outcome : Outcome) × (told ≡ Some fault)
     × IsFaultOutcome setting fault outcome
+    × ((kind : ConfigSourceKind) → TellsOutcome kind setting outcome found)
+
+-- what a text comes to where it has its shape
+abbrev pub IsTextOutcome : SettingView → Outcome → Type 0
+IsTextOutcome setting accepted = HasNoTextFault setting.subject
+IsTextOutcome setting (miswritten fault) = IsTextFault setting.subject fault
+IsTextOutcome setting outcome = ⊥
+
+-- the findings tell what is found of the syntax of a text
+abbrev pub TellsText : SettingView → ValueFindings → Type 0
+TellsText setting found = (outcome : Outcome) × IsTextOutcome setting outcome
     × ((kind : ConfigSourceKind) → TellsOutcome kind setting outcome found)
 
 -- the findings tell what is found of each

@@ -71,6 +71,18 @@ pub enum FindingCode {
     FeatureNotEnabled,
     /// What an override says beside its default filter is too much or too little.
     OverrideDefaultFilter,
+    /// A text is no filter.
+    FilterSyntax,
+    /// No predicate of filters has a name.
+    UnknownPredicate,
+    /// A default filter asks for the default filter.
+    BannedPredicate,
+    /// The argument of a predicate isn't one that it takes.
+    FilterArgument,
+    /// A text is no platform.
+    PlatformSyntax,
+    /// A platform is a word that is the name of no target.
+    PlatformWord,
     /// A text is no duration here, and may be one for nextest.
     UnjudgedDuration,
     /// Features stand in an array, which is deprecated.
@@ -118,6 +130,12 @@ impl Word for FindingCode {
             FindingCode::ScriptName,
             FindingCode::FeatureNotEnabled,
             FindingCode::OverrideDefaultFilter,
+            FindingCode::FilterSyntax,
+            FindingCode::UnknownPredicate,
+            FindingCode::BannedPredicate,
+            FindingCode::FilterArgument,
+            FindingCode::PlatformSyntax,
+            FindingCode::PlatformWord,
             FindingCode::UnjudgedDuration,
             FindingCode::DeprecatedArray,
         ]
@@ -157,6 +175,12 @@ impl Word for FindingCode {
             "script-name",
             "feature-not-enabled",
             "override-default-filter",
+            "filter-syntax",
+            "unknown-predicate",
+            "banned-predicate",
+            "filter-argument",
+            "platform-syntax",
+            "platform-word",
             "unjudged-duration",
             "deprecated-array",
         ]

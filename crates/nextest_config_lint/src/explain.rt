@@ -6,6 +6,7 @@ mod expected;
 mod explanation;
 mod features;
 mod files;
+mod filters;
 mod key;
 mod key_path;
 mod known_key;

@@ -127,8 +127,8 @@ pub fn is_unjudged(alloc: Global, value: &Value, fault: &ValueFault) -> Result<b
     }
 }
 
-// The text that steps lead to from a value.
-fn text_along<'v>(value: &'v Value, steps: &[Step]) -> Option<&'v str>
+/// The text that steps lead to from a value.
+pub(crate) fn text_along<'v>(value: &'v Value, steps: &[Step]) -> Option<&'v str>
     ensures { option_map (λ text. text.now) result
         ≡ text_along (view value.now) (map step_of steps.now) }
 {

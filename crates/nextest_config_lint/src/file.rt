@@ -9,13 +9,15 @@ ghost use Rattle.toml_spans.specs.Index.{IsIndexOf, IsSpanOf, ranges_in};
 ghost use Rattle.toml_spans.specs.Step.{key, step_of};
 ghost use Rattle.nextest_config_values.specs.Read.{broken_rule, Reason, reason_of};
 ghost use Rattle.nextest_config_lint.specs.Defined.{IsDefinedBy, ListFile};
-ghost use Rattle.nextest_config_lint.specs.File.{AreIn, AreLocated, AreLocatedIn, AreSorted, HasRange, IsAlone, IsDocument, IsLocated, IsLocatedBy, IsReadOf, IsToldBy, is_definition, is_key_refused, is_of_key, key_in, located_view, range_at, range_of, reason_key, rule_key};
+ghost use Rattle.nextest_config_lint.specs.File.{AreLocated, AreLocatedIn, AreSorted, HasRange, IsAlone, IsDocument, IsIn, IsLocated, IsReadOf, IsToldBy, is_definition, is_key_refused, is_of_key, key_in, located_view, range_at, range_for, range_of, reason_key, rule_key, told_range};
 ghost use Rattle.nextest_config_lint.specs.Found.{Found, found_at, FoundKind, found_of, kind_view, not_utf8};
+ghost use Rattle.nextest_config_lint.specs.TextRange.{IsIndexed};
 
 use crate::defined::{Defined, GROUPS_KEY, SCRIPT_KEY, SCRIPTS_KEY};
 use crate::document::findings;
 use crate::finding::{Finding, FindingKind};
 use crate::mistake::mistake;
+use crate::text_range::{IndexedDocument, plain_span};
 use nextest_config::nextest_version::{ConfigSourceKind, Edition};
 use nextest_config_values::read::{FaultKind, Rule};
 use std::alloc::{AllocError, Global};
@@ -183,7 +185,7 @@ fn located_in_document(
         located.items) }
 {
     let findings = findings(alloc, source, edition, document, defined, position)?;
-    let mut located = locate_all(alloc, text, findings)?;
+    let mut located = locate_all(alloc, text, document, findings)?;
     sort_by_place(&mut located)?;
     Ok(located)
 }
@@ -200,9 +202,11 @@ fn sort_by_place(located: &mut Vec<LocatedFinding>) -> Result<(), AllocError>
 fn locate_all(
     alloc: Global,
     text: &str,
+    document: &Table,
     findings: Vec<Finding>,
 ) -> Result<Vec<LocatedFinding>, AllocError>
-    requires { AreIn text.now findings.items }
+    requires read { parse_document text.now ≡ Some (table_view document.now) }
+    requires here { AllByRecursion (IsIn (table_view document.now)) findings.items }
     ensures { IfOk result
         (λ located. AllZip (IsLocated text.now) findings.items located.items) }
 {
@@ -210,7 +214,16 @@ fn locate_all(
         return Ok(Vec::new(alloc));
     }
     match Index::of(alloc, text)? {
-        Some(index) => locate_all_by(alloc, &index, findings),
+        Some(index) => {
+            let index = &index;
+            let file = IndexedDocument {
+                text,
+                document,
+                index,
+            };
+            let located = locate_all_by(alloc, file, findings)?;
+            Ok(located)
+        }
         None => unreachable!(),
     }
 }
@@ -218,38 +231,53 @@ fn locate_all(
 // Where each finding stands in the document, by the index of its text.
 fn locate_all_by(
     alloc: Global,
-    index: &Index,
+    file: IndexedDocument<'_>,
     findings: Vec<Finding>,
 ) -> Result<Vec<LocatedFinding>, AllocError>
-    requires of_text { (text : List ℕ) × IsIndexOf text index.now }
-    requires ranges { AllByRecursion (HasRange index.now) findings.items }
+    requires file { IsIndexed file }
+    requires ranges { AllByRecursion (HasRange file.index.now) findings.items }
     ensures { IfOk result
-        (λ located. AllZip (IsLocatedBy index.now) findings.items located.items) }
+        (λ located. AllZip (IsLocated file.entry.text.now) findings.items located.items) }
 {
     let mut located = Vec::new(alloc);
     for finding in findings {
-        let span = span_of(alloc, index, &finding)?;
+        let span = span_of(alloc, file, &finding)?;
         located.push(LocatedFinding { span, finding })?;
     }
     Ok(located)
 }
 
 // The range of a finding, which has one.
-fn span_of(alloc: Global, index: &Index, finding: &Finding) -> Result<Span, AllocError>
-    requires of_text { (text : List ℕ) × IsIndexOf text index.now }
-    requires range { HasRange index.now finding.now }
-    ensures { IfOk result (λ span. (text : List ℕ) (found : Found) → IsIndexOf text index.now
-        → found_of finding.now ≡ Some found
-        → IsSpanOf text (range_of (ranges_in index.now) found) (Some span)) }
+fn span_of(alloc: Global, file: IndexedDocument<'_>, finding: &Finding) -> Result<Span, AllocError>
+    requires file { IsIndexed file }
+    requires range { HasRange file.index.now finding.now }
+    ensures { IfOk result (λ span. (found : Found) → found_of finding.now ≡ Some found
+        → IsSpanOf file.entry.text.now (range_for file.entry.text.now (ranges_in file.entry.index.now) found)
+        (Some span)) }
 {
-    match range_in(alloc, index, finding)? {
+    match told_span(file, finding) {
         Some(span) => Ok(span),
-        None => unreachable!(),
+        None => match range_in(alloc, file.index, finding)? {
+            Some(span) => Ok(span),
+            None => unreachable!(),
+        },
     }
 }
 
-// The range of a finding, if the text has one, at a key of its table where it stands there. Other
-// paths are looked up as they are, and not copied.
+// The range of the bytes of a text that a finding tells.
+fn told_span(file: IndexedDocument<'_>, finding: &Finding) -> Option<Span>
+    requires { IsIndexed file }
+    ensures { (found : Found) → found_of finding.now ≡ Some found → IsSpanOf file.entry.text.now
+        (told_range file.entry.text.now (ranges_in file.entry.index.now) found.path found.kind) result }
+{
+    match &finding.kind {
+        FindingKind::Text(fault) => plain_span(file, finding.path.as_slice(), fault),
+        _ => None,
+    }
+}
+
+// The range of what a finding is of, if the text has one, at a key of its table where it stands
+// there. Other paths are looked up as they are, and not copied.
 fn range_in(alloc: Global, index: &Index, finding: &Finding) -> Result<Option<Span>, AllocError>
     ensures { IfOk result (λ span. (text : List ℕ) (found : Found) → IsIndexOf text index.now
         → found_of finding.now ≡ Some found

@@ -2,7 +2,7 @@
 
 ghost use Rattle.std.specs.Prelude.{◌≡◌, Some};
 ghost use Rattle.std.specs.Fmt.{WritesOnOk};
-ghost use Rattle.nextest_config_lint.specs.Code.{name_code, rule_code, told_code, undefined_code};
+ghost use Rattle.nextest_config_lint.specs.Code.{name_code, rule_code, text_code, told_code, undefined_code};
 ghost use Rattle.nextest_config_lint.specs.Found.{kind_view};
 ghost use Rattle.nextest_config_lint.specs.Finding.{fault_code, finding_kind_text, finding_severity, finding_text, hint_text, scope_text, mistake_text, name_text, plain_text};
 ghost use Rattle.nextest_config_values.specs.Read.{broken_rule};
@@ -10,6 +10,7 @@ ghost use Rattle.nextest_config_values.specs.Read.{broken_rule};
 use crate::code::FindingCode;
 use crate::list_features::feature_of;
 use nextest_config_elements::named::{NamedKind, ScriptKind};
+use nextest_config_filters::{TextFault, TextFaultCode};
 use nextest_config_values::identifier::InvalidIdentifier;
 use nextest_config_values::read::{FaultKind, QuotedText, QuotedTexts, Rule};
 use std::collections::BTreeSet;
@@ -32,6 +33,8 @@ pub enum FindingKind {
         severity: FindingSeverity,
         hint: Option<Hint>,
     },
+    /// A text breaks the syntax of its own that it has.
+    Text(TextFault),
     /// The file of a tool names experimental features.
     ToolFeatures {
         features: BTreeSet<String>,
@@ -177,7 +180,8 @@ impl Finding {
             FindingKind::UnjudgedDuration | FindingKind::DeprecatedArray { .. } => {
                 FindingSeverity::Note
             }
-            FindingKind::UnknownFeature { .. }
+            FindingKind::Text(_)
+            | FindingKind::UnknownFeature { .. }
             | FindingKind::UnknownKey { .. }
             | FindingKind::UndefinedName { .. }
             | FindingKind::OtherScript { .. }
@@ -203,6 +207,7 @@ impl Finding {
     {
         match &self.kind {
             FindingKind::Fault { fault, .. } => code_of_fault(fault),
+            FindingKind::Text(fault) => code_of_text(fault.code()),
             FindingKind::ToolFeatures { .. } => FindingCode::ToolFeatures,
             FindingKind::UnknownFeature { .. } => FindingCode::UnknownFeature,
             FindingKind::UnknownKey { .. } => FindingCode::UnknownKey,
@@ -230,6 +235,20 @@ impl Finding {
             FindingKind::NotUtf8 => FindingCode::NotUtf8,
             FindingKind::NotToml { .. } => FindingCode::NotToml,
         }
+    }
+}
+
+// The code of what is wrong with a text.
+fn code_of_text(code: TextFaultCode) -> FindingCode
+    ensures { result ≡ text_code code }
+{
+    match code {
+        TextFaultCode::FilterSyntax => FindingCode::FilterSyntax,
+        TextFaultCode::UnknownPredicate => FindingCode::UnknownPredicate,
+        TextFaultCode::BannedPredicate => FindingCode::BannedPredicate,
+        TextFaultCode::FilterArgument => FindingCode::FilterArgument,
+        TextFaultCode::PlatformSyntax => FindingCode::PlatformSyntax,
+        TextFaultCode::PlatformWord => FindingCode::PlatformWord,
     }
 }
 
@@ -309,6 +328,7 @@ impl fmt::Display for FindingKind {
                 fault.fmt(f)?;
                 write_hint(f, hint)
             }
+            FindingKind::Text(fault) => fault.fmt(f),
             FindingKind::UnknownFeature { name, hint } => {
                 write_name(f, "unknown feature ", name.as_str(), hint)
             }

@@ -1,13 +1,15 @@
 //! Laws of the definitions, for every document. They call nothing.
 
-ghost use Rattle.std.specs.Prelude.{◌≡◌, ◌↔◌, ℕ, false, List, Option, Some};
+ghost use Rattle.std.specs.Prelude.{◌≡◌, ◌↔◌, ◌-◌, ℕ, drop, false, List, Option, Some, take};
 ghost use Rattle.std.specs.List.{AllByRecursion};
 ghost use Rattle.std.specs.Ordering.{nat_cmp};
 ghost use Rattle.toml.specs.Data.{Data, Members};
 ghost use Rattle.toml.specs.Parse.{parse_document};
 ghost use Rattle.nextest_config_values.specs.Equality.{IsCopy, IsEquality};
 ghost use Rattle.nextest_config_values.specs.Literal.Value.{IsLiteral};
+ghost use Rattle.toml_spans.specs.Ranges.{IsAt, Range, Ranges};
 ghost use Rattle.toml_spans.specs.Step.{PathStep};
+ghost use Rattle.nextest_config_filters.specs.Fault.{Fault as TextFault};
 ghost use Rattle.nextest_config.specs.NextestVersion.{Ask, features_under, TextAsks, versions_reading};
 ghost use Rattle.nextest_config.specs.declared.nextest_version.edition.Edition.{Edition};
 ghost use Rattle.nextest_config.specs.declared.nextest_version.source.ConfigSourceKind.{ConfigSourceKind};
@@ -29,6 +31,7 @@ ghost use Rattle.nextest_config_lint.specs.Found.{Found, Meant, the_toml};
 ghost use Rattle.nextest_config_lint.specs.Hints.Written.{IsMeantByText, Writes};
 ghost use Rattle.nextest_config_lint.specs.Settings.{has_default_period};
 ghost use Rattle.nextest_config_lint.specs.Shapes.{shape_check};
+ghost use Rattle.nextest_config_lint.specs.TextRange.{plain_range, text_at};
 ghost use Rattle.nextest_config_lint.specs.declared.file.LocatedFinding.{LocatedFinding};
 ghost use Rattle.nextest_config_lint.specs.declared.finding.FindingSeverity.{FindingSeverity};
 
@@ -48,6 +51,14 @@ pub fn law_findings_once()
         (position : ℕ) (members : Members) (a b : List Found)
         → AreFindings edition kind files position members a
         → AreFindings edition kind files position members b → a ≡ b }
+{}
+
+/// Where a fault of a text stands at bytes of its own, the file has there what it tells of the text.
+pub fn law_text_range()
+    ensures { (contents : List ℕ) (ranges : Ranges) (path : List PathStep) (fault : TextFault)
+        (range : Range) → plain_range contents ranges path fault ≡ Some range
+        → (text : List ℕ) × (text_at contents path ≡ Some text)
+        × IsAt contents range (take (fault.end - fault.begin) (drop fault.begin text)) }
 {}
 
 /// What is found in a document beside references and rules between keys depends on no other file:

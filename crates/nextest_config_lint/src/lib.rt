@@ -22,6 +22,8 @@ mod rules;
 mod settings;
 mod severity;
 mod shapes;
+mod text_range;
+mod texts;
 mod traversal;
 mod unknown;
 mod values;

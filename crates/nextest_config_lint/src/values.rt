@@ -4,7 +4,7 @@ ghost use Rattle.std.specs.Prelude.{◌≡◌, ◌++◌, [], ◌∷◌, IfOk, Is
 ghost use Rattle.toml.specs.View.{view};
 ghost use Rattle.nextest_config_values.specs.Read.{fault_of};
 ghost use Rattle.nextest_config_lint.specs.Settings.{features_at, setting_view};
-ghost use Rattle.nextest_config_lint.specs.Values.{IsEmpty, TellsFault, TellsValue};
+ghost use Rattle.nextest_config_lint.specs.Values.{IsEmpty, TellsFault, TellsText, TellsValue};
 
 use crate::faults::find_of_fault;
 use crate::features::find_of_features;
@@ -12,6 +12,7 @@ use crate::finding::Finding;
 use crate::rules::check_rules;
 use crate::settings::{Setting, Subject};
 use crate::shapes::check_shape;
+use crate::texts::find_in_text;
 use nextest_config::nextest_version::{ConfigSourceKind, Edition, ExperimentalDeserialize};
 use nextest_config_values::read::ValueFault;
 use std::alloc::{AllocError, Global};
@@ -115,17 +116,17 @@ pub(crate) fn find_in_value(
     }
 }
 
-// What is found of what is judged, by the fault that it has, if it has one.
+// What is found of what is judged, by the fault that it has, or else by the syntax of its text.
 fn find_by(
     alloc: Global,
     setting: &Setting,
     checked: Result<(), ValueFault>,
 ) -> Result<ValueFindings, AllocError>
-    ensures { MatchResult checked (λ _. IfOk result IsEmpty)
+    ensures { MatchResult checked (λ _. IfOk result (TellsText (setting_view setting.now)))
         (λ fault. IfOk result (TellsFault (setting_view setting.now) (fault_of fault))) }
 {
     match checked {
-        Ok(()) => Ok(ValueFindings::new(alloc)),
+        Ok(()) => find_in_text(alloc, setting),
         Err(fault) => find_of_fault(alloc, setting, fault),
     }
 }

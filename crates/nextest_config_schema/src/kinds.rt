@@ -49,8 +49,10 @@ fn plain_kind(alloc: Global, shape: Shape) -> Result<Option<Value>, AllocError>
         Shape::Any => anything(alloc),
         Shape::Scalar => scalar(alloc)?,
         Shape::Boolean | Shape::FailFast => of_type(alloc, "boolean")?,
-        Shape::FeatureName | Shape::Text | Shape::Platform => of_type(alloc, "string")?,
+        Shape::FeatureName | Shape::Text => of_type(alloc, "string")?,
         Shape::Reference(_) | Shape::References(_) => of_type(alloc, "string")?,
+        Shape::Filter | Shape::DefaultFilter => of_type(alloc, "string")?,
+        Shape::Platform | Shape::PlatformText => of_type(alloc, "string")?,
         Shape::Command | Shape::CommandLine => some_text(alloc)?,
         Shape::NextestVersion | Shape::VersionText => matching(alloc, VERSION)?,
         Shape::Duration | Shape::ShortDuration | Shape::SlowTimeout | Shape::LeakTimeout => {

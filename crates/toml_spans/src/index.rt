@@ -7,6 +7,7 @@ ghost use Rattle.toml_spans.specs.Entry as trees;
 ghost use Rattle.toml_spans.specs.EntryViews.{branches_of, piece_of, tree_of, trees_from};
 ghost use Rattle.toml_spans.specs.Index.{IfIndexed, IsIndexOf, IsSpanOf, OfDocument, ranges_in};
 ghost use Rattle.toml_spans.specs.IndexViews.{pieces_from};
+ghost use Rattle.toml_spans.specs.Place.{IsSpan};
 ghost use Rattle.toml_spans.specs.Ranges.{AreApartOrNested, AreWritten, ElementsStand, EmptyArraysEnd, HaveEntries, HaveKeys, KeysComeFirst, KeysRead, LieWithinValues, MembersStand, StandInTurn, ValuesRead};
 ghost use Rattle.toml_spans.specs.Step.{step_of};
 
@@ -16,6 +17,7 @@ use crate::place::{Places, Span};
 use crate::refusal::Refusal;
 use crate::step::Step;
 use std::alloc::{AllocError, Global};
+use std::ops::Range;
 
 /// Where the keys and the values of a document stand.
 #[derive(Debug, Drop)]
@@ -83,6 +85,27 @@ impl Index {
         match pieces_at(&self.root, path) {
             Some(pieces) => self.places.span(pieces.value),
             None => None,
+        }
+    }
+
+    /// Which bytes of the text are the value that a path leads to, as it is written. `None` where
+    /// [`Index::value`] has none.
+    pub fn value_bytes(&self, path: &[Step]) -> Option<Range<usize>>
+        ensures { option_map (λ bytes. (bytes.start, bytes.end)) result
+            ≡ (ranges_in self.now).of_value (map step_of path.now) }
+    {
+        let piece = pieces_at(&self.root, path)?.value?;
+        Some(self.places.bytes(piece))
+    }
+
+    /// The places of so many bytes of the text.
+    pub fn span(&self, bytes: Range<usize>) -> Span
+        ensures { (text : List ℕ) → IsIndexOf text self.now
+            → IsSpan text bytes.start bytes.end result }
+    {
+        Span {
+            begin: self.places.at(bytes.start),
+            end: self.places.at(bytes.end),
         }
     }
 }

@@ -6,6 +6,7 @@ ghost use Rattle.toml_spans.specs.Offsets.{AreOffsets, begins_character};
 
 use crate::entry::Piece;
 use std::alloc::{AllocError, Global};
+use std::ops::Range;
 
 /// A place of a text: a line and a column, both from 1. A line ends with its line feed, and a
 /// column counts characters (Unicode scalar values).
@@ -113,6 +114,15 @@ impl Places {
             → IsPlace (take (length text - bytes) text) result }
     {
         self.at(self.length.saturating_sub(bytes))
+    }
+
+    /// The bytes of a piece, counted from the beginning.
+    pub(crate) fn bytes(&self, piece: Piece) -> Range<usize>
+        ensures { (result.start, result.end) ≡ range_of self.now.length (piece_of piece) }
+    {
+        let begin = self.length.saturating_sub(piece.from);
+        let end = self.length.saturating_sub(piece.to);
+        begin..end
     }
 
     /// The places of a piece.

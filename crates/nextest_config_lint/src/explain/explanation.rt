@@ -6,7 +6,7 @@ ghost use Rattle.nextest_config_lint.specs.Explain.Explanation.{explanation_text
 
 use crate::FindingCode;
 use crate::explain::topic::Topic;
-use crate::explain::{features, files, references, retries, settings, versions};
+use crate::explain::{features, files, filters, references, retries, settings, versions};
 use std::fmt;
 
 /// What a topic means, with an example and that example mended.
@@ -88,6 +88,12 @@ fn of_code(code: FindingCode) -> &'static Explanation
         FindingCode::ScriptName => &references::SCRIPT_NAME,
         FindingCode::FeatureNotEnabled => &references::FEATURE_NOT_ENABLED,
         FindingCode::OverrideDefaultFilter => &references::OVERRIDE_DEFAULT_FILTER,
+        FindingCode::FilterSyntax => &filters::FILTER_SYNTAX,
+        FindingCode::UnknownPredicate => &filters::UNKNOWN_PREDICATE,
+        FindingCode::BannedPredicate => &filters::BANNED_PREDICATE,
+        FindingCode::FilterArgument => &filters::FILTER_ARGUMENT,
+        FindingCode::PlatformSyntax => &filters::PLATFORM_SYNTAX,
+        FindingCode::PlatformWord => &filters::PLATFORM_WORD,
         FindingCode::UnjudgedDuration => &settings::UNJUDGED_DURATION,
         FindingCode::DeprecatedArray => &features::DEPRECATED_ARRAY,
     }

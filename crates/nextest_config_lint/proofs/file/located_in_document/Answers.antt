@@ -9,7 +9,7 @@ locate_all-requires c =
     let found = c.in_ok-findings.ensures files by in
     let top = table_view c.args.document.now in
     let leads = findings_lead c.args.edition c.args.source.now files c.args.position top found.0 found.1 in
-    (top, c.requires.read, all_in top _ found.0 found.2 leads)
+    record { read = c.requires.read; here = all_in top _ found.0 found.2 leads }
 
 pub returns : goal.returns
 returns c = λ files by.
