@@ -10,6 +10,7 @@ import documents
 import places
 import rules
 import settings
+import texts
 from effective import key_text
 from inputs import array, chance, some_features, some_value, some_version, some_versions, table
 
@@ -284,7 +285,7 @@ def some_scripts(random, values):
     for _ in range(random.choice([0, 1, 2])):
         used = [name[:-1] + random.choice(["", "", "s"]) + name[-1] for name in random.choices(names, k=3)]
         pairs = [("setup", random.choice([used[0], array(used)])), ("list-wrapper", used[1]), ("run-wrapper", used[2])]
-        pairs = [*random.sample(pairs, random.randint(1, 3)), *random.choice([[], [("filter", "'a'")]])]
+        pairs = [*random.sample(pairs, random.randint(1, 3)), *random.choice([[], [("filter", "'all()'")]])]
         yield f"[[profile.scripted.scripts]]\n{lines_of_pairs(random, pairs)}"
 
 
@@ -411,6 +412,15 @@ def changed(random, contents):
 
 
 def some_file(random):
+    """A file. One with a filter or a platform that no row has, as a change may make it, is made again."""
+    while True:
+        contents = some_contents(random)
+        root = documents.read(contents)
+        if not root or all(text in texts.ALL[kind] for kind, text, _ in places.texts_in(root)):
+            return contents
+
+
+def some_contents(random):
     kind = random.random()
     if kind < 0.04:
         return random.choice([b"", b"\n", b"\r\n", b"\xef\xbb\xbf", b"# a comment", b"\xff\xfe[\0a\0]\0", b"\0" * 300])

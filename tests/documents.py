@@ -22,6 +22,7 @@ ESCAPE = re.compile(
     r"|(?P<mark>[\s\S]))"
 )
 MARKS = {"b": "\b", "t": "\t", "n": "\n", "f": "\f", "r": "\r", "e": "\x1b", '"': '"', "\\": "\\"}
+OPENING = re.compile(r"(?:'''|\"\"\")(?:\r?\n)?|['\"]")
 # The most parts of a key.
 MOST_PARTS = 80
 # A time of day without its seconds.
@@ -102,6 +103,19 @@ class Node:
     def place(self):
         """The range of the value, or without one that of the key."""
         return self.span() or self.key()
+
+    def text_at(self):
+        """Where the text of a string stands as it reads, None where it doesn't, or is empty."""
+        begin, end = self.value_at
+        written = self.text.text[begin:end]
+        opening = OPENING.match(written)[0]
+        is_plain = written == opening + self.scalar + opening.rstrip("\r\n")
+        return begin + len(opening) if is_plain and self.scalar else None
+
+    def part(self, begin, end):
+        """The range of some characters of a text, or that of its value."""
+        at = self.text_at()
+        return self.span() if at is None else (self.text.place(at + begin), self.text.place(at + end))
 
 
 @functools.cache

@@ -41,7 +41,7 @@ def github_line(finding):
 
 # The columns of characters that aren't ASCII. Of others only that there is a mark is known.
 WIDTHS = {
-    **dict.fromkeys("éèüßµΔаﬁ¡ÿ\u2003\ufffd", 1),
+    **dict.fromkeys("éèüßµΔаﬁ¡ÿ\xa0\u2003\ufffd", 1),
     **dict.fromkeys("日本語ａ😀", 2),
     **dict.fromkeys("\u0301\u200d\ufeff", 0),
 }

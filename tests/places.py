@@ -11,6 +11,7 @@ import unicodedata
 
 import documents
 import rules
+import texts
 from reports import WORDS, Ask
 from rules import Fault, meant, nearest, path_text, printed
 from settings import HOMES, OVERRIDE_JUNIT, SCRIPT_JUNIT, TOP, VERSIONS
@@ -139,6 +140,14 @@ def settings_at(place, value, path):
         if is_array == isinstance(value, list):
             for step in range(len(value)) if is_array else by_bytes(value):
                 yield from settings_at(place.each, value[step], (*path, step))
+
+
+def texts_in(root):
+    """The texts of a document that have a syntax of their own, each with its kind and its node."""
+    for path, _, value in settings_in(TOP, root.value):
+        kind = texts.KINDS.get(general(path)[-1])
+        if kind and isinstance(value, str):
+            yield kind, value, root.at(path)
 
 
 # What nextest may make of values.
@@ -329,10 +338,11 @@ class Judge:
         self.settings = list(settings_in(TOP, listed.values[position]))
         self.features = None
 
-    def found(self, steps, severity, code, message, of_key=False, key=None):
-        """A finding at a path, or of what is there at a key of its table: where the value stands, or the key."""
+    def found(self, steps, severity, code, message, of_key=False, key=None, part=None):
+        """A finding at a path, or of what is there at a key of its table: where the value stands, or the key, or a part
+        of its text."""
         node = self.root.at(steps if key is None else (*steps, key))
-        span = (node.key() if of_key else None) or node.place()
+        span = (node.key() if of_key else None) or (node.part(*part) if part else node.place())
         return finding_at(self.path, span, severity, code, path_text(steps), message)
 
     def kinds(self):
@@ -359,7 +369,8 @@ class Judge:
         is_unknown = fault.code == "unknown-field"
         hint = fault.hint if is_unknown or fault.missing else reader.hint(inner, path)
         said = fault.said(path) + (hint or "")
-        return self.found(steps, "warning" if is_made else place.severity, fault.code, said, is_unknown, fault.key)
+        severity = "warning" if is_made else place.severity
+        return self.found(steps, severity, fault.code, said, is_unknown, fault.key, fault.span)
 
     # Features.
 

@@ -34,13 +34,13 @@ class Reader(collections.namedtuple("Reader", PARTS, defaults=DEFAULTS)):
 class Fault(Exception):
     """What is wrong with a value: its code, what is said, and the steps to where it is wrong.
 
-    What is wrong with a table as a whole may stand at one of its keys.
+    What is wrong with a table as a whole may stand at one of its keys, and what is wrong with a text at a part of it.
     """
 
-    def __init__(self, code, text, missing=None, key=None, hint=None, is_unjudged=False):
+    def __init__(self, code, text, missing=None, key=None, hint=None, is_unjudged=False, span=None):
         super().__init__(code)
         self.code, self.text, self.missing, self.key, self.hint = code, text, missing, key, hint
-        self.is_unjudged = is_unjudged
+        self.is_unjudged, self.span = is_unjudged, span
         self.steps = ()
 
     def said(self, path=()):

@@ -7,6 +7,7 @@ No answer of a program is used here.
 import collections
 import re
 
+import texts
 from reports import GREATEST, NUMBER, WORDS, dotted, printed
 from rules import (
     ARRAY, BOOLEAN, DURATION, MADE_BOOLEAN, MADE_TEXT, SHORT_DURATION, TABLE, TEXT, TEXTS, UNREAD, Fault, Reader,
@@ -153,12 +154,17 @@ JUNIT = table_of(REPORT)
 GROUP = having("max-threads")
 
 
+FILTER, DEFAULT_FILTER, PLATFORM_TEXT = map(texts.syntax, texts.ALL)
+
+
 def faults_of_platform(value):
-    if type(value) not in (str, dict):
+    if isinstance(value, str):
+        yield from PLATFORM_TEXT.faults(value)
+    elif not isinstance(value, dict):
         yield wrong_type(value, 'a string or a table ({ host = "..", target = ".." })')
 
 
-PLATFORM = Reader(faults_of_platform, ("text", "table"))
+PLATFORM = Reader(faults_of_platform, ("text", "table"), ("text",))
 
 
 def faults_of_scalar(value):
@@ -301,7 +307,8 @@ A_TEXT, A_SWITCH, NOT_READ = warning(TEXT), warning(BOOLEAN), warning(UNREAD)
 SWITCH = error(MADE_BOOLEAN)
 BENCH = {"slow-timeout": known(SLOW_TIMEOUT), "global-timeout": error(DURATION)}
 OUTPUTS = {"success-output": warning(OUTPUT), "failure-output": warning(OUTPUT)}
-A_PLATFORM = warning(PLATFORM, rows={"host": A_TEXT, "target": A_TEXT})
+A_FILTER, A_DEFAULT_FILTER = warning(FILTER), warning(DEFAULT_FILTER)
+A_PLATFORM = warning(PLATFORM, rows=dict.fromkeys(("host", "target"), warning(PLATFORM_TEXT)))
 COMMAND_TABLE = {"command-line": warning(LINE), "env": warning(TABLE, each=warning(SCALAR)), "relative-to": A_TEXT}
 A_COMMAND = warning(COMMAND, rows=COMMAND_TABLE)
 SCRIPT_JUNIT = {"store-success-output": A_SWITCH, "store-failure-output": A_SWITCH}
@@ -318,7 +325,7 @@ SETUP_SCRIPTS = warning(TABLE, each=warning(having("command"), rows=SETUP_SCRIPT
 WRAPPER_SCRIPTS = warning(TABLE, each=warning(having("command"), rows=WRAPPER_SCRIPT))
 # Which scripts are for which tests.
 SCRIPTS = {
-    "filter": A_TEXT,
+    "filter": A_FILTER,
     "platform": A_PLATFORM,
     "setup": warning(NAMES),
     "list-wrapper": A_TEXT,
@@ -343,9 +350,9 @@ OVERRIDE = {
     "slow-timeout": known(SLOW_TIMEOUT),
     "leak-timeout": known(LEAK_TIMEOUT),
     "junit": error(TABLE, rows=OVERRIDE_JUNIT),
-    "filter": A_TEXT,
+    "filter": A_FILTER,
     "platform": A_PLATFORM,
-    "default-filter": A_TEXT,
+    "default-filter": A_DEFAULT_FILTER,
     "test-group": A_TEXT,
     "run-extra-args": warning(TEXTS),
     **OUTPUTS,
@@ -363,7 +370,7 @@ PROFILE = {
     "bench": error(TABLE, rows=BENCH),
     "overrides": error(ARRAY, each=error(TABLE, rows=OVERRIDE)),
     "inherits": A_TEXT,
-    "default-filter": A_TEXT,
+    "default-filter": A_DEFAULT_FILTER,
     "test-threads": warning(THREADS),
     "run-extra-args": warning(TEXTS),
     "status-level": warning(STATUS_LEVEL),
@@ -393,10 +400,9 @@ HOMES = {
 
 REQUIRED, UNSET = object(), object()
 # Those that are known from nextest's documentation alone: a value with a fault isn't judged.
-DOCUMENTED = [
-    *["default-filter", "test-threads", "run-extra-args", "status-level", "final-status-level"],
-    *OUTPUTS,
-]
+KNOWN = ["default-filter", "test-threads", "run-extra-args", "status-level", "final-status-level", *OUTPUTS]
+# What a filter says isn't asked here.
+DOCUMENTED = {**{key: PROFILE[key].reader for key in KNOWN}, "default-filter": TEXT}
 
 
 def unjudged(reader):
@@ -421,7 +427,7 @@ SETTINGS = {
     ("slow-timeout",): (SLOW_TIMEOUT, SLOW_ABSENT),
     ("leak-timeout",): (LEAK_TIMEOUT, {"period": REQUIRED, "result": "pass"}),
     ("global-timeout",): (DURATION, {}),
-    **{(key,): (unjudged(PROFILE[key].reader), {}) for key in DOCUMENTED},
+    **{(key,): (unjudged(reader), {}) for key, reader in DOCUMENTED.items()},
     **{("junit", key): (reader, {}) for key, reader in REPORT.items()},
     ("bench", "slow-timeout"): (SLOW_TIMEOUT, SLOW_ABSENT),
     ("bench", "global-timeout"): (DURATION, {}),
@@ -467,14 +473,6 @@ SOME_LEVELS = [
 SOME_TEXTS = [
     *["'test(a)'", '"all()"', "'日本語'", "'''\ntest(a)\n  | test(b)'''", '"""\nnot \\\n  test(b)"""', "1", "['a']", "true"],
 ]
-SOME_FILTERS = [
-    *["'test(a)'", '"all()"', "'test(/^a\\d/) and platform(host)'", '"default() - kind(bin)"', "'test(a) # b'", '"group(x)"'],
-    *["'not (test(é) | package(日本))'", "'test(foo(bar))'", "'test(a) && pkg(b)'", "'é'", "''", '"(all()"', "1", "['a']"],
-    *["'''\ntest(a)\n  | test(b)'''", '"""\nnot \\\n  test(b)"""', "'''\n  test(/a/) or\n  test(é, b)'''", "'test(/a)'"],
-    *['"test(\\u0061) AND all()"', '"test(\\\\d)"', "'not tests(a)'", '"""\r\nall( x )"""', "'日本 all()'", '"nt all()"'],
-    *["'platform(unix)'", '"\\tall() )"', "'test(/a/ /b/)'", "'all() & default('", "'not default()'", "true"],
-]
-SOME_PLATFORMS = ["'cfg(unix)'", '"x86_64-unknown-linux-gnu"', "''", '"cfg(target_os = \\"linux\\")"', "1", "[ ]", "true"]
 SOME_NAMES = [
     *['"db"', '"wrap"', "'e\u0301'", '"日本"', '"dbb"', '"DB"', '"@tool:my-tool:s"', '"@tool:x:s"', '"a b"', '"@global"'],
     *['""', '"@tool:gone:s"', '"wrapp"', "['db', 'wrap', 'dbb']", "1", "['db', 1, [ ]]", "true", "{ }"],
@@ -496,8 +494,6 @@ SAME = {
     "status-level final-status-level": SOME_LEVELS,
     "success-output failure-output": SOME_OUTPUTS,
     "path report-name dir": SOME_TEXTS,
-    "filter default-filter": SOME_FILTERS,
-    "host target": SOME_PLATFORMS,
     "setup list-wrapper run-wrapper": SOME_NAMES,
     "required recommended": SOME_VERSIONS,
 }
@@ -538,13 +534,17 @@ VALUES = {
     "report-skipped": ['"none"', '"ignored"', '"all"', '"some"', "true"],
     "flaky-fail-status": ['"failure"', '"success"', '"sucess"', "1"],
     "bench": ['{ slow-timeout = "5m" }', '{ global-timeout = "1h", colour = 1 }', '{ slow-timeout = "5" }', "1"],
-    "overrides": ["[ ]", "{ filter = 'a' }", "1", "[1]"],
+    "overrides": ["[ ]", "{ filter = 'all()' }", "1", "[1]"],
     "inherits": [
         *['"ci"', '"default"', '"nightly"', '"cii"', '"default-miri"', '"x y"', '"é"', '"e\u0301"', "''", "1", "['ci']"],
     ],
     "run-extra-args": ["['a', 'b']", "[\n  'a', # one\n  'b',\n]", '["a", 1]', '"a"', "[[ ]]", "[ ]", "{ }", "[1, 'a', true]"],
     "priority": [*map(str, [100, -100, 0, 101, -101, 127, 128, -128, -129, 0x65]), '"true"', *SOME_COUNTS],
-    "platform": [*SOME_PLATFORMS, "{ host = 'cfg(unix)', target = 1 }", "{ host = 'unix', hots = '' }"],
+    "filter": [*texts.written("filter", 0), "1", "['all()']", "true"],
+    "default-filter": [*texts.written("default-filter", 1), "1", "['all()']", "true"],
+    "platform": [*texts.written("platform", 2), "{ host = 'cfg(unix)', target = 1 }", "{ host = 'windows', hots = '' }", "1"],
+    "host": [*texts.written("platform", 3), "1", "[ ]", "true"],
+    "target": [*texts.written("platform", 4), "1", "[ ]", "true"],
     "test-group": [
         *['"serial"', '"db"', '"@global"', '"@tool:my-tool:g"', '"serail"', '"@tool:x"', '"1 a"', '"日本"'],
         *["'e\u0301'", "2", '"@tool:gone:g"', '"@tool::g"', '"@tool:x:#"', '""', "true"],
@@ -570,11 +570,12 @@ VALUES = {
     # A name of a profile, of a test group or of a script, and an element of an array.
     "*": ["{ max-threads = 2 }", "{ retries = 2 }", "{ command = 'x' }", "1", "[ ]"],
     0: [
-        *["{ filter = 'a', retries = 2 }", "{ filter = 'a', default-filter = 'b' }", "{ filter = 'a', setup = 'db' }"],
+        *["{ filter = 'all()', retries = 2 }", "{ filter = 'all()', default-filter = '!all()' }"],
+        "{ filter = 'all()', setup = 'db' }",
         *["{ path = 'a', relative-to = 'target' }", "1", "'a'"],
     ],
     # Where a key has other values than elsewhere.
-    ("*", "scripts"): ["[ ]", "{ filter = 'a' }", '[{ filter = "a", setup = "db" }]', "[{ setup = 'db' }]", "1"],
+    ("*", "scripts"): ["[ ]", "{ filter = 'all()' }", '[{ filter = "all()", setup = "db" }]', "[{ setup = 'db' }]", "1"],
     ("scripts",): [
         *["{ setup = { db = { command = 'x' } }, wrapper = { db = { command = 'y' } } }", "{ setup = 1, wrapper = [ ] }"],
         *["{ wrapper = { wrap = { command = 'x' } } }", "{ }", "{ setup = { }, wrapper = { }, wraper = { } }", "1", "[ ]"],

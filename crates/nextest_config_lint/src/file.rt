@@ -256,7 +256,7 @@ fn span_of(alloc: Global, file: IndexedDocument<'_>, finding: &Finding) -> Resul
         (Some span)) }
 {
     match told_span(file, finding) {
-        Some(span) => Ok(span),
+        Some(told) => Ok(told),
         None => match range_in(alloc, file.index, finding)? {
             Some(span) => Ok(span),
             None => unreachable!(),
