@@ -165,3 +165,20 @@ module _ (text ts : List ℕ) (u : IsUtf8 text) (plain : IsPlain ts) where
 pub brackets_chars : chars (40 ∷ 41 ∷ []) ≡ 40 ∷ 41 ∷ []
 unfolding chars
 brackets_chars = refl
+
+-- no text
+pub no_chars : chars [] ≡ []
+no_chars = chars-nil
+
+-- two texts are told apart by bytes as by characters
+pub same_characters : (a b : List ℕ) → IsUtf8 a → IsUtf8 b
+    → pointwise nat_eq a b ≡ pointwise nat_eq (chars a) (chars b)
+same_characters a b u v = elim (cases_Bool (pointwise nat_eq (chars a) (chars b))) [
+  | inl same ↦
+      (bytes_decides a b).1 (sym (encodes-chars a u) ∙ ap encode_utf8_all (same_text (chars a) (chars b) (sym same)) ∙ encodes-chars b v)
+      ∙ sym same
+  | inr other ↦ elim (cases_Bool (pointwise nat_eq a b)) [
+    | inl same ↦ absurd (other_text (chars a) (chars b) (sym other) (ap chars (same_text a b (sym same))))
+    | inr differs ↦ differs ∙ sym other
+  ]
+]

@@ -3,6 +3,7 @@ pub mod Characters
 pub mod Documented
 pub mod DocumentedFilters
 pub mod Fronts
+pub mod Platforms
 pub mod Predicates
 pub mod Ranges
 pub mod Readings

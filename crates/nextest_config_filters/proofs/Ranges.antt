@@ -6,8 +6,9 @@ use Rattle.std.proofs.lemmas.Str.{encodes-append, encodes-chars, IsCharBoundary-
 use lib.Utf8.{scalar}
 use Rattle.std.specs.Str.{all_scalars, chars, IsCharBoundary, IsUtf8}
 use Rattle.nextest_config_values.specs.NearestWord.{nearest_once}
-use Rattle.nextest_config_filters.specs.Fault.{Fault}
-use Rattle.nextest_config_filters.specs.Filter.{bytes_of, IsFaultOf, IsFilterFault, IsRangeIn}
+use Rattle.nextest_config_filters.specs.Fault.{Fault, filter, Kind}
+use Rattle.nextest_config_filters.specs.Filter.{IsFaultOf, IsFilterFault, IsRangeIn}
+use Rattle.nextest_config_filters.specs.Front.{bytes_of}
 use Rattle.nextest_config_filters.specs.Hint.{IsByNearest, IsHint, name_hint, predicate_hint}
 use Rattle.nextest_config_filters.specs.Predicate.{suggested}
 use Rattle.nextest_config_filters.specs.Told.{Told}
@@ -67,10 +68,9 @@ same_fault text told a b one other =
     let front = append_cancel_right one.front other.front (told.what ++ told.behind) (sym one.whole ∙ other.whole) in
     let begin : a.begin ≡ b.begin = one.begin ∙ ap bytes_of front ∙ sym other.begin in
     let end : a.end ≡ b.end = one.end ∙ ap (λ f. bytes_of (f ++ told.what)) front ∙ sym other.end in
-    let flaw : a.kind.flaw ≡ b.kind.flaw = one.flaw ∙ sym other.flaw in
-    let found : a.kind.found ≡ b.kind.found = one.found ∙ sym other.found in
-    let hint : a.kind.hint ≡ b.kind.hint = one_hint text told.flaw (encode_utf8_all told.found) _ _ one.hint other.hint in
-    λ i. record { begin = begin i; end = end i; kind = record { flaw = flaw i; found = found i; hint = hint i } }
+    let hint : one.hint ≡ other.hint = one_hint text told.flaw (encode_utf8_all told.found) _ _ one.is_hint other.is_hint in
+    let kind : a.kind ≡ b.kind = one.kind ∙ ap (λ h. filter told.flaw (encode_utf8_all told.found) h) hint ∙ sym other.kind in
+    λ i. record { begin = begin i; end = end i; kind = kind i }
 
 pub one_fault : (place : FilterPlace) (text : List ℕ) (one other : Fault) → IsFilterFault place text one
     → IsFilterFault place text other → one ≡ other
@@ -88,7 +88,7 @@ all_behind : (front cs : List ℕ) → all_scalars (front ++ cs) ≡ true → al
 all_behind [] cs all = all
 all_behind (c ∷ front) cs all = all_behind front cs (second_true (scalar c) (all_scalars (front ++ cs)) all)
 
-border : (text front cs : List ℕ) → IsUtf8 text → chars text ≡ front ++ cs → IsCharBoundary text (bytes_of front)
+pub border : (text front cs : List ℕ) → IsUtf8 text → chars text ≡ front ++ cs → IsCharBoundary text (bytes_of front)
 border text front cs u whole =
     IsCharBoundary-at_seam text (encode_utf8_all front) (encode_utf8_all cs)
     (sym (encodes-chars text u) ∙ ap encode_utf8_all whole ∙ encodes-append front cs)

@@ -84,14 +84,14 @@ pub run_in : (kind : ℕ → Bool) (cs : List ℕ) → IsRest cs (behind_run kin
 run_in kind cs = (run kind cs, sym (run_whole kind cs))
 
 -- a front, and what comes behind as much
-front_dropped : (front cs : List ℕ) → IsFront front cs → cs ≡ front ++ drop (length front) cs
+pub front_dropped : (front cs : List ℕ) → IsFront front cs → cs ≡ front ++ drop (length front) cs
 front_dropped front cs (rest, whole) = whole ∙ ap (λ r. front ++ r) (sym (rw whole (drop-append_seam front rest)))
 
 begun : (c : ℕ) (cs : List ℕ) → begins c cs ≡ true → cs ≡ c ∷ without_first cs
 begun c [] is = cc is
 begun c (d ∷ cs) is = ap (λ e. e ∷ cs) (sym (eqb-true c d is))
 
-first_true : (a b : Bool) → (a && b) ≡ true → a ≡ true
+pub first_true : (a b : Bool) → (a && b) ≡ true → a ≡ true
 first_true true b both = refl
 first_true false b both = both
 

@@ -6,7 +6,7 @@ use Rattle.std.specs.List.{list_any}
 use Rattle.std.specs.Str.{drop_trailing_whitespace as without_spaces_behind, skip_leading_whitespace as behind_spaces}
 use Rattle.toml_spans.specs.Characters.{backslash, slash}
 use Rattle.nextest_config_filters.specs.Escape.{letter_u}
-use Rattle.nextest_config_filters.specs.Front.{begins, behind_run, closing, comma, number_sign, only_blanks, opening, run, without_first}
+use Rattle.nextest_config_filters.specs.Front.{before, begins, behind_run, closing, comma, number_sign, only_blanks, opening, run, without_first}
 use Rattle.nextest_config_filters.specs.Pieces.{has_before_end, is_brace, is_opening, regex_end, text_end}
 use Rattle.nextest_config_filters.specs.Predicate.{takes_none, takes_regex}
 use Rattle.nextest_config_filters.specs.Told.{goes_on, not_closed, Reading, tells, told_at, unexpected, unjudged}
@@ -51,7 +51,7 @@ is_other_word (c ∷ cs) =
 
 -- the front of the text that leads up to its end
 abbrev pub text_front : List ℕ → List ℕ
-text_front cs = take (length cs - length (text_end cs)) cs
+text_front cs = before cs (text_end cs)
 
 -- `platform` with this argument, and no spaces behind it
 abbrev pub is_no_platform : Predicate → List ℕ → Bool

@@ -1,6 +1,7 @@
 -- What is wrong with a text, and how it prints.
 use Rattle.std.specs.Prelude.{ℕ, List, [], ◌∷◌, ◌++◌, codes, string_bytes, Option, Some, None, option_map}
 use Rattle.toml_spans.specs.QuotedText.{quoted_text}
+use Rattle.nextest_config_filters.specs.Platform.Flaw.{code_of_platform, platform_text}
 use Rattle.nextest_config_filters.specs.Predicate.{name_of}
 use Rattle.nextest_config_filters.specs.declared.fault.Expected.{Expected}
 use Rattle.nextest_config_filters.specs.declared.fault.Expected.TheVariants as expect
@@ -11,12 +12,12 @@ use Rattle.nextest_config_filters.specs.declared.fault.TextFaultCode.{TextFaultC
 use Rattle.nextest_config_filters.specs.declared.fault.TextFaultCode.TheVariants as fault_codes
 use Rattle.nextest_config_filters.specs.declared.fault.TextFaultKind.{TextFaultKind}
 use Rattle.nextest_config_filters.specs.declared.fault.TextFaultKind.TheVariants as kinds
+use Rattle.nextest_config_filters.specs.declared.platform.flaw.PlatformFlaw.{PlatformFlaw}
 
 -- a fault without where its texts lie in memory: what is found there, and what may be meant, in UTF-8
-pub record Kind : Type 0 where
-  pub flaw : FilterFlaw
-  pub found : List ℕ
-  pub hint : Option (List ℕ)
+pub data Kind : Type 0 where
+  filter : (flaw : FilterFlaw) (found : List ℕ) (hint : Option (List ℕ)) → Kind
+  platform : (flaw : PlatformFlaw) (found : List ℕ) (hint : Option (List ℕ)) → Kind
 
 -- the bytes from begin to end are at fault
 pub record Fault : Type 0 where
@@ -26,7 +27,9 @@ pub record Fault : Type 0 where
 
 abbrev pub kind_of : TextFaultKind → Kind
 kind_of (kinds.Filter flaw found hint) =
-    record { flaw = flaw; found = string_bytes found; hint = option_map string_bytes hint }
+    filter flaw (string_bytes found) (option_map string_bytes hint)
+kind_of (kinds.Platform flaw found hint) =
+    platform flaw (string_bytes found) (option_map string_bytes hint)
 
 abbrev pub fault_of : TextFault → Fault
 fault_of fault = record { begin = fault.begin; end = fault.end; kind = kind_of fault.kind }
@@ -48,7 +51,8 @@ code_of_flaw flaws.AsksForItself = fault_codes.BannedPredicate
 code_of_flaw flaw = fault_codes.FilterArgument
 
 abbrev pub code_of : Kind → TextFaultCode
-code_of kind = code_of_flaw kind.flaw
+code_of (filter flaw found hint) = code_of_flaw flaw
+code_of (platform flaw found hint) = code_of_platform flaw
 
 -- ---- texts
 
@@ -92,7 +96,8 @@ hint_text None = []
 hint_text (Some hint) = codes ", did you mean " ++ quoted_text hint
 
 abbrev pub kind_text : Kind → List ℕ
-kind_text kind = flaw_text kind.flaw kind.found ++ hint_text kind.hint
+kind_text (filter flaw found hint) = flaw_text flaw found ++ hint_text hint
+kind_text (platform flaw found hint) = platform_text flaw found ++ hint_text hint
 
 abbrev pub fault_text : Fault → List ℕ
 fault_text fault = kind_text fault.kind

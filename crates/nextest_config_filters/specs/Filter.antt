@@ -1,7 +1,8 @@
 -- What is told of a filter.
 use Rattle.std.specs.Prelude.{◌≡◌, ℕ, ◌≤◌, List, [], ◌∷◌, ◌++◌, chars, encode_utf8_all, length, Option, Some, None}
 use Rattle.std.specs.Str.{IsCharBoundary, skip_leading_whitespace as behind_spaces}
-use Rattle.nextest_config_filters.specs.Fault.{Fault}
+use Rattle.nextest_config_filters.specs.Fault.{Fault, filter}
+use Rattle.nextest_config_filters.specs.Front.{bytes_of}
 use Rattle.nextest_config_filters.specs.Hint.{IsHint}
 use Rattle.nextest_config_filters.specs.Reading.{reading_at}
 use Rattle.nextest_config_filters.specs.Told.{closes, ends, goes_on, not_closed, not_open, opens, Reading, Told, told_at, tells}
@@ -66,19 +67,15 @@ IsToldBehind place (c ∷ behind) cs told = IsToldFrom place (start cs) told
 abbrev pub IsTold : FilterPlace → List ℕ → Told → Type 0
 IsTold place cs told = IsToldBehind place (behind_spaces cs) cs told
 
--- how many bytes characters take
-abbrev pub bytes_of : List ℕ → ℕ
-bytes_of cs = length (encode_utf8_all cs)
-
 -- the fault is what is told: its range are the bytes of that, with what may be meant
 pub record IsFaultOf (text : List ℕ) (told : Told) (fault : Fault) : Type 0 where
   pub front : List ℕ
+  pub hint : Option (List ℕ)
   pub whole : chars text ≡ front ++ (told.what ++ told.behind)
   pub begin : fault.begin ≡ bytes_of front
   pub end : fault.end ≡ bytes_of (front ++ told.what)
-  pub flaw : fault.kind.flaw ≡ told.flaw
-  pub found : fault.kind.found ≡ encode_utf8_all told.found
-  pub hint : IsHint text told.flaw (encode_utf8_all told.found) fault.kind.hint
+  pub kind : fault.kind ≡ filter told.flaw (encode_utf8_all told.found) hint
+  pub is_hint : IsHint text told.flaw (encode_utf8_all told.found) hint
 
 -- the text has this fault: some front of it leads to a state in which that is told
 pub record IsFilterFault (place : FilterPlace) (text : List ℕ) (fault : Fault) : Type 0 where

@@ -1,7 +1,7 @@
 -- What a text begins with, as a list of characters: spaces, a word, a text, or whatever stands there.
-use Rattle.std.specs.Prelude.{◌≡◌, ℕ, ◌==◌, ◌&&◌, ◌||◌, nat_le, not, Bool, true, false, List, [], ◌∷◌, ◌++◌, Option, Some, None, if◌then◌else◌}
-use Rattle.std.specs.Char.{is_ascii_alphanumeric, is_ascii_hexdigit, is_whitespace}
-use Rattle.toml_spans.specs.Characters.{carriage_return, hyphen, line_feed}
+use Rattle.std.specs.Prelude.{◌≡◌, ℕ, ◌==◌, ◌-◌, ◌&&◌, ◌||◌, nat_le, not, Bool, true, false, List, [], ◌∷◌, ◌++◌, encode_utf8_all, length, take, Option, Some, None, if◌then◌else◌}
+use Rattle.std.specs.Char.{is_ascii_alphabetic, is_ascii_alphanumeric, is_ascii_digit, is_ascii_hexdigit, is_whitespace}
+use Rattle.toml_spans.specs.Characters.{carriage_return, double_quote, hyphen, line_feed}
 use Rattle.nextest_config_filters.specs.declared.front.Run.{Run}
 use Rattle.nextest_config_filters.specs.declared.front.Run.TheVariants as runs
 
@@ -29,6 +29,10 @@ opening = 40
 
 abbrev pub closing : ℕ
 closing = 41
+
+-- `=`
+abbrev pub equals_sign : ℕ
+equals_sign = 61
 
 -- `,`
 abbrev pub comma : ℕ
@@ -97,6 +101,16 @@ begins_word c = is_ascii_alphanumeric c || (c == underscore || (nat_le 128 c && 
 abbrev pub in_word : ℕ → Bool
 in_word c = begins_word c || c == hyphen
 
+-- ---- keys of platforms
+
+-- a key begins with an ASCII letter or `_`
+abbrev pub begins_key : ℕ → Bool
+begins_key c = is_ascii_alphabetic c || c == underscore
+
+-- and goes on with these and digits
+abbrev pub in_key : ℕ → Bool
+in_key c = begins_key c || is_ascii_digit c
+
 -- ---- runs
 
 -- a hexadecimal digit, or `_`
@@ -108,6 +122,8 @@ abbrev pub in_run : Run → ℕ → Bool
 in_run runs.Word = in_word
 in_run runs.Unclosed = λ c. not (c == closing)
 in_run runs.Code = in_code
+in_run runs.Key = in_key
+in_run runs.Value = λ c. not (c == double_quote)
 
 -- ---- rests
 
@@ -118,6 +134,14 @@ IsRest cs rest = (front : List ℕ) × (cs ≡ front ++ rest)
 -- and begins with this front
 abbrev pub IsFront : List ℕ → List ℕ → Type 0
 IsFront front cs = (rest : List ℕ) × (cs ≡ front ++ rest)
+
+-- a text up to a rest of it
+abbrev pub before : List ℕ → List ℕ → List ℕ
+before cs rest = take (length cs - length rest) cs
+
+-- how many bytes characters take
+abbrev pub bytes_of : List ℕ → ℕ
+bytes_of cs = length (encode_utf8_all cs)
 
 -- ---- what stands at a place
 

@@ -6,6 +6,7 @@ pub mod Front
 pub mod Grammar
 pub mod Hint
 pub mod Pieces
+pub mod Platform
 pub mod Predicate
 pub mod Reading
 pub mod Told

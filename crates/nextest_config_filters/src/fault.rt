@@ -6,6 +6,7 @@ ghost use Rattle.toml_spans.specs.QuotedText.{quoted_text};
 ghost use Rattle.nextest_config_filters.specs.Fault.{code_of, code_of_expected, code_of_flaw, expected_text, fault_of, fault_text, flaw_text, found_text, hint_text, kind_of};
 ghost use Rattle.nextest_config_filters.specs.Predicate.{name_of};
 
+use crate::platform::{PlatformFlaw, write_platform_flaw};
 use crate::predicate::Predicate;
 use nextest_config_values::read::Word;
 use std::fmt;
@@ -28,6 +29,14 @@ pub enum TextFaultKind {
         /// What is found there, empty at the end of the text.
         found: String,
         /// What may be meant.
+        hint: Option<String>,
+    },
+    /// Of a platform.
+    Platform {
+        flaw: PlatformFlaw,
+        /// What is found there, empty at the end and where the flaw says all.
+        found: String,
+        /// What may be meant, where the flaw doesn't say it.
         hint: Option<String>,
     },
 }
@@ -101,6 +110,7 @@ impl TextFault {
     {
         match &self.kind {
             TextFaultKind::Filter { flaw, .. } => flaw.code(),
+            TextFaultKind::Platform { flaw, .. } => flaw.code(),
         }
     }
 }
@@ -144,6 +154,10 @@ impl fmt::Display for TextFault {
         match &self.kind {
             TextFaultKind::Filter { flaw, found, hint } => {
                 write_flaw(f, *flaw, found.as_str())?;
+                write_hint(f, hint)
+            }
+            TextFaultKind::Platform { flaw, found, hint } => {
+                write_platform_flaw(f, *flaw, found.as_str())?;
                 write_hint(f, hint)
             }
         }

@@ -1,14 +1,15 @@
 //! What is wrong with a filter.
 
-ghost use Rattle.std.specs.Prelude.{◌≡◌, ◌++◌, IfOk, IsOk, MatchOption, chars, encode_utf8_all, string_bytes};
+ghost use Rattle.std.specs.Prelude.{◌≡◌, ◌++◌, IfOk, IsOk, MatchOption, chars};
 ghost use Rattle.nextest_config_filters.specs.Fault.{Fault, fault_of};
-ghost use Rattle.nextest_config_filters.specs.Filter.{bytes_of, IsFaultOf, IsFilterFault, IsTold};
+ghost use Rattle.nextest_config_filters.specs.Filter.{IsFaultOf, IsFilterFault, IsTold};
 ghost use Rattle.nextest_config_filters.specs.Front.{IsRest};
 ghost use Rattle.nextest_config_filters.specs.Told.{Told as ToldOf, told_view};
 
 use crate::fault::{FilterFlaw, TextFault, TextFaultKind};
 use crate::front::behind_spaces;
 use crate::hint::hint_of;
+use crate::text::{owned, size};
 use crate::told::{Told, told_at};
 use crate::walk::told_in;
 use std::alloc::{AllocError, Global};
@@ -70,21 +71,4 @@ fn hinted(alloc: Global, text: &str, told: &Told<'_>) -> Result<TextFault, Alloc
             hint,
         },
     })
-}
-
-// The text as one of its own.
-#[tactic(auto, using(crate::proofs::Characters::utf8_of_chars))]
-fn owned(alloc: Global, text: &str) -> Result<String, AllocError>
-    ensures { IfOk result (λ owned. string_bytes owned ≡ encode_utf8_all (chars text.now)) }
-{
-    let owned = String::from_str(alloc, text)?;
-    Ok(owned)
-}
-
-// How many bytes a text takes.
-#[tactic(auto, using(crate::proofs::Characters::utf8_of_chars))]
-fn size(text: &str) -> usize
-    ensures { result ≡ bytes_of (chars text.now) }
-{
-    text.len()
 }

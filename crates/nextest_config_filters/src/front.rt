@@ -2,7 +2,7 @@
 
 ghost use Rattle.std.specs.Prelude.{◌≡◌, ◌++◌, ℕ, [], ◌∷◌, List, MatchOption, chars, drop, length};
 ghost use Rattle.std.specs.Str.{drop_trailing_whitespace as without_spaces_behind, skip_leading_whitespace as behind_spaces};
-ghost use Rattle.nextest_config_filters.specs.Front.{begins, begins_word, behind, behind_run, behind_standing, in_run, in_word, is_blank, is_doubled, IsFront, IsRest, only_blanks, run, standing, without_first};
+ghost use Rattle.nextest_config_filters.specs.Front.{begins, begins_key, begins_word, behind, behind_run, behind_standing, in_run, in_word, is_blank, is_doubled, IsFront, IsRest, only_blanks, run, standing, without_first};
 
 /// The first character of a text, and what stands behind it.
 #[tactic(auto, using(std::proofs::lemmas::Str::chars_past_char))]
@@ -74,6 +74,10 @@ pub(crate) enum Run {
     Unclosed,
     /// Those of a code between braces.
     Code,
+    /// Those of a key of a platform.
+    Key,
+    /// All but `"`.
+    Value,
 }
 
 impl Run {
@@ -84,6 +88,8 @@ impl Run {
             Run::Word => in_word(c),
             Run::Unclosed => c != ')',
             Run::Code => c.is_ascii_hexdigit() || c == '_',
+            Run::Key => begins_key(c) || c.is_ascii_digit(),
+            Run::Value => c != '"',
         }
     }
 }
@@ -143,6 +149,13 @@ fn in_word(c: char) -> bool
     ensures { result ≡ in_word c }
 {
     begins_word(c) || c == '-'
+}
+
+/// Whether a key of a platform may begin with this character.
+pub(crate) fn begins_key(c: char) -> bool
+    ensures { result ≡ begins_key c }
+{
+    c.is_ascii_alphabetic() || c == '_'
 }
 
 /// What stands at the front of a text, and what comes behind it: the word there, `&&`, `||`, or the

@@ -128,7 +128,7 @@ fn other_name(found: &str) -> Option<&'static str>
     }
 }
 
-fn owned(alloc: Global, hint: Option<&str>) -> Result<Option<String>, AllocError>
+pub(crate) fn owned(alloc: Global, hint: Option<&str>) -> Result<Option<String>, AllocError>
     ensures { IfOk result (λ owned. option_map string_bytes owned
         ≡ option_map (λ hint. hint.now) hint.entry) }
 {

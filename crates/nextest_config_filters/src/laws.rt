@@ -5,6 +5,8 @@ ghost use Rattle.std.specs.Str.{IsUtf8};
 ghost use Rattle.nextest_config_filters.specs.Fault.{Fault};
 ghost use Rattle.nextest_config_filters.specs.Filter.{IsFilterFault, IsRangeIn};
 ghost use Rattle.nextest_config_filters.specs.Grammar.{IsDocumentedFilter};
+ghost use Rattle.nextest_config_filters.specs.Platform.Fault.{IsPlatformFault};
+ghost use Rattle.nextest_config_filters.specs.Platform.Grammar.{IsDocumentedPlatform};
 ghost use Rattle.nextest_config_filters.specs.declared.filter.FilterPlace.{FilterPlace};
 
 /// No filter has two faults.
@@ -23,4 +25,22 @@ pub fn law_filter_range()
 pub fn law_documented_filter()
     ensures { (place : FilterPlace) (text : List ℕ) (fault : Fault)
         → IsDocumentedFilter place (chars text) → ¬ IsFilterFault place text fault }
+{}
+
+/// No platform has two faults.
+pub fn law_platform_once()
+    ensures { (text : List ℕ) (one other : Fault)
+        → IsPlatformFault text one → IsPlatformFault text other → one ≡ other }
+{}
+
+/// The range of a fault lies in the text, and its ends at borders of characters.
+pub fn law_platform_range()
+    ensures { (text : List ℕ) (fault : Fault)
+        → IsUtf8 text → IsPlatformFault text fault → IsRangeIn text fault.begin fault.end }
+{}
+
+/// Nothing is told of a platform that is documented.
+pub fn law_documented_platform()
+    ensures { (text : List ℕ) (fault : Fault)
+        → IsDocumentedPlatform (chars text) → ¬ IsPlatformFault text fault }
 {}

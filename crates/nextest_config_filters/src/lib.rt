@@ -9,11 +9,14 @@ mod front;
 mod hint;
 pub mod laws;
 mod pieces;
+mod platform;
 mod predicate;
 mod reading;
+mod text;
 mod told;
 mod walk;
 
 pub use fault::{Expected, FilterFlaw, TextFault, TextFaultCode, TextFaultKind};
 pub use filter::{FilterPlace, filter_fault};
+pub use platform::{PlatformFlaw, platform_fault};
 pub use predicate::Predicate;

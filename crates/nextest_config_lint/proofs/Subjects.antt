@@ -5,6 +5,7 @@ use Rattle.toml.specs.Data.{Data, string}
 use Rattle.nextest_config_values.specs.Read.Fault.{Fault}
 use Rattle.nextest_config_elements.specs.declared.field.Shape.{Shape}
 use Rattle.nextest_config_elements.specs.declared.field.Shape.TheVariants as shapes
+use Rattle.nextest_config_filters.proofs.Platforms.Laws.{one_fault as one_platform_fault}
 use Rattle.nextest_config_filters.proofs.Ranges.{one_fault}
 use Rattle.nextest_config_filters.specs.Fault.{Fault as TextFault}
 use Rattle.nextest_config_filters.specs.declared.filter.FilterPlace.TheVariants as places
@@ -43,6 +44,8 @@ named_not_wrong edition subject value named fault (is, means) wrong = subst (λ 
 one_fault_in : (shape : Shape) (text : List ℕ) (f g : TextFault) → IsFaultIn shape text f → IsFaultIn shape text g → f ≡ g
 one_fault_in shapes.Filter text f g h k = one_fault places.Filter text f g h k
 one_fault_in shapes.DefaultFilter text f g h k = one_fault places.DefaultFilter text f g h k
+one_fault_in shapes.Platform text f g h k = one_platform_fault text f g h k
+one_fault_in shapes.PlatformText text f g h k = one_platform_fault text f g h k
 one_fault_in shape text f g h k = absurd h
 
 pub one_text_fault : (subject : Subject) (f g : TextFault) → IsTextFault subject f → IsTextFault subject g → f ≡ g

@@ -11,7 +11,7 @@ use crate::finding::{Finding, FindingKind};
 use crate::settings::{Setting, Subject};
 use crate::values::ValueFindings;
 use nextest_config_elements::field::Shape;
-use nextest_config_filters::{FilterPlace, TextFault, filter_fault};
+use nextest_config_filters::{FilterPlace, TextFault, filter_fault, platform_fault};
 use std::alloc::{AllocError, Global};
 
 /// What is found of what is judged, where it is a text.
@@ -52,6 +52,7 @@ fn fault_in(alloc: Global, shape: Shape, text: &str) -> Result<Option<TextFault>
     match shape {
         Shape::Filter => filter_fault(alloc, text, FilterPlace::Filter),
         Shape::DefaultFilter => filter_fault(alloc, text, FilterPlace::DefaultFilter),
+        Shape::Platform | Shape::PlatformText => platform_fault(alloc, text),
         _ => Ok(None),
     }
 }

@@ -1,21 +1,21 @@
-//! What is told of filters.
+//! What is told of filters and platforms.
 
 use crate::answers::{copied, done, shown, unknown};
 use crate::failure::Failure;
 use crate::runner::Runner;
-use nextest_config_filters::{FilterPlace, TextFault, filter_fault};
+use nextest_config_filters::{FilterPlace, TextFault, filter_fault, platform_fault};
 use nextest_config_lint::{Finding, FindingKind};
 use nextest_config_values::read::Word;
 
-/// What is told of the filter: from which character to which, the code, and the words. The call is
-/// its place.
+/// What is told of the text: from which character to which, the code, and the words. The call is
+/// what it is.
 pub fn filters(rt: &Runner, call: &str, input: &str) -> Result<String, Failure> {
-    let place = match call {
-        "filter" => FilterPlace::Filter,
-        "default-filter" => FilterPlace::DefaultFilter,
+    let fault = match call {
+        "filter" => filter_fault(rt.call(), input, FilterPlace::Filter),
+        "default-filter" => filter_fault(rt.call(), input, FilterPlace::DefaultFilter),
+        "platform" => platform_fault(rt.call(), input),
         _ => return unknown(rt, call),
     };
-    let fault = filter_fault(rt.call(), input, place);
     rt.end();
     match fault {
         Ok(Some(fault)) => told(rt, input, fault),

@@ -1,5 +1,6 @@
-use Rattle.std.proofs.Common.{◌∙◌, refl, subst, arith, option_map, string_bytes}
+use Rattle.std.proofs.Common.{◌∙◌, ap, subst, arith, option_map, string_bytes}
 use Rattle.std.specs.Str.{chars}
+use Rattle.nextest_config_filters.specs.Fault.{filter}
 use Rattle.nextest_config_filters.specs.Hint.{IsHint}
 use Rattle.nextest_config_filters.proofs.Ranges.{bytes_joined, bytes_of_parts}
 use Rattle.nextest_config_filters.proofs.filter.hinted.Goals as goal
@@ -20,8 +21,8 @@ returns c =
       whole = c.requires.1;
       begin = omega (arith, parts, c.size.ensures, c.size-2.ensures, c.size-3.ensures);
       end = omega (arith, parts, bytes_joined c.requires.0 (chars c.args.told.now.what.now), c.size.ensures, c.size-2.ensures);
-      flaw = refl;
-      found = c.in_ok-found.ensures;
-      hint = subst (λ found. IsHint c.args.text.now c.args.told.now.flaw found (option_map string_bytes c.in_ok-hint.hint))
+      hint = option_map string_bytes c.in_ok-hint.hint;
+      kind = ap (λ found. filter c.args.told.now.flaw found (option_map string_bytes c.in_ok-hint.hint)) c.in_ok-found.ensures;
+      is_hint = subst (λ found. IsHint c.args.text.now c.args.told.now.flaw found (option_map string_bytes c.in_ok-hint.hint))
           (c.as_str.ensures.value ∙ c.in_ok-found.ensures) c.in_ok-hint.ensures;
     }

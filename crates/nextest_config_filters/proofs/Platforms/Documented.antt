@@ -1,0 +1,245 @@
+-- Nothing is told of a documented platform: what leads on, and what is read of words.
+use Rattle.std.proofs.Common.{◌≡◌, ℕ, Bool, true, false, List, [], ◌∷◌, ◌++◌, nat_eq, Option, Some, None, refl, sym, ap, ◌∙◌, subst, inl, inr, append_assoc, eq-eqb, eqb-true}
+use Rattle.std.specs.Prelude.{◌==◌, ◌&&◌, ◌||◌, ◌⊎◌, not, codes, if◌then◌else◌}
+use Rattle.std.proofs.lemmas.Bool.{cases_Bool}
+use Rattle.std.proofs.lemmas.Bool.Decides.{nat_tests}
+use Rattle.std.proofs.Common.{arith}
+use Rattle.std.specs.Char.{is_ascii_digit, is_whitespace}
+use Rattle.std.specs.Cmp.Lexicographic.{pointwise, same_text}
+use Rattle.std.specs.List.{AllByRecursion}
+use Rattle.std.specs.Str.{skip_leading_whitespace as behind_spaces}
+use Rattle.toml_spans.specs.Characters.{double_quote}
+use Rattle.nextest_config_filters.specs.Front.{begins, begins_key, behind_run, bytes_of, closing, comma, equals_sign, in_key, in_run, number_sign, opening, run, without_first}
+use Rattle.nextest_config_filters.specs.Platform.Grammar.{AreSpaces, IsKey, IsValueOf}
+use Rattle.nextest_config_filters.specs.Platform.Key.{are_digits, families, groups, is_number, is_one_of, is_unknown, is_wrong_width, key_flaw, needs_value}
+use Rattle.nextest_config_filters.specs.Platform.Reading.{behind_value, is_raw, level_at, read, read_follower, read_group, read_key, read_quoted, read_value, read_word, reading_at, takes_member}
+use Rattle.nextest_config_filters.specs.Platform.Told.{member, opens, Reading}
+use Rattle.nextest_config_filters.specs.Platform.Walk.{IsWalked, Leads, next, next_of, Outcome, outcome_at, outcome_of, State, stays, steps}
+use Rattle.nextest_config_filters.specs.declared.front.Run.TheVariants as runs
+use Rattle.nextest_config_filters.specs.declared.platform.flaw.PlatformFlaw.{PlatformFlaw}
+use Rattle.nextest_config_filters.specs.declared.platform.told.After.{After}
+use Rattle.nextest_config_filters.specs.declared.platform.told.Level.{Level}
+use Rattle.nextest_config_filters.proofs.Fronts.{run_whole}
+
+-- ---- what is found behind a state
+
+module _ (found : Outcome) where
+  -- it is found behind the next one
+  on_leads : (from to over : State) → Leads from to → next to ≡ None → outcome_at to ≡ found → next from ≡ Some over
+      → IsWalked over found
+  on_leads from to over (stays s) stops finds onwards = cc (stops, onwards)
+  on_leads from to over (steps f t u one more) stops finds onwards =
+      let same : t ≡ over = cc (one, onwards) in
+      record { state = u; leads = subst (λ s. Leads s u) same more; over = stops; finds = finds }
+
+  pub onwards : (from over : State) → next from ≡ Some over → IsWalked from found → IsWalked over found
+  onwards from over on is = on_leads from is.state over is.leads is.over is.finds on
+
+  -- or it is found there, where it goes on no more
+  off_leads : (from to : State) → Leads from to → outcome_at to ≡ found → next from ≡ None → outcome_at from ≡ found
+  off_leads from to (stays s) finds stops = finds
+  off_leads from to (steps f t u one more) finds stops = cc (one, stops)
+
+  pub stuck : (from : State) → next from ≡ None → IsWalked from found → outcome_at from ≡ found
+  stuck from stops is = off_leads from is.state is.leads is.finds stops
+
+  module _ (before : After) (level : Level) (outer : List Level) where
+    abbrev pub at : List ℕ → State
+    at cs = record { before = before; level = level; outer = outer; rest = cs }
+
+    alike_leads : (cs ds : List ℕ) (from to : State) → reading_at before cs ≡ reading_at before ds → from ≡ at cs
+        → Leads from to → next to ≡ None → outcome_at to ≡ found → IsWalked (at ds) found
+    alike_leads cs ds from to same from_is (stays s) stops finds = record {
+      state = at ds;
+      leads = stays (at ds);
+      over = ap (λ r. next_of r level outer) (sym same) ∙ ap next (sym from_is) ∙ stops;
+      finds = ap (λ r. outcome_of r before level outer) (sym same) ∙ ap outcome_at (sym from_is) ∙ finds;
+    }
+    alike_leads cs ds from to same from_is (steps f t u one more) stops finds = record {
+      state = u;
+      leads = steps (at ds) t u (ap (λ r. next_of r level outer) (sym same) ∙ ap next (sym from_is) ∙ one) more;
+      over = stops;
+      finds = finds;
+    }
+
+    -- where the same stands behind spaces
+    pub alike : (cs ds : List ℕ) → behind_spaces cs ≡ behind_spaces ds → IsWalked (at cs) found → IsWalked (at ds) found
+    unfolding reading_at
+    alike cs ds same is =
+        alike_leads cs ds (at cs) is.state (ap (read before) same) refl is.leads is.over is.finds
+
+-- ---- spaces
+
+pub spaces_behind : (spaces cs : List ℕ) → AreSpaces spaces → behind_spaces (spaces ++ cs) ≡ behind_spaces cs
+spaces_behind [] cs are = refl
+spaces_behind (s ∷ spaces) cs are = rw are.0 (spaces_behind spaces cs are.1)
+
+space_no_key : (c : ℕ) → is_whitespace c ≡ true → in_key c ≡ false
+space_no_key c white = grind (arith, nat_tests)
+
+pub key_no_space : (c : ℕ) → begins_key c ≡ true → is_whitespace c ≡ false
+key_no_space c begins = elim (cases_Bool (is_whitespace c)) [
+  | inr other ↦ other
+  | inl white ↦
+      let in_one : in_key c ≡ true = ap (λ b. b || is_ascii_digit c) begins in
+      let no : true ≡ false = sym in_one ∙ space_no_key c white in cc no
+]
+
+-- a space isn't this character
+no_space : (s c : ℕ) → is_whitespace s ≡ true → is_whitespace c ≡ false → (c == s) ≡ false
+no_space s c white other = elim (cases_Bool (c == s)) [
+  | inr differs ↦ differs
+  | inl same ↦ let no : true ≡ false = sym white ∙ ap is_whitespace (sym (eqb-true c s same)) ∙ other in cc no
+]
+
+-- ---- what stands behind a word
+
+-- neither goes the word on, nor does it with the character before make `r#`
+pub record Follows (cs : List ℕ) : Type 0 where
+  pub no_key : run in_key cs ≡ []
+  pub no_sign : begins number_sign cs ≡ false
+
+pub follows : (spaces : List ℕ) (c : ℕ) (rest : List ℕ) → AreSpaces spaces → in_key c ≡ false → (number_sign == c) ≡ false
+    → Follows (spaces ++ (c ∷ rest))
+follows [] c rest are no_key no_sign = record { no_key = rw no_key refl; no_sign = no_sign }
+follows (s ∷ spaces) c rest are no_key no_sign =
+    record { no_key = rw (space_no_key s are.0) refl; no_sign = no_space s number_sign are.0 refl }
+
+-- spaces, and a comma or a parenthesis that closes
+pub record Tail (cs : List ℕ) : Type 0 where
+  pub spaces : List ℕ
+  pub c : ℕ
+  pub rest : List ℕ
+  pub whole : cs ≡ spaces ++ (c ∷ rest)
+  pub are : AreSpaces spaces
+  pub is : (c ≡ comma) ⊎ (c ≡ closing)
+
+tail_follows_by : (spaces : List ℕ) (c : ℕ) (rest : List ℕ) → AreSpaces spaces → (c ≡ comma) ⊎ (c ≡ closing)
+    → Follows (spaces ++ (c ∷ rest))
+tail_follows_by spaces c rest are (inl is) = rw is (follows spaces comma rest are refl refl)
+tail_follows_by spaces c rest are (inr is) = rw is (follows spaces closing rest are refl refl)
+
+pub tail_follows : (cs : List ℕ) → Tail cs → Follows cs
+tail_follows cs tail = rw tail.whole (tail_follows_by tail.spaces tail.c tail.rest tail.are tail.is)
+
+pub no_space_there : (c : ℕ) (rest : List ℕ) → (c ≡ comma) ⊎ (c ≡ closing) → behind_spaces (c ∷ rest) ≡ c ∷ rest
+no_space_there c rest (inl is) = rw is refl
+no_space_there c rest (inr is) = rw is refl
+
+pub tail_begins : (cs : List ℕ) (tail : Tail cs) → behind_spaces cs ≡ tail.c ∷ tail.rest
+tail_begins cs tail =
+    ap behind_spaces tail.whole ∙ spaces_behind tail.spaces (tail.c ∷ tail.rest) tail.are
+    ∙ no_space_there tail.c tail.rest tail.is
+
+-- ---- words
+
+pub record IsWordText (word : List ℕ) : Type 0 where
+  pub first : ℕ
+  pub others : List ℕ
+  pub whole : word ≡ first ∷ others
+  pub begins : begins_key first ≡ true
+  pub goes_on : AllByRecursion (λ c. in_key c ≡ true) others
+
+run_over : (word rest : List ℕ) → AllByRecursion (λ c. in_key c ≡ true) word → run in_key rest ≡ []
+    → (run in_key (word ++ rest) ≡ word) × (behind_run in_key (word ++ rest) ≡ rest)
+run_over [] rest all none = (none, ap (λ r. r ++ behind_run in_key rest) (sym none) ∙ run_whole in_key rest)
+run_over (c ∷ word) rest all none =
+    let inner = run_over word rest all.1 none in
+    rw all.0 (ap (λ w. c ∷ w) inner.0, inner.1)
+
+no_sign_in : (others rest : List ℕ) → AllByRecursion (λ c. in_key c ≡ true) others → begins number_sign rest ≡ false
+    → begins number_sign (others ++ rest) ≡ false
+no_sign_in [] rest all none = none
+no_sign_in (c ∷ others) rest all none = elim (cases_Bool (number_sign == c)) [
+  | inr differs ↦ differs
+  | inl same ↦ let no : true ≡ false = sym all.0 ∙ ap in_key (sym (eqb-true number_sign c same)) in cc no
+]
+
+pub and_false : (b : Bool) → (b && false) ≡ false
+and_false true = refl
+and_false false = refl
+
+module _ (word rest : List ℕ) (is : IsWordText word) (behind : Follows rest) where
+  all_in : AllByRecursion (λ c. in_key c ≡ true) word
+  all_in = rw is.whole (ap (λ b. b || is_ascii_digit is.first) is.begins, is.goes_on)
+
+  pub word_run : run in_key (word ++ rest) ≡ word
+  word_run = (run_over word rest all_in behind.no_key).0
+
+  pub word_behind : behind_run in_key (word ++ rest) ≡ rest
+  word_behind = (run_over word rest all_in behind.no_key).1
+
+  raw_none : is_raw is.first (is.others ++ rest) ≡ false
+  raw_none =
+      ap (λ b. (is.first == 114) && b) (no_sign_in is.others rest is.goes_on behind.no_sign)
+      ∙ and_false (is.first == 114)
+
+  word_read : (before : After) → takes_member before ≡ true → reading_at before (word ++ rest) ≡ read_word (word ++ rest)
+  unfolding reading_at
+  word_read before takes =
+      let cons : word ++ rest ≡ is.first ∷ (is.others ++ rest) = ap (λ w. w ++ rest) is.whole in
+      let kept : behind_spaces (word ++ rest) ≡ word ++ rest =
+      rw cons (rw (key_no_space is.first is.begins) refl) in
+      ap (read before) kept
+      ∙ rw cons (rw (raw_none, is.begins, takes) refl)
+
+  pub group_reading : (before : After) → takes_member before ≡ true → is_one_of word groups ≡ true
+      → reading_at before (word ++ rest) ≡ read_group (word ++ rest) (behind_spaces rest)
+  group_reading before takes group =
+      word_read before takes ∙ rw (word_run, word_behind, group) refl
+
+  pub key_reading : (before : After) → takes_member before ≡ true → is_one_of word groups ≡ false
+      → reading_at before (word ++ rest) ≡ read_key (word ++ rest) (behind_spaces rest)
+  key_reading before takes other =
+      word_read before takes ∙ rw (word_run, word_behind, other) refl
+
+pub key_text : (key : List ℕ) → IsKey key → IsWordText key
+key_text key is = record { first = is.first; others = is.others; whole = is.whole; begins = is.begins; goes_on = is.goes_on }
+
+-- ---- values
+
+differs : (a b : ℕ) → (a ≡ b → ⊥) → (a == b) ≡ false
+differs a b other = elim (cases_Bool (a == b)) [
+  | inl same ↦ absurd (other (eqb-true a b same))
+  | inr not_same ↦ not_same
+]
+
+pub value_run : (value rest : List ℕ) → AllByRecursion (λ c. c ≡ double_quote → ⊥) value
+    → (run (in_run runs.Value) (value ++ (double_quote ∷ rest)) ≡ value)
+    × (behind_run (in_run runs.Value) (value ++ (double_quote ∷ rest)) ≡ double_quote ∷ rest)
+value_run [] rest all = (refl, refl)
+value_run (c ∷ value) rest all =
+    let inner = value_run value rest all.1 in
+    rw (differs c double_quote all.0) (ap (λ v. c ∷ v) inner.0, inner.1)
+
+all_digits : (value : List ℕ) → AllByRecursion (λ c. is_ascii_digit c ≡ true) value → are_digits value ≡ true
+all_digits [] all = refl
+all_digits (c ∷ value) all = rw all.0 (all_digits value all.1)
+
+number_is : (value : List ℕ) → AllByRecursion (λ c. is_ascii_digit c ≡ true) value → (value ≡ [] → ⊥) → is_number value ≡ true
+number_is [] all some = absurd (some refl)
+number_is (c ∷ value) all some = all_digits (c ∷ value) all
+
+right_width : (key value : List ℕ) → IsValueOf key value → is_wrong_width key value ≡ false
+right_width key value value_is = elim (cases_Bool (pointwise nat_eq key (codes "target_pointer_width"))) [
+  | inr other ↦ rw other refl
+  | inl width ↦
+      let number = value_is.number (same_text key (codes "target_pointer_width") (sym width)) in
+      rw (width, number_is value number.0 number.1) refl
+]
+
+no_flaw : (key value : List ℕ) → IsKey key → is_one_of key families ≡ false → IsValueOf key value
+    → key_flaw key (Some value) ≡ None
+no_flaw key value is no_family value_is =
+    rw (no_family, right_width key value value_is, is.known) refl
+
+pub follower_is : (c : ℕ) → (c ≡ comma) ⊎ (c ≡ closing) → (c == comma || c == closing) ≡ true
+follower_is c (inl same) = rw same refl
+follower_is c (inr same) = rw same refl
+
+-- what is read of the key at the front of a text, whose value ends before this
+pub follower_reading : (key value : List ℕ) (cs tail : List ℕ) → IsKey key → is_one_of key families ≡ false → IsValueOf key value
+    → run in_key cs ≡ key → (end : Tail tail)
+    → read_follower cs (Some value) (behind_spaces tail) ≡ member (end.c ∷ end.rest)
+follower_reading key value cs tail is no_family value_is ran end =
+    rw (tail_begins tail end, follower_is end.c end.is, ran, no_flaw key value is no_family value_is) refl
