@@ -226,19 +226,16 @@ module _ (found : Outcome) where
   part_passes : (part : Part) (cs : List ℕ) → Is part cs → Passes part cs
   part_passes part cs (an_option text is) = λ before takes level outer tail end walked.
       (with_member level, inl refl, option_passes text is before takes level outer tail end walked)
-  part_passes part cs (a_group name spaces inside (inl is_all) are inner) = λ before takes level outer tail end walked.
-      group_passes name spaces inside (inl is_all) are (part_passes members inside inner) before takes level outer tail end walked
-  part_passes part cs (a_group name spaces inside (inr is_any) are inner) = λ before takes level outer tail end walked.
-      group_passes name spaces inside (inr is_any) are (part_passes members inside inner) before takes level outer tail end walked
-  part_passes part cs (a_negation spaces first text last are first_space inner last_space) = λ before takes level outer tail end walked.
-      negation_passes spaces first text last are first_space (part_passes predicate text inner) last_space before takes level outer tail end walked
+  part_passes part cs (a_group name spaces inside either are inner) =
+      group_passes name spaces inside either are (part_passes members inside inner)
+  part_passes part cs (a_negation spaces first text last are first_space inner last_space) =
+      negation_passes spaces first text last are first_space (part_passes predicate text inner) last_space
   part_passes part cs (no_member spaces are) = λ before takes takes_end level around outer tail no_not end walked.
       closing_passes before level around outer spaces tail takes_end (and_so level.is_not no_not _) are end walked
-  part_passes part cs (last_member first text last first_space inner last_space) = λ before takes takes_end level around outer tail no_not end walked.
-      last_passes first text last first_space (part_passes predicate text inner) last_space before takes level around outer tail no_not end walked
-  part_passes part cs (another first text last others first_space inner last_space more) = λ before takes takes_end level around outer tail no_not end walked.
+  part_passes part cs (last_member first text last first_space inner last_space) =
+      last_passes first text last first_space (part_passes predicate text inner) last_space
+  part_passes part cs (another first text last others first_space inner last_space more) =
       another_passes first text last others first_space (part_passes predicate text inner) last_space (part_passes members others more)
-      before takes level around outer tail no_not end walked
 
 -- ---- `cfg(..)`
 
