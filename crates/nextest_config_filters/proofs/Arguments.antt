@@ -49,7 +49,7 @@ read_something predicate (c ∷ argument) cs rest some = refl
 -- ---- where a text and a regular expression end
 
 -- a front that a rest ends
-front_of : (cs front rest : List ℕ) → cs ≡ front ++ rest → take (length cs - length rest) cs ≡ front
+pub front_of : (cs front rest : List ℕ) → cs ≡ front ++ rest → take (length cs - length rest) cs ≡ front
 front_of cs front rest whole =
     let long : length cs - length rest ≡ length front = omega (arith, ap length whole ∙ length-append front rest) in
     rw (long, whole) (take-append_seam front rest)

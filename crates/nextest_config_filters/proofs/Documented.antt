@@ -291,6 +291,14 @@ text_some : (text : List ℕ) → IsText text → (c : ℕ) × (cs : List ℕ) �
 text_some text (marked mark c cs is are) = (mark, c ∷ cs, refl)
 text_some text (unmarked c cs are no_slash unblank) = (c, cs, refl)
 
+-- an argument that is a text begins with no slash, or not behind blanks alone
+pub text_opens : (first text last tail : List ℕ) → AreBlanks first → IsText text → AreBlanks last
+    → (only_blanks (closed_by first text last tail) ≡ false)
+    ⊎ (begins slash (behind_spaces (closed_by first text last tail)) ≡ false)
+text_opens first text last tail first_blank is last_blank =
+    rw (blanks_before first (text ++ (last ++ (closing ∷ tail))) first_blank, spaces_behind_blanks first (text ++ (last ++ (closing ∷ tail))) first_blank)
+    (text_start text last tail is last_blank)
+
 text_argument : (predicate : Predicate) (first text last tail : List ℕ) → TakesPattern predicate → AreBlanks first
     → IsText text → AreBlanks last → Passes (read_some_argument predicate (closed_by first text last tail)) tail
 text_argument predicate first text last tail takes first_blank is last_blank =
@@ -298,13 +306,10 @@ text_argument predicate first text last tail takes first_blank is last_blank =
     let nonempty : first ++ (text ++ last) ≡ [] → ⊥ =
     λ none. in_middle first some.0 (some.1 ++ last) (sym (ap (λ t. first ++ (t ++ last)) some.2) ∙ none) in
     let whole = regrouped first text last tail in
-    let start : (only_blanks (closed_by first text last tail) ≡ false) ⊎ (begins slash (behind_spaces (closed_by first text last tail)) ≡ false) =
-    rw (blanks_before first (text ++ (last ++ (closing ∷ tail))) first_blank, spaces_behind_blanks first (text ++ (last ++ (closing ∷ tail))) first_blank)
-    (text_start text last tail is last_blank) in
     rw whole
     (pieces_pass predicate (first ++ (text ++ last)) tail takes
     (text_between first text last first_blank (text_pieces text is) last_blank) nonempty
-    (subst (λ cs. (only_blanks cs ≡ false) ⊎ (begins slash (behind_spaces cs) ≡ false)) whole start))
+    (subst (λ cs. (only_blanks cs ≡ false) ⊎ (begins slash (behind_spaces cs) ≡ false)) whole (text_opens first text last tail first_blank is last_blank)))
 
 -- ---- regular expressions
 
@@ -434,8 +439,8 @@ pattern_argument : (predicate : Predicate) (first argument last tail : List ℕ)
 unfolding read_argument
 pattern_argument predicate first argument last tail takes first_blank (a_text text is) last_blank =
     rw takes.some (text_argument predicate first text last tail takes first_blank is last_blank)
-pattern_argument predicate first argument last tail takes first_blank (a_regex rest is) last_blank =
-    rw takes.some (regex_argument predicate first rest last tail takes first_blank is last_blank)
+pattern_argument predicate first argument last tail takes first_blank (a_regex text is fine) last_blank =
+    rw takes.some (regex_argument predicate first (text ++ (slash ∷ [])) last tail takes first_blank is last_blank)
 
 platform_either : (first argument last tail : List ℕ) → (argument ≡ codes "host") ⊎ (argument ≡ codes "target")
     → AreBlanks first → AreBlanks last → Passes (read_argument predicates.Platform (closed_by first argument last tail)) tail

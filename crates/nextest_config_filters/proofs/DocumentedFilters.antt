@@ -12,6 +12,7 @@ use Rattle.nextest_config_filters.specs.Grammar.{a_group, a_line_end, a_line_fee
 use Rattle.nextest_config_filters.specs.Argument.{read_argument}
 use Rattle.nextest_config_filters.specs.Predicate.{behind_nots, is_joined, is_name_or_nothing, name_of, name_reads_back, predicate_named}
 use Rattle.nextest_config_filters.specs.Reading.{asks_for_itself, is_sign, read_operand, read_operator, read_word, reading_at}
+use Rattle.nextest_config_filters.specs.Regex.{judged_at, refusal, regex_at, regex_behind, regex_of}
 use Rattle.nextest_config_filters.specs.Told.{closes, ends, goes_on, opens, Told}
 use Rattle.nextest_config_filters.specs.declared.filter.FilterPlace.{FilterPlace}
 use Rattle.nextest_config_filters.specs.declared.filter.FilterPlace.TheVariants as places
@@ -20,7 +21,9 @@ use Rattle.nextest_config_filters.specs.declared.predicate.Predicate.TheVariants
 use Rattle.nextest_config_filters.specs.declared.told.Expects.{Expects}
 use Rattle.nextest_config_filters.specs.declared.told.Expects.TheVariants.{Operand, Operator}
 use Rattle.nextest_config_filters.proofs.Documented.{argument_passes, blank_ends_word, Passes, spaces_behind_blanks}
+use Rattle.nextest_config_filters.proofs.DocumentedRegexes.{argument_silent}
 use Rattle.nextest_config_filters.proofs.Fronts.{run_whole}
+use Rattle.nextest_config_filters.proofs.Regexes.{judged_silent}
 
 -- ---- steps, and what is told behind them
 
@@ -45,37 +48,48 @@ unfolding reading_at
 same_reading place Operand blanks cs blank = ap (read_operand place) (spaces_behind_blanks blanks cs blank)
 same_reading place Operator blanks cs blank = ap read_operator (spaces_behind_blanks blanks cs blank)
 
+same_regex : (expects : Expects) (blanks cs : List ℕ) → AreBlanks blanks → regex_at expects (blanks ++ cs) ≡ regex_at expects cs
+unfolding regex_at
+same_regex Operand blanks cs blank = ap regex_of (spaces_behind_blanks blanks cs blank)
+same_regex Operator blanks cs blank = refl
+
+same_judged : (place : FilterPlace) (expects : Expects) (blanks cs : List ℕ) → AreBlanks blanks
+    → judged_at place expects (blanks ++ cs) ≡ judged_at place expects cs
+unfolding judged_at
+same_judged place expects blanks cs blank =
+    rw (same_regex expects blanks cs blank, same_reading place expects blanks cs blank) refl
+
 module _ (place : FilterPlace) (told : Told) where
   -- told behind a state, told behind the next
   going : (expects after : Expects) (open_ones : List (List ℕ)) (cs rest : List ℕ)
-      → reading_at place expects cs ≡ goes_on after rest → IsToldFrom place (at expects open_ones cs) told
+      → judged_at place expects cs ≡ goes_on after rest → IsToldFrom place (at expects open_ones cs) told
       → IsToldFrom place (at after open_ones rest) told
   going expects after open_ones cs rest reading is =
       on_leads place (at expects open_ones cs) is.state (at after open_ones rest) told is.leads is.tells
       (ap (λ r. next_of r open_ones) reading) (ap (λ r. told_of r open_ones) reading)
 
   opening_one : (expects : Expects) (open_ones : List (List ℕ)) (cs rest : List ℕ)
-      → reading_at place expects cs ≡ opens rest → IsToldFrom place (at expects open_ones cs) told
+      → judged_at place expects cs ≡ opens rest → IsToldFrom place (at expects open_ones cs) told
       → IsToldFrom place (at Operand (rest ∷ open_ones) rest) told
   opening_one expects open_ones cs rest reading is =
       on_leads place (at expects open_ones cs) is.state (at Operand (rest ∷ open_ones) rest) told is.leads is.tells
       (ap (λ r. next_of r open_ones) reading) (ap (λ r. told_of r open_ones) reading)
 
   closing_one : (expects : Expects) (last : List ℕ) (open_ones : List (List ℕ)) (cs rest : List ℕ)
-      → reading_at place expects cs ≡ closes rest → IsToldFrom place (at expects (last ∷ open_ones) cs) told
+      → judged_at place expects cs ≡ closes rest → IsToldFrom place (at expects (last ∷ open_ones) cs) told
       → IsToldFrom place (at Operator open_ones rest) told
   closing_one expects last open_ones cs rest reading is =
       on_leads place (at expects (last ∷ open_ones) cs) is.state (at Operator open_ones rest) told is.leads is.tells
       (ap (λ r. next_of r (last ∷ open_ones)) reading) (ap (λ r. told_of r (last ∷ open_ones)) reading)
 
-  ending : (expects : Expects) (cs : List ℕ) → reading_at place expects cs ≡ ends
+  ending : (expects : Expects) (cs : List ℕ) → judged_at place expects cs ≡ ends
       → IsToldFrom place (at expects [] cs) told → ⊥
   ending expects cs reading is =
       off_leads place (at expects [] cs) is.state told is.leads is.tells
       (ap (λ r. next_of r []) reading) (ap (λ r. told_of r []) reading)
 
   passing : (expects : Expects) (open_ones : List (List ℕ)) (cs rest : List ℕ)
-      → Passes (reading_at place expects cs) rest → IsToldFrom place (at expects open_ones cs) told
+      → Passes (judged_at place expects cs) rest → IsToldFrom place (at expects open_ones cs) told
       → IsToldFrom place (at Operator open_ones rest) told
   passing expects open_ones cs rest (inr on) is = going expects Operator open_ones cs rest on is
   passing expects open_ones cs rest (inl off) is =
@@ -88,7 +102,7 @@ module _ (place : FilterPlace) (told : Told) where
 
   -- where the reading is the same
   alike : (expects : Expects) (open_ones : List (List ℕ)) (cs ds : List ℕ) (to : State)
-      → reading_at place expects cs ≡ reading_at place expects ds → (from : State) → from ≡ at expects open_ones cs
+      → judged_at place expects cs ≡ judged_at place expects ds → (from : State) → from ≡ at expects open_ones cs
       → Leads place from to → told_in place to ≡ Some told → IsToldFrom place (at expects open_ones ds) told
   alike expects open_ones cs ds to same from from_is (stays s) tells =
       record {
@@ -106,7 +120,7 @@ module _ (place : FilterPlace) (told : Told) where
   behind_blanks : (expects : Expects) (open_ones : List (List ℕ)) (blanks cs : List ℕ) → AreBlanks blanks
       → IsToldFrom place (at expects open_ones (blanks ++ cs)) told → IsToldFrom place (at expects open_ones cs) told
   behind_blanks expects open_ones blanks cs blank is =
-      alike expects open_ones (blanks ++ cs) cs is.state (same_reading place expects blanks cs blank)
+      alike expects open_ones (blanks ++ cs) cs is.state (same_judged place expects blanks cs blank)
       (at expects open_ones (blanks ++ cs)) refl is.leads is.tells
 
 -- ---- words
@@ -211,7 +225,43 @@ named_reading place predicate blanks opened may blank =
     ap (read_operand place) spaceless ∙ begun
     ∙ rw (word, left, named_again predicate, behind, may_ask place predicate may) refl
 
+-- and so is its regular expression
+named_regex : (predicate : Predicate) (blanks opened : List ℕ) → AreBlanks blanks
+    → regex_at Operand (name_of predicate ++ (blanks ++ (opening ∷ opened)))
+    ≡ regex_behind (Some predicate) (opening ∷ opened)
+unfolding regex_at
+named_regex predicate blanks opened blank =
+    let name = name_text predicate in
+    let rest = blanks ++ (opening ∷ opened) in
+    let cs = name_of predicate ++ rest in
+    let none = parenthesis_ends blanks opened blank in
+    let cons : cs ≡ name.c ∷ (name.rest ++ rest) = ap (λ n. n ++ rest) name.whole in
+    let spaceless : behind_spaces cs ≡ cs = rw cons (rw name.no_space refl) in
+    ap regex_of spaceless
+    ∙ rw (run_over (name_of predicate) rest name.all none, behind_over (name_of predicate) rest name.all none, named_again predicate, spaces_behind_blanks blanks (opening ∷ opened) blank) refl
+
 -- ---- `not`, signs and words
+
+nothing_named : predicate_named [] ≡ None
+unfolding predicate_named
+nothing_named = refl
+
+unnamed : (c : ℕ) (cs : List ℕ) → is_whitespace c ≡ false → in_word c ≡ false → refusal (regex_at Operand (c ∷ cs)) ≡ None
+unfolding regex_at
+unnamed c cs no_space no_word = rw no_space (rw no_word (rw nothing_named refl))
+
+operator_silent : (cs : List ℕ) → refusal (regex_at Operator cs) ≡ None
+unfolding regex_at
+operator_silent cs = refl
+
+-- where no name stands, no regular expression does
+no_name : (place : FilterPlace) (c : ℕ) (cs : List ℕ) → is_whitespace c ≡ false → in_word c ≡ false
+    → judged_at place Operand (c ∷ cs) ≡ reading_at place Operand (c ∷ cs)
+no_name place c cs no_space no_word = judged_silent place Operand (c ∷ cs) (unnamed c cs no_space no_word)
+
+-- nor where an operator is expected
+no_operand : (place : FilterPlace) (cs : List ℕ) → judged_at place Operator cs ≡ reading_at place Operator cs
+no_operand place cs = judged_silent place Operator cs (operator_silent cs)
 
 nots_none : (c : ℕ) (cs : List ℕ) → (c == 110) ≡ false → behind_nots (c ∷ cs) ≡ c ∷ cs
 nots_none c [] other = refl
@@ -233,6 +283,11 @@ blank_joined c blanks cs blank =
 not_unnamed : predicate_named (codes "not") ≡ None
 unfolding predicate_named
 not_unnamed = refl
+
+not_silent : (c : ℕ) (blanks cs : List ℕ) → AreBlanks (c ∷ blanks)
+    → refusal (regex_at Operand (codes "not" ++ ((c ∷ blanks) ++ cs))) ≡ None
+unfolding regex_at
+not_silent c blanks cs blank = rw (blank_ends_word c blanks cs blank, not_unnamed) refl
 
 not_reading : (place : FilterPlace) (c : ℕ) (blanks cs : List ℕ) → AreBlanks (c ∷ blanks)
     → reading_at place Operand (codes "not" ++ ((c ∷ blanks) ++ cs)) ≡ goes_on Operand ((c ∷ blanks) ++ cs)
@@ -340,7 +395,10 @@ expression_passes place told cs (a_predicate text is) open_ones tail from =
     let opened = is.first ++ (is.argument ++ (is.last ++ (closing ∷ tail))) in
     let whole : cs ++ tail ≡ name ++ (is.before ++ (opening ∷ opened)) =
     ap (λ t. t ++ tail) is.whole ∙ simp append_assoc in
-    let reading = named_reading place is.predicate is.before opened is.may_ask is.before_blank in
+    let silent = ap refusal (named_regex is.predicate is.before opened is.before_blank)
+    ∙ argument_silent is.predicate is.first is.argument is.last tail is.is_argument is.first_blank is.last_blank in
+    let reading = judged_silent place Operand (name ++ (is.before ++ (opening ∷ opened))) silent
+    ∙ named_reading place is.predicate is.before opened is.may_ask is.before_blank in
     passing place told Operand open_ones (name ++ (is.before ++ (opening ∷ opened))) tail
     (subst (λ r. Passes r tail) (sym reading)
     (argument_passes is.predicate is.first is.argument is.last tail is.is_argument is.first_blank is.last_blank))
@@ -349,14 +407,16 @@ expression_passes place told cs (a_negation c blanks text blank is) open_ones ta
     let rest = (c ∷ blanks) ++ (text ++ tail) in
     let whole : cs ++ tail ≡ codes "not" ++ rest = ap (λ r. 110 ∷ 111 ∷ 116 ∷ r) (append_assoc (c ∷ blanks) text tail) in
     let behind_word = going place told Operand Operand open_ones (codes "not" ++ rest) rest
-    (not_reading place c blanks (text ++ tail) blank)
+    (judged_silent place Operand (codes "not" ++ rest) (not_silent c blanks (text ++ tail) blank)
+    ∙ not_reading place c blanks (text ++ tail) blank)
     (moved place told Operand open_ones (cs ++ tail) (codes "not" ++ rest) whole from) in
     expression_passes place told text is open_ones tail
     (behind_blanks place told Operand open_ones (c ∷ blanks) (text ++ tail) blank behind_word)
 expression_passes place told cs (a_marked blanks text blank is) open_ones tail from =
     let rest = blanks ++ (text ++ tail) in
     let whole : cs ++ tail ≡ exclamation_mark ∷ rest = ap (λ r. exclamation_mark ∷ r) (append_assoc blanks text tail) in
-    let behind_mark = going place told Operand Operand open_ones (exclamation_mark ∷ rest) rest (mark_reading place rest)
+    let behind_mark = going place told Operand Operand open_ones (exclamation_mark ∷ rest) rest
+    (no_name place exclamation_mark rest refl refl ∙ mark_reading place rest)
     (moved place told Operand open_ones (cs ++ tail) (exclamation_mark ∷ rest) whole from) in
     expression_passes place told text is open_ones tail
     (behind_blanks place told Operand open_ones blanks (text ++ tail) blank behind_mark)
@@ -364,11 +424,13 @@ expression_passes place told cs (a_group first text last first_blank is last_bla
     let closed = last ++ (closing ∷ tail) in
     let rest = first ++ (text ++ closed) in
     let whole : cs ++ tail ≡ opening ∷ rest = ap (λ r. opening ∷ r) (simp append_assoc) in
-    let inside = opening_one place told Operand open_ones (opening ∷ rest) rest (group_reading place rest)
+    let inside = opening_one place told Operand open_ones (opening ∷ rest) rest
+    (no_name place opening rest refl refl ∙ group_reading place rest)
     (moved place told Operand open_ones (cs ++ tail) (opening ∷ rest) whole from) in
     let behind_text = expression_passes place told text is (rest ∷ open_ones) closed
     (behind_blanks place told Operand (rest ∷ open_ones) first (text ++ closed) first_blank inside) in
-    closing_one place told Operator rest open_ones (closing ∷ tail) tail (close_reading place tail)
+    closing_one place told Operator rest open_ones (closing ∷ tail) tail
+    (no_operand place (closing ∷ tail) ∙ close_reading place tail)
     (behind_blanks place told Operator (rest ∷ open_ones) last (closing ∷ tail) last_blank behind_text)
 expression_passes place told cs (by_word one first word c blanks other is first_blank is_word blank also) open_ones tail from =
     let rest = (c ∷ blanks) ++ (other ++ tail) in
@@ -382,7 +444,7 @@ expression_passes place told cs (by_word one first word c blanks other is first_
     (moved place told Operand open_ones (cs ++ tail) (one ++ (first ++ joined)) whole from) in
     let at_word = behind_blanks place told Operator open_ones first joined first_blank behind_one in
     let behind_word = going place told Operator Operand open_ones joined rest
-    (word_reading place word c blanks (other ++ tail) is_word blank) at_word in
+    (no_operand place joined ∙ word_reading place word c blanks (other ++ tail) is_word blank) at_word in
     expression_passes place told other also open_ones tail
     (behind_blanks place told Operand open_ones (c ∷ blanks) (other ++ tail) blank behind_word)
 expression_passes place told cs (by_sign one first sign last other is first_blank signs last_blank also) open_ones tail from =
@@ -396,7 +458,7 @@ expression_passes place told cs (by_sign one first sign last other is first_blan
     (moved place told Operand open_ones (cs ++ tail) (one ++ (first ++ joined)) whole from) in
     let at_sign = behind_blanks place told Operator open_ones first joined first_blank behind_one in
     let behind_sign = going place told Operator Operand open_ones joined rest
-    (sign_reading place sign rest signs (single_sign sign last other tail signs last_blank (expression_begins place other also))) at_sign in
+    (no_operand place joined ∙ sign_reading place sign rest signs (single_sign sign last other tail signs last_blank (expression_begins place other also))) at_sign in
     expression_passes place told other also open_ones tail
     (behind_blanks place told Operand open_ones last (other ++ tail) last_blank behind_sign)
 
@@ -422,7 +484,7 @@ none_told place cs told is tells =
     let behind_text = expression_passes place told is.expression is.is_expression [] is.last at_text in
     let at_end = behind_blanks place told Operator [] is.last [] is.last_blank
     (moved place told Operator [] is.last (is.last ++ []) (sym (append-nil is.last)) behind_text) in
-    ending place told Operator [] (end_reading place) at_end
+    ending place told Operator [] (no_operand place [] ∙ end_reading place) at_end
 
 pub nothing_told : (place : FilterPlace) (text : List ℕ) (fault : Fault) → IsDocumentedFilter place (chars text)
     → IsFilterFault place text fault → ⊥

@@ -60,6 +60,7 @@ one_hint text (flaws.SecondArgument predicate) found a b is also = is ∙ sym al
 one_hint text flaws.UnknownEscape found a b is also = is ∙ sym also
 one_hint text flaws.UnknownCode found a b is also = is ∙ sym also
 one_hint text flaws.RegexNotClosed found a b is also = is ∙ sym also
+one_hint text flaws.InvalidRegex found a b is also = is ∙ sym also
 
 -- ---- one fault
 

@@ -87,7 +87,7 @@ run_in kind cs = (run kind cs, sym (run_whole kind cs))
 pub front_dropped : (front cs : List ℕ) → IsFront front cs → cs ≡ front ++ drop (length front) cs
 front_dropped front cs (rest, whole) = whole ∙ ap (λ r. front ++ r) (sym (rw whole (drop-append_seam front rest)))
 
-begun : (c : ℕ) (cs : List ℕ) → begins c cs ≡ true → cs ≡ c ∷ without_first cs
+pub begun : (c : ℕ) (cs : List ℕ) → begins c cs ≡ true → cs ≡ c ∷ without_first cs
 begun c [] is = cc is
 begun c (d ∷ cs) is = ap (λ e. e ∷ cs) (sym (eqb-true c d is))
 

@@ -5,14 +5,15 @@ use Rattle.nextest_config_filters.specs.Filter.{IsTold, IsToldBehind, IsToldFrom
 use Rattle.std.specs.List.{AllByRecursion}
 use Rattle.std.specs.Str.{skip_leading_whitespace as behind_spaces}
 use Rattle.nextest_config_filters.specs.Front.{closing, IsRest, opening}
-use Rattle.nextest_config_filters.specs.Reading.{reading_at}
+use Rattle.nextest_config_filters.specs.Regex.{judged_at}
 use Rattle.nextest_config_filters.specs.Told.{closes, ends, goes_on, not_closed, not_open, opens, Reading, tells, Told, told_at, told_view, unjudged}
 use Rattle.nextest_config_filters.specs.Walk.{IsWalked}
 use Rattle.nextest_config_filters.specs.declared.fault.FilterFlaw.TheVariants as flaws
 use Rattle.nextest_config_filters.specs.declared.told.Told.{Told as OwnTold}
 use Rattle.nextest_config_filters.specs.declared.told.Expects.{Expects}
 use Rattle.nextest_config_filters.specs.declared.told.Expects.TheVariants.{Operand, Operator}
-use Rattle.nextest_config_filters.proofs.Readings.{Leaves, leaves_rest, past, rest_within}
+use Rattle.nextest_config_filters.proofs.Readings.{Leaves, past, rest_within}
+use Rattle.nextest_config_filters.proofs.Regexes.{leaves_judged}
 use Rattle.nextest_config_filters.specs.declared.filter.FilterPlace.{FilterPlace}
 
 -- one step more
@@ -116,8 +117,8 @@ module _ (place : FilterPlace) (cs : List ℕ) where
   pub next_within : (state over : State) → IsWithin cs state → next place state ≡ Some over
       → IsWithin cs over × (length over.rest < length state.rest)
   next_within state over within is =
-      after_reading cs state.expects state.rest (reading_at place state.expects state.rest) state.open_ones over within
-      (leaves_rest place state.expects state.rest) is
+      after_reading cs state.expects state.rest (judged_at place state.expects state.rest) state.open_ones over within
+      (leaves_judged place state.expects state.rest) is
 
   within_on : (from to : State) → Leads place from to → IsWithin cs from → IsWithin cs to
   within_on from to (stays s) within = within
@@ -128,8 +129,8 @@ module _ (place : FilterPlace) (cs : List ℕ) where
       → IsRest cs (told.what ++ told.behind)
   told_in_text from told within is =
       let state = is.state in
-      told_within cs state.expects state.rest (reading_at place state.expects state.rest) state.open_ones told
-      (within_on from state is.leads within) (leaves_rest place state.expects state.rest) is.tells
+      told_within cs state.expects state.rest (judged_at place state.expects state.rest) state.open_ones told
+      (within_on from state is.leads within) (leaves_judged place state.expects state.rest) is.tells
 
 pub told_rest_by : (place : FilterPlace) (spaceless cs : List ℕ) (told : Told) → IsToldBehind place spaceless cs told
     → IsRest cs (told.what ++ told.behind)
@@ -146,8 +147,8 @@ told_rest place cs told is = told_rest_by place (behind_spaces cs) cs told is
 told_once_from : (place : FilterPlace) (from : State) (told other : Told) → IsToldFrom place from told
     → IsToldFrom place from other → told ≡ other
 told_once_from place from told other a b =
-    let a_over = told_stops (reading_at place a.state.expects a.state.rest) a.state.open_ones told a.tells in
-    let b_over = told_stops (reading_at place b.state.expects b.state.rest) b.state.open_ones other b.tells in
+    let a_over = told_stops (judged_at place a.state.expects a.state.rest) a.state.open_ones told a.tells in
+    let b_over = told_stops (judged_at place b.state.expects b.state.rest) b.state.open_ones other b.tells in
     let same = one_end place from a.state b.state a.leads a_over b.leads b_over in
     let both : Some told ≡ Some other = sym a.tells ∙ ap (told_in place) same ∙ b.tells in
     cc both
@@ -187,7 +188,7 @@ module _ (place : FilterPlace) (cs : List ℕ) (some : behind_spaces cs ≢ []) 
   pub walked_none : IsWalked place cs None → (told : Told) → ¬ IsTold place cs told
   walked_none walked told is =
       let from = from_behind place (behind_spaces cs) cs told some is in
-      let stops = told_stops (reading_at place from.state.expects from.state.rest) from.state.open_ones told from.tells in
+      let stops = told_stops (judged_at place from.state.expects from.state.rest) from.state.open_ones told from.tells in
       let same = one_end place (start cs) walked.state from.state walked.leads walked.over from.leads stops in
       let both : None ≡ Some told = sym walked.tells ∙ ap (told_in place) same ∙ from.tells in
       cc both

@@ -5,7 +5,7 @@ use Rattle.std.proofs.lemmas.Bool.{cases_Bool}
 use Rattle.std.proofs.lemmas.Str.{encodes-chars, length-le-encodes}
 use Rattle.std.specs.Str.{chars, IsUtf8}
 use Rattle.nextest_config_filters.specs.Filter.{next, next_of, start, State, told_of}
-use Rattle.nextest_config_filters.specs.Reading.{reading_at}
+use Rattle.nextest_config_filters.specs.Regex.{judged_at, regex_at}
 use Rattle.nextest_config_filters.specs.Told.{closes, ends, not_closed}
 use Rattle.nextest_config_filters.specs.Walk.{at_level, IsLeftOpen, IsWalked, Shows}
 use Rattle.nextest_config_filters.specs.declared.filter.FilterPlace.{FilterPlace}
@@ -19,8 +19,12 @@ chars_fit text u = omega (arith, length-le-encodes (chars text), ap length (enco
 
 -- where a state is shown, what is read is the same
 pub shown_reading : (place : FilterPlace) (level : ℕ) (own : OwnState) (now : State) → Shows level own now
-    → reading_at place own.expects (chars own.rest.now) ≡ reading_at place now.expects now.rest
+    → judged_at place own.expects (chars own.rest.now) ≡ judged_at place now.expects now.rest
 shown_reading place level own now shows = rw (shows.expects, shows.rest) refl
+
+pub shown_regex : (level : ℕ) (own : OwnState) (now : State) → Shows level own now
+    → regex_at own.expects (chars own.rest.now) ≡ regex_at now.expects now.rest
+shown_regex level own now shows = rw (shows.expects, shows.rest) refl
 
 -- ---- the parenthesis of a level
 
@@ -70,7 +74,7 @@ told_at_end level [] behind deep some of_level = absurd (omega arith)
 told_at_end level (last ∷ others) behind deep some of_level =
     ap (λ b. Some (not_closed b)) (sym (of_level last (rw (eq-eqb level (suc (length others)) deep) refl)))
 
-end_stops : (place : FilterPlace) (state : State) → reading_at place state.expects state.rest ≡ ends
+end_stops : (place : FilterPlace) (state : State) → judged_at place state.expects state.rest ≡ ends
     → next place state ≡ None
 end_stops place state at_end = ap (λ reading. next_of reading state.open_ones) at_end
 

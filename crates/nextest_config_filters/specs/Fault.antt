@@ -25,14 +25,30 @@ pub record Fault : Type 0 where
   pub end : ℕ
   pub kind : Kind
 
+-- what is found, without the words in which a regular expression is refused
+abbrev pub found_of : FilterFlaw → List ℕ → List ℕ
+found_of flaws.InvalidRegex words = []
+found_of flaw found = found
+
 abbrev pub kind_of : TextFaultKind → Kind
 kind_of (kinds.Filter flaw found hint) =
-    filter flaw (string_bytes found) (option_map string_bytes hint)
+    filter flaw (found_of flaw (string_bytes found)) (option_map string_bytes hint)
 kind_of (kinds.Platform flaw found hint) =
     platform flaw (string_bytes found) (option_map string_bytes hint)
 
 abbrev pub fault_of : TextFault → Fault
 fault_of fault = record { begin = fault.begin; end = fault.end; kind = kind_of fault.kind }
+
+-- with these words
+abbrev pub worded_kind_of : TextFaultKind → Kind
+worded_kind_of (kinds.Filter flaw found hint) =
+    filter flaw (string_bytes found) (option_map string_bytes hint)
+worded_kind_of (kinds.Platform flaw found hint) =
+    platform flaw (string_bytes found) (option_map string_bytes hint)
+
+abbrev pub worded_fault_of : TextFault → Fault
+worded_fault_of fault =
+    record { begin = fault.begin; end = fault.end; kind = worded_kind_of fault.kind }
 
 -- ---- codes
 
@@ -90,6 +106,7 @@ flaw_text flaws.UnknownEscape found =
 flaw_text flaws.UnknownCode found = codes "unknown escape `\\u`, expected `\\u{..}`"
 flaw_text flaws.RegexNotClosed found =
     codes "this \"/\" begins a regular expression that isn't closed"
+flaw_text flaws.InvalidRegex words = codes "not a regular expression: " ++ words
 
 abbrev pub hint_text : Option (List ℕ) → List ℕ
 hint_text None = []

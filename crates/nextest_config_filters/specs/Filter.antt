@@ -1,10 +1,10 @@
 -- What is told of a filter.
 use Rattle.std.specs.Prelude.{◌≡◌, ℕ, ◌≤◌, List, [], ◌∷◌, ◌++◌, chars, encode_utf8_all, length, Option, Some, None}
 use Rattle.std.specs.Str.{IsCharBoundary, skip_leading_whitespace as behind_spaces}
-use Rattle.nextest_config_filters.specs.Fault.{Fault, filter}
+use Rattle.nextest_config_filters.specs.Fault.{Fault, filter, found_of}
 use Rattle.nextest_config_filters.specs.Front.{bytes_of}
 use Rattle.nextest_config_filters.specs.Hint.{IsHint}
-use Rattle.nextest_config_filters.specs.Reading.{reading_at}
+use Rattle.nextest_config_filters.specs.Regex.{judged_at, regex_at}
 use Rattle.nextest_config_filters.specs.Told.{closes, ends, goes_on, not_closed, not_open, opens, Reading, Told, told_at, tells}
 use Rattle.nextest_config_filters.specs.declared.fault.FilterFlaw.TheVariants as flaws
 use Rattle.nextest_config_filters.specs.declared.filter.FilterPlace.{FilterPlace}
@@ -41,15 +41,20 @@ told_of ends (last ∷ open_ones) = Some (not_closed last)
 told_of reading open_ones = None
 
 abbrev pub next : FilterPlace → State → Option State
-next place state = next_of (reading_at place state.expects state.rest) state.open_ones
+next place state = next_of (judged_at place state.expects state.rest) state.open_ones
 
 abbrev pub told_in : FilterPlace → State → Option Told
-told_in place state = told_of (reading_at place state.expects state.rest) state.open_ones
+told_in place state = told_of (judged_at place state.expects state.rest) state.open_ones
 
 -- steps lead from a state to a state
 pub data Leads (place : FilterPlace) : State → State → Type 0 where
   stays : (state : State) → Leads place state state
   steps : (from over to : State) → next place from ≡ Some over → Leads place over to → Leads place from to
+
+-- the text leads to no state in which a regular expression stands
+abbrev pub HasNoRegex : FilterPlace → List ℕ → Type 0
+HasNoRegex place cs =
+    (state : State) → Leads place (start cs) state → regex_at state.expects state.rest ≡ None
 
 -- ---- faults
 
@@ -74,7 +79,7 @@ pub record IsFaultOf (text : List ℕ) (told : Told) (fault : Fault) : Type 0 wh
   pub whole : chars text ≡ front ++ (told.what ++ told.behind)
   pub begin : fault.begin ≡ bytes_of front
   pub end : fault.end ≡ bytes_of (front ++ told.what)
-  pub kind : fault.kind ≡ filter told.flaw (encode_utf8_all told.found) hint
+  pub kind : fault.kind ≡ filter told.flaw (found_of told.flaw (encode_utf8_all told.found)) hint
   pub is_hint : IsHint text told.flaw (encode_utf8_all told.found) hint
 
 -- the text has this fault: some front of it leads to a state in which that is told

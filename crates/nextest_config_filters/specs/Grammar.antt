@@ -1,11 +1,12 @@
 -- The grammar of filters as nextest's documentation has it, apart from how they are read. Which
 -- operator binds tighter changes nothing of what is a filter, so it has no levels.
-use Rattle.std.specs.Prelude.{◌≡◌, ℕ, ◌≤◌, ◌⊎◌, true, false, List, [], ◌∷◌, ◌++◌, codes, length}
+use Rattle.std.specs.Prelude.{◌≡◌, ℕ, ◌≤◌, ◌⊎◌, true, List, [], ◌∷◌, ◌++◌, codes, length}
 use Rattle.std.specs.Char.{is_ascii_hexdigit}
 use Rattle.std.specs.List.{AllByRecursion}
 use Rattle.toml_spans.specs.Characters.{backslash, carriage_return, hyphen, line_feed, plus_sign, slash}
 use Rattle.nextest_config_filters.specs.Front.{ampersand, bar, closing, closing_brace, comma, exclamation_mark, number_sign, opening, opening_brace, space}
 use Rattle.nextest_config_filters.specs.Predicate.{name_of}
+use Rattle.nextest_config_filters.specs.Regex.{is_pattern, unescaped}
 use Rattle.nextest_config_filters.specs.declared.filter.FilterPlace.{FilterPlace}
 use Rattle.nextest_config_filters.specs.declared.filter.FilterPlace.TheVariants as places
 use Rattle.nextest_config_filters.specs.declared.predicate.Predicate.{Predicate}
@@ -89,7 +90,8 @@ MayAsk place predicate = Unit {0}
 -- an argument of a text or a regular expression
 pub data IsPattern : List ℕ → Type 0 where
   a_text : (cs : List ℕ) → IsText cs → IsPattern cs
-  a_regex : (cs : List ℕ) → IsRegexRest cs → IsPattern (slash ∷ cs)
+  a_regex : (text : List ℕ) → IsRegexRest (text ++ (slash ∷ [])) → is_pattern (unescaped text) ≡ true
+      → IsPattern (slash ∷ (text ++ (slash ∷ [])))
 
 -- an argument: none, one of two words, or a pattern
 abbrev pub IsArgument : Predicate → List ℕ → Type 0

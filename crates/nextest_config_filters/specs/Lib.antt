@@ -9,5 +9,6 @@ pub mod Pieces
 pub mod Platform
 pub mod Predicate
 pub mod Reading
+pub mod Regex
 pub mod Told
 pub mod Walk

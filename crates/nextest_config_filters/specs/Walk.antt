@@ -1,7 +1,7 @@
 -- The walk through a filter, with a number in place of the parentheses that are open.
 use Rattle.std.specs.Prelude.{◌≡◌, ℕ, suc, ◌==◌, ◌<◌, List, [], ◌∷◌, chars, length, Option, Some, None, option_map, if◌then◌else◌}
 use Rattle.nextest_config_filters.specs.Filter.{Leads, next, next_of, start, State, told_in, told_of}
-use Rattle.nextest_config_filters.specs.Reading.{reading_at}
+use Rattle.nextest_config_filters.specs.Regex.{judged_at}
 use Rattle.nextest_config_filters.specs.Told.{ends, Reading, Told, told_view}
 use Rattle.nextest_config_filters.specs.declared.filter.FilterPlace.{FilterPlace}
 use Rattle.nextest_config_filters.specs.declared.told.Expects.TheVariants.{Operand}
@@ -49,7 +49,7 @@ pub record IsWalked (place : FilterPlace) (cs : List ℕ) (told : Option Told) :
 pub record IsLeftOpen (place : FilterPlace) (cs : List ℕ) (many : ℕ) : Type 0 where
   pub state : State
   pub leads : Leads place (start cs) state
-  pub at_end : reading_at place state.expects state.rest ≡ ends
+  pub at_end : judged_at place state.expects state.rest ≡ ends
   pub open_many : many ≡ length state.open_ones
   pub some : 0 < many
 

@@ -3,7 +3,7 @@
 ghost use Rattle.std.specs.Prelude.{◌≡◌, ◌++◌, Some, option_map, string_bytes};
 ghost use Rattle.std.specs.Fmt.{WritesOnOk};
 ghost use Rattle.toml_spans.specs.QuotedText.{quoted_text};
-ghost use Rattle.nextest_config_filters.specs.Fault.{code_of, code_of_expected, code_of_flaw, expected_text, fault_of, fault_text, flaw_text, found_text, hint_text, kind_of};
+ghost use Rattle.nextest_config_filters.specs.Fault.{code_of, code_of_expected, code_of_flaw, expected_text, fault_text, flaw_text, found_text, hint_text, kind_of, worded_fault_of};
 ghost use Rattle.nextest_config_filters.specs.Predicate.{name_of};
 
 use crate::platform::{PlatformFlaw, write_platform_flaw};
@@ -85,6 +85,8 @@ pub enum FilterFlaw {
     UnknownCode,
     /// A regular expression has no second `/`.
     RegexNotClosed,
+    /// What stands between two `/` is no regular expression; what is found are the words for that.
+    InvalidRegex,
 }
 
 /// What is expected in a filter.
@@ -131,7 +133,8 @@ impl FilterFlaw {
             | FilterFlaw::SecondArgument(_)
             | FilterFlaw::UnknownEscape
             | FilterFlaw::UnknownCode
-            | FilterFlaw::RegexNotClosed => TextFaultCode::FilterArgument,
+            | FilterFlaw::RegexNotClosed
+            | FilterFlaw::InvalidRegex => TextFaultCode::FilterArgument,
         }
     }
 }
@@ -148,7 +151,7 @@ impl Expected {
 }
 
 impl fmt::Display for TextFault {
-    ghost output = { λ fault. Some (fault_text (fault_of fault)) };
+    ghost output = { λ fault. Some (fault_text (worded_fault_of fault)) };
 
     fn fmt<W: fmt::Write>(&self, f: &mut fmt::Formatter<W>) -> fmt::Result {
         match &self.kind {
@@ -194,6 +197,7 @@ fn write_flaw<W: fmt::Write>(
         FilterFlaw::RegexNotClosed => {
             f.write_str("this \"/\" begins a regular expression that isn't closed")
         }
+        FilterFlaw::InvalidRegex => write_refused(f, found),
     }
 }
 
@@ -258,6 +262,14 @@ fn write_escape<W: fmt::Write>(f: &mut fmt::Formatter<W>, found: &str) -> fmt::R
     f.write_str("unknown escape `")?;
     f.write_str(found)?;
     f.write_str("`, a regular expression is written /../")
+}
+
+fn write_refused<W: fmt::Write>(f: &mut fmt::Formatter<W>, words: &str) -> fmt::Result
+    ensures { WritesOnOk W.write_str_gives f.old result
+        (flaw_text FilterFlaw.InvalidRegex words.now) f.new }
+{
+    f.write_str("not a regular expression: ")?;
+    f.write_str(words)
 }
 
 // The name of the predicate, and what is wrong with its argument.

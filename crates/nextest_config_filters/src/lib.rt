@@ -12,6 +12,7 @@ mod pieces;
 mod platform;
 mod predicate;
 mod reading;
+mod regex;
 mod text;
 mod told;
 mod walk;

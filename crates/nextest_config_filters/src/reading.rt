@@ -73,6 +73,7 @@ fn read_named<'a>(
         behind: rest,
         flaw: FilterFlaw::Unexpected(Expected::Opening(predicate)),
         found,
+        words: "",
     })
 }
 

@@ -25,6 +25,8 @@ pub(crate) struct Told<'a> {
     pub flaw: FilterFlaw,
     /// What is found, where another text is expected.
     pub found: &'a str,
+    /// In which words a regular expression is refused.
+    pub words: &'a str,
 }
 
 /// How a reading ends.
@@ -51,6 +53,7 @@ pub(crate) fn told_at<'a>(what: &'a str, behind: &'a str, flaw: FilterFlaw) -> T
         behind,
         flaw,
         found: what,
+        words: "",
     }
 }
 

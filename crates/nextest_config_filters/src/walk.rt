@@ -1,14 +1,15 @@
 //! The walk through a filter.
 
-ghost use Rattle.std.specs.Prelude.{◌≡◌, ◌+◌, ◌<◌, ◌^◌, ℕ, chars, length, option_map};
-ghost use Rattle.nextest_config_filters.specs.Filter.{State as StateOf};
-ghost use Rattle.nextest_config_filters.specs.Reading.{reading_at};
+ghost use Rattle.std.specs.Prelude.{◌≡◌, ◌+◌, ◌<◌, ◌^◌, ℕ, IfOk, IsOk, chars, length, option_map};
+ghost use Rattle.nextest_config_filters.specs.Filter.{HasNoRegex, State as StateOf};
+ghost use Rattle.nextest_config_filters.specs.Regex.{judged_at, regex_at};
 ghost use Rattle.nextest_config_filters.specs.Told.{closes, told_view};
 ghost use Rattle.nextest_config_filters.specs.Walk.{IsLeftOpen, IsStepBy, IsWalk, IsWalked, Shows, state_opened};
 
 use crate::filter::FilterPlace;
-use crate::reading::reading_at;
+use crate::regex::judged_at;
 use crate::told::{Expects, Reading, Told, not_closed, not_open};
+use std::alloc::{AllocError, Global};
 
 // Where a walk is.
 #[derive(Clone, Copy, Debug)]
@@ -39,29 +40,43 @@ enum End<'a> {
 }
 
 /// What is told of a text that has more than spaces.
-pub(crate) fn told_in(place: FilterPlace, text: &str) -> Option<Told<'_>>
-    ensures { IsWalked place (chars text.now) (option_map told_view result) }
+pub(crate) fn told_in(
+    alloc: Global,
+    place: FilterPlace,
+    text: &str,
+) -> Result<Option<Told<'_>>, AllocError>
+    ensures walked { IfOk result (λ told. IsWalked place (chars text.now) (option_map told_view told)) }
+    ensures no_memory { HasNoRegex place (chars text.now) → IsOk result }
 {
-    match walk(place, text, 1) {
-        End::Over(told) => told,
-        End::Open(level, _) => last_open(place, text, level),
+    let end = walk(alloc, place, text, 1)?;
+    match end {
+        End::Over(told) => Ok(told),
+        End::Open(level, _) => last_open(alloc, place, text, level),
     }
 }
 
 // The last of the parentheses that are open at the end, of which there are so many.
-fn last_open(place: FilterPlace, text: &str, level: usize) -> Option<Told<'_>>
+fn last_open(
+    alloc: Global,
+    place: FilterPlace,
+    text: &str,
+    level: usize,
+) -> Result<Option<Told<'_>>, AllocError>
     requires { IsLeftOpen place (chars text.now) level }
-    ensures { IsWalked place (chars text.now) (option_map told_view result) }
+    ensures walked { IfOk result (λ told. IsWalked place (chars text.now) (option_map told_view told)) }
+    ensures no_memory { HasNoRegex place (chars text.now) → IsOk result }
 {
-    match walk(place, text, level) {
-        End::Over(told) => told,
-        End::Open(_, last) => Some(not_closed(last)),
+    let end = walk(alloc, place, text, level)?;
+    match end {
+        End::Over(told) => Ok(told),
+        End::Open(_, last) => Ok(Some(not_closed(last))),
     }
 }
 
 // Walks through a text, and keeps the parentheses of a level in sight.
-fn walk(place: FilterPlace, text: &str, level: usize) -> End<'_>
-    ensures { IsWalk place level (chars text.now) result }
+fn walk(alloc: Global, place: FilterPlace, text: &str, level: usize) -> Result<End<'_>, AllocError>
+    ensures walk { IfOk result (IsWalk place level (chars text.now)) }
+    ensures no_memory { HasNoRegex place (chars text.now) → IsOk result }
 {
     let mut state = State {
         expects: Expects::Operand,
@@ -70,31 +85,39 @@ fn walk(place: FilterPlace, text: &str, level: usize) -> End<'_>
         last: text,
     };
     loop {
-        match next_step(place, level, state) {
+        let step = next_step(alloc, place, level, state)?;
+        match step {
             Step::To(next) => state = next,
-            Step::Over(told) => return End::Over(told),
-            Step::Open => return End::Open(state.depth, state.last),
+            Step::Over(told) => return Ok(End::Over(told)),
+            Step::Open => return Ok(End::Open(state.depth, state.last)),
         }
     }
 }
 
 // One step of a walk.
-fn next_step<'a>(place: FilterPlace, level: usize, state: State<'a>) -> Step<'a>
+fn next_step<'a>(
+    alloc: Global,
+    place: FilterPlace,
+    level: usize,
+    state: State<'a>,
+) -> Result<Step<'a>, AllocError>
     requires { state.depth + length (chars state.rest.now) < 2 ^ 64 }
-    ensures { (now : StateOf) → Shows level state.entry now
-        → IsStepBy level (reading_at place now.expects now.rest) now result }
+    ensures step { IfOk result (λ step. (now : StateOf) → Shows level state.entry now
+        → IsStepBy level (judged_at place now.expects now.rest) now step) }
+    ensures no_memory { regex_at state.entry.expects (chars state.entry.rest.now) ≡ None → IsOk result }
 {
-    match reading_at(place, state.expects, state.rest) {
-        Reading::GoesOn(expects, rest) => Step::To(State {
+    let reading = judged_at(alloc, place, state.expects, state.rest)?;
+    match reading {
+        Reading::GoesOn(expects, rest) => Ok(Step::To(State {
             expects,
             rest,
             ..state
-        }),
-        Reading::Opens(rest) => Step::To(opened(level, state, rest)),
-        Reading::Closes(rest) => closed(state, rest),
-        Reading::Ends if state.depth > 0 => Step::Open,
-        Reading::Ends | Reading::Unjudged => Step::Over(None),
-        Reading::Tells(told) => Step::Over(Some(told)),
+        })),
+        Reading::Opens(rest) => Ok(Step::To(opened(level, state, rest))),
+        Reading::Closes(rest) => Ok(closed(state, rest)),
+        Reading::Ends if state.depth > 0 => Ok(Step::Open),
+        Reading::Ends | Reading::Unjudged => Ok(Step::Over(None)),
+        Reading::Tells(told) => Ok(Step::Over(Some(told))),
     }
 }
 

@@ -1,7 +1,7 @@
 -- How grave findings are, and how they print.
 use Rattle.std.specs.Prelude.{ℕ, List, [], ◌∷◌, ◌++◌, codes, decimal, map, Option, Some, None, string_bytes}
 use Rattle.nextest_config_values.specs.Identifier.Error.{identifier_fault, identifier_fault_text}
-use Rattle.nextest_config_filters.specs.Fault.{fault_of as text_fault_of, fault_text}
+use Rattle.nextest_config_filters.specs.Fault.{fault_text, worded_fault_of}
 use Rattle.toml_spans.specs.QuotedText.{quoted_text}
 use Rattle.nextest_config_values.specs.Read.{kind_text, quoted_texts, Reason, reason_of, text_or_memory}
 use Rattle.toml_spans.specs.Step.{PathStep, printed_path, step_of}
@@ -115,7 +115,7 @@ plain_text kind = []
 -- how what is found prints, without its path
 abbrev pub finding_kind_text : FindingKind → List ℕ
 finding_kind_text (kinds.Fault fault severity hint) = kind_text fault ++ hint_text hint
-finding_kind_text (kinds.Text fault) = fault_text (text_fault_of fault)
+finding_kind_text (kinds.Text fault) = fault_text (worded_fault_of fault)
 finding_kind_text (kinds.UnknownFeature name hint) =
     name_text (codes "unknown feature ") (string_bytes name) hint
 finding_kind_text (kinds.UnknownKey key hint) =

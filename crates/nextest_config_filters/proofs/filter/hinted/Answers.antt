@@ -1,7 +1,6 @@
-use Rattle.std.proofs.Common.{◌∙◌, ap, subst, arith, option_map, string_bytes}
+use Rattle.std.proofs.Common.{◌∙◌, ap, arith, option_map, string_bytes}
 use Rattle.std.specs.Str.{chars}
-use Rattle.nextest_config_filters.specs.Fault.{filter}
-use Rattle.nextest_config_filters.specs.Hint.{IsHint}
+use Rattle.nextest_config_filters.specs.Fault.{filter, found_of}
 use Rattle.nextest_config_filters.proofs.Ranges.{bytes_joined, bytes_of_parts}
 use Rattle.nextest_config_filters.proofs.filter.hinted.Goals as goal
 
@@ -22,7 +21,6 @@ returns c =
       begin = omega (arith, parts, c.size.ensures, c.size-2.ensures, c.size-3.ensures);
       end = omega (arith, parts, bytes_joined c.requires.0 (chars c.args.told.now.what.now), c.size.ensures, c.size-2.ensures);
       hint = option_map string_bytes c.in_ok-hint.hint;
-      kind = ap (λ found. filter c.args.told.now.flaw found (option_map string_bytes c.in_ok-hint.hint)) c.in_ok-found.ensures;
-      is_hint = subst (λ found. IsHint c.args.text.now c.args.told.now.flaw found (option_map string_bytes c.in_ok-hint.hint))
-          (c.as_str.ensures.value ∙ c.in_ok-found.ensures) c.in_ok-hint.ensures;
+      kind = ap (λ found. filter c.args.told.now.flaw found (option_map string_bytes c.in_ok-hint.hint)) (ap (found_of c.args.told.now.flaw) c.in_ok-found.ensures ∙ c.found_text.ensures);
+      is_hint = c.in_ok-hint.ensures;
     }

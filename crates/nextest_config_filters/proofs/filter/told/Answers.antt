@@ -1,4 +1,4 @@
-use Rattle.std.proofs.Common.{◌∙◌, sym, ap}
+use Rattle.std.proofs.Common.{◌∙◌, refl, sym, ap}
 use Rattle.std.proofs.lemmas.Str.{chars-nil}
 use Rattle.std.specs.Str.{chars}
 use Rattle.nextest_config_filters.specs.Told.{told_at}
@@ -8,13 +8,17 @@ use Rattle.nextest_config_filters.proofs.Steps.{told_empty, walked_either}
 use Rattle.nextest_config_filters.proofs.filter.told.Goals as goal
 
 pub returns-then-is_empty : goal.returns-then-is_empty
-returns-then-is_empty c =
-    told_empty c.args.place (chars c.args.text.now) _
-    (sym c.behind_spaces.ensures ∙ no_characters c.behind_spaces.result.now (sym c.is_empty.ensures ∙ c.if-is_empty.true))
-    (c.told_at.ensures ∙ ap (λ cs. told_at (chars c.args.text.now) cs Empty) chars-nil)
+returns-then-is_empty c = record {
+  told = told_empty c.args.place (chars c.args.text.now) _
+      (sym c.behind_spaces.ensures ∙ no_characters c.behind_spaces.result.now (sym c.is_empty.ensures ∙ c.if-is_empty.true))
+      (c.told_at.ensures ∙ ap (λ cs. told_at (chars c.args.text.now) cs Empty) chars-nil);
+  no_memory = λ none. refl;
+}
 
 pub returns : goal.returns
-returns c =
-    walked_either c.args.place (chars c.args.text.now)
-    (λ none. some_characters c.behind_spaces.result.now c.behind_spaces.utf8 (sym c.is_empty.ensures ∙ c.if-is_empty.false) (c.behind_spaces.ensures ∙ none))
-    c.told_in.result c.told_in.ensures
+returns c = record {
+  told = walked_either c.args.place (chars c.args.text.now)
+      (λ none. some_characters c.behind_spaces.result.now c.behind_spaces.utf8 (sym c.is_empty.ensures ∙ c.if-is_empty.false) (c.behind_spaces.ensures ∙ none))
+      c.in_ok-told.told c.in_ok-told.ensures.walked;
+  no_memory = λ none. refl;
+}

@@ -1,12 +1,14 @@
-use Rattle.std.proofs.Common.{length, ap, refl, arith, rules}
+use Rattle.std.proofs.Common.{length, ap, refl, subst, arith, rules}
 use Rattle.std.specs.Str.{chars}
 use Rattle.nextest_config_filters.specs.Filter.{start, stays}
+use Rattle.nextest_config_filters.specs.Regex.{judged_at}
+use Rattle.nextest_config_filters.specs.Walk.{IsStepBy}
 use Rattle.nextest_config_filters.proofs.Steps.{leads_on, next_within, within_at_start}
 use Rattle.nextest_config_filters.proofs.Walks.{chars_fit}
 use Rattle.nextest_config_filters.proofs.walk.walk.Goals as goal
 
-pub loop-next-init : goal.loop-next-init
-loop-next-init c =
+pub loop-step-init : goal.loop-step-init
+loop-step-init c =
     let cs = chars c.args.text.now in
     record {
       text = c.utf8.text;
@@ -16,20 +18,22 @@ loop-next-init c =
 
 pub next_step-requires : goal.next_step-requires
 next_step-requires c =
-    let at = c.loop-next.invariant.at in
+    let at = c.loop-step.invariant.at in
     omega (arith, at.2.deep, ap length at.2.rest, at.3.room, chars_fit c.args.text.now c.utf8.text)
 
-pub loop-next-smaller : goal.loop-next-smaller
-loop-next-smaller c =
-    let at = c.loop-next.invariant.at in
-    let step = c.in-To.ensures at.0 at.2 in
+pub loop-step-smaller : goal.loop-step-smaller
+loop-step-smaller c =
+    let at = c.loop-step.invariant.at in
+    let step = subst (IsStepBy c.args.level (judged_at c.args.place at.0.expects at.0.rest) at.0) c.in-To.is
+    (c.in_ok-step.ensures.step at.0 at.2) in
     let kept = next_within c.args.place (chars c.args.text.now) at.0 step.0 at.3 step.1 in
     omega (arith, kept.1, ap length at.2.rest, ap length step.2.rest)
 
-pub loop-next-preserved : goal.loop-next-preserved
-loop-next-preserved c =
-    let at = c.loop-next.invariant.at in
-    let step = c.in-To.ensures at.0 at.2 in
+pub loop-step-preserved : goal.loop-step-preserved
+loop-step-preserved c =
+    let at = c.loop-step.invariant.at in
+    let step = subst (IsStepBy c.args.level (judged_at c.args.place at.0.expects at.0.rest) at.0) c.in-To.is
+    (c.in_ok-step.ensures.step at.0 at.2) in
     let kept = next_within c.args.place (chars c.args.text.now) at.0 step.0 at.3 step.1 in
     record {
       text = search rules;
@@ -39,8 +43,13 @@ loop-next-preserved c =
 
 pub returns-in-Open : goal.returns-in-Open
 returns-in-Open c =
-    let at = c.loop-next.invariant.at in
-    let step = c.in-Open.ensures at.0 at.2 in (
-      record { state = at.0; leads = at.1; at_end = step.0; open_many = at.2.deep; some = omega (arith, at.2.deep, step.1) },
-      at.2.of_level,
-    )
+    let at = c.loop-step.invariant.at in
+    let step = subst (IsStepBy c.args.level (judged_at c.args.place at.0.expects at.0.rest) at.0) c.in-Open.is
+    (c.in_ok-step.ensures.step at.0 at.2) in
+    record {
+      walk = (
+        record { state = at.0; leads = at.1; at_end = step.0; open_many = at.2.deep; some = omega (arith, at.2.deep, step.1) },
+        at.2.of_level,
+      );
+      no_memory = λ none. refl;
+    }

@@ -6,12 +6,12 @@ use Rattle.nextest_config_filters.proofs.Steps.{IsWithin}
 use Rattle.nextest_config_filters.proofs.walk.walk.Given as goal
 
 -- the text leads to the state that is shown
-abbrev pub invariant-loop-next : goal.invariant-loop-next
-invariant-loop-next l = record {
+abbrev pub invariant-loop-step : goal.invariant-loop-step
+invariant-loop-step l = record {
   text : IsUtf8 l.state.rest.now;
   last : IsUtf8 l.state.last.now;
   at : (now : State) × Leads l.place (start (chars l.text)) now × Shows l.level l.state now × IsWithin (chars l.text) now;
 }
 
-abbrev pub decreases-loop-next : goal.decreases-loop-next
-decreases-loop-next l = length (chars l.state.rest.now)
+abbrev pub decreases-loop-step : goal.decreases-loop-step
+decreases-loop-step l = length (chars l.state.rest.now)
