@@ -6,7 +6,7 @@ use Rattle.std.proofs.lemmas.Str.{encodes-append, encodes-chars, IsCharBoundary-
 use lib.Utf8.{scalar}
 use Rattle.std.specs.Str.{all_scalars, chars, IsCharBoundary, IsUtf8}
 use Rattle.nextest_config_values.specs.NearestWord.{nearest_once}
-use Rattle.nextest_config_filters.specs.Fault.{Fault, filter, Kind}
+use Rattle.nextest_config_filters.specs.Fault.{Fault, filter, found_of}
 use Rattle.nextest_config_filters.specs.Filter.{IsFaultOf, IsFilterFault, IsRangeIn}
 use Rattle.nextest_config_filters.specs.Front.{bytes_of}
 use Rattle.nextest_config_filters.specs.Hint.{IsByNearest, IsHint, name_hint, predicate_hint}
@@ -70,7 +70,7 @@ same_fault text told a b one other =
     let begin : a.begin ≡ b.begin = one.begin ∙ ap bytes_of front ∙ sym other.begin in
     let end : a.end ≡ b.end = one.end ∙ ap (λ f. bytes_of (f ++ told.what)) front ∙ sym other.end in
     let hint : one.hint ≡ other.hint = one_hint text told.flaw (encode_utf8_all told.found) _ _ one.is_hint other.is_hint in
-    let kind : a.kind ≡ b.kind = one.kind ∙ ap (λ h. filter told.flaw (encode_utf8_all told.found) h) hint ∙ sym other.kind in
+    let kind : a.kind ≡ b.kind = one.kind ∙ ap (filter told.flaw (found_of told.flaw (encode_utf8_all told.found))) hint ∙ sym other.kind in
     λ i. record { begin = begin i; end = end i; kind = kind i }
 
 pub one_fault : (place : FilterPlace) (text : List ℕ) (one other : Fault) → IsFilterFault place text one

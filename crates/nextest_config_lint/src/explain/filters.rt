@@ -53,9 +53,9 @@ pub(crate) static FILTER_ARGUMENT: Explanation = Explanation {
     topic: Topic::Finding(FindingCode::FilterArgument),
     meaning: "\
 The argument of a predicate isn't one that it takes: it is missing, it is one
-too many, a comma or a backslash stands in it where nextest takes none, or a
-regular expression isn't closed. nextest refuses the file and runs no tests. A
-regular expression stands between slashes.",
+too many, a comma or a backslash stands in it where nextest takes none, or it
+begins a regular expression that is none. nextest refuses the file and runs no
+tests. A regular expression stands between slashes.",
     file: ExampleFile::Repository,
     example: r#"[profile.ci]
 default-filter = 'test(db_\d+)'
