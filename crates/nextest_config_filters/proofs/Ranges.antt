@@ -6,7 +6,7 @@ use Rattle.std.proofs.lemmas.Str.{encodes-append, encodes-chars, IsCharBoundary-
 use lib.Utf8.{scalar}
 use Rattle.std.specs.Str.{all_scalars, chars, IsCharBoundary, IsUtf8}
 use Rattle.nextest_config_values.specs.NearestWord.{nearest_once}
-use Rattle.nextest_config_filters.specs.Fault.{Fault, filter, Kind}
+use Rattle.nextest_config_filters.specs.Fault.{Fault, filter}
 use Rattle.nextest_config_filters.specs.Filter.{IsFaultOf, IsFilterFault, IsRangeIn}
 use Rattle.nextest_config_filters.specs.Front.{bytes_of}
 use Rattle.nextest_config_filters.specs.Hint.{IsByNearest, IsHint, name_hint, predicate_hint}

@@ -1,6 +1,6 @@
 -- The grammar of filters as nextest's documentation has it, apart from how they are read. Which
 -- operator binds tighter changes nothing of what is a filter, so it has no levels.
-use Rattle.std.specs.Prelude.{◌≡◌, ℕ, ◌≤◌, ◌⊎◌, true, false, List, [], ◌∷◌, ◌++◌, codes, length}
+use Rattle.std.specs.Prelude.{◌≡◌, ℕ, ◌≤◌, ◌⊎◌, true, List, [], ◌∷◌, ◌++◌, codes, length}
 use Rattle.std.specs.Char.{is_ascii_hexdigit}
 use Rattle.std.specs.List.{AllByRecursion}
 use Rattle.toml_spans.specs.Characters.{backslash, carriage_return, hyphen, line_feed, plus_sign, slash}

@@ -1,6 +1,6 @@
 -- Nothing is told of a documented platform: what leads on, and what is read of words.
-use Rattle.std.proofs.Common.{◌≡◌, ℕ, Bool, true, false, List, [], ◌∷◌, ◌++◌, nat_eq, Option, Some, None, refl, sym, ap, ◌∙◌, subst, inl, inr, append_assoc, eq-eqb, eqb-true}
-use Rattle.std.specs.Prelude.{◌==◌, ◌&&◌, ◌||◌, ◌⊎◌, not, codes, if◌then◌else◌}
+use Rattle.std.proofs.Common.{◌≡◌, ℕ, Bool, true, false, List, [], ◌∷◌, ◌++◌, nat_eq, Some, None, refl, sym, ap, ◌∙◌, subst, inl, inr, eqb-true}
+use Rattle.std.specs.Prelude.{◌==◌, ◌&&◌, ◌||◌, ◌⊎◌, codes}
 use Rattle.std.proofs.lemmas.Bool.{cases_Bool}
 use Rattle.std.proofs.lemmas.Bool.Decides.{nat_tests}
 use Rattle.std.proofs.Common.{arith}
@@ -9,14 +9,13 @@ use Rattle.std.specs.Cmp.Lexicographic.{pointwise, same_text}
 use Rattle.std.specs.List.{AllByRecursion}
 use Rattle.std.specs.Str.{skip_leading_whitespace as behind_spaces}
 use Rattle.toml_spans.specs.Characters.{double_quote}
-use Rattle.nextest_config_filters.specs.Front.{begins, begins_key, behind_run, bytes_of, closing, comma, equals_sign, in_key, in_run, number_sign, opening, run, without_first}
+use Rattle.nextest_config_filters.specs.Front.{begins, begins_key, behind_run, closing, comma, in_key, in_run, number_sign, run}
 use Rattle.nextest_config_filters.specs.Platform.Grammar.{AreSpaces, IsKey, IsValueOf}
-use Rattle.nextest_config_filters.specs.Platform.Key.{are_digits, families, groups, is_number, is_one_of, is_unknown, is_wrong_width, key_flaw, needs_value}
-use Rattle.nextest_config_filters.specs.Platform.Reading.{behind_value, is_raw, level_at, read, read_follower, read_group, read_key, read_quoted, read_value, read_word, reading_at, takes_member}
-use Rattle.nextest_config_filters.specs.Platform.Told.{member, opens, Reading}
+use Rattle.nextest_config_filters.specs.Platform.Key.{are_digits, families, groups, is_number, is_one_of, is_wrong_width, key_flaw}
+use Rattle.nextest_config_filters.specs.Platform.Reading.{is_raw, read, read_follower, read_group, read_key, read_word, reading_at, takes_member}
+use Rattle.nextest_config_filters.specs.Platform.Told.{member}
 use Rattle.nextest_config_filters.specs.Platform.Walk.{IsWalked, Leads, next, next_of, Outcome, outcome_at, outcome_of, State, stays, steps}
 use Rattle.nextest_config_filters.specs.declared.front.Run.TheVariants as runs
-use Rattle.nextest_config_filters.specs.declared.platform.flaw.PlatformFlaw.{PlatformFlaw}
 use Rattle.nextest_config_filters.specs.declared.platform.told.After.{After}
 use Rattle.nextest_config_filters.specs.declared.platform.told.Level.{Level}
 use Rattle.nextest_config_filters.proofs.Fronts.{run_whole}

@@ -1,22 +1,21 @@
 -- Nothing is told of a documented platform.
 use Rattle.std.proofs.Common.{◌≡◌, ℕ, Bool, true, false, List, [], ◌∷◌, ◌++◌, length, nat_eq, Option, Some, None, refl, sym, ap, ◌∙◌, subst, inl, inr, append_assoc, arith, eqb-true, length-append}
 use Rattle.std.proofs.lemmas.Bool.{cases_Bool}
-use Rattle.std.specs.Prelude.{◌==◌, ◌&&◌, ◌||◌, ◌⊎◌, not, codes, nat_lt}
+use Rattle.std.specs.Prelude.{◌==◌, ◌&&◌, ◌⊎◌, codes}
 use Rattle.std.specs.Char.{is_whitespace}
 use Rattle.std.specs.Cmp.Lexicographic.{pointwise}
 use Rattle.std.specs.List.{AllByRecursion}
 use Rattle.std.specs.Str.{chars, drop_trailing_whitespace as without_spaces_behind, skip_leading_whitespace as behind_spaces}
 use Rattle.toml_spans.specs.Characters.{double_quote}
 use Rattle.nextest_config_filters.specs.Fault.{Fault}
-use Rattle.nextest_config_filters.specs.Front.{behind, closing, comma, equals_sign, in_key, in_run, opening, run}
+use Rattle.nextest_config_filters.specs.Front.{behind, closing, comma, equals_sign, in_key, opening, run}
 use Rattle.nextest_config_filters.specs.Platform.Fault.{IsPlatformFault}
 use Rattle.nextest_config_filters.specs.Platform.Grammar.{a_cfg, a_group, a_key, a_negation, a_target, an_option, another, AreSpaces, Is, IsDocumentedPlatform, IsOption, IsPlatform, IsTargetName, last_member, members, no_member, Part, predicate, with_value}
 use Rattle.nextest_config_filters.specs.Platform.Key.{groups, is_one_of}
 use Rattle.nextest_config_filters.specs.Platform.Outcome.{has_mark, is_closed, is_mark, IsCfgOutcome, IsOutcome, IsOutcomeBy, name_flaw, outcome_by, outside}
-use Rattle.nextest_config_filters.specs.Platform.Reading.{behind_value, level_at, read_follower, read_group, read_key, read_quoted, reading_at, takes_closing, takes_member}
+use Rattle.nextest_config_filters.specs.Platform.Reading.{behind_value, level_at, read_group, read_key, reading_at, takes_closing, takes_member}
 use Rattle.nextest_config_filters.specs.Platform.Told.{closes, ends, member, opens, separates, Told}
-use Rattle.nextest_config_filters.specs.Platform.Walk.{first_level, is_miscounted, IsWalked, next_of, Outcome, outcome_of, passes, start, State, with_group, with_member, wrong}
-use Rattle.nextest_config_filters.specs.declared.front.Run.TheVariants as runs
+use Rattle.nextest_config_filters.specs.Platform.Walk.{first_level, is_miscounted, IsWalked, next_of, Outcome, outcome_of, passes, start, with_group, with_member, wrong}
 use Rattle.nextest_config_filters.specs.declared.platform.told.After.{After}
 use Rattle.nextest_config_filters.specs.declared.platform.told.After.TheVariants as after
 use Rattle.nextest_config_filters.specs.declared.platform.told.Level.{Level}

@@ -1,21 +1,21 @@
 -- One fault of a platform, and its range of bytes.
-use Rattle.std.proofs.Common.{◌≡◌, ℕ, ◌+◌, ◌≤◌, Bool, true, false, inl, inr, List, length, Option, refl, sym, ap, ◌∙◌, subst, arith}
+use Rattle.std.proofs.Common.{◌≡◌, ℕ, ◌+◌, Bool, true, false, inl, inr, List, length, Option, sym, ap, ◌∙◌, subst, arith}
 use Rattle.std.specs.Prelude.{encode_utf8_all}
 use Rattle.std.proofs.lemmas.Str.{encodes-chars}
 use Rattle.std.specs.Str.{chars, IsCharBoundary, IsUtf8, skip_leading_whitespace as behind_spaces}
 use Rattle.nextest_config_values.specs.NearestWord.{nearest_once}
 use Rattle.nextest_config_filters.specs.Fault.{Fault, platform}
 use Rattle.nextest_config_filters.specs.Filter.{IsRangeIn}
-use Rattle.nextest_config_filters.specs.Front.{bytes_of, IsRest}
+use Rattle.nextest_config_filters.specs.Front.{bytes_of}
 use Rattle.nextest_config_filters.specs.Platform.Fault.{IsPlatformFault, IsPlatformFaultOf}
-use Rattle.nextest_config_filters.specs.Platform.Hint.{in_cfg, is_like_cfg, IsHintFor, IsHintInCfg, IsPlatformHint}
+use Rattle.nextest_config_filters.specs.Platform.Hint.{is_like_cfg, IsHintFor, IsHintInCfg, IsPlatformHint}
 use Rattle.nextest_config_filters.specs.Platform.Key.{target_keys}
 use Rattle.nextest_config_filters.specs.Platform.Told.{Told}
 use Rattle.nextest_config_filters.specs.Platform.Walk.{wrong}
 use Rattle.nextest_config_filters.specs.declared.platform.flaw.PlatformFlaw.{PlatformFlaw}
 use Rattle.nextest_config_filters.specs.declared.platform.flaw.PlatformFlaw.TheVariants as flaws
 use Rattle.nextest_config_filters.proofs.Ranges.{border, bytes_joined}
-use Rattle.nextest_config_filters.proofs.Platforms.Outcomes.{bytes_in, outcome_once, told_in_text}
+use Rattle.nextest_config_filters.proofs.Platforms.Outcomes.{outcome_once, told_in_text}
 use Rattle.nextest_config_filters.proofs.Platforms.Rests.{IsBytes}
 
 -- ---- one fault

@@ -1,11 +1,11 @@
 -- One outcome, and what is told of it.
-use Rattle.std.proofs.Common.{◌≡◌, ℕ, ◌≤◌, Bool, true, false, List, [], ◌∷◌, ◌++◌, drop, length, Option, Some, None, refl, sym, ap, ◌∙◌, subst, arith}
-use Rattle.std.specs.Prelude.{codes, MatchBool}
-use Rattle.std.specs.Str.{chars, drop_trailing_whitespace as without_spaces_behind, skip_leading_whitespace as behind_spaces}
+use Rattle.std.proofs.Common.{◌≡◌, ℕ, ◌≤◌, Bool, true, false, List, [], drop, length, Option, Some, None, refl, sym, ◌∙◌, subst, arith}
+use Rattle.std.specs.Prelude.{codes}
+use Rattle.std.specs.Str.{drop_trailing_whitespace as without_spaces_behind, skip_leading_whitespace as behind_spaces}
 use Rattle.nextest_config_filters.specs.Front.{behind, bytes_of, IsRest}
-use Rattle.nextest_config_filters.specs.Platform.Outcome.{is_closed, IsCfgOutcome, IsOutcome, IsOutcomeBy, name_flaw, outcome_by, outside}
+use Rattle.nextest_config_filters.specs.Platform.Outcome.{is_closed, IsCfgOutcome, IsOutcome, IsOutcomeBy, name_flaw, outcome_by}
 use Rattle.nextest_config_filters.specs.Platform.Told.{not_closed, Told}
-use Rattle.nextest_config_filters.specs.Platform.Walk.{first_level, Outcome, passes, start, wrong}
+use Rattle.nextest_config_filters.specs.Platform.Walk.{first_level, Outcome, start, wrong}
 use Rattle.nextest_config_filters.specs.declared.platform.flaw.PlatformFlaw.{PlatformFlaw}
 use Rattle.nextest_config_filters.proofs.Arguments.{without_spaces_front}
 use Rattle.nextest_config_filters.proofs.Readings.{front_dropped, spaces_in}

@@ -1,11 +1,10 @@
 -- Rests of a text, and their bytes.
-use Rattle.std.proofs.Common.{◌≡◌, ℕ, ◌+◌, ◌<◌, ◌≤◌, Bool, true, false, List, [], ◌∷◌, ◌++◌, length, refl, sym, ap, ◌∙◌, subst, inl, inr, arith}
-use Rattle.std.specs.Prelude.{◌==◌}
+use Rattle.std.proofs.Common.{◌≡◌, ℕ, ◌+◌, ◌<◌, ◌≤◌, List, [], ◌∷◌, length, refl, ap, ◌∙◌, inl, inr, arith}
 use Rattle.std.proofs.lemmas.Bool.{cases_Bool}
 use Rattle.nextest_config_filters.specs.Front.{begins_key, bytes_of, in_key, is_doubled, IsRest, opening, without_first}
 use Rattle.nextest_config_filters.specs.Platform.Reading.{behind_token}
 use Rattle.nextest_config_filters.proofs.Ranges.{bytes_joined}
-use Rattle.nextest_config_filters.proofs.Readings.{past, rest_fits, rest_within, run_in}
+use Rattle.nextest_config_filters.proofs.Readings.{rest_fits, rest_within, run_in}
 
 pub without_first_rest : (cs : List ℕ) → IsRest cs (without_first cs)
 without_first_rest [] = ([], refl)

@@ -1,12 +1,12 @@
 -- Steps of a walk through `cfg(..)`.
-use Rattle.std.proofs.Common.{◌≡◌, ◌≢◌, ℕ, ◌+◌, ◌<◌, ◌≤◌, Bool, true, false, List, [], ◌∷◌, ◌++◌, length, Option, Some, None, refl, sym, ap, ◌∙◌, subst, inl, inr, arith}
+use Rattle.std.proofs.Common.{◌≡◌, ℕ, ◌+◌, ◌<◌, ◌≤◌, List, [], ◌∷◌, ◌++◌, length, Some, None, refl, sym, ap, ◌∙◌, subst, inl, inr, arith}
 use Rattle.std.specs.Prelude.{codes, nat_lt, if◌then◌else◌}
 use Rattle.std.proofs.lemmas.Bool.{cases_Bool}
 use Rattle.std.specs.List.{AllByRecursion}
 use Rattle.nextest_config_filters.specs.Front.{behind, bytes_of, IsRest, opening, without_first}
 use Rattle.nextest_config_filters.specs.Platform.Reading.{reading_at}
 use Rattle.nextest_config_filters.specs.Platform.Told.{closes, ends, member, not_closed, not_open, opens, Reading, separates, tells, Told, told_level, unjudged}
-use Rattle.nextest_config_filters.specs.Platform.Walk.{first_level, is_miscounted, IsWalked, Leads, next, next_of, Outcome, outcome_at, outcome_end, outcome_of, outcome_whole, passes, start, State, stays, steps, with_group, with_member, wrong}
+use Rattle.nextest_config_filters.specs.Platform.Walk.{is_miscounted, IsWalked, Leads, next, next_of, Outcome, outcome_at, outcome_end, outcome_of, outcome_whole, passes, start, State, stays, steps, with_group, with_member, wrong}
 use Rattle.nextest_config_filters.specs.declared.platform.flaw.PlatformFlaw.{PlatformFlaw}
 use Rattle.nextest_config_filters.specs.declared.platform.flaw.PlatformFlaw.TheVariants as flaws
 use Rattle.nextest_config_filters.specs.declared.platform.told.After.{After}
@@ -14,8 +14,8 @@ use Rattle.nextest_config_filters.specs.declared.platform.told.After.TheVariants
 use Rattle.nextest_config_filters.specs.declared.platform.told.Level.{Level}
 use Rattle.nextest_config_filters.proofs.Characters.{behind_whole}
 use Rattle.nextest_config_filters.proofs.Readings.{rest_fits, rest_within}
-use Rattle.nextest_config_filters.proofs.Platforms.Rests.{bytes_at, bytes_fit, bytes_within, IsBehind, IsBytes, without_first_rest}
-use Rattle.nextest_config_filters.proofs.Platforms.Readings.{IsLevelIn, IsToldIn, Leaves, leaves_rest, level_within, Opens, told_to_in, told_within}
+use Rattle.nextest_config_filters.proofs.Platforms.Rests.{bytes_at, bytes_fit, IsBehind, without_first_rest}
+use Rattle.nextest_config_filters.proofs.Platforms.Readings.{IsLevelIn, IsToldIn, Leaves, leaves_rest, level_within, told_to_in, told_within}
 
 -- one step more
 pub leads_on : (from to over : State) → Leads from to → next to ≡ Some over → Leads from over

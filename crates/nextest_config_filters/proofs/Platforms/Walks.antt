@@ -1,5 +1,5 @@
 -- The walk through `cfg(..)`, as the code has it.
-use Rattle.std.proofs.Common.{◌≡◌, ℕ, suc, ◌+◌, ◌<◌, ◌≤◌, Bor, Bool, true, false, List, [], ◌∷◌, ◌++◌, length, Option, Some, None, refl, sym, ap, ◌∙◌, subst, arith, length-append}
+use Rattle.std.proofs.Common.{◌≡◌, ℕ, Bor, false, List, [], ◌∷◌, ◌++◌, length, Some, refl, sym, ap, ◌∙◌, arith, length-append}
 use Rattle.std.specs.Str.{chars}
 use Rattle.nextest_config_filters.specs.Platform.Reading.{reading_at}
 use Rattle.nextest_config_filters.specs.Platform.Steps.{outermost_first, Shows}

@@ -1,11 +1,11 @@
 -- What is told of a text, from its first character that is no space on.
-use Rattle.std.specs.Prelude.{◌≡◌, ℕ, ◌≤◌, ◌==◌, ◌||◌, Bool, true, false, List, [], ◌∷◌, codes, chars, drop, length, Option, Some, None, if◌then◌else◌}
+use Rattle.std.specs.Prelude.{◌≡◌, ℕ, ◌≤◌, ◌==◌, ◌||◌, Bool, true, false, List, [], ◌∷◌, codes, drop, length, Option, Some, None, if◌then◌else◌}
 use Rattle.std.specs.Char.{is_whitespace}
 use Rattle.std.specs.List.{list_any}
 use Rattle.std.specs.Str.{drop_trailing_whitespace as without_spaces_behind}
 use Rattle.nextest_config_filters.specs.Front.{behind, bytes_of, closing}
 use Rattle.nextest_config_filters.specs.Platform.Key.{families, is_one_of, systems}
-use Rattle.nextest_config_filters.specs.Platform.Told.{not_closed, Told}
+use Rattle.nextest_config_filters.specs.Platform.Told.{not_closed}
 use Rattle.nextest_config_filters.specs.Platform.Walk.{first_level, IsWalked, Leads, Outcome, passes, start, State, wrong}
 use Rattle.nextest_config_filters.specs.declared.platform.flaw.PlatformFlaw.{PlatformFlaw}
 use Rattle.nextest_config_filters.specs.declared.platform.flaw.PlatformFlaw.TheVariants as flaws

@@ -1,9 +1,8 @@
 -- What may be read at a place of a platform: how it goes on, or what is told.
-use Rattle.std.specs.Prelude.{ℕ, List, [], ◌∷◌, chars}
+use Rattle.std.specs.Prelude.{ℕ, List, [], chars}
 use Rattle.nextest_config_filters.specs.Front.{before, bytes_of, without_first}
 use Rattle.nextest_config_filters.specs.declared.platform.flaw.PlatformFlaw.{PlatformFlaw}
 use Rattle.nextest_config_filters.specs.declared.platform.flaw.PlatformFlaw.TheVariants as flaws
-use Rattle.nextest_config_filters.specs.declared.platform.told.After.{After}
 use Rattle.nextest_config_filters.specs.declared.platform.told.Level.{Level}
 use Rattle.nextest_config_filters.specs.declared.platform.told.Reading.{Reading as OwnReading}
 use Rattle.nextest_config_filters.specs.declared.platform.told.Reading.TheVariants as readings

@@ -1,5 +1,5 @@
 -- The walk through `cfg(..)`.
-use Rattle.std.specs.Prelude.{◌≡◌, ℕ, ◌+◌, ◌<◌, ◌==◌, ◌&&◌, nat_lt, not, Bool, false, List, [], ◌∷◌, Option, Some, None, if◌then◌else◌}
+use Rattle.std.specs.Prelude.{◌≡◌, ℕ, ◌+◌, ◌==◌, ◌&&◌, nat_lt, not, Bool, false, List, [], ◌∷◌, Option, Some, None, if◌then◌else◌}
 use Rattle.nextest_config_filters.specs.Front.{bytes_of, opening, without_first}
 use Rattle.nextest_config_filters.specs.Platform.Reading.{reading_at}
 use Rattle.nextest_config_filters.specs.Platform.Told.{closes, ends, member, not_closed, not_open, opens, Reading, separates, tells, Told, told_level, unjudged}

@@ -1,7 +1,7 @@
-use Rattle.std.proofs.Common.{◌∷◌, [], sym, ◌∙◌, ap}
+use Rattle.std.proofs.Common.{◌∷◌, [], sym}
 use Rattle.std.specs.Str.{chars}
 use Rattle.toml_spans.specs.Characters.{double_quote}
-use Rattle.nextest_config_filters.specs.Front.{behind_run, in_run, IsRest}
+use Rattle.nextest_config_filters.specs.Front.{in_run, IsRest}
 use Rattle.nextest_config_filters.specs.declared.front.Run.TheVariants.{Value}
 use Rattle.nextest_config_filters.proofs.Platforms.Rests.{rest_behind}
 use Rattle.nextest_config_filters.proofs.Readings.{past, run_in}

@@ -1,4 +1,4 @@
-use Rattle.std.proofs.Common.{◌∙◌, sym, ap}
+use Rattle.std.proofs.Common.{◌∙◌, sym}
 use Rattle.std.specs.Str.{chars}
 use Rattle.nextest_config_filters.specs.Front.{without_first}
 use Rattle.nextest_config_filters.proofs.Platforms.Walks.{closing_step}
