@@ -20,7 +20,8 @@ abbrev pub quotes_of : List ℕ → ℕ
 quotes_of (a ∷ b ∷ c ∷ rest) = if a == b && a == c then 3 else 1
 quotes_of written = 1
 
--- how many bytes the line end takes that a string begins with, where it has one
+-- how many bytes the line end takes that a string begins with, where it has one: a line feed, or a
+-- carriage return (13) before it
 abbrev pub line_end_of : List ℕ → ℕ
 line_end_of (a ∷ b ∷ rest) = if a == line_feed then 1 else if a == 13 && b == line_feed then 2 else 0
 line_end_of rest = 0

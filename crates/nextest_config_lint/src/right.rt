@@ -21,7 +21,8 @@ use std::alloc::{AllocError, Global};
 use toml::Value;
 
 /// Whether nothing is wrong with the value at a key of a profile, and with what stands in it. Of a
-/// key that isn't known nothing is.
+/// key that isn't known nothing is. The syntax of a text isn't asked, so what a profile gets is told
+/// as it is written.
 pub fn is_right_at(alloc: Global, key: &str, value: &Value) -> Result<bool, AllocError>
     ensures { IfOk result (λ right. IsTrue right ↔ IsRightAt key.now (view value.now)) }
 {

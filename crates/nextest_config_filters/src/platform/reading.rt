@@ -197,7 +197,7 @@ fn read_judged<'a>(text: &'a str, value: Option<&str>, rest: &'a str) -> Reading
 
 // ---- what isn't expected
 
-/// Something else is expected than what stands at the front of a text.
+// Something else is expected than what stands at the front of a text.
 fn unexpected(text: &str) -> Reading<'_>
     ensures { reading_of result ≡ unexpected (chars text.now) }
 {
